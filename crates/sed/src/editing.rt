@@ -1,0 +1,71 @@
+//! The editor as a library: `script` reads a script, and `edit` runs it over a stream.
+ghost use Rattle.std.specs.Prelude.{◌≡◌, ◌<◌, ◌≤◌, ◌⊎◌, ℕ, List, Ok, IfOk, OnOk, OnErr, IfErr};
+ghost use Rattle.std.specs.Option.{ForSome};
+ghost use Rattle.std.specs.Io.KnownBytes.{Keeps};
+ghost use Rattle.sedspace.specs.Failures.{Rose};
+ghost use Rattle.sedspace.specs.Lines.{lines};
+ghost use Rattle.sedscript.specs.Script.{Faulty, Means};
+ghost use Rattle.sedscript.specs.declared.types.ScriptFault.{ScriptFault};
+ghost use Rattle.sedengine.specs.Devices.{Gained};
+ghost use Rattle.sedengine.specs.Run.{files_in, more_at, setting_of};
+ghost use Rattle.sed.specs.Editing.{Edits, GainsAll, GainsBeginning, TakesFirstLines, start_over};
+
+use sedengine::{Ended, Engine, Limits};
+use sedscript::{Kind, NO_MEMORY, Script, ScriptFault};
+use sedspace::{ByteSource, Lines, Outputs, Room, Texts};
+use std::alloc::{AllocError, Global};
+
+/// Reads a script.
+pub fn script(alloc: Global, text: &[u8], kind: Kind, nodes: usize) -> Result<Script, ScriptFault>
+    requires nodes { (1 ≤ nodes) × (nodes ≤ 65536) }
+    // What is answered is what the text means.
+    ensures means { IfOk result (λ s. Means text.now kind nodes s) }
+    // No fault is passed over.
+    ensures no_fault { OnOk result ((f : ScriptFault) → Faulty text.now kind nodes f → ⊥) }
+    // A fault is the first one of the text, or memory was wanting.
+    ensures fault { IfErr result (λ f. Faulty text.now kind nodes f ⊎ (f ≡ NO_MEMORY)) }
+{
+    sedscript::read(alloc, text, kind, nodes)
+}
+
+/// Runs a script over the source's bytes, from its start to an end.
+pub fn edit<R: ByteSource, O: Outputs, T: Texts>(
+    alloc: Global,
+    script: Script,
+    limits: Limits,
+    source: &mut R,
+    outputs: &mut O,
+    texts: &mut T,
+) -> Result<Ended, AllocError>
+    requires sink { 0 < O.count outputs.old }
+    requires nodes { script.max_nodes ≤ limits.nodes }
+    // Each end has its cause, in whatever pieces the bytes came.
+    ensures ending { IfOk result (λ end. ForSome (R.remaining source.old) (λ bytes.
+        Edits limits (setting_of script (files_in (T.text texts.old))) (start_over script bytes)
+        (Gained (O.contents outputs.old) (O.contents outputs.new)) (R.remaining source.old) (R.remaining source.new) end)) }
+    // What was written is a beginning of what the script writes, and at the ordinary end the whole.
+    ensures output { OnOk result (ForSome (R.remaining source.old) (λ bytes.
+        GainsBeginning (setting_of script (files_in (T.text texts.old))) (start_over script bytes)
+        (Gained (O.contents outputs.old) (O.contents outputs.new)))) }
+    ensures whole { result ≡ Ok Ended.Done → ForSome (R.remaining source.old) (λ bytes.
+        GainsAll (setting_of script (files_in (T.text texts.old))) (start_over script bytes)
+        (Gained (O.contents outputs.old) (O.contents outputs.new))) }
+    // No more is read than the lines taken and what is read ahead.
+    ensures taken { IfOk result (λ end. ForSome (R.remaining source.old) (λ bytes.
+        TakesFirstLines (lines bytes) (R.remaining source.old) (R.remaining source.new) (more_at limits end))) }
+    // A device that the end names has failed, whether it tells its bytes or not.
+    ensures input { result ≡ Ok Ended.InputBroken → Rose (R.failures source.old) (R.failures source.new) }
+    ensures failed { (k : ℕ) → result ≡ Ok (Ended.OutputBroken k) → Rose (O.failures outputs.old k) (O.failures outputs.new k) }
+    ensures sinks { O.count outputs.new ≡ O.count outputs.old }
+    // The texts are only read.
+    ensures same_texts { (k : ℕ) → Keeps (T.text texts.old k) (T.text texts.new k) }
+    // Where memory is wanting, no device was touched.
+    ensures untouched { OnErr result ((source.new ≡ source.old) × (outputs.new ≡ outputs.old) × (texts.new ≡ texts.old)) }
+{
+    let room = Room::new(alloc, limits.look())?;
+    let mut engine = Engine::open(alloc, script, limits)?;
+    let mut lines = Lines::over(&mut *source, room);
+    let ended = engine.run(&mut lines, outputs, texts);
+    let _source = lines.into_source();
+    Ok(ended)
+}

@@ -1,0 +1,142 @@
+//! The program, over devices that its caller gives.
+ghost use Rattle.std.specs.Prelude.{◌≡◌, ◌<◌, ◌≤◌, ◌⊎◌, IfOk};
+ghost use Rattle.sedscript.specs.Script.{Means, Program};
+
+use crate::asked::{Line, Refused};
+use crate::command_line::line;
+use crate::editing::{edit, script};
+use crate::messages::{say_end, say_fault, say_no_memory};
+use sedengine::{Ended, Limits};
+use sedscript::{Kind, Script, ScriptFault};
+use sedspace::{Broken, ByteSource, MemoryTexts, Outputs};
+use std::alloc::Global;
+use std::convert::AsStr;
+use std::io::Write;
+use std::string::ToString;
+
+/// The script ran over the whole input, or help was asked for and written.
+pub(crate) const SUCCESS: u8 = 0;
+
+/// Nothing was read: the words, the script or the memory don't allow a run.
+pub(crate) const REFUSED: u8 = 1;
+
+/// The run ended before its time: a limit or a device ended it.
+pub(crate) const STOPPED: u8 = 4;
+
+/// Runs the program and gives its exit status (XCU sed, "Exit Status"; which number above 0 is this project's own).
+///
+/// `words` are those after the program's name, `source` is the standard input, sink 0 the standard output, and
+/// `errors` the standard error. Where a message can't be written, it is lost.
+///
+/// * 0: the script ran over the whole input; or `-h` or `--help` was given, and the help was written
+/// * 1: the words are refused, with the text of `clap`; the script is, as `sed: script byte 4: S1 UnknownCommand`; or
+///   memory is wanting: `sed: no memory`. Nothing was read.
+/// * 4: the run stopped, as `sed: line 7: F1 PatternFull`, `sed: F4 TurnsSpent`, `sed: F6 InputBroken` or
+///   `sed: F7 OutputBroken 0`. What was written stands.
+pub fn stream<S: AsStr, R: ByteSource + Drop, O: Outputs, E: Write>(
+    alloc: Global,
+    words: &[S],
+    limits: Limits,
+    source: R,
+    outputs: &mut O,
+    errors: &mut E,
+) -> u8
+    requires { 0 < O.count outputs.old }
+    ensures status { (result ≡ SUCCESS) ⊎ (result ≡ REFUSED) ⊎ (result ≡ STOPPED) }
+    ensures sinks { O.count outputs.new ≡ O.count outputs.old }
+{
+    match line(alloc, words) {
+        Ok(line) => run_line(alloc, line, limits, source, outputs, errors),
+        Err(Refused::Words(error)) => answer_words(alloc, &error, outputs, errors),
+        Err(Refused::NoMemory) => {
+            let _ = say_no_memory(errors);
+            REFUSED
+        }
+    }
+}
+
+/// Writes what `clap` has to say: help to the standard output, anything else to the standard error.
+fn answer_words<O: Outputs, E: Write>(
+    alloc: Global,
+    error: &clap::Error,
+    outputs: &mut O,
+    errors: &mut E,
+) -> u8
+    requires { 0 < O.count outputs.old }
+    ensures status { (result ≡ SUCCESS) ⊎ (result ≡ REFUSED) ⊎ (result ≡ STOPPED) }
+    ensures sinks { O.count outputs.new ≡ O.count outputs.old }
+{
+    if error.use_stderr() {
+        let _ = write!(errors, "{error}");
+        return REFUSED;
+    }
+    let Ok(help) = error.to_string(alloc) else {
+        let _ = say_no_memory(errors);
+        return REFUSED;
+    };
+    match write_all(outputs, help.as_bytes()) {
+        Ok(()) => SUCCESS,
+        Err(Broken) => {
+            let _ = say_end(errors, Ended::OutputBroken(0));
+            STOPPED
+        }
+    }
+}
+
+/// Writes the bytes to sink 0, however short the writes are.
+fn write_all<O: Outputs>(outputs: &mut O, bytes: &[u8]) -> Result<(), Broken>
+    requires { 0 < O.count outputs.old }
+    ensures { O.count outputs.new ≡ O.count outputs.old }
+{
+    let mut at = 0;
+    'writing: while at < bytes.len() {
+        at += outputs.write(0, &bytes[at..])?;
+    }
+    Ok(())
+}
+
+/// The script that a command line gives, with its -n.
+fn script_of(alloc: Global, line: Line<'_>, nodes: usize) -> Result<Script, ScriptFault>
+    requires { (1 ≤ nodes) × (nodes ≤ 65536) }
+    ensures { IfOk result (λ s. (p : Program) × Means line.entry.script.now Kind.Basic nodes p × (s ≡ record p { quiet = line.entry.quiet })) }
+{
+    let mut program = script(alloc, line.script.as_bytes(), Kind::Basic, nodes)?;
+    if line.quiet {
+        program.set_quiet();
+    }
+    Ok(program)
+}
+
+/// Runs what a command line asks for.
+fn run_line<R: ByteSource + Drop, O: Outputs, E: Write>(
+    alloc: Global,
+    line: Line<'_>,
+    limits: Limits,
+    mut source: R,
+    outputs: &mut O,
+    errors: &mut E,
+) -> u8
+    requires { 0 < O.count outputs.old }
+    ensures status { (result ≡ SUCCESS) ⊎ (result ≡ REFUSED) ⊎ (result ≡ STOPPED) }
+    ensures sinks { O.count outputs.new ≡ O.count outputs.old }
+{
+    let program = match script_of(alloc, line, limits.nodes()) {
+        Ok(program) => program,
+        Err(fault) => {
+            let _ = say_fault(errors, &fault);
+            return REFUSED;
+        }
+    };
+    let mut texts = MemoryTexts::new(Vec::new(alloc));
+    match edit(alloc, program, limits, &mut source, outputs, &mut texts) {
+        Ok(Ended::Done) => SUCCESS,
+        Ok(end) => {
+            let _ = say_end(errors, end);
+            STOPPED
+        }
+        Err(_) => {
+            let _ = say_no_memory(errors);
+            REFUSED
+        }
+    }
+}

@@ -1,0 +1,61 @@
+//! The standard streams of the process as the program's devices.
+
+use crate::messages::{say_end, say_no_memory};
+use crate::program::{REFUSED, STOPPED, SUCCESS, stream};
+use sedengine::{Ended, Limits};
+use sedspace::{FromReader, ToWriter};
+use std::env;
+use std::io::{self, BufWriter, ErrorKind, Write};
+
+/// How many bytes are gathered before they are written to the standard output.
+const OUTPUT_ROOM: usize = 65536;
+
+/// The limits of the program: 1 MiB in each space, 4,096 entries of the queue, 64 KiB read ahead, 16,384 nodes of an
+/// expression, and more turns than a machine can take.
+pub(crate) fn program_limits() -> Limits {
+    match Limits::new(1 << 20, 4096, 65536, u64::MAX, 16384) {
+        Some(limits) => limits,
+        None => unreachable!(),
+    }
+}
+
+/// Runs the program over the standard streams, and gives its exit status.
+///
+/// When it returns, what was written has reached the standard output, or the status isn't 0.
+pub(crate) fn run(rt: &HostRuntime) -> u8 {
+    let mut errors = rt.stderr();
+    match words(rt) {
+        Ok(words) => run_words(rt, words.as_slice(), &mut errors),
+        Err(error) => {
+            let _ = match error.kind() {
+                ErrorKind::OutOfMemory => say_no_memory(&mut errors),
+                _ => writeln!(errors, "sed: a word of the command line is not UTF-8"),
+            };
+            REFUSED
+        }
+    }
+}
+
+/// The words after the program's name.
+fn words(rt: &HostRuntime) -> io::Result<Vec<String>> {
+    let words = env::args(rt)?.skip(1).collect(rt.alloc())?;
+    Ok(words)
+}
+
+fn run_words<E: Write>(rt: &HostRuntime, words: &[String], errors: &mut E) -> u8 {
+    let alloc = rt.alloc();
+    let Ok(mut output) = BufWriter::with_capacity(alloc, OUTPUT_ROOM, rt.stdout()) else {
+        let _ = say_no_memory(errors);
+        return REFUSED;
+    };
+    // The lines read straight into their own buffer, so the input needs none here.
+    let source = FromReader::new(rt.stdin());
+    let mut outputs = ToWriter::new(&mut output);
+    let status = stream(alloc, words, program_limits(), source, &mut outputs, errors);
+    let flushed = output.flush();
+    if status == SUCCESS && flushed.is_err() {
+        let _ = say_end(errors, Ended::OutputBroken(0));
+        return STOPPED;
+    }
+    status
+}

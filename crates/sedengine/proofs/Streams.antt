@@ -1,0 +1,183 @@
+-- What a call for a line does to the lines left.
+use Rattle.std.proofs.Common.{◌≡◌, ℕ, ◌+◌, ◌-◌, ◌<◌, ◌≤◌, ◌⊎◌, inl, inr, Bool, true, false, max, List, [], ◌∷◌, ◌++◌, length, Option, Some, None, Result, Ok, Err, refl, sym, subst, ap, ◌∙◌, arith, rules, length-append, append_assoc, append-nil}
+use Rattle.std.specs.Prelude.{OnOk}
+use Rattle.std.specs.Borrow.{GName}
+use Rattle.std.specs.List.{slice_split, onto_first}
+use Rattle.std.specs.Option.{option_map}
+use Rattle.std.specs.Io.KnownBytes.{prepend_known, Keeps}
+use Rattle.std.proofs.lemmas.List.Splits.{slice_split-cons_yes, slice_split-cons_no, length-slice_split}
+use Rattle.sedspace.specs.Failures.{Rose}
+use Rattle.sedspace.specs.Lines.{lines, is_newline, without_empty_last}
+use Rattle.sedspace.specs.Stream.{Stream, left, lines_left, GivesLine, NoneLeft, KeepsLines, TakesLine, TakesAtMost, TellsLast}
+use Rattle.sedengine.specs.Calls.{Reads}
+use Rattle.sedengine.specs.Devices.{FailedSource}
+use Rattle.sedengine.specs.Run.{size_of}
+use Rattle.sedengine.specs.Steps.{TakesLines}
+use Rattle.sedengine.specs.declared.ends.Ended.{Ended}
+use Rattle.sedengine.specs.declared.ends.Ended.TheVariants.{Done, PatternFull, TurnsSpent, InputBroken, OutputBroken}
+
+-- there is no line only where there is no byte
+some_piece : (b : ℕ) (ps : List (List ℕ)) → 0 < length ps → without_empty_last (onto_first b ps) ≡ [] → ⊥
+some_piece b [] some e = omega arith
+some_piece b (p ∷ ps) some e = cc
+
+piece_before : (ps : List (List ℕ)) → 0 < length ps → without_empty_last ([] ∷ ps) ≡ [] → ⊥
+piece_before [] some e = omega arith
+piece_before (p ∷ ps) some e = cc
+
+split_none : (b : ℕ) (bs : List ℕ) (is : Bool) → is_newline b ≡ is → without_empty_last (slice_split is_newline (b ∷ bs)) ≡ [] → ⊥
+split_none b bs true h e =
+    piece_before (slice_split is_newline bs) (omega (arith, length-slice_split is_newline bs)) (ap without_empty_last (sym (slice_split-cons_yes is_newline b bs h)) ∙ e)
+split_none b bs false h e =
+    some_piece b (slice_split is_newline bs) (omega (arith, length-slice_split is_newline bs)) (ap without_empty_last (sym (slice_split-cons_no is_newline b bs h)) ∙ e)
+
+lines_none : (bytes : List ℕ) → lines bytes ≡ [] → bytes ≡ []
+unfolding lines
+lines_none [] e = refl
+lines_none (b ∷ bs) e = absurd (split_none b bs (is_newline b) refl e)
+
+pub TakesAtMost-none : (old : Option (List ℕ)) → TakesAtMost old old 0
+TakesAtMost-none None = tt
+TakesAtMost-none (Some xs) = ([], refl, omega arith)
+
+TakesAtMost-kept : (old new : Option (List ℕ)) → Keeps old new → TakesAtMost old new 0
+TakesAtMost-kept None new h = tt
+TakesAtMost-kept (Some xs) None h = absurd h
+TakesAtMost-kept (Some xs) (Some ys) h = ([], sym h, omega arith)
+
+pub TakesAtMost-then : (a b c : Option (List ℕ)) (n m : ℕ) → TakesAtMost a b n → TakesAtMost b c m → TakesAtMost a c (n + m)
+TakesAtMost-then None b c n m h i = tt
+TakesAtMost-then (Some xs) None c n m h i = absurd h
+TakesAtMost-then (Some xs) (Some ys) None n m h i = absurd i
+TakesAtMost-then (Some xs) (Some ys) (Some zs) n m (t, e, f) (u, d, g) =
+    (t ++ u, e ∙ ap (λ l. t ++ l) d ∙ sym (append_assoc t u zs), omega (arith, length-append t u))
+
+-- The lines that are left stay.
+pub lines_stay : {R : Type 0} (remaining : R → Option (List ℕ)) (old new : Stream R) (ls : List (List ℕ)) → lines_left remaining old ≡ Some ls →
+    KeepsLines (lines_left remaining old) (lines_left remaining new) → Keeps (left remaining old) (left remaining new) → TakesLines remaining old new ls ls
+lines_stay {R} remaining old new ls known kept bytes =
+    let K : Option (List (List ℕ)) → Type 0 = λ o. KeepsLines o (lines_left remaining new) in
+    record { known = stay ls (lines_left remaining new) (subst K known kept); lines = []; are = refl; bytes = TakesAtMost-kept _ _ bytes }
+  where
+    stay : (ls : List (List ℕ)) (o : Option (List (List ℕ))) → KeepsLines (Some ls) o → o ≡ Some ls
+    stay ls None h = absurd h
+    stay ls (Some ms) h = ap Some h
+
+pub lines_same : {R : Type 0} (remaining : R → Option (List ℕ)) (old : Stream R) (ls : List (List ℕ)) → lines_left remaining old ≡ Some ls → TakesLines remaining old old ls ls
+lines_same {R} remaining old ls known = record { known = known; lines = []; are = refl; bytes = TakesAtMost-none _ }
+
+takes_line : (old new : Option (List ℕ)) (line : List ℕ) → TakesLine old new line → TakesAtMost old new (size_of (line ∷ []))
+takes_line None new line h = tt
+takes_line (Some xs) None line h = absurd h
+takes_line (Some xs) (Some ys) line (none, inl at) = (line ++ 10 ∷ [], at ∙ sym (append_assoc line (10 ∷ []) ys), omega (arith, length-append line (10 ∷ [])))
+takes_line (Some xs) (Some ys) line (none, inr (at, end, some)) = (line, at ∙ sym (append-nil line) ∙ ap (λ l. line ++ l) (sym end), omega arith)
+
+gives_line : (ls : List (List ℕ)) (new : Option (List (List ℕ))) (line : List ℕ) → GivesLine (Some ls) new line → (rest : List (List ℕ)) × (new ≡ Some rest) × (ls ≡ line ∷ rest)
+gives_line ls None line h = absurd h
+gives_line ls (Some rest) line h = (rest, refl, h)
+
+-- A line was taken.
+pub line_taken : {R : Type 0} (remaining : R → Option (List ℕ)) (old new : Stream R) (ls : List (List ℕ)) (line : List ℕ) → lines_left remaining old ≡ Some ls →
+    TakesLine (left remaining old) (left remaining new) line → GivesLine (lines_left remaining old) (lines_left remaining new) line →
+    (rest : List (List ℕ)) × (ls ≡ line ∷ rest) × TakesLines remaining old new ls rest
+line_taken {R} remaining old new ls line known bytes given =
+    let G : Option (List (List ℕ)) → Type 0 = λ o. GivesLine o (lines_left remaining new) line in
+    let r = gives_line ls (lines_left remaining new) line (subst G known given) in
+    (r.0, r.2, record { known = r.1; lines = line ∷ []; are = r.2; bytes = takes_line _ _ line bytes })
+
+no_lines : (o : Option (List (List ℕ))) (ls : List (List ℕ)) → o ≡ Some ls → NoneLeft o → ls ≡ []
+no_lines None ls e h = cc
+no_lines (Some ms) ls e h = let same : ms ≡ ls = cc in sym same ∙ h
+
+-- Nothing is left.
+all_taken : (ahead ahead' : List ℕ) (old new : Option (List ℕ)) (n : ℕ) → TakesAtMost old new n → (ls : List (List ℕ)) → option_map lines (prepend_known ahead old) ≡ Some ls →
+    NoneLeft (option_map lines (prepend_known ahead old)) → NoneLeft (option_map lines (prepend_known ahead' new)) →
+    (option_map lines (prepend_known ahead' new) ≡ Some []) × TakesAtMost (prepend_known ahead old) (prepend_known ahead' new) 0
+all_taken ahead ahead' None new n t ls known none none' = absurd (none_some ls known)
+  where
+    none_some : (ls : List (List ℕ)) → None ≡ Some ls → ⊥
+    none_some ls e = cc
+all_taken ahead ahead' (Some xs) None n t ls known none none' = absurd t
+all_taken ahead ahead' (Some xs) (Some ys) n t ls known none none' =
+    let old : ahead ++ xs ≡ [] = lines_none (ahead ++ xs) none in
+    let new : ahead' ++ ys ≡ [] = lines_none (ahead' ++ ys) none' in
+    (ap Some none', ([], old ∙ sym new, omega arith))
+
+pub lines_end : {R : Type 0} (remaining : R → Option (List ℕ)) (old new : Stream R) (n : ℕ) (ls : List (List ℕ)) → lines_left remaining old ≡ Some ls → TakesAtMost (remaining old.source) (remaining new.source) n →
+    NoneLeft (lines_left remaining old) → NoneLeft (lines_left remaining new) → (ls ≡ []) × TakesLines remaining old new ls []
+lines_end {R} remaining old new n ls known taken none none' =
+    let r = all_taken old.ahead new.ahead (remaining old.source) (remaining new.source) n taken ls known none none' in
+    let nil : ls ≡ [] = no_lines _ ls known none in
+    (nil, record { known = r.0; lines = []; are = nil; bytes = r.1 })
+
+size_of-append : (ls ms : List (List ℕ)) → size_of (ls ++ ms) ≡ size_of ls + size_of ms
+size_of-append [] ms = search rules
+size_of-append (l ∷ ls) ms = let h = size_of-append ls ms in omega arith
+
+-- lines taken one after another
+pub TakesLines-then : {R : Type 0} (remaining : R → Option (List ℕ)) (a b c : Stream R) (ls ms ns : List (List ℕ)) → TakesLines remaining a b ls ms → TakesLines remaining b c ms ns → TakesLines remaining a c ls ns
+TakesLines-then {R} remaining a b c ls ms ns s t = record {
+  known = t.known;
+  lines = s.lines ++ t.lines;
+  are = s.are ∙ ap (λ l. s.lines ++ l) t.are ∙ sym (append_assoc s.lines t.lines ns);
+  bytes = rw size_of-append (TakesAtMost-then _ _ _ _ _ s.bytes t.bytes);
+}
+
+FailedSource-then : (a b c : ℕ) (r : Result Unit Ended) → b ≡ a → FailedSource b c r → FailedSource a c r
+FailedSource-then a b c r same h = let P : ℕ → Type 0 = λ n. FailedSource n c r in subst P same h
+
+sound-then : (a b c : Type 0) (r : Result Unit Ended) → (a → b) → OnOk r (b → c) → OnOk r (a → c)
+sound-then a b c (Ok u) f g = λ x. g (f x)
+sound-then a b c (Err e) f g = tt
+
+shrinks-then : (a b c : Option (List ℕ)) → (n : ℕ) × TakesAtMost a b n → (n : ℕ) × TakesAtMost b c n → (n : ℕ) × TakesAtMost a c n
+shrinks-then a b c (n, h) (m, i) = (n + m, TakesAtMost-then a b c n m h i)
+
+-- one call after another
+pub Reads-then : {R : Type 0} (remaining : R → Option (List ℕ)) (failures : R → ℕ) (reference : R → GName) (a b c : Stream R) (r : Result Unit Ended) →
+    Reads remaining failures reference a b (Ok tt) → Reads remaining failures reference b c r → Reads remaining failures reference a c r
+Reads-then {R} remaining failures reference a b c r s t =
+    let h = s.ahead in
+    let i = t.ahead in
+    let look = s.same_look in
+    record {
+      same_look = t.same_look ∙ s.same_look;
+      same_reference = t.same_reference ∙ s.same_reference;
+      ahead = omega arith;
+      shrinks = shrinks-then _ _ _ s.shrinks t.shrinks;
+      sound = sound-then _ _ _ r s.sound t.sound;
+      failed = λ none. FailedSource-then _ _ _ r (s.failed none) (t.failed (s.sound none));
+    }
+
+pub Reads-none : {R : Type 0} (remaining : R → Option (List ℕ)) (failures : R → ℕ) (reference : R → GName) (a : Stream R) → Reads remaining failures reference a a (Ok tt)
+Reads-none {R} remaining failures reference a = record {
+  same_look = refl;
+  same_reference = refl;
+  ahead = omega arith;
+  shrinks = (0, TakesAtMost-none _);
+  sound = λ none. none;
+  failed = λ none. refl;
+}
+
+-- What left loses, the source loses with what is ahead.
+pub source_takes : (ahead ahead' : List ℕ) (old new : Option (List ℕ)) (n m : ℕ) → (k : ℕ) × TakesAtMost old new k → TakesAtMost (prepend_known ahead old) (prepend_known ahead' new) n →
+    length ahead' ≤ max (length ahead) m → TakesAtMost old new (n + m)
+source_takes ahead ahead' None new n m shrinks h bound = tt
+source_takes ahead ahead' (Some xs) None n m (k, i) h bound = absurd i
+source_takes ahead ahead' (Some xs) (Some ys) n m (k, (taken, is, count)) (gone, all, most) bound =
+    let first = ap length is in
+    let whole = ap length all in
+    (taken, is, omega (arith, first, whole, length-append taken ys, length-append ahead xs, length-append gone (ahead' ++ ys), length-append ahead' ys))
+
+-- no line is left where that is told
+pub last_told : (o : Option (List (List ℕ))) (ls : List (List ℕ)) (last : Bool) → o ≡ Some ls → TellsLast o last → last ≡ true → ls ≡ []
+last_told None ls last known told is = cc
+last_told (Some ms) ls last known told is =
+    let same : ms ≡ ls = cc in
+    let none : ms ≡ [] = grind (arith, told) in
+    sym same ∙ none
+
+pub TakesAtMost-more : (old new : Option (List ℕ)) (n m : ℕ) → n ≤ m → TakesAtMost old new n → TakesAtMost old new m
+TakesAtMost-more None new n m h t = tt
+TakesAtMost-more (Some xs) None n m h t = absurd t
+TakesAtMost-more (Some xs) (Some ys) n m h (t, is, most) = (t, is, omega arith)

@@ -1,0 +1,66 @@
+use Rattle.std.proofs.Common.{◌≡◌, ◌∙◌, ◌+◌, ◌<◌, false, refl, sym, ap, subst, Ok, arith}
+use Rattle.sedengine.specs.State.{State}
+use Rattle.sedengine.specs.Inside.{run_of}
+use Rattle.sedengine.specs.Ends.{Fits}
+use Rattle.sedengine.specs.Run.{Run, at_lines, setting, starts_cycle}
+use Rattle.sedengine.proofs.Writing.{Writes-none, Writes-then}
+use Rattle.sedengine.proofs.Streams.{Reads-none, Reads-then}
+use Rattle.sedengine.proofs.Runs.{Reached, Reached-none, KeepsRun-then, step_on, stop_on, one_more, cycled}
+use Rattle.sedengine.proofs.Tasks.{fits_of}
+use Rattle.sedengine.proofs.engine.Engine.moves_of_cycle.Goals as goal
+
+pub moves-init : goal.moves-init
+moves-init g c = record {
+  same = record { script = refl; limits = refl; ended = refl };
+  input = Reads-none _ _ _ _;
+  output = Writes-none _ _ _;
+  reached = λ sound ls known files.
+      let P : Run → Type 0 = λ e. Fits e.limits (at_lines e ls) in
+      (Reached-none _ _ _ _ c.args.self.now ls _ known (subst P c.self.view_is (fits_of c.self.inside ls c.self.invariant)), λ k some lt. absurd (omega arith));
+}
+
+pub returns-in-Err-clause-input : goal.returns-in-Err-clause-input
+returns-in-Err-clause-input g c = Reads-then _ _ _ _ _ _ _ c.moves.invariant.input c.in-Err.ensures.input
+
+pub returns-in-Err-clause-cycles : goal.returns-in-Err-clause-cycles
+returns-in-Err-clause-cycles g c = λ sound ls known files.
+    let h = c.moves.invariant in
+    let reached = h.reached sound ls known files in
+    let r = reached.0 in
+    let input = Reads-then _ _ _ _ _ _ _ h.input c.step.ensures.input in
+    record {
+      ending = stop_on g.R.ByteSource.remaining c.args.lines.now c.moves.lines c.step.new.lines files c.args.self.now _ c.moves.self _ _ _ h.same r c.step.new.self c.in-Err.end
+          (c.in-Err.ensures.steps (h.input.sound sound) r.rest r.taken.known files) input.shrinks input.ahead c.requires.look;
+      one = reached.1;
+    }
+
+pub returns-then-at_start-clause-input : goal.returns-then-at_start-clause-input
+returns-then-at_start-clause-input g c = Reads-then _ _ _ _ _ _ _ c.moves.invariant.input c.in_default.ensures.input
+
+pub returns-then-at_start-clause-cycles : goal.returns-then-at_start-clause-cycles
+returns-then-at_start-clause-cycles g c = λ sound ls known files.
+    let h = c.moves.invariant in
+    let reached = h.reached sound ls known files in
+    let r = reached.0 in
+    let input = Reads-then _ _ _ _ _ _ _ h.input c.in_default.ensures.input in
+    let next : Reached g.R.ByteSource.remaining c.args.lines.now c.step.new.lines _ (setting c.args.self.now files) (at_lines c.args.self.now ls) c.step.new.self _ _ =
+    step_on g.R.ByteSource.remaining c.args.lines.now c.moves.lines c.step.new.lines files c.args.self.now _ c.moves.self _ _ _ h.same r c.step.new.self
+    (c.in_default.ensures.steps (h.input.sound sound) r.rest r.taken.known files) in
+    cycled g.R.ByteSource.remaining c.args.lines.now c.step.new.lines _ _ _ c.step.new.self _ _ r.t next refl reached.1 (sym c.at_start.ensures ∙ c.if-at_start.true)
+    input.shrinks input.ahead c.requires.look
+
+pub moves-preserved : goal.moves-preserved
+moves-preserved g c =
+    let h = c.moves.invariant in
+    record {
+      same = KeepsRun-then h.same c.step.ensures.same;
+      input = Reads-then _ _ _ _ _ _ _ h.input c.in_default.ensures.input;
+      output = Writes-then _ _ _ _ _ _ h.output c.in_default.ensures.output;
+      reached = λ sound ls known files.
+          let reached = h.reached sound ls known files in
+          let r = reached.0 in
+          let next : Reached g.R.ByteSource.remaining c.args.lines.now c.step.new.lines _ (setting c.args.self.now files) (at_lines c.args.self.now ls) c.step.new.self _ _ =
+          step_on g.R.ByteSource.remaining c.args.lines.now c.moves.lines c.step.new.lines files c.args.self.now _ c.moves.self _ _ _ h.same r c.step.new.self
+          (c.in_default.ensures.steps (h.input.sound sound) r.rest r.taken.known files) in
+          (next, one_more _ _ r.t reached.1 (ap (λ (s : State). starts_cycle s.tasks) next.is ∙ sym c.at_start.ensures ∙ c.if-at_start.false));
+    }

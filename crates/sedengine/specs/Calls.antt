@@ -1,0 +1,27 @@
+-- What private calls do to the devices that they are given.
+use Rattle.std.specs.Prelude.{◌≡◌, ℕ, ◌≤◌, max, Option, Some, None, Result, Ok, Err, OnOk, List, length, take, slice_get}
+use Rattle.std.specs.Borrow.{GName}
+use Rattle.sedspace.specs.Stream.{Stream, TakesAtMost}
+use Rattle.sedengine.specs.Devices.{FailedSink, FailedSource}
+use Rattle.sedengine.specs.declared.ends.Ended.{Ended}
+use Rattle.sedengine.specs.declared.ends.Ended.TheVariants.{OutputBroken}
+
+-- All of these bytes were written, or a sink failed where one of them was due.
+abbrev pub Puts : (List (ℕ × ℕ) → Type 0) → List (ℕ × ℕ) → Result Unit Ended → Type 0
+Puts gained out (Ok u) = gained out
+Puts gained out (Err end) =
+    (k : ℕ) × (b : ℕ) × (byte : ℕ) × (end ≡ OutputBroken k) × (slice_get out b ≡ Some (k, byte)) × gained (take b out)
+
+-- A call that may write: there are as many sinks as before, and one has failed only where the answer names it.
+pub record Writes {O : Type 0} (failures : O → ℕ → ℕ) (count : O → ℕ) (old new : O) (result : Result Unit Ended) : Type 0 where
+  pub same_count : count new ≡ count old
+  pub failed : FailedSink (failures old) (failures new) result
+
+-- A call that may read. What it says of faults is for lines that have answered none before.
+pub record Reads {R : Type 0} (remaining : R → Option (List ℕ)) (failures : R → ℕ) (reference : R → GName) (old new : Stream R) (result : Result Unit Ended) : Type 0 where
+  pub same_look : new.look ≡ old.look
+  pub same_reference : reference new.source ≡ reference old.source
+  pub ahead : length new.ahead ≤ max (length old.ahead) old.look
+  pub shrinks : (n : ℕ) × TakesAtMost (remaining old.source) (remaining new.source) n
+  pub sound : OnOk result (old.fault ≡ None → new.fault ≡ None)
+  pub failed : old.fault ≡ None → FailedSource (failures old.source) (failures new.source) result

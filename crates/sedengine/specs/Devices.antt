@@ -1,0 +1,28 @@
+-- What a run does to its devices: the bytes that sinks gain, and the failures, whether devices tell their bytes or not
+-- (this project's own).
+use Rattle.std.specs.Prelude.{◌≡◌, ℕ, Option, Result, Ok, Err, List, [], ◌∷◌, nat_eq, if◌then◌else◌}
+use Rattle.std.specs.Io.KnownBytes.{Appends}
+use Rattle.sedspace.specs.Failures.{Rose}
+use Rattle.sedengine.specs.declared.ends.Ended.{Ended}
+use Rattle.sedengine.specs.declared.ends.Ended.TheVariants.{InputBroken, OutputBroken}
+
+-- the bytes of one sink among bytes for all
+abbrev pub part : ℕ → List (ℕ × ℕ) → List ℕ
+part k [] = []
+part k ((sink, byte) ∷ out) = if nat_eq sink k then byte ∷ part k out else part k out
+
+-- each sink whose contents are known has gained exactly its part
+pub record Gained (old new : ℕ → Option (List ℕ)) (out : List (ℕ × ℕ)) : Type 0 where
+  pub each : (k : ℕ) → Appends (old k) (new k) (part k out)
+
+-- No sink has failed where the run goes on, and one that an end names has.
+abbrev pub FailedSink : (ℕ → ℕ) → (ℕ → ℕ) → Result Unit Ended → Type 0
+FailedSink old new (Ok u) = (k : ℕ) → new k ≡ old k
+FailedSink old new (Err (OutputBroken k)) = Rose (old k) (new k)
+FailedSink old new (Err _) = Unit {0}
+
+-- The source hasn't failed where the run goes on, and has where an end says so.
+abbrev pub FailedSource : ℕ → ℕ → Result Unit Ended → Type 0
+FailedSource old new (Ok u) = new ≡ old
+FailedSource old new (Err InputBroken) = Rose old new
+FailedSource old new (Err _) = Unit {0}

@@ -1,0 +1,110 @@
+-- How a run ends: the limits, the ends and their causes (this project's own; XCU sed names no limits).
+use Rattle.std.specs.Prelude.{◌≡◌, ℕ, suc, ◌+◌, ◌<◌, ◌≤◌, Bool, true, false, Option, Some, None, List, [], ◌∷◌, length, take, slice_get, is_some}
+use Rattle.sedengine.specs.State.{Task, begin, rebegin, do_at, print_pattern, empty_pattern, flush, copy, fetch, join, State, Move, Setting}
+use Rattle.sedengine.specs.Move.{move, after, written}
+use Rattle.sedengine.specs.declared.limits.Limits.{Limits}
+use Rattle.sedengine.specs.declared.ends.Ended.{Ended}
+use Rattle.sedengine.specs.declared.ends.Ended.TheVariants.{Done, PatternFull, TurnsSpent, InputBroken, OutputBroken}
+
+-- a state within the limits
+pub record Fits (l : Limits) (s : State) : Type 0 where
+  pub pattern : length s.pattern ≤ l.space
+  pub hold : length s.hold ≤ l.space
+  pub queue : length s.queue ≤ l.queue
+  pub turns : s.turns ≤ l.turns
+
+-- each state up to the one after t moves is
+unfoldable pub Within : Limits → Setting → State → ℕ → Type 0
+Within l g s t = (k : ℕ) → k ≤ t → Fits l (after g s k)
+
+abbrev pub any_left : List (List ℕ) → Bool
+any_left [] = false
+any_left (line ∷ lines) = true
+
+-- whether the first task takes a turn: the start of a cycle that has a line, a command, a byte of a file
+abbrev pub takes_turn : Setting → State → List Task → Bool
+takes_turn g s [] = false
+takes_turn g s (begin ∷ rest) = any_left s.lines
+takes_turn g s (rebegin ∷ rest) = true
+takes_turn g s (do_at k ∷ rest) = is_some (slice_get g.commands k)
+takes_turn g s (copy k o ∷ rest) = is_some (slice_get (g.files k) o)
+takes_turn g s (print_pattern ∷ rest) = false
+takes_turn g s (empty_pattern ∷ rest) = false
+takes_turn g s (flush ∷ rest) = false
+takes_turn g s (fetch ∷ rest) = false
+takes_turn g s (join ∷ rest) = false
+
+-- a first task that takes a turn has one left
+abbrev pub HasTurn : Limits → Setting → State → Type 0
+HasTurn l g s = takes_turn g s s.tasks ≡ true → s.turns < l.turns
+
+-- the line that the first task is about: that of the state, or the one that it fetches
+abbrev pub line_at : State → List Task → ℕ
+line_at s [] = s.number
+line_at s (begin ∷ rest) = s.number + 1
+line_at s (fetch ∷ rest) = s.number + 1
+line_at s (join ∷ rest) = s.number + 1
+line_at s (rebegin ∷ rest) = s.number
+line_at s (do_at k ∷ rest) = s.number
+line_at s (copy k o ∷ rest) = s.number
+line_at s (print_pattern ∷ rest) = s.number
+line_at s (empty_pattern ∷ rest) = s.number
+line_at s (flush ∷ rest) = s.number
+
+-- whether the first task looks at the input
+abbrev pub reads : List Task → Bool
+reads [] = false
+reads (begin ∷ rest) = true
+reads (fetch ∷ rest) = true
+reads (join ∷ rest) = true
+reads (rebegin ∷ rest) = false
+reads (do_at k ∷ rest) = false
+reads (copy k o ∷ rest) = false
+reads (print_pattern ∷ rest) = false
+reads (empty_pattern ∷ rest) = false
+reads (flush ∷ rest) = false
+
+-- there is a move, and what it leads to is so
+abbrev pub Leads : Option Move → (Move → Type 0) → Type 0
+Leads o P = (m : Move) × (o ≡ Some m) × P m
+
+-- the sink that an end names as broken
+abbrev pub broken_sink : Ended → Option ℕ
+broken_sink (OutputBroken k) = Some k
+broken_sink Done = None
+broken_sink (PatternFull n) = None
+broken_sink TurnsSpent = None
+broken_sink InputBroken = None
+
+-- The cause of an end, at the state where it comes. For a broken output it is in what the sinks hold.
+abbrev pub IsCause : Limits → Setting → State → Ended → Type 0
+IsCause l g s Done = s.tasks ≡ []
+IsCause l g s (PatternFull n) =
+    (n ≡ line_at s s.tasks) × HasTurn l g s × Leads (move g s) (λ m. l.space < length m.next.pattern)
+IsCause l g s TurnsSpent = (s.turns ≡ l.turns) × (takes_turn g s s.tasks ≡ true)
+IsCause l g s InputBroken = reads s.tasks ≡ true
+IsCause l g s (OutputBroken k) = Unit {0}
+
+-- The end comes after t moves. The sinks have gained all that these moves write.
+pub record Whole (l : Limits) (g : Setting) (s : State) (gained : List (ℕ × ℕ) → Type 0) (end : Ended) (t : ℕ) : Type 0 where
+  pub within : Within l g s t
+  pub sinks : gained (written g s t)
+  pub cause : IsCause l g (after g s t) end
+
+-- The end comes in the next move. The sinks have gained the first b of the bytes, and the next one is for sink k.
+pub record Cut (l : Limits) (g : Setting) (s : State) (gained : List (ℕ × ℕ) → Type 0) (k : ℕ) (t : ℕ) : Type 0 where
+  pub within : Within l g s (suc t)
+  pub b : ℕ
+  pub byte : ℕ
+  pub past : length (written g s t) ≤ b
+  pub due : slice_get (written g s (suc t)) b ≡ Some (k, byte)
+  pub sinks : gained (take b (written g s (suc t)))
+
+-- whole, or cut where one sink is broken
+abbrev pub WholeOrCut : Limits → Setting → State → (List (ℕ × ℕ) → Type 0) → Ended → ℕ → Option ℕ → Type 0
+WholeOrCut l g s gained end t None = Whole l g s gained end t
+WholeOrCut l g s gained end t (Some k) = Cut l g s gained k t
+
+-- The end has its cause after t moves from the state s, where the sinks gained what `gained` says.
+abbrev pub Cause : Limits → Setting → State → (List (ℕ × ℕ) → Type 0) → Ended → ℕ → Type 0
+Cause l g s gained end t = WholeOrCut l g s gained end t (broken_sink end)

@@ -1,0 +1,11 @@
+pub mod Calls
+pub mod Devices
+pub mod Ends
+pub mod Held
+pub mod Inside
+pub mod Limits
+pub mod Move
+pub mod Run
+pub mod Select
+pub mod State
+pub mod Steps

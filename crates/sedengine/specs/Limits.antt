@@ -1,0 +1,22 @@
+-- The limits of a run (this project's own).
+use Rattle.std.specs.Prelude.{◌≤◌, ◌^◌, ℕ}
+
+pub record Limits : Type 0 where
+  pub space : ℕ  -- bytes in each of the spaces
+  pub queue : ℕ  -- entries of the queue
+  pub look : ℕ  -- bytes read ahead
+  pub turns : ℕ  -- turns of a run
+  pub nodes : ℕ  -- nodes of an expression
+
+abbrev pub limits_of : ℕ → ℕ → ℕ → ℕ → ℕ → Limits
+limits_of space queue look turns nodes = record { space = space; queue = queue; look = look; turns = turns; nodes = nodes }
+
+-- each number is in its range
+pub record AreLimits (l : Limits) : Type 0 where
+  pub some_space : 1 ≤ l.space
+  pub most_space : l.space ≤ 2 ^ 30
+  pub most_queue : l.queue ≤ 2 ^ 24
+  pub some_look : 1 ≤ l.look
+  pub most_look : l.look ≤ 2 ^ 30
+  pub some_nodes : 1 ≤ l.nodes
+  pub most_nodes : l.nodes ≤ 65536

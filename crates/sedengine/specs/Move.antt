@@ -1,0 +1,129 @@
+-- How the editor moves from one state to the next (XCU sed, Extended Description). Nothing is limited here.
+use Rattle.std.specs.Prelude.{ℕ, suc, zero, ◌+◌, Bool, false, Option, Some, None, List, [], ◌∷◌, ◌++◌, map, slice_get, if◌then◌else◌}
+use Rattle.sedscript.specs.declared.types.Command.{Command}
+use Rattle.sedscript.specs.declared.types.Action.{Action}
+use Rattle.sedscript.specs.declared.types.Action.TheVariants.{Print, Delete}
+use Rattle.sedengine.specs.Select.{selects}
+use Rattle.sedengine.specs.State.{Entry, text, file, Task, begin, rebegin, do_at, print_pattern, empty_pattern, flush, copy, fetch, join, State, Move, Setting}
+
+abbrev pub newline : ℕ
+newline = 10
+
+-- bytes, each for this sink
+abbrev pub to_sink : ℕ → List ℕ → List (ℕ × ℕ)
+to_sink k [] = []
+to_sink k (b ∷ bs) = (k, b) ∷ to_sink k bs
+
+-- bytes and a newline, for this sink: whenever the pattern space is written, a newline follows it
+abbrev pub line_to : ℕ → List ℕ → List (ℕ × ℕ)
+line_to k bs = to_sink k (bs ++ newline ∷ [])
+
+-- a move that writes these bytes, and one that writes nothing
+abbrev pub writing : List (ℕ × ℕ) → State → Option Move
+writing bytes s = Some (record { next = s; writes = bytes })
+
+abbrev pub quietly : State → Option Move
+quietly s = writing [] s
+
+-- the state with these tasks
+abbrev pub then_do : List Task → State → State
+then_do tasks s = record s { tasks = tasks }
+
+-- the next line has come: the line number counts it, and the function t forgets
+abbrev pub with_line : List ℕ → List (List ℕ) → State → State
+with_line pattern rest s = record s { lines = rest; number = s.number + 1; pattern = pattern; replaced = false }
+
+-- what is done at the end of the script
+abbrev pub at_end : List Task
+at_end = print_pattern ∷ flush ∷ empty_pattern ∷ begin ∷ []
+
+-- a cycle starts with the next line; where there is none the run ends
+abbrev pub begins : State → List (List ℕ) → Option Move
+begins s [] = quietly (then_do [] s)
+begins s (line ∷ rest) = quietly (then_do (do_at 0 ∷ []) (record (with_line line rest s) { turns = s.turns + 1 }))
+
+-- the queue is written in the order in which its entries were made
+abbrev pub flushes : State → List Task → List Entry → Option Move
+flushes s rest [] = quietly (then_do rest s)
+flushes s rest (text bytes ∷ queue) = writing (line_to 0 bytes) (record s { queue = queue; tasks = flush ∷ rest })
+flushes s rest (file k ∷ queue) = quietly (record s { queue = queue; tasks = copy k 0 ∷ flush ∷ rest })
+
+-- a file's bytes are written as they are
+abbrev pub copies : State → List Task → ℕ → ℕ → Option ℕ → Option Move
+copies s rest k o None = quietly (then_do rest s)
+copies s rest k o (Some b) = writing ((0, b) ∷ []) (record s { tasks = copy k (o + 1) ∷ rest; turns = s.turns + 1 })
+
+-- the next line replaces the pattern space, or is appended to it; where there is none the run ends
+abbrev pub fetches : State → List Task → List (List ℕ) → Option Move
+fetches s rest [] = quietly (then_do [] s)
+fetches s rest (line ∷ lines) = quietly (then_do rest (with_line line lines s))
+
+abbrev pub joins : State → List Task → List (List ℕ) → Option Move
+joins s rest [] = quietly (then_do [] s)
+joins s rest (line ∷ lines) = quietly (then_do rest (with_line (s.pattern ++ newline ∷ line) lines s))
+
+-- What a command does that applies (XCU sed, Editing Commands in sed). The state has taken the turn, and goes on
+-- behind the command unless a case says otherwise.
+abbrev pub acts : State → Action → Option Move
+acts s Print = writing (line_to 0 s.pattern) s
+acts s Delete = quietly (record s { pattern = []; tasks = flush ∷ begin ∷ [] })
+
+-- the state that has come to command k: the turn is taken, and the next task is the next command
+abbrev pub come : State → ℕ → State
+come s k = record s { tasks = do_at (k + 1) ∷ []; turns = s.turns + 1 }
+
+-- a command, selected or not, or the end of the script
+abbrev pub comes_to : State → ℕ → Option Command → Option Move
+comes_to s k None = quietly (then_do at_end s)
+comes_to s k (Some c) = if selects c.first s.number then acts (come s k) c.action else quietly (come s k)
+
+-- by the first task
+abbrev pub first_task : Setting → State → List Task → Option Move
+first_task g s [] = None
+first_task g s (begin ∷ rest) = begins s s.lines
+first_task g s (rebegin ∷ rest) = quietly (record s { tasks = do_at 0 ∷ []; turns = s.turns + 1 })
+first_task g s (do_at k ∷ rest) = comes_to s k (slice_get g.commands k)
+first_task g s (print_pattern ∷ rest) = writing (if g.quiet then [] else line_to 0 s.pattern) (then_do rest s)
+first_task g s (empty_pattern ∷ rest) = quietly (record s { pattern = []; tasks = rest })
+first_task g s (flush ∷ rest) = flushes s rest s.queue
+first_task g s (copy k o ∷ rest) = copies s rest k o (slice_get (g.files k) o)
+first_task g s (fetch ∷ rest) = fetches s rest s.lines
+first_task g s (join ∷ rest) = joins s rest s.lines
+
+-- a state that has ended has no move
+unfoldable pub move : Setting → State → Option Move
+move g s = first_task g s s.tasks
+
+-- a state that has no move stays, and writes nothing
+abbrev pub next_or_stay : State → Option Move → State
+next_or_stay s None = s
+next_or_stay s (Some m) = m.next
+
+abbrev pub writes_of : Option Move → List (ℕ × ℕ)
+writes_of None = []
+writes_of (Some m) = m.writes
+
+-- the state after t moves
+unfoldable pub after : Setting → State → ℕ → State
+after g s zero = s
+after g s (suc t) = next_or_stay (after g s t) (move g (after g s t))
+
+-- what the first t moves write, for all sinks jointly
+unfoldable pub written : Setting → State → ℕ → List (ℕ × ℕ)
+written g s zero = []
+written g s (suc t) = written g s t ++ writes_of (move g (after g s t))
+
+-- where a run starts
+abbrev pub start : List Command → List (List ℕ) → State
+start commands lines = record {
+  lines = lines;
+  number = 0;
+  pattern = [];
+  hold = [];
+  replaced = false;
+  queue = [];
+  ranges = map (λ _. false) commands;
+  used = None;
+  tasks = begin ∷ [];
+  turns = 0;
+}

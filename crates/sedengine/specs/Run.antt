@@ -1,0 +1,115 @@
+-- The engine as its callers see it, and what a run of it comes to (this project's own).
+use Rattle.std.specs.Prelude.{◌≡◌, ℕ, ◌+◌, ◌<◌, Bool, true, false, Option, Some, None, Result, Ok, Err, unwrap_or, List, [], ◌∷◌, ◌++◌, length}
+use Rattle.sedscript.specs.Script.{Program}
+use Rattle.sedspace.specs.Stream.{TakesAtMost}
+use Rattle.sedengine.specs.Limits.{Limits}
+use Rattle.sedengine.specs.State.{Task, begin, rebegin, do_at, print_pattern, empty_pattern, flush, copy, fetch, join, State, Setting}
+use Rattle.sedengine.specs.Move.{after, written}
+use Rattle.sedengine.specs.Ends.{Within, Cause, broken_sink}
+use Rattle.sedengine.specs.Held.{HoldsAt}
+use Rattle.sedengine.specs.declared.ends.Ended.{Ended}
+use Rattle.sedengine.specs.declared.ends.Ended.TheVariants.{Done, PatternFull, TurnsSpent, InputBroken, OutputBroken}
+use Rattle.sedengine.specs.declared.ends.Progress.{Progress}
+use Rattle.sedengine.specs.declared.ends.Progress.TheVariants as progress
+
+-- an engine: its script, its limits, its state without the lines, and the end that its run came to
+pub record Run : Type 0 where
+  pub script : Program
+  pub limits : Limits
+  pub state : State
+  pub ended : Option Ended
+
+-- its state with the lines that are left
+abbrev pub at_lines : Run → List (List ℕ) → State
+at_lines e ls = record e.state { lines = ls }
+
+abbrev pub setting_of : Program → (ℕ → List ℕ) → Setting
+setting_of p files = record { commands = p.commands; quiet = p.quiet; files = files }
+
+-- what doesn't change in its run
+abbrev pub setting : Run → (ℕ → List ℕ) → Setting
+setting e files = setting_of e.script files
+
+-- the files, by what their texts tell
+abbrev pub files_in : (ℕ → Option (List ℕ)) → ℕ → List ℕ
+files_in texts k = unwrap_or (texts k) []
+
+-- the bytes of lines, a newline counted with each
+abbrev pub size_of : List (List ℕ) → ℕ
+size_of [] = 0
+size_of (line ∷ lines) = length line + 1 + size_of lines
+
+-- The first t moves took these lines. From the source were taken their bytes, and at most so many more.
+pub record Takes (g : Setting) (s : State) (old new : Option (List ℕ)) (more : ℕ) (t : ℕ) : Type 0 where
+  pub lines : List (List ℕ)
+  pub are : s.lines ≡ lines ++ (after g s t).lines
+  pub bytes : TakesAtMost old new (size_of lines + more)
+
+-- how many more: what is read ahead, and of a line that isn't given what a space and a newline can hold
+abbrev pub more_at : Limits → Ended → ℕ
+more_at l (PatternFull n) = l.space + 1 + l.look
+more_at l InputBroken = l.space + 1 + l.look
+more_at l Done = l.look
+more_at l TurnsSpent = l.look
+more_at l (OutputBroken k) = l.look
+
+-- A run from the state s came to this end: after some moves, which took lines from the source and led to the state
+-- `now`. `gained` says what the sinks gained, and `old` and `new` what the source had still to give.
+pub record Ending (l : Limits) (g : Setting) (s : State) (gained : List (ℕ × ℕ) → Type 0) (old new : Option (List ℕ)) (now : State) (end : Ended) : Type 0 where
+  pub t : ℕ
+  pub cause : Cause l g s gained end t
+  pub takes : Takes g s old new (more_at l end) t
+  pub holds : HoldsAt g s t now (broken_sink end)
+
+-- whether a cycle starts with the first task
+abbrev pub starts_cycle : List Task → Bool
+starts_cycle [] = false
+starts_cycle (begin ∷ rest) = true
+starts_cycle (rebegin ∷ rest) = true
+starts_cycle (do_at k ∷ rest) = false
+starts_cycle (print_pattern ∷ rest) = false
+starts_cycle (empty_pattern ∷ rest) = false
+starts_cycle (flush ∷ rest) = false
+starts_cycle (copy k o ∷ rest) = false
+starts_cycle (fetch ∷ rest) = false
+starts_cycle (join ∷ rest) = false
+
+-- no cycle starts between the first of t moves and the last
+abbrev pub InOneCycle : Setting → State → ℕ → Type 0
+InOneCycle g s t = (k : ℕ) → 0 < k → k < t → starts_cycle (after g s k).tasks ≡ false
+
+-- One cycle was made from the state s: at least one move, up to where the next cycle starts.
+pub record Cycled (l : Limits) (g : Setting) (s : State) (gained : List (ℕ × ℕ) → Type 0) (old new : Option (List ℕ)) (now : State) : Type 0 where
+  pub t : ℕ
+  pub some : 0 < t
+  pub is : after g s t ≡ now
+  pub next : starts_cycle now.tasks ≡ true
+  pub one : InOneCycle g s t
+  pub within : Within l g s t
+  pub sinks : gained (written g s t)
+  pub takes : Takes g s old new l.look t
+
+-- The end came within one cycle.
+pub record EndingInCycle (l : Limits) (g : Setting) (s : State) (gained : List (ℕ × ℕ) → Type 0) (old new : Option (List ℕ)) (now : State) (end : Ended) : Type 0 where
+  pub ending : Ending l g s gained old new now end
+  pub one : InOneCycle g s (ending.t + 1)
+
+-- What one cycle answers; `left` are the lines left after it.
+abbrev pub Cycles : Limits → Setting → State → (List (ℕ × ℕ) → Type 0) → Option (List ℕ) → Option (List ℕ) → Run → Option (List (List ℕ)) → Progress → Type 0
+Cycles l g s gained old new e left progress.More = (rest : List (List ℕ)) × (left ≡ Some rest) × Cycled l g s gained old new (at_lines e rest)
+Cycles l g s gained old new e left (progress.Ended end) = EndingInCycle l g s gained old new e.state end
+
+-- the end that a cycle answers
+abbrev pub end_of : Progress → Option Ended
+end_of progress.More = None
+end_of (progress.Ended end) = Some end
+
+-- the same as single moves answer it: Ok where the run goes on
+abbrev pub outcome : Progress → Result Unit Ended
+outcome progress.More = Ok tt
+outcome (progress.Ended end) = Err end
+
+-- what a run leaves as it is
+pub record SameRun (old new : Run) : Type 0 where
+  pub script : new.script ≡ old.script
+  pub limits : new.limits ≡ old.limits

@@ -1,0 +1,49 @@
+//! How a run goes on and ends, and what it holds.
+ghost use Rattle.std.specs.Prelude.{◌≡◌};
+ghost use Rattle.sedengine.specs.Held.{total_of};
+
+/// How a run ended. Lines are counted from 1, as the line number is.
+#[derive(Clone, Copy, Debug, PartialEq, Eq)]
+pub enum Ended {
+    /// F0: the script ran over the whole input.
+    Done,
+    /// F1: the next line, which is the one of this number, or what a command makes on this line is longer than the
+    /// pattern space may be.
+    PatternFull(u64),
+    /// F4: all turns were taken, and a further one is due.
+    TurnsSpent,
+    /// F6: the source failed.
+    InputBroken,
+    /// F7: this sink failed.
+    OutputBroken(usize),
+}
+
+/// What one cycle led to.
+#[derive(Clone, Copy, Debug, PartialEq, Eq)]
+pub enum Progress {
+    /// A next cycle is due.
+    More,
+    /// The run has ended.
+    Ended(Ended),
+}
+
+/// What an engine holds: the bytes in its three spaces, the bytes that are read ahead, counted with their whole room,
+/// and the entries of the queue.
+#[derive(Clone, Copy, Debug, PartialEq, Eq)]
+pub struct Held {
+    pub pattern: usize,
+    pub hold: usize,
+    pub build: usize,
+    pub look: usize,
+    pub queue: usize,
+}
+
+impl Held {
+    /// The bytes in all, 8 for each entry of the queue.
+    pub fn total(&self) -> u128
+        ensures { result ≡ total_of self.now }
+    {
+        let spaces = self.pattern as u128 + self.hold as u128 + self.build as u128;
+        spaces + self.look as u128 + 8 * self.queue as u128
+    }
+}

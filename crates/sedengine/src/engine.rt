@@ -1,0 +1,171 @@
+//! The engine: its parts, and the calls that run it.
+ghost use Rattle.std.specs.Prelude.{◌≡◌, ◌<◌, ◌≤◌, [], None, Some, Ok, Err, IfOk, IfSome, IsNone, length, ℕ, Option, List};
+ghost use Rattle.std.specs.Option.{ForSome};
+ghost use Rattle.std.specs.Io.KnownBytes.{Keeps};
+ghost use Rattle.sedspace.specs.Failures.{Rose};
+ghost use Rattle.sedspace.specs.Stream.{lines_left};
+ghost use Rattle.sedengine.specs.Move.{start};
+ghost use Rattle.sedengine.specs.Devices.{Gained, FailedSink, FailedSource};
+ghost use Rattle.sedengine.specs.Held.{total_of, bound_of};
+ghost use Rattle.sedengine.specs.Run.{outcome, Cycles, Ending, SameRun, at_lines, end_of, files_in, setting};
+
+mod commands;
+mod moves;
+mod tasks;
+
+use crate::ends::{Ended, Held, Progress};
+use crate::limits::Limits;
+use crate::place::Place;
+use sedscript::script::Script;
+use sedspace::{ByteSource, Lines, Outputs, Queue, Space, Texts};
+use std::alloc::{AllocError, Global};
+use std::marker::Model;
+
+/// An editor that runs a script over the lines of a stream.
+///
+/// Contracts see it as a `Run`: its script, its limits, its state without the lines, and its end.
+#[derive(Drop)]
+pub struct Engine {
+    script: Script,
+    limits: Limits,
+    pattern: Space,
+    hold: Space,
+    build: Space,
+    queue: Queue,
+    number: u64,
+    turns: u64,
+    place: Place,
+    ended: Option<Ended>,
+}
+
+impl Model for Engine {
+    ghost use Rattle.sedengine.specs.Run.{Run};
+    ghost use Rattle.sedengine.specs.Inside.{run_of, IsRun};
+
+    ghost Value = { Run };
+
+    ghost view = { run_of };
+
+    ghost invariant = { IsRun };
+}
+
+impl Engine {
+    /// An engine that stands at the start of a run. It reserves all the memory that its run takes.
+    pub fn open(alloc: Global, script: Script, limits: Limits) -> Result<Engine, AllocError>
+        requires { script.max_nodes ≤ limits.nodes }
+        ensures { IfOk result (λ e. e ≡ record { script = script; limits = limits; state = start script.commands []; ended = None }) }
+    {
+        let space = limits.space();
+        Ok(Engine {
+            script,
+            limits,
+            pattern: Space::new(alloc, space)?,
+            hold: Space::new(alloc, space)?,
+            build: Space::new(alloc, space)?,
+            queue: Queue::new(alloc, limits.queue())?,
+            number: 0,
+            turns: 0,
+            place: Place::Begin,
+            ended: None,
+        })
+    }
+
+    /// Runs one cycle: the next line is read, the script runs over it, and the pattern space is written.
+    ///
+    /// All calls of a run get the same lines, outputs and texts. An engine whose run has ended answers the same end
+    /// again, and touches no device.
+    pub fn cycle<R: ByteSource, O: Outputs, T: Texts>(
+        &mut self,
+        lines: &mut Lines<R>,
+        outputs: &mut O,
+        texts: &mut T,
+    ) -> Progress
+        requires look { lines.old.look ≡ self.old.limits.look }
+        requires sink { 0 < O.count outputs.old }
+        // The moves of one cycle were made, or the end came with its cause; this is what the sinks gained and what
+        // was taken from the source.
+        ensures cycles { IsNone self.old.ended → lines.old.fault ≡ None → ForSome (lines_left R.remaining lines.old) (λ ls.
+            Cycles self.old.limits (setting self.old (files_in (T.text texts.old))) (at_lines self.old ls)
+            (Gained (O.contents outputs.old) (O.contents outputs.new))
+            (R.remaining lines.old.source) (R.remaining lines.new.source) self.new (lines_left R.remaining lines.new) result) }
+        // A device that the end names has failed in this call; before a next cycle none has.
+        ensures input { IsNone self.old.ended → lines.old.fault ≡ None →
+            FailedSource (R.failures lines.old.source) (R.failures lines.new.source) (outcome result) }
+        ensures output { IsNone self.old.ended → FailedSink (O.failures outputs.old) (O.failures outputs.new) (outcome result) }
+        ensures sound { result ≡ Progress.More → lines.old.fault ≡ None → lines.new.fault ≡ None }
+        ensures ended { self.new.ended ≡ end_of result }
+        ensures again { IfSome self.old.ended (λ end. (result ≡ Progress.Ended end) × (self.new ≡ self.old)
+            × (lines.new ≡ lines.old) × (outputs.new ≡ outputs.old) × (texts.new ≡ texts.old)) }
+        ensures same_run { SameRun self.old self.new }
+        ensures same_look { lines.new.look ≡ lines.old.look }
+        ensures same_reference { R.reference lines.new.source ≡ R.reference lines.old.source }
+        ensures same_count { O.count outputs.new ≡ O.count outputs.old }
+        ensures same_texts { (k : ℕ) → Keeps (T.text texts.old k) (T.text texts.new k) }
+    {
+        if let Some(end) = self.ended {
+            return Progress::Ended(end);
+        }
+        let progress = self.moves_of_cycle(lines, outputs);
+        if let Progress::Ended(end) = progress {
+            self.ended = Some(end);
+        }
+        progress
+    }
+
+    /// Runs cycles to the end, and says which it was.
+    ///
+    /// An engine whose run has ended answers the same end again, and touches no device.
+    pub fn run<R: ByteSource, O: Outputs, T: Texts>(
+        &mut self,
+        lines: &mut Lines<R>,
+        outputs: &mut O,
+        texts: &mut T,
+    ) -> Ended
+        requires look { lines.old.look ≡ self.old.limits.look }
+        requires sink { 0 < O.count outputs.old }
+        // The end has its cause after some moves, from the engine's state and the lines left; the sinks have gained
+        // what these moves write, and this was taken from the source.
+        ensures ends { IsNone self.old.ended → lines.old.fault ≡ None → ForSome (lines_left R.remaining lines.old) (λ ls.
+            Ending self.old.limits (setting self.old (files_in (T.text texts.old))) (at_lines self.old ls)
+            (Gained (O.contents outputs.old) (O.contents outputs.new))
+            (R.remaining lines.old.source) (R.remaining lines.new.source) self.new.state result) }
+        // The device that the end names has failed in this run.
+        ensures input { result ≡ Ended.InputBroken → IsNone self.old.ended → lines.old.fault ≡ None →
+            Rose (R.failures lines.old.source) (R.failures lines.new.source) }
+        ensures output { (k : ℕ) → result ≡ Ended.OutputBroken k → IsNone self.old.ended →
+            Rose (O.failures outputs.old k) (O.failures outputs.new k) }
+        ensures ended { self.new.ended ≡ Some result }
+        ensures again { IfSome self.old.ended (λ end. (result ≡ end) × (self.new ≡ self.old)
+            × (lines.new ≡ lines.old) × (outputs.new ≡ outputs.old) × (texts.new ≡ texts.old)) }
+        ensures same_run { SameRun self.old self.new }
+        ensures same_look { lines.new.look ≡ lines.old.look }
+        ensures same_reference { R.reference lines.new.source ≡ R.reference lines.old.source }
+        ensures same_count { O.count outputs.new ≡ O.count outputs.old }
+        ensures same_texts { (k : ℕ) → Keeps (T.text texts.old k) (T.text texts.new k) }
+    {
+        if let Some(end) = self.ended {
+            return end;
+        }
+        let end = self.moves(lines, outputs);
+        self.ended = Some(end);
+        end
+    }
+
+    /// What the engine holds. The read-ahead counts with its whole room.
+    pub fn held(&self) -> Held
+        ensures pattern { result.pattern ≡ length self.now.state.pattern }
+        ensures hold { result.hold ≡ length self.now.state.hold }
+        ensures build { result.build ≤ self.now.limits.space }
+        ensures look { result.look ≡ self.now.limits.look }
+        ensures queue { result.queue ≡ length self.now.state.queue }
+        ensures bound { total_of result ≤ bound_of self.now.limits }
+    {
+        Held {
+            pattern: self.pattern.len(),
+            hold: self.hold.len(),
+            build: self.build.len(),
+            look: self.limits.look(),
+            queue: self.queue.len(),
+        }
+    }
+}

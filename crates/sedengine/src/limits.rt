@@ -1,0 +1,97 @@
+//! The limits of a run.
+ghost use Rattle.std.specs.Prelude.{◌≡◌, ◌≤◌, ◌<◌, ◌^◌, IfSome, IsNone};
+ghost use Rattle.sedengine.specs.Limits.{limits_of, AreLimits};
+
+use std::marker::Model;
+
+/// How much a run may hold and do.
+#[derive(Clone, Copy)]
+pub struct Limits {
+    most_space: usize,
+    most_queue: usize,
+    most_look: usize,
+    most_turns: u64,
+    most_nodes: usize,
+}
+
+impl Model for Limits {
+    ghost use Rattle.sedengine.specs.Limits.{Limits, AreLimits, limits_of};
+
+    ghost Value = { Limits };
+
+    ghost view = { λ s. limits_of s.most_space s.most_queue s.most_look s.most_turns s.most_nodes };
+
+    ghost inverse = { λ l. record { most_space = l.space; most_queue = l.queue; most_look = l.look; most_turns = l.turns; most_nodes = l.nodes } };
+
+    ghost invariant = { λ s. AreLimits (limits_of s.most_space s.most_queue s.most_look s.most_turns s.most_nodes) };
+}
+
+impl Limits {
+    /// The limits of these numbers, or None where a number is out of its range.
+    ///
+    /// * `space`: the bytes that the pattern space, the hold space and the build space may hold each, 1 to 2^30
+    /// * `queue`: the entries that wait for the end of a cycle, 0 to 2^24
+    /// * `look`: the bytes that are read ahead, 1 to 2^30
+    /// * `turns`: the turns that a run may take: starts of cycles, commands come to, bytes of files copied
+    /// * `nodes`: the nodes of an expression written out, 1 to 65,536
+    pub fn new(space: usize, queue: usize, look: usize, turns: u64, nodes: usize) -> Option<Limits>
+        ensures given { IfSome result (λ l. (l ≡ limits_of space queue look turns nodes) × AreLimits l) }
+        ensures refused { IsNone result → AreLimits (limits_of space queue look turns nodes) → ⊥ }
+    {
+        let positive = space >= 1 && look >= 1 && nodes >= 1;
+        let bounded = space <= 1 << 30 && queue <= 1 << 24 && look <= 1 << 30 && nodes <= 65536;
+        if positive && bounded {
+            Some(Limits {
+                most_space: space,
+                most_queue: queue,
+                most_look: look,
+                most_turns: turns,
+                most_nodes: nodes,
+            })
+        } else {
+            None
+        }
+    }
+
+    /// The most bytes in a space, 1 to 2^30.
+    pub fn space(&self) -> usize
+        ensures value { result ≡ self.now.space }
+        ensures least { 1 ≤ result }
+        ensures most { result ≤ 2 ^ 30 }
+    {
+        self.most_space
+    }
+
+    /// The most entries in the queue, 0 to 2^24.
+    pub fn queue(&self) -> usize
+        ensures value { result ≡ self.now.queue }
+        ensures most { result ≤ 2 ^ 24 }
+    {
+        self.most_queue
+    }
+
+    /// The most bytes that are read ahead, 1 to 2^30.
+    pub fn look(&self) -> usize
+        ensures value { result ≡ self.now.look }
+        ensures least { 1 ≤ result }
+        ensures most { result ≤ 2 ^ 30 }
+    {
+        self.most_look
+    }
+
+    /// The most turns.
+    pub fn turns(&self) -> u64
+        ensures { result ≡ self.now.turns }
+    {
+        self.most_turns
+    }
+
+    /// The most nodes of an expression, 1 to 65,536.
+    pub fn nodes(&self) -> usize
+        ensures value { result ≡ self.now.nodes }
+        ensures least { 1 ≤ result }
+        ensures most { result ≤ 65536 }
+    {
+        self.most_nodes
+    }
+}

@@ -1,0 +1,5 @@
+use Rattle.sedscript.proofs.Cuts.{no_fault as law}
+use Rattle.sedscript.proofs.laws.no_fault.Goals as goal
+
+pub returns : goal.returns
+returns c = law

@@ -1,0 +1,5 @@
+use Rattle.sedscript.proofs.Cuts.{one_meaning as law}
+use Rattle.sedscript.proofs.laws.one_meaning.Goals as goal
+
+pub returns : goal.returns
+returns c = law

@@ -1,0 +1,41 @@
+-- Places of a text, counted from 0.
+use Rattle.std.specs.Prelude.{ℕ, suc, ◌+◌, ◌*◌, ◌-◌, ◌^◌, List, [], ◌∷◌, drop, take, Bool, ◌&&◌, ◌||◌, Option, Some, None, if◌then◌else◌, nat_lt, nat_le, ◌==◌}
+use Rattle.sedscript.specs.declared.bytes.Sort.{Sort}
+use Rattle.sedscript.specs.declared.bytes.Sort.TheVariants.{Blank, Separator, Digit}
+
+-- a space or a tab (XBD 3.44, POSIX locale)
+abbrev pub is_blank : ℕ → Bool
+is_blank b = b == 32 || b == 9
+
+-- a decimal digit
+abbrev pub is_digit : ℕ → Bool
+is_digit b = nat_le 48 b && nat_le b 57
+
+-- whether a byte is of the sort. Blanks, newlines and semicolons stand between commands (XCU sed, "Extended Description")
+abbrev pub belongs : Sort → ℕ → Bool
+belongs Blank b = is_blank b
+belongs Separator b = is_blank b || b == 10 || b == 59
+belongs Digit b = is_digit b
+
+-- how many bytes of the sort stand at the front
+abbrev pub run_of : Sort → List ℕ → ℕ
+run_of sort [] = 0
+run_of sort (b ∷ bs) = if belongs sort b then suc (run_of sort bs) else 0
+
+-- the first place from here on with a byte that isn't of the sort, or the end
+unfoldable pub past : Sort → List ℕ → ℕ → ℕ
+past sort text at = at + run_of sort (drop at text)
+
+-- the bytes from a place up to another
+abbrev pub part : List ℕ → ℕ → ℕ → List ℕ
+part text from to = take (to - from) (drop from text)
+
+-- a number and a digit behind it, as far as it is below 2 ^ 64
+abbrev pub with_digit : Option ℕ → ℕ → Option ℕ
+with_digit None d = None
+with_digit (Some n) d = if nat_lt (n * 10 + (d - 48)) (2 ^ 64) then Some (n * 10 + (d - 48)) else None
+
+-- a number and the digits behind it, as far as it is below 2 ^ 64
+abbrev pub with_digits : Option ℕ → List ℕ → Option ℕ
+with_digits n [] = n
+with_digits n (d ∷ ds) = with_digits (with_digit n d) ds

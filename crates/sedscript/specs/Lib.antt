@@ -1,0 +1,4 @@
+pub mod Bytes
+pub mod Commands
+pub mod Faults
+pub mod Script

@@ -1,0 +1,92 @@
+-- What gathered parts mean for the lines to come.
+use Rattle.std.proofs.Common.{◌≡◌, ℕ, ◌+◌, ◌-◌, ◌<◌, ◌≤◌, List, [], ◌∷◌, ◌++◌, length, Option, None, Some, option_map, Bool, true, false, not, IsTrue, ◌↔◌, Result, Ok, Err, refl, sym, ap, ◌∙◌, arith, rules, inl, inr, ⊎_elim, length-append, append_assoc, append-nil, subst}
+use Rattle.std.specs.List.{before_first}
+use Rattle.std.specs.Io.KnownBytes.{prepend_known, Consumes, IsAtEnd}
+use Rattle.sedspace.specs.Lines.{lines, is_newline, HasNoNewline}
+use Rattle.sedspace.specs.Spaces.{Contents}
+use Rattle.sedspace.specs.declared.lines.Got.{Got}
+use Rattle.sedspace.specs.declared.lines.Got.TheVariants.{Line, End}
+use Rattle.sedspace.specs.declared.errors.LineFault.{LineFault}
+use Rattle.sedspace.specs.declared.errors.LineFault.TheVariants.{Broken, TooLong}
+use Rattle.sedspace.specs.Stream.{Stream, left, lines_left, TakesLine, GivesLine, NoneLeft, FirstIsLonger, TellsLast}
+use Rattle.sedspace.specs.Gathering.{Gathers}
+use Rattle.sedspace.proofs.LineLemmas.{lines_at, lines_last, lines_nil, lines_none, lines_first, length-before_first-append}
+
+pub takes_ended : (a b : Option (List ℕ)) (line : List ℕ) → Consumes a b (line ++ 10 ∷ []) → HasNoNewline line → TakesLine a b line × GivesLine (option_map lines a) (option_map lines b) line
+takes_ended None b line h none = (tt, tt)
+takes_ended (Some xs) None line h none = absurd h
+takes_ended (Some xs) (Some ys) line h none =
+    let e : xs ≡ line ++ 10 ∷ ys = h ∙ append_assoc line (10 ∷ []) ys in
+    ((none, inl e), ap lines e ∙ lines_at line ys none)
+
+pub takes_last : (a b : Option (List ℕ)) (line : List ℕ) → Consumes a b line → HasNoNewline line → 0 < length line → IsAtEnd b → TakesLine a b line × GivesLine (option_map lines a) (option_map lines b) line
+takes_last None b line h none some end = (tt, tt)
+takes_last (Some xs) None line h none some end = absurd h
+takes_last (Some xs) (Some ys) line h none some end =
+    let e : xs ≡ line = h ∙ ap (λ z. line ++ z) end ∙ append-nil line in
+    ((none, inr (e, end, some)), ap lines e ∙ lines_last line none some ∙ ap (λ z. line ∷ z) (sym (ap lines end ∙ lines_nil)))
+
+pub none_left : (a b : Option (List ℕ)) → Consumes a b [] → IsAtEnd b → NoneLeft (option_map lines a) × NoneLeft (option_map lines b)
+none_left None None h end = (tt, tt)
+none_left None (Some ys) h end = (tt, ap lines end ∙ lines_nil)
+none_left (Some xs) None h end = absurd h
+none_left (Some xs) (Some ys) h end = (ap lines (h ∙ end) ∙ lines_nil, ap lines end ∙ lines_nil)
+
+first_longer : (xs : List ℕ) (n : ℕ) → n < length (before_first is_newline xs) → FirstIsLonger (Some (lines xs)) n
+first_longer [] n h = absurd (omega arith)
+first_longer (x ∷ xs) n h = subst (λ z. FirstIsLonger (Some z) n) (sym (lines_first (x ∷ xs) (omega arith))) h
+
+pub first_is_longer : (a known : Option (List ℕ)) (part ahead : List ℕ) (n : ℕ) → Consumes a (prepend_known ahead known) part → HasNoNewline part → n < length part + length (before_first is_newline ahead) → FirstIsLonger (option_map lines a) n
+first_is_longer None known part ahead n h none long = tt
+first_is_longer (Some xs) None part ahead n h none long = absurd h
+first_is_longer (Some xs) (Some ys) part ahead n h none long =
+    subst (λ z. FirstIsLonger (Some (lines z)) n) (sym h) (
+    first_longer (part ++ (ahead ++ ys)) n (omega (arith, long, length-before_first-append part ahead ys none))
+    )
+
+-- bytes ahead are a line to come
+pub tells_more : (known : Option (List ℕ)) (ahead : List ℕ) → 0 < length ahead → TellsLast (option_map lines (prepend_known ahead known)) false
+tells_more None ahead some = tt
+tells_more (Some ys) ahead some =
+    let none : lines (ahead ++ ys) ≡ [] → ⊥ = λ e. absurd (omega (arith, ap length (lines_none (ahead ++ ys) e), length-append ahead ys)) in
+    (λ (t : IsTrue false). absurd (search (rules, t)), λ e. absurd (none e))
+
+tells_end : (a b : Option (List ℕ)) → Consumes a b [] → IsAtEnd b → TellsLast (option_map lines a) true
+tells_end None b h end = tt
+tells_end (Some xs) None h end = absurd h
+tells_end (Some xs) (Some ys) h end = (λ _. ap lines (h ∙ end) ∙ lines_nil, λ _. search rules)
+
+tells_same : (a b : Option (List ℕ)) (last : Bool) → Consumes a b [] → TellsLast (option_map lines b) last → TellsLast (option_map lines a) last
+tells_same None b last h t = tt
+tells_same (Some xs) None last h t = absurd h
+tells_same (Some xs) (Some ys) last h t = subst (λ z. TellsLast (Some (lines z)) last) (sym h) t
+
+-- what a read past an empty front tells
+pub tells_read : (a known : Option (List ℕ)) (ahead : List ℕ) (more : Bool) → Consumes a (prepend_known ahead known) [] → (IsTrue more ↔ (0 < length ahead)) → (more ≡ false → IsAtEnd (prepend_known ahead known)) → TellsLast (option_map lines a) (not more)
+tells_read a known ahead true h given end = tells_same a _ false h (tells_more known ahead (given.0 (search rules)))
+tells_read a known ahead false h given end = tells_end a _ h (end refl)
+
+module _ {R : Type 0} (remaining : R → Option (List ℕ)) (failures : R → ℕ) (old new : Stream R) (before after : Contents) where
+  pub line_gathered : (r : Result Got LineFault) → Gathers remaining failures old new before after r → r ≡ Ok Line → (line : List ℕ) × (after ≡ record before { bytes = before.bytes ++ line }) × TakesLine (left remaining old) (left remaining new) line × GivesLine (lines_left remaining old) (lines_left remaining new) line
+  line_gathered (Ok Line) h e =
+      ⊎_elim
+      (λ w. let t = takes_ended _ _ h.1 w.left_is w.line_is in (h.1, w.space, t.0, t.1))
+      (λ w. let t = takes_last _ _ h.1 w.0.left_is w.0.part_is w.1 w.2 in (h.1, w.0.space, t.0, t.1))
+      h.3
+  line_gathered (Ok End) h e = cc
+  line_gathered (Err f) h e = cc
+
+  pub end_gathered : (r : Result Got LineFault) → Gathers remaining failures old new before after r → r ≡ Ok End → (after ≡ before) × NoneLeft (lines_left remaining old) × NoneLeft (lines_left remaining new)
+  end_gathered (Ok Line) h e = cc
+  end_gathered (Ok End) h e =
+      let n = none_left _ _ h.2.left_is h.3 in
+      (h.2.space ∙ ap (λ (z : List ℕ). record before { bytes = z }) (append-nil before.bytes), n.0, n.1)
+  end_gathered (Err f) h e = cc
+
+  pub too_long_gathered : (r : Result Got LineFault) → Gathers remaining failures old new before after r → r ≡ Err TooLong → length before.bytes ≤ before.limit → FirstIsLonger (lines_left remaining old) (before.limit - length before.bytes)
+  too_long_gathered (Ok g) h e fits = cc
+  too_long_gathered (Err TooLong) h e fits =
+      let size : length after.bytes ≡ length before.bytes + length h.1 = ap (λ (z : Contents). length z.bytes) h.3.space ∙ length-append before.bytes h.1 in
+      let limit : after.limit ≡ before.limit = ap (λ (z : Contents). z.limit) h.3.space in
+      first_is_longer _ _ h.1 new.ahead _ h.3.left_is h.3.part_is (omega (arith, size, limit, h.5, fits))
+  too_long_gathered (Err Broken) h e fits = cc

@@ -1,0 +1,69 @@
+use Rattle.std.proofs.Common.{◌≡◌, ◌<◌, Ok, refl, ◌∙◌, ap, [], ◌++◌, length, arith, inl, inr, length-append}
+use Rattle.sedspace.specs.Spaces.{Contents}
+use Rattle.sedspace.proofs.StreamLemmas.{same_source, Gathered-start, Gathered-moved, Gathered-line, Gathered-refilled}
+use Rattle.sedspace.proofs.lines.Lines.gather.Goals as goal
+
+pub loop-self-init : goal.loop-self-init
+loop-self-init g c = (refl, omega (arith, c.len-start.ensures.value), refl, [], [], Gathered-start _ _ _)
+
+pub returns-in-Ok-true-clause-gathers : goal.returns-in-Ok-true-clause-gathers
+returns-in-Ok-true-clause-gathers g c =
+    let h = c.loop-self.invariant in
+    let m = c.in-Ok-true.ensures in
+    let l = m.line (ap Ok c.in-Ok-true.field-0-test) in
+    (same_source g.R.ByteSource.failures c.loop-self.self c.move_ahead.new.self m.rest ∙ h.0, h.3 ++ l.0, h.4, inl (Gathered-line _ _ _ _ _ _ _ h.3 h.4 l.0 h.5 l.1 l.2 m.rest l.3))
+
+pub returns-in-Err-clause-gathers : goal.returns-in-Err-clause-gathers
+returns-in-Err-clause-gathers g c =
+    let h = c.loop-self.invariant in
+    let m = c.in-Err.ensures in
+    let same = m.err.1 in
+    let kept = m.err.0 in (
+      ap (λ z. g.R.ByteSource.failures z.source) same ∙ h.0,
+      h.3,
+      h.4,
+      rw (same, kept) h.5,
+      rw kept h.1,
+      rw (same, kept) m.full,
+    )
+
+pub loop-self-preserved : goal.loop-self-preserved
+loop-self-preserved g c =
+    let h = c.loop-self.invariant in
+    let m = c.in-Ok-false.ensures in
+    let a = m.all (ap Ok c.in-Ok-false.field-0-test) in
+    let r = c.in-Ok-true-refill.ensures in
+    let moved = Gathered-moved _ _ _ _ _ _ _ h.3 h.4 h.5 a.0 a.1 m.rest a.2 in
+    (r.failed ∙ (same_source g.R.ByteSource.failures c.loop-self.self c.move_ahead.new.self m.rest ∙ h.0), m.fits, r.same_reference ∙ (same_source g.R.ByteSource.reference c.loop-self.self c.move_ahead.new.self m.rest ∙ h.2), _, _, Gathered-refilled _ _ _ _ _ _ _ _ moved a.1 r.left r.taken r.look r.fault (λ e. (r.unread e).1))
+
+pub returns-in-Ok-false-refill-clause-gathers : goal.returns-in-Ok-false-refill-clause-gathers
+returns-in-Ok-false-refill-clause-gathers g c =
+    let h = c.loop-self.invariant in
+    let m = c.in-Ok-false.ensures in
+    let a = m.all (ap Ok c.in-Ok-false.field-0-test) in
+    let r = c.in-Ok-false-refill.ensures in
+    let moved = Gathered-moved _ _ _ _ _ _ _ h.3 h.4 h.5 a.0 a.1 m.rest a.2 in
+    let e = r.end (ap Ok c.in-Ok-false-refill.field-0-test) in
+    let grown : c.move_ahead.new.space.bytes ≡ c.args.space.now.bytes ++ (h.3 ++ c.loop-self.self.ahead) = ap (λ (z : Contents). z.bytes) moved.space in
+    let some : 0 < length (h.3 ++ c.loop-self.self.ahead) = omega (arith, ap length grown, length-append c.args.space.now.bytes (h.3 ++ c.loop-self.self.ahead), c.len-start.ensures.value, c.len.ensures.value, c.if-len-start.true) in (
+      r.failed ∙ (same_source g.R.ByteSource.failures c.loop-self.self c.move_ahead.new.self m.rest ∙ h.0),
+      h.3 ++ c.loop-self.self.ahead,
+      _,
+      inr (Gathered-refilled _ _ _ _ _ _ _ _ moved a.1 r.left r.taken r.look r.fault (λ e. (r.unread e).1), some, e.1),
+    )
+
+pub returns-in-Err-refill-clause-gathers : goal.returns-in-Err-refill-clause-gathers
+returns-in-Err-refill-clause-gathers g c =
+    let h = c.loop-self.invariant in
+    let m = c.in-Ok-false.ensures in
+    let a = m.all (ap Ok c.in-Ok-false.field-0-test) in
+    let r = c.in-Err-refill.ensures in
+    let moved = Gathered-moved _ _ _ _ _ _ _ h.3 h.4 h.5 a.0 a.1 m.rest a.2 in
+    let quiet = same_source g.R.ByteSource.failures c.loop-self.self c.move_ahead.new.self m.rest ∙ h.0 in (
+      rw (← quiet) r.failed,
+      _,
+      _,
+      Gathered-refilled _ _ _ _ _ _ _ _ moved a.1 r.left r.taken r.look r.fault (λ e. (r.unread e).1),
+      m.fits,
+      r.err.0,
+    )

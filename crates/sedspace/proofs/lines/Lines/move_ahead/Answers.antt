@@ -1,0 +1,24 @@
+use Rattle.std.proofs.Common.{◌≡◌, ◌+◌, ◌++◌, ◌∷◌, Some, None, rules, arith, [], length-take, ap, sym, ◌∙◌, take, drop, position}
+use Rattle.std.proofs.lemmas.List.{drop-drop, drop_all}
+use Rattle.sedspace.specs.Lines.{is_newline}
+use Rattle.sedspace.proofs.LineLemmas.{newline_none, newline_at}
+use Rattle.sedspace.proofs.lines.Lines.move_ahead.Goals as goal
+
+pub returns-in_ok-append-in-Some-clause-line : goal.returns-in_ok-append-in-Some-clause-line
+returns-in_ok-append-in-Some-clause-line g c = λ _.
+    let ahead = c.args.self.now.ahead in
+    let s = c.self.inside in
+    let found : Some c.in-Some.at ≡ position is_newline ahead = rw c.ahead-ahead.ensures.value at c.in-Some.ensures in
+    let n = newline_at ahead c.in-Some.at found in
+    let rest : drop (c.in-Some.at + 1) ahead ≡ drop (s.front + (c.in-Some.at + 1)) (take s.filled s.buffer.items) =
+    ap (λ z. drop (c.in-Some.at + 1) z) (ap (λ z. z.ahead) (sym c.self.view_is)) ∙ drop-drop (c.in-Some.at + 1) s.front (take s.filled s.buffer.items) in
+    (take c.in-Some.at ahead, n.none_before, n.parts ∙ ap (λ z. take c.in-Some.at ahead ++ 10 ∷ z) rest, search rules)
+
+pub returns-in_ok-append-in-None-clause-all : goal.returns-in_ok-append-in-None-clause-all
+returns-in_ok-append-in-None-clause-all g c = λ _.
+    let ahead = c.args.self.now.ahead in
+    let found : None ≡ position is_newline ahead = rw c.ahead-ahead.ensures.value at c.in-None.ensures in
+    let filled = c.self.inside.filled in
+    let read = take filled c.self.inside.buffer.items in
+    let empty : drop filled read ≡ [] = drop_all filled read (omega (arith, length-take filled c.self.inside.buffer.items)) in
+    (newline_none ahead found, empty, search rules)

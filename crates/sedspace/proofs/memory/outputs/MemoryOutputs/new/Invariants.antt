@@ -1,0 +1,6 @@
+use Rattle.std.proofs.Common.{◌≡◌, ◌-◌, ◌^◌, replicate, false}
+use Rattle.sedspace.specs.Memory.{new_sink}
+use Rattle.sedspace.proofs.memory.outputs.MemoryOutputs.new.Given as goal
+
+abbrev pub invariant-loop : goal.invariant-loop
+invariant-loop l = l.held.items ≡ replicate l.counter (new_sink (2 ^ 64 - 1) false)

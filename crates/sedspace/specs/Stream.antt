@@ -1,0 +1,72 @@
+-- What contracts see of a reader of lines.
+use Rattle.std.specs.Prelude.{◌≡◌, ℕ, ◌<◌, ◌≤◌, ◌⊎◌, ◌↔◌, IsTrue, Bool, List, [], ◌∷◌, ◌++◌, length, Option, None, Some, Result, Ok, Err, ⊤}
+use Rattle.std.specs.Option.{option_map}
+use Rattle.std.specs.Io.KnownBytes.{prepend_known}
+use Rattle.sedspace.specs.declared.errors.LineFault.{LineFault}
+use Rattle.sedspace.specs.declared.errors.LineFault.TheVariants.{Broken, TooLong}
+use Rattle.sedspace.specs.Failures.{Rises}
+use Rattle.sedspace.specs.Lines.{lines, HasNoNewline}
+
+-- a reader of lines: its source, the bytes read ahead, at most how many, whether the end was seen, and the fault that
+-- it answered
+pub record Stream (R : Type 0) : Type 0 where
+  pub source : R
+  pub ahead : List ℕ
+  pub look : ℕ
+  pub ended : Bool
+  pub fault : Option LineFault
+
+-- the bytes still to come: those ahead, and then the source's, where it tells them
+abbrev pub left : {R : Type 0} → (R → Option (List ℕ)) → Stream R → Option (List ℕ)
+left remaining s = prepend_known s.ahead (remaining s.source)
+
+-- the lines still to come
+abbrev pub lines_left : {R : Type 0} → (R → Option (List ℕ)) → Stream R → Option (List (List ℕ))
+lines_left remaining s = option_map lines (left remaining s)
+
+-- a first line was taken
+abbrev pub GivesLine : Option (List (List ℕ)) → Option (List (List ℕ)) → List ℕ → Type 0
+GivesLine None rest line = ⊤
+GivesLine (Some ls) None line = ⊥
+GivesLine (Some ls) (Some rest) line = ls ≡ line ∷ rest
+
+-- no line is left
+abbrev pub NoneLeft : Option (List (List ℕ)) → Type 0
+NoneLeft None = ⊤
+NoneLeft (Some ls) = ls ≡ []
+
+-- it tells whether no line is left
+abbrev pub TellsLast : Option (List (List ℕ)) → Bool → Type 0
+TellsLast None last = ⊤
+TellsLast (Some ls) last = IsTrue last ↔ (ls ≡ [])
+
+-- known lines stay
+abbrev pub KeepsLines : Option (List (List ℕ)) → Option (List (List ℕ)) → Type 0
+KeepsLines None new = ⊤
+KeepsLines (Some ls) None = ⊥
+KeepsLines (Some ls) (Some ms) = ms ≡ ls
+
+-- known bytes are the line, a newline and the rest; or the line alone, which isn't empty, and nothing is left
+abbrev pub TakesLine : Option (List ℕ) → Option (List ℕ) → List ℕ → Type 0
+TakesLine None new line = ⊤
+TakesLine (Some xs) None line = ⊥
+TakesLine (Some xs) (Some ys) line =
+    HasNoNewline line × ((xs ≡ line ++ 10 ∷ ys) ⊎ ((xs ≡ line) × (ys ≡ []) × (0 < length line)))
+
+-- known bytes lose at most n from the front
+abbrev pub TakesAtMost : Option (List ℕ) → Option (List ℕ) → ℕ → Type 0
+TakesAtMost None new n = ⊤
+TakesAtMost (Some xs) None n = ⊥
+TakesAtMost (Some xs) (Some ys) n = (taken : List ℕ) × (xs ≡ taken ++ ys) × (length taken ≤ n)
+
+-- the first line is longer than n
+abbrev pub FirstIsLonger : Option (List (List ℕ)) → ℕ → Type 0
+FirstIsLonger None n = ⊤
+FirstIsLonger (Some []) n = ⊥
+FirstIsLonger (Some (l ∷ ls)) n = n < length l
+
+-- the failures rise at the answer that the source failed, and stay at every other
+abbrev pub FailsIfBroken : {T : Type 0} → Result T LineFault → ℕ → ℕ → Type 0
+FailsIfBroken (Ok x) old new = new ≡ old
+FailsIfBroken (Err TooLong) old new = new ≡ old
+FailsIfBroken (Err Broken) old new = Rises old new

@@ -1,0 +1,122 @@
+//! Readers and writers of std as sources and outputs.
+ghost use Rattle.std.specs.Prelude.{◌≡◌, ◌==◌, None, if◌then◌else◌};
+
+use super::{Broken, ByteSource, Outputs};
+use std::io::{Error, ErrorKind, Read, Write};
+
+/// A reader as a source. A read that a signal interrupts is tried again, up to 2^64 - 1 times, and is no failure.
+#[derive(Drop)]
+pub struct FromReader<R> {
+    reader: R,
+    failed: u64,
+}
+
+impl<R> FromReader<R> {
+    /// The reader as a source that hasn't failed.
+    pub fn new(reader: R) -> FromReader<R>
+        ensures { result ≡ record { reader = reader; failed = 0 } }
+    {
+        FromReader { reader, failed: 0 }
+    }
+
+    /// The reader.
+    pub fn reader(&self) -> &R
+        ensures { result.now ≡ self.now.reader }
+    {
+        &self.reader
+    }
+
+    /// How often it failed.
+    pub fn failures(&self) -> u64
+        ensures { result ≡ self.now.failed }
+    {
+        self.failed
+    }
+}
+
+impl<R: Read> ByteSource for FromReader<R> {
+    ghost remaining = { λ s. R.remaining s.reader };
+
+    ghost failures = { λ s. s.failed };
+
+    ghost reference = { λ _. 0 };
+
+    fn read(&mut self, buf: &mut [u8]) -> Result<usize, Broken> {
+        'tries: for _ in 0..u64::MAX {
+            match self.reader.read(buf) {
+                Ok(count) => return Ok(count),
+                Err(error) if is_interrupted(&error) => {}
+                Err(_) => break,
+            }
+        }
+        self.failed = self.failed.saturating_add(1);
+        Err(Broken)
+    }
+}
+
+/// A writer as the one sink of outputs, sink 0. A write that a signal interrupts is tried again, up to 2^64 - 1 times,
+/// and is no failure; a writer that takes none of some bytes has failed.
+#[derive(Drop)]
+pub struct ToWriter<W> {
+    writer: W,
+    failed: u64,
+}
+
+impl<W> ToWriter<W> {
+    /// The writer as a sink that hasn't failed.
+    pub fn new(writer: W) -> ToWriter<W>
+        ensures { result ≡ record { writer = writer; failed = 0 } }
+    {
+        ToWriter { writer, failed: 0 }
+    }
+
+    /// The writer.
+    pub fn writer(&self) -> &W
+        ensures { result.now ≡ self.now.writer }
+    {
+        &self.writer
+    }
+
+    /// How often it failed.
+    pub fn failures(&self) -> u64
+        ensures { result ≡ self.now.failed }
+    {
+        self.failed
+    }
+
+    /// Gives the writer back.
+    pub fn into_writer(self) -> W
+        ensures { result ≡ self.writer }
+    {
+        self.writer
+    }
+}
+
+impl<W: Write> Outputs for ToWriter<W> {
+    ghost count = { λ o. 1 };
+
+    ghost contents = { λ o k. if k == 0 then W.contents o.writer else None };
+
+    ghost failures = { λ o k. if k == 0 then o.failed else 0 };
+
+    fn sinks(&self) -> usize {
+        1
+    }
+
+    fn write(&mut self, sink: usize, bytes: &[u8]) -> Result<usize, Broken> {
+        'tries: for _ in 0..u64::MAX {
+            match self.writer.write(bytes) {
+                Ok(count) if count > 0 || bytes.is_empty() => return Ok(count),
+                Err(error) if is_interrupted(&error) => {}
+                _ => break,
+            }
+        }
+        self.failed = self.failed.saturating_add(1);
+        Err(Broken)
+    }
+}
+
+// Whether a signal came before anything was read or written.
+fn is_interrupted(error: &Error) -> bool {
+    error.kind() == ErrorKind::Interrupted
+}

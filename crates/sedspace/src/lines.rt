@@ -1,0 +1,320 @@
+//! The lines of a source, read ahead by a fixed number of bytes.
+//!
+//! XCU sed reads its input a line at a time, each without its newline; a last line without one is a line too. What is
+//! read ahead stands in a buffer of fixed size from a moving front on: no byte that is left is moved, and the source is
+//! read only where the buffer is used up.
+ghost use Rattle.std.specs.Prelude.{◌≡◌, ◌↔◌, ◌+◌, ◌-◌, ◌<◌, ◌≤◌, ◌^◌, ℕ, List, [], ◌∷◌, ◌++◌, length, true, false, IsTrue, is_ok, if◌then◌else◌, None, Some, IfOk, IfSome, OnOk, OnErr, Contains};
+ghost use Rattle.std.specs.List.{position, before_first};
+ghost use Rattle.std.specs.Result.{result_err};
+ghost use Rattle.std.specs.Io.KnownBytes.{Consumes, Keeps, IsAtEnd};
+ghost use Rattle.sedspace.specs.Failures.{FailsAtErr};
+ghost use Rattle.sedspace.specs.Lines.{is_newline, HasNoNewline};
+
+use super::{Broken, ByteSource, Full, LineFault, Space};
+use std::alloc::{AllocError, Global};
+use std::marker::Model;
+
+/// What a call for the next line found.
+#[derive(Clone, Copy, Debug, PartialEq, Eq)]
+pub enum Got {
+    /// A line, now at the end of the space.
+    Line,
+    /// No line: all were given.
+    End,
+}
+
+/// Room for the bytes that are read ahead. Contracts see how many it has room for.
+#[derive(Drop)]
+pub struct Room {
+    buffer: Vec<u8>,
+}
+
+impl Model for Room {
+    ghost use Rattle.std.specs.Prelude.{ℕ, ◌<◌, vec_len};
+
+    ghost Value = { ℕ };
+
+    ghost view = { λ r. vec_len r.buffer };
+
+    ghost invariant = { λ r. 0 < vec_len r.buffer };
+}
+
+impl Room {
+    /// Room for `look` bytes, 1 to 2^30, reserved here.
+    pub fn new(alloc: Global, look: usize) -> Result<Room, AllocError>
+        requires positive { 0 < look }
+        requires bound { look ≤ 2 ^ 30 }
+        ensures { IfOk result (λ room. room ≡ look) }
+    {
+        let buffer = vec![in alloc; 0; look]?;
+        Ok(Room { buffer })
+    }
+}
+
+/// The lines of a source, which is read ahead by at most `look` bytes. After the making no call asks for memory.
+///
+/// A fault is kept: each later call answers it again, without reading.
+#[derive(Drop)]
+pub struct Lines<R: ByteSource> {
+    from: R,
+    buffer: Vec<u8>,
+    front: usize,
+    filled: usize,
+    is_ended: bool,
+    answered: Option<LineFault>,
+}
+
+impl<R: ByteSource> Model for Lines<R> {
+    ghost use Rattle.std.specs.Prelude.{◌≤◌, ◌<◌, IsTrue, take, drop, vec_len};
+    ghost use Rattle.std.specs.Io.KnownBytes.{IsAtEnd};
+    ghost use Rattle.sedspace.specs.Stream.{Stream};
+
+    ghost Value = { Stream R };
+
+    ghost view = { λ s. record {
+      source = s.from;
+      ahead = drop s.front (take s.filled s.buffer.items);
+      look = vec_len s.buffer;
+      ended = s.is_ended;
+      fault = s.answered;
+    } };
+
+    ghost invariant = { λ s. (s.front ≤ s.filled) × (s.filled ≤ vec_len s.buffer) × (0 < vec_len s.buffer)
+        × (IsTrue s.is_ended → IsAtEnd (R.remaining s.from)) };
+}
+
+impl<R: ByteSource> Lines<R> {
+    ghost use Rattle.sedspace.specs.Stream.{Stream, left, lines_left, GivesLine, TakesLine, TakesAtMost, FirstIsLonger, NoneLeft, FailsIfBroken, TellsLast, KeepsLines};
+    ghost use Rattle.sedspace.specs.Gathering.{Gathers};
+
+    /// The lines of the source, read ahead by at most `look` bytes, 1 to 2^30, which are reserved here. It reads
+    /// nothing yet. At an `Err` the source is gone: to keep it, make the `Room` first and then call `over`.
+    pub fn new(alloc: Global, source: R, look: usize) -> Result<Lines<R>, AllocError>
+    where
+        R: Drop,
+        requires positive { 0 < look }
+        requires bound { look ≤ 2 ^ 30 }
+        ensures { IfOk result (λ s. s
+            ≡ record { source = source; ahead = []; look = look; ended = false; fault = None }) }
+    {
+        let room = Room::new(alloc, look)?;
+        Ok(Lines::over(source, room))
+    }
+
+    /// The lines of the source, read ahead into this room. It reads nothing yet.
+    pub fn over(source: R, room: Room) -> Lines<R>
+        ensures { result ≡ record { source = source; ahead = []; look = room; ended = false; fault = None } }
+    {
+        let Room { buffer } = room;
+        Lines {
+            from: source,
+            buffer,
+            front: 0,
+            filled: 0,
+            is_ended: false,
+            answered: None,
+        }
+    }
+
+    /// Gives the source back. What was read ahead is lost.
+    pub fn into_source(self) -> R
+        ensures { result ≡ self.source }
+    {
+        let Lines {
+            from,
+            buffer: _,
+            front: _,
+            filled: _,
+            is_ended: _,
+            answered: _,
+        } = self;
+        from
+    }
+
+    /// Lends the source.
+    pub fn source(&self) -> &R
+        ensures { result.now ≡ self.now.source }
+    {
+        &self.from
+    }
+
+    /// Appends the next line, without its newline, to the space, and says whether there was one. It reads only where no
+    /// whole line is ahead and the end isn't known.
+    ///
+    /// `TooLong` where the line doesn't fit into the space, `Broken` where the source failed; the space then has its
+    /// old bytes, and each later call answers the same fault.
+    pub fn next_into(&mut self, space: &mut Space) -> Result<Got, LineFault>
+        ensures line { result ≡ Ok Got.Line → (line : List ℕ)
+            × (space.new ≡ record space.old { bytes = space.old.bytes ++ line })
+            × TakesLine (left R.remaining self.old) (left R.remaining self.new) line
+            × GivesLine (lines_left R.remaining self.old) (lines_left R.remaining self.new) line }
+        ensures fits { OnOk result (length space.new.bytes ≤ space.new.limit) }
+        ensures end { result ≡ Ok Got.End → (space.new ≡ space.old)
+            × NoneLeft (lines_left R.remaining self.old) × NoneLeft (lines_left R.remaining self.new) }
+        ensures too_long { result ≡ Err LineFault.TooLong → self.old.fault ≡ None
+            → FirstIsLonger (lines_left R.remaining self.old) (space.old.limit - length space.old.bytes) }
+        ensures failed { self.old.fault ≡ None
+            → FailsIfBroken result (R.failures self.old.source) (R.failures self.new.source) }
+
+        // A fault loses at most the space's limit of the bytes still to come, is kept, and is answered again.
+        ensures err { OnErr result (space.new ≡ space.old) }
+        ensures gone { OnErr result
+            (TakesAtMost (left R.remaining self.old) (left R.remaining self.new) space.old.limit) }
+        ensures fault { self.new.fault ≡ result_err result }
+        ensures again { IfSome self.old.fault (λ fault. (result ≡ Err fault) × (self.new ≡ self.old)) }
+
+        // How much is read, and when.
+        ensures ahead { length self.new.ahead ≤ self.new.look }
+        ensures look { self.new.look ≡ self.old.look }
+        ensures same_reference { R.reference self.new.source ≡ R.reference self.old.source }
+        ensures taken { TakesAtMost (R.remaining self.old.source) (R.remaining self.new.source)
+            (self.old.look
+            + (if is_ok result then length space.new.bytes - length space.old.bytes + 1 else space.old.limit)) }
+        ensures whole_ahead { Contains self.old.ahead 10 → self.new.source ≡ self.old.source }
+        ensures ended { self.old.ended ≡ true → (self.new.source ≡ self.old.source) × (self.new.ended ≡ true) }
+        ensures end_known { result ≡ Ok Got.End → self.new.ended ≡ true }
+    {
+        if let Some(fault) = self.answered {
+            return Err(fault);
+        }
+        let start = space.len();
+        let got = self.gather(space);
+        if let Err(fault) = got {
+            space.truncate(start);
+            self.answered = Some(fault);
+        }
+        got
+    }
+
+    /// Whether no further line comes: what was given last was the last line of the input. It reads, and once, only
+    /// where nothing is ahead and the end isn't known. `Broken` where the source failed; what is still to come stays.
+    pub fn is_last(&mut self) -> Result<bool, LineFault>
+        ensures last { IfOk result (TellsLast (lines_left R.remaining self.old)) }
+        ensures left { Keeps (left R.remaining self.old) (left R.remaining self.new) }
+        ensures lines { KeepsLines (lines_left R.remaining self.old) (lines_left R.remaining self.new) }
+        ensures failed { self.old.fault ≡ None
+            → FailsIfBroken result (R.failures self.old.source) (R.failures self.new.source) }
+        ensures too_long { result ≡ Err LineFault.TooLong → self.old.fault ≡ Some LineFault.TooLong }
+
+        // A fault is kept, and answered again.
+        ensures fault { self.new.fault ≡ result_err result }
+        ensures again { IfSome self.old.fault (λ fault. (result ≡ Err fault) × (self.new ≡ self.old)) }
+
+        // How much is read, and when.
+        ensures ahead { length self.new.ahead ≤ self.new.look }
+        ensures look { self.new.look ≡ self.old.look }
+        ensures same_reference { R.reference self.new.source ≡ R.reference self.old.source }
+        ensures taken { TakesAtMost (R.remaining self.old.source) (R.remaining self.new.source) self.old.look }
+        ensures bytes_ahead { 0 < length self.old.ahead → self.new ≡ self.old }
+        ensures ended { self.old.ended ≡ true → self.new ≡ self.old }
+    {
+        if let Some(fault) = self.answered {
+            return Err(fault);
+        }
+        if !self.ahead().is_empty() {
+            return Ok(false);
+        }
+        match self.refill() {
+            Ok(more) => Ok(!more),
+            Err(Broken) => {
+                self.answered = Some(LineFault::Broken);
+                Err(LineFault::Broken)
+            }
+        }
+    }
+
+    // The bytes that were read ahead.
+    fn ahead(&self) -> &[u8]
+        ensures value { result.now ≡ self.now.ahead }
+        ensures bound { length self.now.ahead ≤ self.now.look }
+    {
+        &self.buffer[self.front..self.filled]
+    }
+
+    // Reads once into the empty buffer, unless the end is known. Says whether there are bytes ahead.
+    fn refill(&mut self) -> Result<bool, Broken>
+        requires { self.old.ahead ≡ [] }
+        ensures given { IfOk result (λ more. IsTrue more ↔ (0 < length self.new.ahead)) }
+        ensures end { result ≡ Ok false → (self.new.ended ≡ true) × IsAtEnd (left R.remaining self.new) }
+        ensures err { OnErr result ((self.new.ahead ≡ []) × (self.new.ended ≡ false)) }
+        ensures left { Consumes (left R.remaining self.old) (left R.remaining self.new) [] }
+        ensures taken { Consumes (R.remaining self.old.source) (R.remaining self.new.source) self.new.ahead }
+        ensures failed { FailsAtErr result (R.failures self.old.source) (R.failures self.new.source) }
+        ensures unread { self.old.ended ≡ true → (result ≡ Ok false) × (self.new ≡ self.old) }
+        ensures bound { length self.new.ahead ≤ self.new.look }
+        ensures look { self.new.look ≡ self.old.look }
+        ensures fault { self.new.fault ≡ self.old.fault }
+        ensures same_reference { R.reference self.new.source ≡ R.reference self.old.source }
+    {
+        if self.is_ended {
+            return Ok(false);
+        }
+        self.front = 0;
+        self.filled = 0;
+        let count = self.from.read(self.buffer.as_mut_slice())?;
+        self.filled = count;
+        self.is_ended = count == 0;
+        Ok(!self.is_ended)
+    }
+
+    // Moves bytes from ahead to the space, up to and without the first newline, which is dropped. Says whether there
+    // was one.
+    fn move_ahead(&mut self, space: &mut Space) -> Result<bool, Full>
+        ensures line { result ≡ Ok true → (line : List ℕ) × HasNoNewline line
+            × (self.old.ahead ≡ line ++ 10 ∷ self.new.ahead)
+            × (space.new ≡ record space.old { bytes = space.old.bytes ++ line }) }
+        ensures all { result ≡ Ok false → HasNoNewline self.old.ahead × (self.new.ahead ≡ [])
+            × (space.new ≡ record space.old { bytes = space.old.bytes ++ self.old.ahead }) }
+        ensures fits { OnOk result (length space.new.bytes ≤ space.new.limit) }
+        ensures full { OnErr result (space.old.limit
+            < length space.old.bytes + length (before_first is_newline self.old.ahead)) }
+        ensures err { OnErr result ((space.new ≡ space.old) × (self.new ≡ self.old)) }
+        ensures rest { self.new ≡ record self.old { ahead = self.new.ahead } }
+        ensures bound { length self.new.ahead ≤ self.new.look }
+    {
+        let ahead = self.ahead();
+        match newline_in(ahead) {
+            Some(at) => {
+                space.append(&ahead[..at])?;
+                self.front += at + 1;
+                Ok(true)
+            }
+            None => {
+                space.append(ahead)?;
+                self.front = self.filled;
+                Ok(false)
+            }
+        }
+    }
+
+    // Gathers the next line in the space. After an error the space may hold a part of it.
+    fn gather(&mut self, space: &mut Space) -> Result<Got, LineFault>
+        ensures gathers { Gathers R.remaining R.failures self.old self.new space.old space.new result }
+        ensures fits { OnOk result (length space.new.bytes ≤ space.new.limit) }
+        ensures bound { length self.new.ahead ≤ self.new.look }
+        ensures same_reference { R.reference self.new.source ≡ R.reference self.old.source }
+    {
+        let start = space.len();
+        loop {
+            match self.move_ahead(space) {
+                Ok(true) => return Ok(Got::Line),
+                Ok(false) => {}
+                Err(Full) => return Err(LineFault::TooLong),
+            }
+            match self.refill() {
+                Ok(true) => {}
+                Ok(false) if space.len() > start => return Ok(Got::Line),
+                Ok(false) => return Ok(Got::End),
+                Err(Broken) => return Err(LineFault::Broken),
+            }
+        }
+    }
+}
+
+// The place of the first newline.
+#[tactic(auto, using(crate::proofs::LineLemmas::position_from_first))]
+pub(crate) fn newline_in(bytes: &[u8]) -> Option<usize>
+    ensures { result ≡ position is_newline bytes.now }
+{
+    memchr::memchr(b'\n', bytes)
+}

@@ -1,0 +1,42 @@
+//! Where bytes come from.
+ghost use Rattle.std.specs.Prelude.{◌≡◌, ℕ, List, Option, length};
+ghost use Rattle.std.specs.Borrow.{GName};
+ghost use Rattle.std.specs.Io.{ReadsAtMost};
+ghost use Rattle.std.specs.Io.KnownBytes.{ReadConsumes};
+ghost use Rattle.sedspace.specs.Failures.{FailsAtErr};
+
+use super::Broken;
+
+/// A source of bytes. It may tell its bytes to contracts or not: where it doesn't, clauses on them claim nothing.
+pub trait ByteSource {
+    /// The bytes that the source has still to give, where it tells them.
+    ghost remaining: { Self → Option (List ℕ) };
+
+    /// How often it failed, up to 2^64 - 1, where the number stays.
+    ghost failures: { Self → ℕ };
+
+    /// Which reference it is, where it is one. A value that holds it keeps it, so that its lender learns what
+    /// became of the source.
+    ghost reference: { Self → GName };
+
+    /// Places the next bytes at the buffer's front, and says how many, in pieces of any size. 0 for a buffer that isn't
+    /// empty is the end. An `Err` gives none and raises the number of failures by one; nothing else raises it.
+    fn read(&mut self, buf: &mut [u8]) -> Result<usize, Broken>
+        ensures bound { ReadsAtMost result buf.new }
+        ensures bytes { ReadConsumes (remaining self.old) (remaining self.new) result buf.new }
+        ensures failed { FailsAtErr result (failures self.old) (failures self.new) }
+        ensures same_reference { reference self.new ≡ reference self.old };
+}
+
+/// A source that is lent gives the lender's bytes.
+impl<R: ByteSource> ByteSource for &mut R {
+    ghost remaining = { λ r. R.remaining r.now };
+
+    ghost failures = { λ r. R.failures r.now };
+
+    ghost reference = { λ r. r.ghost_name };
+
+    fn read(&mut self, buf: &mut [u8]) -> Result<usize, Broken> {
+        ByteSource::read(&mut **self, buf)
+    }
+}
