@@ -32,7 +32,7 @@ is_built() {
 
 build() {
     if ! command -v rt >/dev/null 2>&1; then
-        say "the program isn't built, and there is no rt on PATH to build it"
+        say "the program isn't built, or is older than its sources, and there is no rt on PATH to build it"
         return 1
     fi
     say "proving and building the program, which takes minutes (log: $log)"

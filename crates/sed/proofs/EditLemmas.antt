@@ -1,5 +1,5 @@
 -- From the end of an engine's run to the end of an edit.
-use Rattle.std.proofs.Common.{◌≡◌, ℕ, suc, ◌+◌, List, [], ◌++◌, Option, Some, None, length, take, refl, sym, ap}
+use Rattle.std.proofs.Common.{◌≡◌, ℕ, suc, List, [], Option, Some, None, length, refl}
 use Rattle.std.proofs.lemmas.List.{take_at}
 use Rattle.std.proofs.Math.Seq.{take-length}
 use Rattle.sedspace.specs.Lines.{lines}
@@ -7,8 +7,8 @@ use Rattle.sedscript.specs.Script.{Program}
 use Rattle.sedengine.specs.Limits.{Limits}
 use Rattle.sedengine.specs.State.{State, Setting}
 use Rattle.sedengine.specs.Move.{start, after, written}
-use Rattle.sedengine.specs.Ends.{Cause, Whole, Cut, WholeOrCut, broken_sink}
-use Rattle.sedengine.specs.Run.{Run, Ending, Takes, at_lines, more_at, setting, setting_of, size_of}
+use Rattle.sedengine.specs.Ends.{WholeOrCut}
+use Rattle.sedengine.specs.Run.{Run, Ending, Takes, at_lines, setting, setting_of}
 use Rattle.sedengine.specs.declared.ends.Ended.{Ended}
 use Rattle.sedengine.specs.declared.ends.Ended.TheVariants.{Done}
 use Rattle.sed.specs.Editing.{Edits, GainsAll, GainsBeginning, TakesFirstLines, start_over}

@@ -1,4 +1,8 @@
-//! What a command line asks for.
+//! What a command line asks for (XCU sed, "Options" and "Operands").
+ghost use Rattle.std.specs.Prelude.{◌≡◌, ◌≢◌};
+ghost use Rattle.clap.specs.Words.{kind_of};
+ghost use Rattle.clap.specs.declared.error.kind.ErrorKind.TheVariants.{OutOfMemory};
+ghost use Rattle.sed.specs.declared.asked.Refused.TheVariants.{NoMemory, Words};
 
 use clap::error::ErrorKind;
 
@@ -21,6 +25,9 @@ pub enum Refused {
 }
 
 impl From<clap::Error> for Refused {
+    ghost from_gives = { λ e r. (kind_of e ≡ OutOfMemory → r ≡ NoMemory)
+        × (kind_of e ≢ OutOfMemory → r ≡ Words e) };
+
     fn from(error: clap::Error) -> Refused {
         match error.kind() {
             ErrorKind::OutOfMemory => Refused::NoMemory,

@@ -1,20 +1,56 @@
-//! The command line: `sed [-n] script`.
+//! The command line, `sed [-n] script`, read with `clap` (XCU sed, "Synopsis").
+//!
+//! -n may be given more than once, before the script or behind it; `--` ends the options; -h and --help ask for help.
+ghost use Rattle.std.specs.Prelude.{◌≡◌, true, codes, map, option_map, unwrap_or, IfOk, IfErr};
+ghost use Rattle.clap.specs.Words.{app_of, found_of, kind_of, matches_of, rows_of, takes};
+ghost use Rattle.sed.specs.CommandLine.{sed_command, quiet_in, script_in};
 
 use crate::asked::{Line, Refused};
-use clap::{Arg, ArgAction, Command};
+use clap::error::ErrorKind;
+use clap::{Arg, ArgAction, ArgMatches, Command};
 use std::alloc::Global;
 use std::convert::AsStr;
 
-/// Reads the words after the program's name.
-pub fn line<'a, S: AsStr>(alloc: Global, words: &'a [S]) -> Result<Line<'a>, Refused> {
-    let matches = command(alloc)?.try_get_matches_from(words)?;
-    Ok(Line {
-        quiet: matches.get_count("quiet") > 0,
-        script: matches.get_str("script").unwrap_or(""),
-    })
+/// Reads the words of a command line, those after the program's name.
+///
+/// # Errors
+/// What `clap` has to say where it doesn't take the words, or asks for help; or want of memory.
+pub fn line<'a, S: AsStr>(alloc: Global, words: &'a [S]) -> Result<Line<'a>, Refused>
+    ensures quiet { IfOk result (λ l. l.quiet ≡ quiet_in (matches_of sed_command (map S.text words.entry.now))) }
+    ensures script { IfOk result (λ l. l.script.now ≡ script_in (matches_of sed_command (map S.text words.entry.now))) }
+    // Words that `clap` takes are refused only where memory is wanting.
+    ensures taken { IfErr result (λ r. takes sed_command (map S.text words.entry.now) ≡ true → r ≡ Refused.NoMemory) }
+{
+    match read(alloc, words) {
+        Ok(matches) => Ok(Line {
+            quiet: matches.get_count("quiet") > 0,
+            script: or_empty(matches.get_str("script")),
+        }),
+        Err(error) => Err(Refused::from(error)),
+    }
 }
 
-fn command<'a>(alloc: Global) -> Result<Command<'a>, clap::Error> {
+/// The text, or one without bytes.
+fn or_empty<'a>(text: Option<&'a str>) -> &'a str
+    ensures { result.now ≡ unwrap_or (option_map (λ s. s.now) text.entry) (codes "") }
+{
+    text.unwrap_or("")
+}
+
+/// The matches that `clap` gives for the words.
+fn read<'a, S: AsStr>(alloc: Global, words: &'a [S]) -> Result<ArgMatches<'a>, clap::Error>
+    ensures rows { IfOk result (λ m. rows_of (found_of m) ≡ matches_of sed_command (map S.text words.entry.now)) }
+    ensures taken { IfErr result (λ e. takes sed_command (map S.text words.entry.now) ≡ true
+        → kind_of e ≡ ErrorKind.OutOfMemory) }
+{
+    command(alloc)?.try_get_matches_from(words)
+}
+
+/// What `clap` is to read.
+fn command<'a>(alloc: Global) -> Result<Command<'a>, clap::Error>
+    ensures shape { IfOk result (λ c. app_of c ≡ sed_command) }
+    ensures memory { IfErr result (λ e. kind_of e ≡ ErrorKind.OutOfMemory) }
+{
     let quiet = Arg::new(alloc, "quiet")
         .short('n')
         .action(ArgAction::Count)
@@ -23,10 +59,10 @@ fn command<'a>(alloc: Global) -> Result<Command<'a>, clap::Error> {
         .required(true)
         .action(ArgAction::Set)
         .help("The editing commands");
-    Command::new(alloc, "sed")
+    let command = Command::new(alloc, "sed")
         .no_binary_name(true)
         .about("Edits the standard input line by line, and writes to the standard output")
         .arg(quiet)?
-        .arg(script)
-        .map_err(clap::Error::from)
+        .arg(script)?;
+    Ok(command)
 }

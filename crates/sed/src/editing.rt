@@ -1,4 +1,4 @@
-//! The editor as a library: `script` reads a script, and `edit` runs it over a stream.
+//! The editor as a library: `script` reads a script, and `edit` runs it over the bytes of a stream.
 ghost use Rattle.std.specs.Prelude.{◌≡◌, ◌<◌, ◌≤◌, ◌⊎◌, ℕ, List, Ok, IfOk, OnOk, OnErr, IfErr};
 ghost use Rattle.std.specs.Option.{ForSome};
 ghost use Rattle.std.specs.Io.KnownBytes.{Keeps};
@@ -15,7 +15,12 @@ use sedscript::{Kind, NO_MEMORY, Script, ScriptFault};
 use sedspace::{ByteSource, Lines, Outputs, Room, Texts};
 use std::alloc::{AllocError, Global};
 
-/// Reads a script.
+/// Reads a script: the commands that a text means (XCU sed, "Extended Description").
+///
+/// `kind` chooses basic or extended expressions, and `nodes` is the most nodes of one written out, 1 to 65,536.
+///
+/// # Errors
+/// The first fault of the text with its place, a byte counted from 0; or `NO_MEMORY`.
 pub fn script(alloc: Global, text: &[u8], kind: Kind, nodes: usize) -> Result<Script, ScriptFault>
     requires nodes { (1 ≤ nodes) × (nodes ≤ 65536) }
     // What is answered is what the text means.
@@ -28,7 +33,12 @@ pub fn script(alloc: Global, text: &[u8], kind: Kind, nodes: usize) -> Result<Sc
     sedscript::read(alloc, text, kind, nodes)
 }
 
-/// Runs a script over the source's bytes, from its start to an end.
+/// Runs a script over the source's bytes, from the start of a run to its end. Sink 0 is the standard output.
+///
+/// What the engine holds stays within the limits, whatever the input; what was written stands at every end.
+///
+/// # Errors
+/// `AllocError` where a request for memory was refused, before anything is read or written.
 pub fn edit<R: ByteSource, O: Outputs, T: Texts>(
     alloc: Global,
     script: Script,
@@ -55,12 +65,14 @@ pub fn edit<R: ByteSource, O: Outputs, T: Texts>(
         TakesFirstLines (lines bytes) (R.remaining source.old) (R.remaining source.new) (more_at limits end))) }
     // A device that the end names has failed, whether it tells its bytes or not.
     ensures input { result ≡ Ok Ended.InputBroken → Rose (R.failures source.old) (R.failures source.new) }
-    ensures failed { (k : ℕ) → result ≡ Ok (Ended.OutputBroken k) → Rose (O.failures outputs.old k) (O.failures outputs.new k) }
+    ensures failed { (k : ℕ) → result ≡ Ok (Ended.OutputBroken k) →
+        Rose (O.failures outputs.old k) (O.failures outputs.new k) }
     ensures sinks { O.count outputs.new ≡ O.count outputs.old }
     // The texts are only read.
     ensures same_texts { (k : ℕ) → Keeps (T.text texts.old k) (T.text texts.new k) }
     // Where memory is wanting, no device was touched.
-    ensures untouched { OnErr result ((source.new ≡ source.old) × (outputs.new ≡ outputs.old) × (texts.new ≡ texts.old)) }
+    ensures untouched { OnErr result ((source.new ≡ source.old) × (outputs.new ≡ outputs.old)
+        × (texts.new ≡ texts.old)) }
 {
     let room = Room::new(alloc, limits.look())?;
     let mut engine = Engine::open(alloc, script, limits)?;

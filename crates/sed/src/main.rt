@@ -1,7 +1,7 @@
-//! The stream editor `sed` of POSIX.1-2024, as a program and as a library of two calls.
+//! The stream editor `sed` of POSIX.1-2024 (XCU sed), as a program and as a library.
 //!
-//! `script` reads a script, and `edit` runs it over a source, sinks and texts. `stream` is the
-//! program over devices that its caller gives, and `main` gives it the standard streams.
+//! `script` reads a script, and `edit` runs it over a source, sinks and texts. `stream` is the program over devices
+//! that its caller gives, with its words, messages and statuses, and `main` gives it the standard streams.
 #![tactic(auto)]
 
 mod asked;

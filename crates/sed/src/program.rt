@@ -1,6 +1,7 @@
 //! The program, over devices that its caller gives.
-ghost use Rattle.std.specs.Prelude.{◌≡◌, ◌<◌, ◌≤◌, ◌⊎◌, IfOk};
-ghost use Rattle.sedscript.specs.Script.{Means, Program};
+ghost use Rattle.std.specs.Prelude.{◌≡◌, ◌<◌, ◌≤◌, ◌⊎◌, IfOk, map};
+ghost use Rattle.sedengine.specs.Devices.{Gained};
+ghost use Rattle.sed.specs.Program.{GivesScript, IsCommandLine, WritesAll, WritesBeginning, quiet_of, script_of};
 
 use crate::asked::{Line, Refused};
 use crate::command_line::line;
@@ -29,10 +30,10 @@ pub(crate) const STOPPED: u8 = 4;
 /// `errors` the standard error. Where a message can't be written, it is lost.
 ///
 /// * 0: the script ran over the whole input; or `-h` or `--help` was given, and the help was written
-/// * 1: the words are refused, with the text of `clap`; the script is, as `sed: script byte 4: S1 UnknownCommand`; or
-///   memory is wanting: `sed: no memory`. Nothing was read.
-/// * 4: the run stopped, as `sed: line 7: F1 PatternFull`, `sed: F4 TurnsSpent`, `sed: F6 InputBroken` or
-///   `sed: F7 OutputBroken 0`. What was written stands.
+/// * 1: the words are refused, with the text of `clap`; the script is, as `sed: script byte 4: S1 UnknownCommand` or
+///   `sed: script byte 3: S21 Expression: E5 OpenGroup`; or memory is wanting: `sed: no memory`. Nothing was read.
+/// * 4: the run stopped, as `sed: line 7: F1 PatternFull`, `sed: F4 TurnsSpent`, `sed: line 7: F5 NoPrevious`,
+///   `sed: F6 InputBroken` or `sed: F7 OutputBroken 0`. What was written stands.
 pub fn stream<S: AsStr, R: ByteSource + Drop, O: Outputs, E: Write>(
     alloc: Global,
     words: &[S],
@@ -43,16 +44,37 @@ pub fn stream<S: AsStr, R: ByteSource + Drop, O: Outputs, E: Write>(
 ) -> u8
     requires { 0 < O.count outputs.old }
     ensures status { (result ≡ SUCCESS) ⊎ (result ≡ REFUSED) ⊎ (result ≡ STOPPED) }
+    // Status 0 says that all was written that the script writes, and a run that stopped has written a beginning.
+    ensures whole { result ≡ SUCCESS → IsCommandLine (map S.text words.now) →
+        WritesAll (script_of (map S.text words.now)) (quiet_of (map S.text words.now)) limits.nodes
+        (R.remaining source) (Gained (O.contents outputs.old) (O.contents outputs.new)) }
+    ensures stopped { result ≡ STOPPED → IsCommandLine (map S.text words.now) →
+        WritesBeginning (script_of (map S.text words.now)) (quiet_of (map S.text words.now)) limits.nodes
+        (R.remaining source) (Gained (O.contents outputs.old) (O.contents outputs.new)) }
+    ensures refused { result ≡ REFUSED → outputs.new ≡ outputs.old }
     ensures sinks { O.count outputs.new ≡ O.count outputs.old }
 {
     match line(alloc, words) {
         Ok(line) => run_line(alloc, line, limits, source, outputs, errors),
         Err(Refused::Words(error)) => answer_words(alloc, &error, outputs, errors),
-        Err(Refused::NoMemory) => {
-            let _ = say_no_memory(errors);
-            REFUSED
-        }
+        Err(Refused::NoMemory) => out_of_memory(errors),
     }
+}
+
+/// Says how the run stopped.
+fn stopped<E: Write>(end: Ended, errors: &mut E) -> u8
+    ensures { result ≡ STOPPED }
+{
+    let _ = say_end(errors, end);
+    STOPPED
+}
+
+/// Says that memory is wanting.
+fn out_of_memory<E: Write>(errors: &mut E) -> u8
+    ensures { result ≡ REFUSED }
+{
+    let _ = say_no_memory(errors);
+    REFUSED
 }
 
 /// Writes what `clap` has to say: help to the standard output, anything else to the standard error.
@@ -64,6 +86,7 @@ fn answer_words<O: Outputs, E: Write>(
 ) -> u8
     requires { 0 < O.count outputs.old }
     ensures status { (result ≡ SUCCESS) ⊎ (result ≡ REFUSED) ⊎ (result ≡ STOPPED) }
+    ensures refused { result ≡ REFUSED → outputs.new ≡ outputs.old }
     ensures sinks { O.count outputs.new ≡ O.count outputs.old }
 {
     if error.use_stderr() {
@@ -71,15 +94,11 @@ fn answer_words<O: Outputs, E: Write>(
         return REFUSED;
     }
     let Ok(help) = error.to_string(alloc) else {
-        let _ = say_no_memory(errors);
-        return REFUSED;
+        return out_of_memory(errors);
     };
     match write_all(outputs, help.as_bytes()) {
         Ok(()) => SUCCESS,
-        Err(Broken) => {
-            let _ = say_end(errors, Ended::OutputBroken(0));
-            STOPPED
-        }
+        Err(Broken) => stopped(Ended::OutputBroken(0), errors),
     }
 }
 
@@ -96,9 +115,9 @@ fn write_all<O: Outputs>(outputs: &mut O, bytes: &[u8]) -> Result<(), Broken>
 }
 
 /// The script that a command line gives, with its -n.
-fn script_of(alloc: Global, line: Line<'_>, nodes: usize) -> Result<Script, ScriptFault>
+fn read_script(alloc: Global, line: Line<'_>, nodes: usize) -> Result<Script, ScriptFault>
     requires { (1 ≤ nodes) × (nodes ≤ 65536) }
-    ensures { IfOk result (λ s. (p : Program) × Means line.entry.script.now Kind.Basic nodes p × (s ≡ record p { quiet = line.entry.quiet })) }
+    ensures { IfOk result (GivesScript line.entry.script.now line.entry.quiet nodes) }
 {
     let mut program = script(alloc, line.script.as_bytes(), Kind::Basic, nodes)?;
     if line.quiet {
@@ -118,9 +137,14 @@ fn run_line<R: ByteSource + Drop, O: Outputs, E: Write>(
 ) -> u8
     requires { 0 < O.count outputs.old }
     ensures status { (result ≡ SUCCESS) ⊎ (result ≡ REFUSED) ⊎ (result ≡ STOPPED) }
+    ensures whole { result ≡ SUCCESS → WritesAll line.entry.script.now line.entry.quiet limits.nodes
+        (R.remaining source) (Gained (O.contents outputs.old) (O.contents outputs.new)) }
+    ensures stopped { result ≡ STOPPED → WritesBeginning line.entry.script.now line.entry.quiet limits.nodes
+        (R.remaining source) (Gained (O.contents outputs.old) (O.contents outputs.new)) }
+    ensures refused { result ≡ REFUSED → outputs.new ≡ outputs.old }
     ensures sinks { O.count outputs.new ≡ O.count outputs.old }
 {
-    let program = match script_of(alloc, line, limits.nodes()) {
+    let program = match read_script(alloc, line, limits.nodes()) {
         Ok(program) => program,
         Err(fault) => {
             let _ = say_fault(errors, &fault);
@@ -130,13 +154,7 @@ fn run_line<R: ByteSource + Drop, O: Outputs, E: Write>(
     let mut texts = MemoryTexts::new(Vec::new(alloc));
     match edit(alloc, program, limits, &mut source, outputs, &mut texts) {
         Ok(Ended::Done) => SUCCESS,
-        Ok(end) => {
-            let _ = say_end(errors, end);
-            STOPPED
-        }
-        Err(_) => {
-            let _ = say_no_memory(errors);
-            REFUSED
-        }
+        Ok(end) => stopped(end, errors),
+        Err(_) => out_of_memory(errors),
     }
 }

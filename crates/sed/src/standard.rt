@@ -1,4 +1,4 @@
-//! The standard streams of the process as the program's devices.
+//! The standard streams of the process as the program's devices (XCU sed, "Stdin", "Stdout", "Stderr").
 
 use crate::messages::{say_end, say_no_memory};
 use crate::program::{REFUSED, STOPPED, SUCCESS, stream};
@@ -21,7 +21,11 @@ pub(crate) fn program_limits() -> Limits {
 
 /// Runs the program over the standard streams, and gives its exit status.
 ///
-/// When it returns, what was written has reached the standard output, or the status isn't 0.
+/// Output is gathered and written in pieces of 64 KiB; a longer write goes through directly. After every end what is
+/// gathered is written out before the status is given. Where that fails, or a write before it, as on a full disk, a
+/// closed pipe or a closed standard output, the status is 4 and the message `sed: F7 OutputBroken 0`; a run that
+/// writes nothing doesn't notice. After another end than the ordinary one its own message stands alone. A closed
+/// standard input and a directory in its place are `sed: F6 InputBroken`.
 pub(crate) fn run(rt: &HostRuntime) -> u8 {
     let mut errors = rt.stderr();
     match words(rt) {

@@ -1,5 +1,8 @@
 pub mod Gains
 pub mod Writing
 pub mod Streams
-pub mod Tasks
+pub mod Moves
 pub mod Runs
+pub mod Tasks
+pub mod Choices
+pub mod Acts

@@ -1,20 +1,20 @@
 -- What a call for a line does to the lines left.
-use Rattle.std.proofs.Common.{◌≡◌, ℕ, ◌+◌, ◌-◌, ◌<◌, ◌≤◌, ◌⊎◌, inl, inr, Bool, true, false, max, List, [], ◌∷◌, ◌++◌, length, Option, Some, None, Result, Ok, Err, refl, sym, subst, ap, ◌∙◌, arith, rules, length-append, append_assoc, append-nil}
+use Rattle.std.proofs.Common.{◌≡◌, ℕ, ◌+◌, ◌<◌, ◌≤◌, inl, inr, Bool, true, false, max, List, [], ◌∷◌, ◌++◌, length, Option, Some, None, Result, Ok, Err, refl, sym, subst, ap, ◌∙◌, arith, rules, length-append, append_assoc, append-nil}
 use Rattle.std.specs.Prelude.{OnOk}
 use Rattle.std.specs.Borrow.{GName}
 use Rattle.std.specs.List.{slice_split, onto_first}
 use Rattle.std.specs.Option.{option_map}
 use Rattle.std.specs.Io.KnownBytes.{prepend_known, Keeps}
 use Rattle.std.proofs.lemmas.List.Splits.{slice_split-cons_yes, slice_split-cons_no, length-slice_split}
-use Rattle.sedspace.specs.Failures.{Rose}
 use Rattle.sedspace.specs.Lines.{lines, is_newline, without_empty_last}
 use Rattle.sedspace.specs.Stream.{Stream, left, lines_left, GivesLine, NoneLeft, KeepsLines, TakesLine, TakesAtMost, TellsLast}
 use Rattle.sedengine.specs.Calls.{Reads}
 use Rattle.sedengine.specs.Devices.{FailedSource}
+use Rattle.sedengine.specs.Ends.{any_left}
 use Rattle.sedengine.specs.Run.{size_of}
 use Rattle.sedengine.specs.Steps.{TakesLines}
 use Rattle.sedengine.specs.declared.ends.Ended.{Ended}
-use Rattle.sedengine.specs.declared.ends.Ended.TheVariants.{Done, PatternFull, TurnsSpent, InputBroken, OutputBroken}
+use Rattle.sedengine.specs.declared.ends.Ended.TheVariants.{Done, PatternFull, TurnsSpent, NoPrevious, InputBroken, OutputBroken}
 
 -- there is no line only where there is no byte
 some_piece : (b : ℕ) (ps : List (List ℕ)) → 0 < length ps → without_empty_last (onto_first b ps) ≡ [] → ⊥
@@ -40,7 +40,7 @@ pub TakesAtMost-none : (old : Option (List ℕ)) → TakesAtMost old old 0
 TakesAtMost-none None = tt
 TakesAtMost-none (Some xs) = ([], refl, omega arith)
 
-TakesAtMost-kept : (old new : Option (List ℕ)) → Keeps old new → TakesAtMost old new 0
+pub TakesAtMost-kept : (old new : Option (List ℕ)) → Keeps old new → TakesAtMost old new 0
 TakesAtMost-kept None new h = tt
 TakesAtMost-kept (Some xs) None h = absurd h
 TakesAtMost-kept (Some xs) (Some ys) h = ([], sym h, omega arith)
@@ -110,7 +110,7 @@ lines_end {R} remaining old new n ls known taken none none' =
     let nil : ls ≡ [] = no_lines _ ls known none in
     (nil, record { known = r.0; lines = []; are = nil; bytes = r.1 })
 
-size_of-append : (ls ms : List (List ℕ)) → size_of (ls ++ ms) ≡ size_of ls + size_of ms
+pub size_of-append : (ls ms : List (List ℕ)) → size_of (ls ++ ms) ≡ size_of ls + size_of ms
 size_of-append [] ms = search rules
 size_of-append (l ∷ ls) ms = let h = size_of-append ls ms in omega arith
 
@@ -123,20 +123,20 @@ TakesLines-then {R} remaining a b c ls ms ns s t = record {
   bytes = rw size_of-append (TakesAtMost-then _ _ _ _ _ s.bytes t.bytes);
 }
 
-FailedSource-then : (a b c : ℕ) (r : Result Unit Ended) → b ≡ a → FailedSource b c r → FailedSource a c r
-FailedSource-then a b c r same h = let P : ℕ → Type 0 = λ n. FailedSource n c r in subst P same h
+FailedSource-then : {T : Type 0} (a b c : ℕ) (r : Result T Ended) → b ≡ a → FailedSource b c r → FailedSource a c r
+FailedSource-then {T} a b c r same h = let P : ℕ → Type 0 = λ n. FailedSource n c r in subst P same h
 
-sound-then : (a b c : Type 0) (r : Result Unit Ended) → (a → b) → OnOk r (b → c) → OnOk r (a → c)
-sound-then a b c (Ok u) f g = λ x. g (f x)
-sound-then a b c (Err e) f g = tt
+sound-then : {T : Type 0} (a b c : Type 0) (r : Result T Ended) → (a → b) → OnOk r (b → c) → OnOk r (a → c)
+sound-then {T} a b c (Ok u) f g = λ x. g (f x)
+sound-then {T} a b c (Err e) f g = tt
 
 shrinks-then : (a b c : Option (List ℕ)) → (n : ℕ) × TakesAtMost a b n → (n : ℕ) × TakesAtMost b c n → (n : ℕ) × TakesAtMost a c n
 shrinks-then a b c (n, h) (m, i) = (n + m, TakesAtMost-then a b c n m h i)
 
 -- one call after another
-pub Reads-then : {R : Type 0} (remaining : R → Option (List ℕ)) (failures : R → ℕ) (reference : R → GName) (a b c : Stream R) (r : Result Unit Ended) →
-    Reads remaining failures reference a b (Ok tt) → Reads remaining failures reference b c r → Reads remaining failures reference a c r
-Reads-then {R} remaining failures reference a b c r s t =
+pub Reads-then : {R T : Type 0} (remaining : R → Option (List ℕ)) (failures : R → ℕ) (reference : R → GName) (a b c : Stream R) (r : Result T Ended) →
+    Reads {T = Unit} remaining failures reference a b (Ok tt) → Reads remaining failures reference b c r → Reads remaining failures reference a c r
+Reads-then {R} {T} remaining failures reference a b c r s t =
     let h = s.ahead in
     let i = t.ahead in
     let look = s.same_look in
@@ -149,7 +149,7 @@ Reads-then {R} remaining failures reference a b c r s t =
       failed = λ none. FailedSource-then _ _ _ r (s.failed none) (t.failed (s.sound none));
     }
 
-pub Reads-none : {R : Type 0} (remaining : R → Option (List ℕ)) (failures : R → ℕ) (reference : R → GName) (a : Stream R) → Reads remaining failures reference a a (Ok tt)
+pub Reads-none : {R : Type 0} (remaining : R → Option (List ℕ)) (failures : R → ℕ) (reference : R → GName) (a : Stream R) → Reads {T = Unit} remaining failures reference a a (Ok tt)
 Reads-none {R} remaining failures reference a = record {
   same_look = refl;
   same_reference = refl;
@@ -158,6 +158,30 @@ Reads-none {R} remaining failures reference a = record {
   sound = λ none. none;
   failed = λ none. refl;
 }
+
+unread : {T : Type 0} (n : ℕ) (r : Result T Ended) → (r ≡ Err InputBroken → ⊥) → FailedSource n n r
+unread {T} n (Ok x) h = refl
+unread {T} n (Err InputBroken) h = absurd (h refl)
+unread {T} n (Err Done) h = tt
+unread {T} n (Err (PatternFull k)) h = tt
+unread {T} n (Err TurnsSpent) h = tt
+unread {T} n (Err (NoPrevious k)) h = tt
+unread {T} n (Err (OutputBroken k)) h = tt
+
+-- a call that reads nothing
+pub Reads-unread : {R T : Type 0} (remaining : R → Option (List ℕ)) (failures : R → ℕ) (reference : R → GName) (a : Stream R) (r : Result T Ended) → (r ≡ Err InputBroken → ⊥) → Reads remaining failures reference a a r
+Reads-unread {R} {T} remaining failures reference a r h = record {
+  same_look = refl;
+  same_reference = refl;
+  ahead = omega arith;
+  shrinks = (0, TakesAtMost-none _);
+  sound = any_way r;
+  failed = λ none. unread (failures a.source) r h;
+}
+  where
+    any_way : (r : Result T Ended) → OnOk r (a.fault ≡ None → a.fault ≡ None)
+    any_way (Ok x) = λ none. none
+    any_way (Err e) = tt
 
 -- What left loses, the source loses with what is ahead.
 pub source_takes : (ahead ahead' : List ℕ) (old new : Option (List ℕ)) (n m : ℕ) → (k : ℕ) × TakesAtMost old new k → TakesAtMost (prepend_known ahead old) (prepend_known ahead' new) n →
@@ -181,3 +205,13 @@ pub TakesAtMost-more : (old new : Option (List ℕ)) (n m : ℕ) → n ≤ m →
 TakesAtMost-more None new n m h t = tt
 TakesAtMost-more (Some xs) None n m h t = absurd t
 TakesAtMost-more (Some xs) (Some ys) n m h (t, is, most) = (t, is, omega arith)
+
+pub some_told : (o : Option (List (List ℕ))) (ls : List (List ℕ)) (last : Bool) → o ≡ Some ls → TellsLast o last → last ≡ false → any_left ls ≡ true
+some_told None ls last known told is = cc
+some_told (Some ms) ls last known told is =
+    let same : ms ≡ ls = cc in
+    rw (← same) (none_or_any ms last told is)
+  where
+    none_or_any : (ms : List (List ℕ)) (last : Bool) → TellsLast (Some ms) last → last ≡ false → any_left ms ≡ true
+    none_or_any [] last told is = grind (arith, told)
+    none_or_any (m ∷ ms) last told is = refl

@@ -1,15 +1,14 @@
 -- Calls that write, one after another.
-use Rattle.std.proofs.Common.{◌≡◌, ◌≢◌, ℕ, suc, zero, ◌<◌, ◌+◌, ◌≤◌, ◌⊎◌, inl, inr, List, [], ◌∷◌, ◌++◌, length, take, Option, Some, None, Result, Ok, Err, refl, sym, ◌∙◌, arith, rules}
+use Rattle.std.proofs.Common.{◌≡◌, ◌≢◌, ℕ, suc, zero, ◌<◌, ◌+◌, ◌≤◌, ◌⊎◌, inl, inr, List, [], ◌∷◌, ◌++◌, length, Option, Some, Result, Ok, Err, refl, sym, ◌∙◌, arith, rules}
 use Rattle.std.proofs.lemmas.List.{take-append-le}
 use Rattle.std.proofs.lemmas.Option.{slice_get_within}
 use Rattle.std.proofs.Math.Seq.{take-append-add}
 use Rattle.std.proofs.Math.Nat.{suc-add}
-use Rattle.std.specs.Prelude.{slice_get, max, min, ◌-◌, ◌^◌}
-use Rattle.sedspace.specs.Failures.{Rises, Rose}
+use Rattle.std.specs.Prelude.{slice_get}
 use Rattle.sedengine.specs.Devices.{Gained, FailedSink}
-use Rattle.sedengine.specs.Calls.{Puts, Writes}
+use Rattle.sedengine.specs.Calls.{Puts, Writes, NoSinkFailed}
 use Rattle.sedengine.specs.declared.ends.Ended.{Ended}
-use Rattle.sedengine.specs.declared.ends.Ended.TheVariants.{Done, PatternFull, TurnsSpent, InputBroken, OutputBroken}
+use Rattle.sedengine.specs.declared.ends.Ended.TheVariants.{Done, PatternFull, TurnsSpent, NoPrevious, InputBroken, OutputBroken}
 use Rattle.sedengine.proofs.Gains.{Gained-append, same_or_not}
 
 pub slice_get-append_add : {A : Type 0} (xs ys : List A) (n : ℕ) → slice_get (xs ++ ys) (length xs + n) ≡ slice_get ys n
@@ -22,6 +21,7 @@ FailedSink-then a b c (Err (OutputBroken k)) h i = let e = h k in rw e at i
 FailedSink-then a b c (Err Done) h i = tt
 FailedSink-then a b c (Err (PatternFull n)) h i = tt
 FailedSink-then a b c (Err TurnsSpent) h i = tt
+FailedSink-then a b c (Err (NoPrevious n)) h i = tt
 FailedSink-then a b c (Err InputBroken) h i = tt
 
 -- one call after another
@@ -38,3 +38,34 @@ at_all old new s k h others (inr other) = others k (λ e. other (sym e))
 -- a write that took bytes
 pub grown : {O : Type 0} (failures : O → ℕ → ℕ) (count : O → ℕ) (a b : O) (s : ℕ) → count b ≡ count a → failures b s ≡ failures a s → ((j : ℕ) → j ≢ s → failures b j ≡ failures a j) → Writes failures count a b (Ok tt)
 grown failures count a b s same here others = record { same_count = same; failed = λ k. at_all (failures a) (failures b) s k here others (same_or_not s k) }
+
+slice_get-append_left : {A : Type 0} (xs ys : List A) (n : ℕ) (x : A) → slice_get xs n ≡ Some x → slice_get (xs ++ ys) n ≡ Some x
+slice_get-append_left [] ys zero x h = cc
+slice_get-append_left [] ys (suc n) x h = cc
+slice_get-append_left (y ∷ xs) ys zero x h = h
+slice_get-append_left (y ∷ xs) ys (suc n) x h = slice_get-append_left xs ys n x h
+
+-- what fails in the first part fails in the whole
+pub Puts-left : (old new : ℕ → Option (List ℕ)) (xs ys : List (ℕ × ℕ)) (end : Ended) → Puts (Gained old new) xs (Err end) → Puts (Gained old new) (xs ++ ys) (Err end)
+Puts-left old new xs ys end (k, b, byte, is, due, gained) =
+    let lt : b < length xs = slice_get_within xs b (k, byte) due in
+    let le : b ≤ length xs = omega arith in
+    (k, b, byte, is, slice_get-append_left xs ys b (k, byte) due, rw (take-append-le b xs ys le) gained)
+
+-- the second part, after the first was written
+pub Puts-append : (old mid new : ℕ → Option (List ℕ)) (xs ys : List (ℕ × ℕ)) (r : Result Unit Ended) → Gained old mid xs → Puts (Gained mid new) ys r → Puts (Gained old new) (xs ++ ys) r
+Puts-append old mid new xs ys (Ok u) a h = Gained-append a h
+Puts-append old mid new xs ys (Err end) a (k, b, byte, is, due, gained) =
+    (k, length xs + b, byte, is, slice_get-append_add xs ys b ∙ due, rw (take-append-add xs ys b) (Gained-append a gained))
+
+unwritten : (f : ℕ → ℕ) (end : Ended) → NoSinkFailed {T = Unit {0}} (Err end) → FailedSink f f (Err end)
+unwritten f (OutputBroken k) h = absurd h
+unwritten f Done h = tt
+unwritten f (PatternFull n) h = tt
+unwritten f TurnsSpent h = tt
+unwritten f (NoPrevious n) h = tt
+unwritten f InputBroken h = tt
+
+-- an end that comes without a write
+pub Writes-unwritten : {O : Type 0} (failures : O → ℕ → ℕ) (count : O → ℕ) (a : O) (end : Ended) → NoSinkFailed {T = Unit {0}} (Err end) → Writes failures count a a (Err end)
+Writes-unwritten failures count a end h = record { same_count = refl; failed = unwritten (failures a) end h }

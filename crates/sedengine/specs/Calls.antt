@@ -18,10 +18,17 @@ pub record Writes {O : Type 0} (failures : O → ℕ → ℕ) (count : O → ℕ
   pub failed : FailedSink (failures old) (failures new) result
 
 -- A call that may read. What it says of faults is for lines that have answered none before.
-pub record Reads {R : Type 0} (remaining : R → Option (List ℕ)) (failures : R → ℕ) (reference : R → GName) (old new : Stream R) (result : Result Unit Ended) : Type 0 where
+pub record Reads {R T : Type 0} (remaining : R → Option (List ℕ)) (failures : R → ℕ) (reference : R → GName)
+    (old new : Stream R) (result : Result T Ended) : Type 0 where
   pub same_look : new.look ≡ old.look
   pub same_reference : reference new.source ≡ reference old.source
   pub ahead : length new.ahead ≤ max (length old.ahead) old.look
   pub shrinks : (n : ℕ) × TakesAtMost (remaining old.source) (remaining new.source) n
   pub sound : OnOk result (old.fault ≡ None → new.fault ≡ None)
   pub failed : old.fault ≡ None → FailedSource (failures old.source) (failures new.source) result
+
+-- an answer that names no sink
+abbrev pub NoSinkFailed : {T : Type 0} → Result T Ended → Type 0
+NoSinkFailed (Ok x) = Unit {0}
+NoSinkFailed (Err (OutputBroken k)) = ⊥
+NoSinkFailed (Err _) = Unit {0}

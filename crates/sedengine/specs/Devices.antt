@@ -22,7 +22,7 @@ FailedSink old new (Err (OutputBroken k)) = Rose (old k) (new k)
 FailedSink old new (Err _) = Unit {0}
 
 -- The source hasn't failed where the run goes on, and has where an end says so.
-abbrev pub FailedSource : ℕ → ℕ → Result Unit Ended → Type 0
-FailedSource old new (Ok u) = new ≡ old
+abbrev pub FailedSource : {T : Type 0} → ℕ → ℕ → Result T Ended → Type 0
+FailedSource old new (Ok x) = new ≡ old
 FailedSource old new (Err InputBroken) = Rose old new
 FailedSource old new (Err _) = Unit {0}

@@ -1,10 +1,13 @@
 -- How a run ends: the limits, the ends and their causes (this project's own; XCU sed names no limits).
-use Rattle.std.specs.Prelude.{◌≡◌, ℕ, suc, ◌+◌, ◌<◌, ◌≤◌, Bool, true, false, Option, Some, None, List, [], ◌∷◌, length, take, slice_get, is_some}
+use Rattle.std.specs.Prelude.{◌≡◌, ℕ, suc, ◌+◌, ◌<◌, ◌≤◌, Bool, true, false, ◌||◌, Option, Some, None, List, [], ◌∷◌, length, take, slice_get, is_some}
+use Rattle.sedscript.specs.declared.types.Address.{Address}
+use Rattle.sedscript.specs.declared.types.Address.TheVariants.{Line, Last, Match}
+use Rattle.sedscript.specs.declared.types.Command.{Command}
 use Rattle.sedengine.specs.State.{Task, begin, rebegin, do_at, print_pattern, empty_pattern, flush, copy, fetch, join, State, Move, Setting}
 use Rattle.sedengine.specs.Move.{move, after, written}
 use Rattle.sedengine.specs.declared.limits.Limits.{Limits}
 use Rattle.sedengine.specs.declared.ends.Ended.{Ended}
-use Rattle.sedengine.specs.declared.ends.Ended.TheVariants.{Done, PatternFull, TurnsSpent, InputBroken, OutputBroken}
+use Rattle.sedengine.specs.declared.ends.Ended.TheVariants.{Done, PatternFull, TurnsSpent, NoPrevious, InputBroken, OutputBroken}
 
 -- a state within the limits
 pub record Fits (l : Limits) (s : State) : Type 0 where
@@ -51,18 +54,46 @@ line_at s (print_pattern ∷ rest) = s.number
 line_at s (empty_pattern ∷ rest) = s.number
 line_at s (flush ∷ rest) = s.number
 
--- whether the first task looks at the input
-abbrev pub reads : List Task → Bool
-reads [] = false
-reads (begin ∷ rest) = true
-reads (fetch ∷ rest) = true
-reads (join ∷ rest) = true
-reads (rebegin ∷ rest) = false
-reads (do_at k ∷ rest) = false
-reads (copy k o ∷ rest) = false
-reads (print_pattern ∷ rest) = false
-reads (empty_pattern ∷ rest) = false
-reads (flush ∷ rest) = false
+-- whether an address is `$`
+abbrev pub is_dollar : Option Address → Bool
+is_dollar None = false
+is_dollar (Some (Line n)) = false
+is_dollar (Some Last) = true
+is_dollar (Some (Match e)) = false
+
+-- whether a command has an address `$`
+abbrev pub names_last : Command → Bool
+names_last c = is_dollar c.first || is_dollar c.second
+
+abbrev pub asks_last : Option Command → Bool
+asks_last None = false
+asks_last (Some c) = names_last c
+
+-- whether the first task may look at the input: it fetches a line, or comes to a command with an address `$`
+abbrev pub reads : Setting → List Task → Bool
+reads g [] = false
+reads g (begin ∷ rest) = true
+reads g (fetch ∷ rest) = true
+reads g (join ∷ rest) = true
+reads g (rebegin ∷ rest) = false
+reads g (do_at k ∷ rest) = asks_last (slice_get g.commands k)
+reads g (copy k o ∷ rest) = false
+reads g (print_pattern ∷ rest) = false
+reads g (empty_pattern ∷ rest) = false
+reads g (flush ∷ rest) = false
+
+-- whether the first task comes to a command, or to the end of the script
+abbrev pub comes : List Task → Bool
+comes [] = false
+comes (do_at k ∷ rest) = true
+comes (begin ∷ rest) = false
+comes (rebegin ∷ rest) = false
+comes (fetch ∷ rest) = false
+comes (join ∷ rest) = false
+comes (copy k o ∷ rest) = false
+comes (print_pattern ∷ rest) = false
+comes (empty_pattern ∷ rest) = false
+comes (flush ∷ rest) = false
 
 -- there is a move, and what it leads to is so
 abbrev pub Leads : Option Move → (Move → Type 0) → Type 0
@@ -74,6 +105,7 @@ broken_sink (OutputBroken k) = Some k
 broken_sink Done = None
 broken_sink (PatternFull n) = None
 broken_sink TurnsSpent = None
+broken_sink (NoPrevious n) = None
 broken_sink InputBroken = None
 
 -- The cause of an end, at the state where it comes. For a broken output it is in what the sinks hold.
@@ -82,7 +114,8 @@ IsCause l g s Done = s.tasks ≡ []
 IsCause l g s (PatternFull n) =
     (n ≡ line_at s s.tasks) × HasTurn l g s × Leads (move g s) (λ m. l.space < length m.next.pattern)
 IsCause l g s TurnsSpent = (s.turns ≡ l.turns) × (takes_turn g s s.tasks ≡ true)
-IsCause l g s InputBroken = reads s.tasks ≡ true
+IsCause l g s (NoPrevious n) = (n ≡ s.number) × HasTurn l g s × (comes s.tasks ≡ true) × (move g s ≡ None)
+IsCause l g s InputBroken = reads g s.tasks ≡ true
 IsCause l g s (OutputBroken k) = Unit {0}
 
 -- The end comes after t moves. The sinks have gained all that these moves write.
@@ -100,7 +133,7 @@ pub record Cut (l : Limits) (g : Setting) (s : State) (gained : List (ℕ × ℕ
   pub due : slice_get (written g s (suc t)) b ≡ Some (k, byte)
   pub sinks : gained (take b (written g s (suc t)))
 
--- whole, or cut where one sink is broken
+-- whole, or cut where a sink is broken
 abbrev pub WholeOrCut : Limits → Setting → State → (List (ℕ × ℕ) → Type 0) → Ended → ℕ → Option ℕ → Type 0
 WholeOrCut l g s gained end t None = Whole l g s gained end t
 WholeOrCut l g s gained end t (Some k) = Cut l g s gained k t

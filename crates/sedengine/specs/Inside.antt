@@ -1,25 +1,16 @@
 -- The fields of the engine, and what they stand for.
-use Rattle.std.specs.Prelude.{◌≡◌, ℕ, ◌≤◌, false, None, List, [], ◌∷◌, length, map}
-use Rattle.sedengine.specs.State.{Task, begin, do_at, print_pattern, empty_pattern, flush}
-use Rattle.sedengine.specs.Move.{at_end}
+use Rattle.std.specs.Prelude.{◌≡◌, ℕ, ◌<◌, ◌≤◌, false, Option, Some, None, List, [], ◌∷◌, length}
+use Rattle.sedengine.specs.State.{Task, begin, do_at, print_pattern, flush}
 use Rattle.sedengine.specs.Run.{Run}
 use Rattle.sedengine.specs.declared.place.Place.{Place}
 use Rattle.sedengine.specs.declared.place.Place.TheVariants as p
-use Rattle.sedengine.specs.declared.place.Then.{Then}
-use Rattle.sedengine.specs.declared.place.Then.TheVariants as t
 use Rattle.sedengine.specs.declared.engine.Engine.TheInside.{Inside}
 
 -- the tasks that a place stands for
-abbrev pub tasks_then : Then → List Task
-tasks_then t.Empty = empty_pattern ∷ begin ∷ []
-tasks_then t.Begin = begin ∷ []
-
 abbrev pub tasks_of : Place → List Task
 tasks_of p.Begin = begin ∷ []
 tasks_of (p.Do k) = do_at k ∷ []
-tasks_of p.Print = at_end
-tasks_of (p.Flush t) = flush ∷ tasks_then t
-tasks_of p.Empty = empty_pattern ∷ begin ∷ []
+tasks_of p.Quit = print_pattern ∷ flush ∷ []
 tasks_of p.Ended = []
 
 abbrev pub run_of : Inside → Run
@@ -33,8 +24,8 @@ run_of a = record {
     hold = a.hold.bytes;
     replaced = false;
     queue = [];
-    ranges = map (λ _. false) a.script.commands;
-    used = None;
+    ranges = a.ranges.items;
+    used = a.used;
     tasks = tasks_of a.place;
     turns = a.turns;
   };
@@ -44,12 +35,14 @@ run_of a = record {
 -- The pattern space is empty where the next line is to replace it.
 abbrev pub IsEmptied : Place → List ℕ → Type 0
 IsEmptied p.Begin bytes = bytes ≡ []
-IsEmptied (p.Flush t.Begin) bytes = bytes ≡ []
-IsEmptied (p.Flush t.Empty) bytes = Unit {0}
 IsEmptied (p.Do k) bytes = Unit {0}
-IsEmptied p.Print bytes = Unit {0}
-IsEmptied p.Empty bytes = Unit {0}
+IsEmptied p.Quit bytes = Unit {0}
 IsEmptied p.Ended bytes = Unit {0}
+
+-- the expression last used is one of so many
+abbrev pub IsOneOf : ℕ → Option ℕ → Type 0
+IsOneOf expressions None = Unit {0}
+IsOneOf expressions (Some k) = k < expressions
 
 pub record IsRun (a : Inside) : Type 0 where
   pub number : a.number ≤ a.turns
@@ -62,3 +55,8 @@ pub record IsRun (a : Inside) : Type 0 where
   pub queue_limit : a.queue.limit ≡ a.limits.queue
   pub queue : a.queue.items ≡ []
   pub empty : IsEmptied a.place a.pattern.bytes
+  pub ranges : length a.ranges.items ≡ length a.script.commands
+  pub used : IsOneOf (length a.script.expressions) a.used
+  pub scratch_text : a.scratch.text ≡ a.limits.space
+  pub scratch_nodes : a.scratch.nodes ≡ a.limits.nodes
+  pub nodes : a.script.max_nodes ≤ a.limits.nodes

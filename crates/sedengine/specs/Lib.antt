@@ -1,4 +1,5 @@
 pub mod Calls
+pub mod Choose
 pub mod Devices
 pub mod Ends
 pub mod Held

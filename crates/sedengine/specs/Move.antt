@@ -1,9 +1,9 @@
 -- How the editor moves from one state to the next (XCU sed, Extended Description). Nothing is limited here.
-use Rattle.std.specs.Prelude.{ℕ, suc, zero, ◌+◌, Bool, false, Option, Some, None, List, [], ◌∷◌, ◌++◌, map, slice_get, if◌then◌else◌}
+use Rattle.std.specs.Prelude.{ℕ, suc, zero, ◌+◌, Bool, true, false, ◌||◌, Option, Some, None, List, [], ◌∷◌, ◌++◌, map, decimal, is_none, slice_get, slice_set, slice_index_or, if◌then◌else◌}
 use Rattle.sedscript.specs.declared.types.Command.{Command}
 use Rattle.sedscript.specs.declared.types.Action.{Action}
-use Rattle.sedscript.specs.declared.types.Action.TheVariants.{Print, Delete}
-use Rattle.sedengine.specs.Select.{selects}
+use Rattle.sedscript.specs.declared.types.Action.TheVariants.{Block, Branch, Change, Delete, Insert, LineNumber, Print, Quit}
+use Rattle.sedengine.specs.Select.{◌>>=◌, Current, Choice, selects}
 use Rattle.sedengine.specs.State.{Entry, text, file, Task, begin, rebegin, do_at, print_pattern, empty_pattern, flush, copy, fetch, join, State, Move, Setting}
 
 abbrev pub newline : ℕ
@@ -62,27 +62,94 @@ abbrev pub joins : State → List Task → List (List ℕ) → Option Move
 joins s rest [] = quietly (then_do [] s)
 joins s rest (line ∷ lines) = quietly (then_do rest (with_line (s.pattern ++ newline ∷ line) lines s))
 
--- What a command does that applies (XCU sed, Editing Commands in sed). The state has taken the turn, and goes on
--- behind the command unless a case says otherwise.
-abbrev pub acts : State → Action → Option Move
-acts s Print = writing (line_to 0 s.pattern) s
-acts s Delete = quietly (record s { pattern = []; tasks = flush ∷ begin ∷ [] })
+-- the text of a number, as `i` and `c` have it
+abbrev pub text_of : Option (List ℕ) → List ℕ
+text_of None = []
+text_of (Some bytes) = bytes
 
--- the state that has come to command k: the turn is taken, and the next task is the next command
-abbrev pub come : State → ℕ → State
-come s k = record s { tasks = do_at (k + 1) ∷ []; turns = s.turns + 1 }
+-- What a command does that applies (XCU sed, "Editing Commands in sed"). The state has taken the turn, and goes on
+-- behind the command unless a case says otherwise. `tells` says whether `c` writes its text here.
+abbrev pub acts : Setting → State → Bool → Action → Option Move
+-- `{`: "Execute a list of sed editing commands only when the pattern space is selected", so they come next
+acts g s tells (Block behind) = quietly s
+-- `b`: "Branch to the ':' command verb bearing the label"
+acts g s tells (Branch target) = quietly (then_do (do_at target ∷ []) s)
+-- `c`: "Delete the pattern space. With a 0 or 1 address or at the end of a 2-address range, place text on the output
+-- and start the next cycle." The next cycle starts within a range too (this project's own).
+acts g s tells (Change k) =
+    writing (if tells then line_to 0 (text_of (slice_get g.texts k)) else [])
+    (record s { pattern = []; tasks = flush ∷ begin ∷ [] })
+-- `d`: "Delete the pattern space and start the next cycle."
+acts g s tells Delete = quietly (record s { pattern = []; tasks = flush ∷ begin ∷ [] })
+-- `i`: "Write text to standard output."
+acts g s tells (Insert k) = writing (line_to 0 (text_of (slice_get g.texts k))) s
+-- `=`: writes the line number and a newline
+acts g s tells LineNumber = writing (line_to 0 (decimal s.number)) s
+-- `p`: "Write the pattern space to standard output."
+acts g s tells Print = writing (line_to 0 s.pattern) s
+-- `q`: "Branch to the end of the script and quit without starting a new cycle."
+acts g s tells Quit = quietly (then_do (print_pattern ∷ flush ∷ []) s)
 
--- a command, selected or not, or the end of the script
-abbrev pub comes_to : State → ℕ → Option Command → Option Move
-comes_to s k None = quietly (then_do at_end s)
-comes_to s k (Some c) = if selects c.first s.number then acts (come s k) c.action else quietly (come s k)
+-- What a command does that doesn't apply: `{` passes over its block.
+abbrev pub passes : State → Action → Option Move
+passes s (Block behind) = quietly (then_do (do_at behind ∷ []) s)
+passes s (Branch target) = quietly s
+passes s (Change k) = quietly s
+passes s Delete = quietly s
+passes s (Insert k) = quietly s
+passes s LineNumber = quietly s
+passes s Print = quietly s
+passes s Quit = quietly s
+
+abbrev pub none_left : List (List ℕ) → Bool
+none_left [] = true
+none_left (line ∷ lines) = false
+
+-- what addresses are judged by in this state
+abbrev pub current_of : Setting → State → Current
+current_of g s = record {
+  number = s.number;
+  last = none_left s.lines;
+  pattern = s.pattern;
+  finds = g.finds;
+  used = s.used;
+}
+
+-- whether the range of command k is active
+abbrev pub is_active : State → ℕ → Bool
+is_active s k = slice_index_or s.ranges k false
+
+-- the state that has come to command k: the turn is taken, its addresses are judged, and the next task is the next command
+abbrev pub come : State → ℕ → Choice → State
+come s k choice = record s {
+  ranges = slice_set s.ranges k choice.active;
+  used = choice.used;
+  tasks = do_at (k + 1) ∷ [];
+  turns = s.turns + 1;
+}
+
+-- whether `c` writes its text: without a range, at a range's end, and with `!` (the last is this project's own)
+abbrev pub tells_at : Command → Bool → Bool
+tells_at c end = is_none c.second || end || c.negate
+
+-- a command with its choice
+abbrev pub performs : Setting → State → ℕ → Command → Choice → Option Move
+performs g s k c choice =
+    if choice.yes then acts g (come s k choice) (tells_at c choice.end) c.action else passes (come s k choice) c.action
+
+-- A command, or the end of the script. A command that needs an expression which isn't there has no move.
+abbrev pub comes_to : Setting → State → ℕ → Option Command → Option Move
+comes_to g s k None = quietly (then_do at_end s)
+comes_to g s k (Some c) = do
+  choice ← selects (current_of g s) (is_active s k) c
+  performs g s k c choice
 
 -- by the first task
 abbrev pub first_task : Setting → State → List Task → Option Move
 first_task g s [] = None
 first_task g s (begin ∷ rest) = begins s s.lines
 first_task g s (rebegin ∷ rest) = quietly (record s { tasks = do_at 0 ∷ []; turns = s.turns + 1 })
-first_task g s (do_at k ∷ rest) = comes_to s k (slice_get g.commands k)
+first_task g s (do_at k ∷ rest) = comes_to g s k (slice_get g.commands k)
 first_task g s (print_pattern ∷ rest) = writing (if g.quiet then [] else line_to 0 s.pattern) (then_do rest s)
 first_task g s (empty_pattern ∷ rest) = quietly (record s { pattern = []; tasks = rest })
 first_task g s (flush ∷ rest) = flushes s rest s.queue
@@ -90,7 +157,7 @@ first_task g s (copy k o ∷ rest) = copies s rest k o (slice_get (g.files k) o)
 first_task g s (fetch ∷ rest) = fetches s rest s.lines
 first_task g s (join ∷ rest) = joins s rest s.lines
 
--- a state that has ended has no move
+-- A state that has ended has no move. One that has tasks and no move needs an expression that isn't there.
 unfoldable pub move : Setting → State → Option Move
 move g s = first_task g s s.tasks
 

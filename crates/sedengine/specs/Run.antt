@@ -1,5 +1,7 @@
 -- The engine as its callers see it, and what a run of it comes to (this project's own).
-use Rattle.std.specs.Prelude.{◌≡◌, ℕ, ◌+◌, ◌<◌, Bool, true, false, Option, Some, None, Result, Ok, Err, unwrap_or, List, [], ◌∷◌, ◌++◌, length}
+use Rattle.std.specs.Prelude.{◌≡◌, ℕ, ◌+◌, ◌<◌, Bool, true, false, Option, Some, None, Result, Ok, Err, unwrap_or, List, [], ◌∷◌, ◌++◌, length, is_some, slice_get}
+use Rattle.sedre.specs.Arena.{Written, tree}
+use Rattle.sedmatch.specs.Matching.{found}
 use Rattle.sedscript.specs.Script.{Program}
 use Rattle.sedspace.specs.Stream.{TakesAtMost}
 use Rattle.sedengine.specs.Limits.{Limits}
@@ -8,7 +10,7 @@ use Rattle.sedengine.specs.Move.{after, written}
 use Rattle.sedengine.specs.Ends.{Within, Cause, broken_sink}
 use Rattle.sedengine.specs.Held.{HoldsAt}
 use Rattle.sedengine.specs.declared.ends.Ended.{Ended}
-use Rattle.sedengine.specs.declared.ends.Ended.TheVariants.{Done, PatternFull, TurnsSpent, InputBroken, OutputBroken}
+use Rattle.sedengine.specs.declared.ends.Ended.TheVariants.{Done, PatternFull, TurnsSpent, NoPrevious, InputBroken, OutputBroken}
 use Rattle.sedengine.specs.declared.ends.Progress.{Progress}
 use Rattle.sedengine.specs.declared.ends.Progress.TheVariants as progress
 
@@ -23,8 +25,23 @@ pub record Run : Type 0 where
 abbrev pub at_lines : Run → List (List ℕ) → State
 at_lines e ls = record e.state { lines = ls }
 
+-- whether an expression has a match in a text (XBD 9.1)
+abbrev pub has_match : Option Written → List ℕ → Bool
+has_match None w = false
+has_match (Some e) w = is_some (found (tree e) w 0)
+
+-- the same for one of these expressions
+abbrev pub finds_in : List Written → ℕ → List ℕ → Bool
+finds_in expressions k w = has_match (slice_get expressions k) w
+
 abbrev pub setting_of : Program → (ℕ → List ℕ) → Setting
-setting_of p files = record { commands = p.commands; quiet = p.quiet; files = files }
+setting_of p files = record {
+  commands = p.commands;
+  texts = p.texts;
+  finds = finds_in p.expressions;
+  quiet = p.quiet;
+  files = files;
+}
 
 -- what doesn't change in its run
 abbrev pub setting : Run → (ℕ → List ℕ) → Setting
@@ -51,11 +68,13 @@ more_at l (PatternFull n) = l.space + 1 + l.look
 more_at l InputBroken = l.space + 1 + l.look
 more_at l Done = l.look
 more_at l TurnsSpent = l.look
+more_at l (NoPrevious n) = l.look
 more_at l (OutputBroken k) = l.look
 
 -- A run from the state s came to this end: after some moves, which took lines from the source and led to the state
 -- `now`. `gained` says what the sinks gained, and `old` and `new` what the source had still to give.
-pub record Ending (l : Limits) (g : Setting) (s : State) (gained : List (ℕ × ℕ) → Type 0) (old new : Option (List ℕ)) (now : State) (end : Ended) : Type 0 where
+pub record Ending (l : Limits) (g : Setting) (s : State) (gained : List (ℕ × ℕ) → Type 0)
+    (old new : Option (List ℕ)) (now : State) (end : Ended) : Type 0 where
   pub t : ℕ
   pub cause : Cause l g s gained end t
   pub takes : Takes g s old new (more_at l end) t
@@ -79,7 +98,8 @@ abbrev pub InOneCycle : Setting → State → ℕ → Type 0
 InOneCycle g s t = (k : ℕ) → 0 < k → k < t → starts_cycle (after g s k).tasks ≡ false
 
 -- One cycle was made from the state s: at least one move, up to where the next cycle starts.
-pub record Cycled (l : Limits) (g : Setting) (s : State) (gained : List (ℕ × ℕ) → Type 0) (old new : Option (List ℕ)) (now : State) : Type 0 where
+pub record Cycled (l : Limits) (g : Setting) (s : State) (gained : List (ℕ × ℕ) → Type 0)
+    (old new : Option (List ℕ)) (now : State) : Type 0 where
   pub t : ℕ
   pub some : 0 < t
   pub is : after g s t ≡ now
@@ -90,13 +110,16 @@ pub record Cycled (l : Limits) (g : Setting) (s : State) (gained : List (ℕ × 
   pub takes : Takes g s old new l.look t
 
 -- The end came within one cycle.
-pub record EndingInCycle (l : Limits) (g : Setting) (s : State) (gained : List (ℕ × ℕ) → Type 0) (old new : Option (List ℕ)) (now : State) (end : Ended) : Type 0 where
+pub record EndingInCycle (l : Limits) (g : Setting) (s : State) (gained : List (ℕ × ℕ) → Type 0)
+    (old new : Option (List ℕ)) (now : State) (end : Ended) : Type 0 where
   pub ending : Ending l g s gained old new now end
   pub one : InOneCycle g s (ending.t + 1)
 
 -- What one cycle answers; `left` are the lines left after it.
-abbrev pub Cycles : Limits → Setting → State → (List (ℕ × ℕ) → Type 0) → Option (List ℕ) → Option (List ℕ) → Run → Option (List (List ℕ)) → Progress → Type 0
-Cycles l g s gained old new e left progress.More = (rest : List (List ℕ)) × (left ≡ Some rest) × Cycled l g s gained old new (at_lines e rest)
+abbrev pub Cycles : Limits → Setting → State → (List (ℕ × ℕ) → Type 0) → Option (List ℕ) → Option (List ℕ) →
+    Run → Option (List (List ℕ)) → Progress → Type 0
+Cycles l g s gained old new e left progress.More =
+    (rest : List (List ℕ)) × (left ≡ Some rest) × Cycled l g s gained old new (at_lines e rest)
 Cycles l g s gained old new e left (progress.Ended end) = EndingInCycle l g s gained old new e.state end
 
 -- the end that a cycle answers

@@ -1,13 +1,93 @@
--- Which pattern spaces the addresses of a command select (XCU sed, Addresses in sed).
-use Rattle.std.specs.Prelude.{ℕ, Bool, true, Option, Some, None, nat_eq}
+-- Which pattern spaces the addresses of a command select (XCU sed, "Addresses in sed").
+use Rattle.std.specs.Prelude.{ℕ, Bool, true, false, not, Option, Some, None, List, option_and_then, nat_lt, nat_le, nat_eq, if◌then◌else◌}
 use Rattle.sedscript.specs.declared.types.Address.{Address}
-use Rattle.sedscript.specs.declared.types.Address.TheVariants.{Line}
+use Rattle.sedscript.specs.declared.types.Address.TheVariants.{Line, Last, Match}
+use Rattle.sedscript.specs.declared.types.Command.{Command}
 
--- a decimal number is for the line of this number
-abbrev pub matches : Address → ℕ → Bool
-matches (Line n) number = nat_eq n number
+infixl 10 ◌>>=◌
+abbrev pub ◌>>=◌ : {A B : Type 0} → Option A → (A → Option B) → Option B
+o >>= f = option_and_then f o
 
--- no address selects every pattern space, and one those that match it
-abbrev pub selects : Option Address → ℕ → Bool
-selects None number = true
-selects (Some a) number = matches a number
+-- what addresses are judged by
+pub record Current : Type 0 where
+  pub number : ℕ  -- the line number
+  pub last : Bool  -- whether this is the last line of input
+  pub pattern : List ℕ  -- the pattern space
+  pub finds : ℕ → List ℕ → Bool  -- whether the expression of a number has a match in a text
+  pub used : Option ℕ  -- the expression last used
+
+-- the answer for one address, and the expression last used after it
+pub record Answer : Type 0 where
+  pub yes : Bool
+  pub used : Option ℕ
+
+-- the answer for a command's addresses: whether they select, whether this is the range's end, and after it whether the
+-- range is active and the expression last used
+pub record Choice : Type 0 where
+  pub yes : Bool
+  pub end : Bool
+  pub active : Bool
+  pub used : Option ℕ
+
+-- an empty RE stands for the one last used ("If an RE is empty .. as if the last RE used in the last command applied
+-- .. was specified")
+abbrev pub stands_for : Option ℕ → Option ℕ → Option ℕ
+stands_for (Some e) used = Some e
+stands_for None used = used
+
+-- One address. Without an expression used before an empty one there is no answer (this project's own).
+abbrev pub answer : Current → Address → Option Answer
+-- "a decimal number that counts input lines cumulatively across files"
+answer c (Line n) = Some (record { yes = nat_eq n c.number; used = c.used })
+-- "a '$' character that addresses the last line of input"
+answer c Last = Some (record { yes = c.last; used = c.used })
+-- "a context address (which consists of an RE ..)"
+answer c (Match e) = option_and_then (λ k. Some (record { yes = c.finds k c.pattern; used = Some k })) (stands_for e c.used)
+
+-- "if the second address is a number less than or equal to the line number first selected, only one line shall be
+-- selected"
+abbrev pub ends_at_once : Current → Address → Bool
+ends_at_once c (Line n) = nat_le n c.number
+ends_at_once c Last = false
+ends_at_once c (Match e) = false
+
+-- A range that isn't active begins with a pattern space that matches its first address; the second is tried from the
+-- next one on ("the inclusive range from the first pattern space that matches the first address through the next
+-- pattern space that matches the second").
+abbrev pub on_idle : Current → Address → Address → Option Choice
+on_idle c first second = do
+  a ← answer c first
+  Some (if a.yes
+      then record { yes = true; end = ends_at_once c second; active = not (ends_at_once c second); used = a.used }
+      else record { yes = false; end = false; active = false; used = a.used })
+
+-- An active range goes on through the pattern space that matches its second address. Where that is the number of a line
+-- that has passed, the range is over, and the pattern space is judged anew (this project's own).
+abbrev pub on_active : Current → Address → Address → Option Choice
+on_active c first (Line n) =
+    if nat_lt c.number n then Some (record { yes = true; end = false; active = true; used = c.used })
+    else (if nat_eq c.number n then Some (record { yes = true; end = true; active = false; used = c.used })
+    else on_idle c first (Line n))
+on_active c first Last = Some (record { yes = true; end = c.last; active = not c.last; used = c.used })
+on_active c first (Match e) = do
+  a ← answer c (Match e)
+  Some (record { yes = true; end = a.yes; active = not a.yes; used = a.used })
+
+-- "An editing command with no addresses shall select every pattern space", with one address "each pattern space that
+-- matches the address", with two addresses a range
+abbrev pub of_addresses : Current → Bool → Option Address → Option Address → Option Choice
+of_addresses c active None second = Some (record { yes = true; end = false; active = active; used = c.used })
+of_addresses c active (Some first) None = do
+  a ← answer c first
+  Some (record { yes = a.yes; end = false; active = active; used = a.used })
+of_addresses c active (Some first) (Some second) = if active then on_active c first second else on_idle c first second
+
+-- `!` turns the yes alone: "the function shall be applied if the addresses do not select the pattern space"
+abbrev pub negated : Bool → Choice → Choice
+negated n choice = record choice { yes = if n then not choice.yes else choice.yes }
+
+-- what the addresses of a command choose, whose range is active or not
+unfoldable pub selects : Current → Bool → Command → Option Choice
+selects c active command = do
+  choice ← of_addresses c active command.first command.second
+  Some (negated command.negate choice)

@@ -37,8 +37,11 @@ pub record Move : Type 0 where
   pub next : State
   pub writes : List (ℕ × ℕ)
 
--- what doesn't change in a run: the commands, whether default output is suppressed (-n), and the files to be read
+-- What doesn't change in a run: the commands, the texts of `i` and `c`, which of the script's regular expressions have a
+-- match in which text, whether default output is suppressed (-n), and the files to be read.
 pub record Setting : Type 0 where
   pub commands : List Command
+  pub texts : List (List ℕ)
+  pub finds : ℕ → List ℕ → Bool
   pub quiet : Bool
   pub files : ℕ → List ℕ

@@ -12,6 +12,8 @@ pub enum Ended {
     PatternFull(u64),
     /// F4: all turns were taken, and a further one is due.
     TurnsSpent,
+    /// F5: on this line an empty regular expression stands for the one last used, and none was.
+    NoPrevious(u64),
     /// F6: the source failed.
     InputBroken,
     /// F7: this sink failed.

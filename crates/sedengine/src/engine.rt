@@ -1,5 +1,5 @@
 //! The engine: its parts, and the calls that run it.
-ghost use Rattle.std.specs.Prelude.{◌≡◌, ◌<◌, ◌≤◌, [], None, Some, Ok, Err, IfOk, IfSome, IsNone, length, ℕ, Option, List};
+ghost use Rattle.std.specs.Prelude.{◌≡◌, ◌<◌, ◌≤◌, [], None, Some, Ok, Err, IfOk, IfSome, IsNone, false, length, replicate, ℕ, Option, List};
 ghost use Rattle.std.specs.Option.{ForSome};
 ghost use Rattle.std.specs.Io.KnownBytes.{Keeps};
 ghost use Rattle.sedspace.specs.Failures.{Rose};
@@ -9,6 +9,7 @@ ghost use Rattle.sedengine.specs.Devices.{Gained, FailedSink, FailedSource};
 ghost use Rattle.sedengine.specs.Held.{total_of, bound_of};
 ghost use Rattle.sedengine.specs.Run.{outcome, Cycles, Ending, SameRun, at_lines, end_of, files_in, setting};
 
+mod addresses;
 mod commands;
 mod moves;
 mod tasks;
@@ -16,7 +17,8 @@ mod tasks;
 use crate::ends::{Ended, Held, Progress};
 use crate::limits::Limits;
 use crate::place::Place;
-use sedscript::script::Script;
+use sedmatch::Scratch;
+use sedscript::Script;
 use sedspace::{ByteSource, Lines, Outputs, Queue, Space, Texts};
 use std::alloc::{AllocError, Global};
 use std::marker::Model;
@@ -32,6 +34,11 @@ pub struct Engine {
     hold: Space,
     build: Space,
     queue: Queue,
+    scratch: Scratch,
+    // For each command, whether its range is active.
+    ranges: Vec<bool>,
+    // The number of the regular expression last used.
+    used: Option<usize>,
     number: u64,
     turns: u64,
     place: Place,
@@ -49,13 +56,29 @@ impl Model for Engine {
     ghost invariant = { IsRun };
 }
 
+// The states of so many ranges, none of which is active.
+fn idle_ranges(alloc: Global, count: usize) -> Result<Vec<bool>, AllocError>
+    ensures { IfOk result (λ ranges. ranges.items ≡ replicate count false) }
+{
+    vec![in alloc; false; count]
+}
+
 impl Engine {
     /// An engine that stands at the start of a run. It reserves all the memory that its run takes.
+    ///
+    /// # Errors
+    /// Where a request for memory was refused.
     pub fn open(alloc: Global, script: Script, limits: Limits) -> Result<Engine, AllocError>
         requires { script.max_nodes ≤ limits.nodes }
-        ensures { IfOk result (λ e. e ≡ record { script = script; limits = limits; state = start script.commands []; ended = None }) }
+        ensures { IfOk result (λ e. e ≡ record {
+          script = script;
+          limits = limits;
+          state = start script.commands [];
+          ended = None;
+        }) }
     {
         let space = limits.space();
+        let ranges = idle_ranges(alloc, script.len())?;
         Ok(Engine {
             script,
             limits,
@@ -63,6 +86,9 @@ impl Engine {
             hold: Space::new(alloc, space)?,
             build: Space::new(alloc, space)?,
             queue: Queue::new(alloc, limits.queue())?,
+            scratch: Scratch::new(alloc, space, limits.nodes())?,
+            ranges,
+            used: None,
             number: 0,
             turns: 0,
             place: Place::Begin,
@@ -72,7 +98,8 @@ impl Engine {
 
     /// Runs one cycle: the next line is read, the script runs over it, and the pattern space is written.
     ///
-    /// All calls of a run get the same lines, outputs and texts. An engine whose run has ended answers the same end
+    /// All calls of a run get the same lines, outputs and texts; the lines read ahead as much as the limits say, and
+    /// sink 0 is the standard output. No command reads a text yet. An engine whose run has ended answers the same end
     /// again, and touches no device.
     pub fn cycle<R: ByteSource, O: Outputs, T: Texts>(
         &mut self,
@@ -84,14 +111,17 @@ impl Engine {
         requires sink { 0 < O.count outputs.old }
         // The moves of one cycle were made, or the end came with its cause; this is what the sinks gained and what
         // was taken from the source.
-        ensures cycles { IsNone self.old.ended → lines.old.fault ≡ None → ForSome (lines_left R.remaining lines.old) (λ ls.
+        ensures cycles { IsNone self.old.ended → lines.old.fault ≡ None →
+            ForSome (lines_left R.remaining lines.old) (λ ls.
             Cycles self.old.limits (setting self.old (files_in (T.text texts.old))) (at_lines self.old ls)
             (Gained (O.contents outputs.old) (O.contents outputs.new))
-            (R.remaining lines.old.source) (R.remaining lines.new.source) self.new (lines_left R.remaining lines.new) result) }
+            (R.remaining lines.old.source) (R.remaining lines.new.source)
+            self.new (lines_left R.remaining lines.new) result) }
         // A device that the end names has failed in this call; before a next cycle none has.
         ensures input { IsNone self.old.ended → lines.old.fault ≡ None →
             FailedSource (R.failures lines.old.source) (R.failures lines.new.source) (outcome result) }
-        ensures output { IsNone self.old.ended → FailedSink (O.failures outputs.old) (O.failures outputs.new) (outcome result) }
+        ensures output { IsNone self.old.ended →
+            FailedSink (O.failures outputs.old) (O.failures outputs.new) (outcome result) }
         ensures sound { result ≡ Progress.More → lines.old.fault ≡ None → lines.new.fault ≡ None }
         ensures ended { self.new.ended ≡ end_of result }
         ensures again { IfSome self.old.ended (λ end. (result ≡ Progress.Ended end) × (self.new ≡ self.old)
@@ -112,7 +142,7 @@ impl Engine {
         progress
     }
 
-    /// Runs cycles to the end, and says which it was.
+    /// Runs cycles to the end, and says which it was. The conditions on the devices are those of `cycle`.
     ///
     /// An engine whose run has ended answers the same end again, and touches no device.
     pub fn run<R: ByteSource, O: Outputs, T: Texts>(
@@ -125,7 +155,8 @@ impl Engine {
         requires sink { 0 < O.count outputs.old }
         // The end has its cause after some moves, from the engine's state and the lines left; the sinks have gained
         // what these moves write, and this was taken from the source.
-        ensures ends { IsNone self.old.ended → lines.old.fault ≡ None → ForSome (lines_left R.remaining lines.old) (λ ls.
+        ensures ends { IsNone self.old.ended → lines.old.fault ≡ None →
+            ForSome (lines_left R.remaining lines.old) (λ ls.
             Ending self.old.limits (setting self.old (files_in (T.text texts.old))) (at_lines self.old ls)
             (Gained (O.contents outputs.old) (O.contents outputs.new))
             (R.remaining lines.old.source) (R.remaining lines.new.source) self.new.state result) }

@@ -21,7 +21,13 @@ impl Model for Limits {
 
     ghost view = { λ s. limits_of s.most_space s.most_queue s.most_look s.most_turns s.most_nodes };
 
-    ghost inverse = { λ l. record { most_space = l.space; most_queue = l.queue; most_look = l.look; most_turns = l.turns; most_nodes = l.nodes } };
+    ghost inverse = { λ l. record {
+      most_space = l.space;
+      most_queue = l.queue;
+      most_look = l.look;
+      most_turns = l.turns;
+      most_nodes = l.nodes;
+    } };
 
     ghost invariant = { λ s. AreLimits (limits_of s.most_space s.most_queue s.most_look s.most_turns s.most_nodes) };
 }

@@ -1,13 +1,4 @@
-//! Where the engine stands in a cycle.
-
-/// What follows when the queue was written.
-#[derive(Clone, Copy)]
-pub(crate) enum Then {
-    /// The pattern space is emptied, and the next cycle starts.
-    Empty,
-    /// The next cycle starts.
-    Begin,
-}
+//! Where the engine stands between its moves.
 
 /// What is to be done next.
 #[derive(Clone, Copy)]
@@ -16,12 +7,8 @@ pub(crate) enum Place {
     Begin,
     /// The command of this number is come to, or the end of the script.
     Do(usize),
-    /// The pattern space is written at the end of the script.
-    Print,
-    /// The queue is written.
-    Flush(Then),
-    /// The pattern space is emptied at the end of a cycle.
-    Empty,
+    /// The pattern space and the queue are written for the last time.
+    Quit,
     /// Nothing: the run is over.
     Ended,
 }

@@ -3,8 +3,7 @@
 ghost use Rattle.std.specs.Prelude.{◌≡◌, IfOk};
 
 use crate::{Ended, Engine, Held, Limits, Progress};
-use sedscript::reader::read;
-use sedscript::types::Kind;
+use sedscript::{Kind, read};
 use sedspace::{Lines, MemoryOutputs, MemorySource, MemoryTexts};
 use std::process::Abort;
 use std::test::Fail;
@@ -35,21 +34,21 @@ fn engine(
     Ok(Engine::open(rt.alloc(), script, limits)?)
 }
 
-/// How a run ends and what it writes, with 2 bytes read ahead, reads of one byte and writes of two.
+/// How a run ends and what it writes, with 2 bytes read ahead, and reads and writes of at most so many bytes.
 fn run(
     rt: &HostRuntime,
     script: &[u8],
     quiet: bool,
     input: &[u8],
-    space: usize,
     turns: u64,
+    piece: usize,
 ) -> Result<(Ended, Vec<u8>), Fail> {
-    let mut engine = engine(rt, script, quiet, space, 2, turns)?;
+    let mut engine = engine(rt, script, quiet, 3, 2, turns)?;
     let mut source = MemorySource::new(input.to_vec(rt.alloc())?, Vec::new(rt.alloc()));
-    source.give_at_most(1);
+    source.give_at_most(piece);
     let mut lines = Lines::new(rt.alloc(), source, 2)?;
     let mut outputs = MemoryOutputs::new(rt.alloc(), 1)?;
-    outputs.take_at_most(2);
+    outputs.take_at_most(piece);
     let mut texts = MemoryTexts::new(Vec::new(rt.alloc()));
     let ended = engine.run(&mut lines, &mut outputs, &mut texts);
     Ok((ended, outputs.bytes(0).to_vec(rt.alloc())?))
@@ -58,35 +57,69 @@ fn run(
 /// The most turns that a run may take.
 const MOST: u64 = u64::MAX;
 
+/// Scripts, whether default output is suppressed, the input and what is written.
+const RUNS: [(&[u8], bool, &[u8], &[u8]); 12] = [
+    (b"2q", false, b"1\n2\n3\n", b"1\n2\n"),
+    (b"$!d", false, b"1\n2\n3", b"3\n"),
+    (b"2,1!d", false, b"1\n2\n3\n", b"2\n"),
+    (b"/a/,/a/p", true, b"a\nb\na\nc\n", b"a\nb\na\n"),
+    (b"1{p;be;p};:e", false, b"a\nb\n", b"a\na\nb\n"),
+    (b"2=;p", true, b"a\nb\n", b"a\n2\nb\n"),
+    (b"2,3c\\\nT", false, b"1\n2\n3\n4\n", b"1\nT\n4\n"),
+    (b"2!c\\\nT", false, b"1\n2\n3\n", b"T\n2\nT\n"),
+    (b"i\\\n  T\\\nU", false, b"a\n", b"  T\nU\na\n"),
+    // A range that begins on the last line and isn't over there has no end, and `c` writes nothing.
+    (b"$,/x/c\\\nT", false, b"1\n2\n", b"1\n"),
+    // A range whose last line has passed is over.
+    (b"3b;2,3p", true, b"1\n2\n3\n4\n", b"2\n"),
+    // The expression last used, which isn't the last one of the script.
+    (b"1be;//p;:e;/b/b;/x/p", true, b"b\nb\n", b"b\n"),
+];
+
 #[test]
 fn runs_scripts(rt: HostRuntime) -> Result<(), Fail> {
-    let rows: [(&[u8], bool, &[u8], usize, u64, &[u8], Ended); 13] = [
-        (b"2p", true, b"a\nb\n", 9, MOST, b"b\n", Ended::Done),
-        (b"2p", true, b"a\nb", 9, MOST, b"b\n", Ended::Done),
-        (b"2d", false, b"a\nb\nc\n", 9, MOST, b"a\nc\n", Ended::Done),
-        (b"p;p", false, b"a\n", 9, MOST, b"a\na\na\n", Ended::Done),
-        (b"p;d", false, b"\na\n", 9, MOST, b"\na\n", Ended::Done),
-        (
-            b"p",
-            false,
-            b"ab\nabcd\n",
-            3,
-            MOST,
-            b"ab\nab\n",
-            Ended::PatternFull(2),
-        ),
-        (b"p", false, b"abc\n", 3, MOST, b"abc\nabc\n", Ended::Done),
-        (b"p", false, b"a\nb\n", 9, 3, b"a\na\n", Ended::TurnsSpent),
-        (b"p", false, b"a\nb\n", 9, 4, b"a\na\nb\nb\n", Ended::Done),
-        (b"2d", false, b"a\nb\n", 9, 2, b"a\n", Ended::TurnsSpent),
-        (b"2d", false, b"a\n", 9, 1, b"", Ended::TurnsSpent),
-        (b"p", false, b"", 9, 0, b"", Ended::Done),
-        (b"p", false, b"a\n", 9, 0, b"", Ended::TurnsSpent),
+    for (script, quiet, input, written) in RUNS {
+        for piece in [1, 100] {
+            let (ended, bytes) = run(&rt, script, quiet, input, MOST, piece)?;
+            assert_eq!(rt; ended, Ended::Done);
+            assert_eq!(rt; bytes.as_slice(), written);
+        }
+    }
+    Ok(())
+}
+
+#[test]
+fn ends_with_a_cause(rt: HostRuntime) -> Result<(), Fail> {
+    let rows: [(&[u8], u64, &[u8], Ended); 6] = [
+        (b"p", MOST, b"a\na\n", Ended::PatternFull(2)),
+        (b"2d", 2, b"a\n", Ended::TurnsSpent),
+        (b":a;ba", 100, b"", Ended::TurnsSpent),
+        (b"//p", 1, b"", Ended::TurnsSpent),
+        (b"//p", MOST, b"", Ended::NoPrevious(1)),
+        (b"1,//p", MOST, b"a\na\n", Ended::PatternFull(2)),
     ];
-    for (script, quiet, input, space, turns, written, end) in rows {
-        let (ended, bytes) = run(&rt, script, quiet, input, space, turns)?;
+    for (script, turns, written, end) in rows {
+        let (ended, bytes) = run(&rt, script, false, b"a\nbcde\n", turns, 1)?;
         assert_eq!(rt; ended, end);
         assert_eq!(rt; bytes.as_slice(), written);
+    }
+    Ok(())
+}
+
+#[test]
+fn looks_past_a_line_for_its_last_address_alone(rt: HostRuntime) -> Result<(), Fail> {
+    // After the first of these lines: how many bytes one read ahead of one byte takes. An address that isn't judged
+    // asks nothing.
+    let rows: [(&[u8], usize); 4] = [(b"p", 2), (b"$p", 3), (b"2,$p", 2), (b"1,$p", 2)];
+    for (script, taken) in rows {
+        let mut engine = engine(&rt, script, true, 9, 1, MOST)?;
+        let source = MemorySource::new(b"a\nb\nc\n".to_vec(rt.alloc())?, Vec::new(rt.alloc()));
+        let mut lines = Lines::new(rt.alloc(), source, 1)?;
+        let mut outputs = MemoryOutputs::new(rt.alloc(), 1)?;
+        let mut texts = MemoryTexts::new(Vec::new(rt.alloc()));
+        let progress = engine.cycle(&mut lines, &mut outputs, &mut texts);
+        assert_eq!(rt; progress, Progress::More);
+        assert_eq!(rt; lines.source().taken(), taken);
     }
     Ok(())
 }

@@ -1,6 +1,6 @@
 //! Writing to a sink.
 ghost use Rattle.std.specs.Prelude.{◌≡◌, ◌<◌};
-ghost use Rattle.sedengine.specs.Move.{to_sink};
+ghost use Rattle.sedengine.specs.Move.{line_to, to_sink};
 ghost use Rattle.sedengine.specs.Devices.{Gained};
 ghost use Rattle.sedengine.specs.Calls.{Puts, Writes};
 
@@ -21,4 +21,18 @@ pub(crate) fn write_all<O: Outputs>(outputs: &mut O, sink: usize, bytes: &[u8]) 
         }
     }
     Ok(())
+}
+
+/// Writes all the bytes and a newline.
+pub(crate) fn write_line<O: Outputs>(
+    outputs: &mut O,
+    sink: usize,
+    bytes: &[u8],
+) -> Result<(), Ended>
+    requires { sink < O.count outputs.old }
+    ensures puts { Puts (Gained (O.contents outputs.old) (O.contents outputs.new)) (line_to sink bytes.now) result }
+    ensures devices { Writes O.failures O.count outputs.old outputs.new result }
+{
+    write_all(outputs, sink, bytes)?;
+    write_all(outputs, sink, b"\n")
 }

@@ -1,1 +1,7 @@
+pub mod Coming
 pub mod Cuts
+pub mod Exclusive
+pub mod Labels
+pub mod Blocks
+pub mod LateFaults
+pub mod Bounds

@@ -1,9 +1,9 @@
 -- Places of a text, counted from 0.
-use Rattle.std.specs.Prelude.{ℕ, suc, ◌+◌, ◌*◌, ◌-◌, ◌^◌, List, [], ◌∷◌, drop, take, Bool, ◌&&◌, ◌||◌, Option, Some, None, if◌then◌else◌, nat_lt, nat_le, ◌==◌}
+use Rattle.std.specs.Prelude.{ℕ, suc, ◌+◌, ◌*◌, ◌-◌, ◌^◌, List, [], ◌∷◌, drop, take, Bool, false, not, ◌&&◌, ◌||◌, Option, Some, None, if◌then◌else◌, nat_lt, nat_le, ◌==◌}
 use Rattle.sedscript.specs.declared.bytes.Sort.{Sort}
-use Rattle.sedscript.specs.declared.bytes.Sort.TheVariants.{Blank, Separator, Digit}
+use Rattle.sedscript.specs.declared.bytes.Sort.TheVariants.{Blank, Separator, Bang, Digit, Name, Line}
 
--- a space or a tab (XBD 3.44, POSIX locale)
+-- a space or a tab (XBD 7.3.1, blank)
 abbrev pub is_blank : ℕ → Bool
 is_blank b = b == 32 || b == 9
 
@@ -11,11 +11,15 @@ is_blank b = b == 32 || b == 9
 abbrev pub is_digit : ℕ → Bool
 is_digit b = nat_le 48 b && nat_le b 57
 
--- whether a byte is of the sort. Blanks, newlines and semicolons stand between commands (XCU sed, "Extended Description")
+-- whether a byte is of the sort. Blanks, newlines and semicolons stand between commands (XCU sed, "Extended Description").
+-- A label ends at a newline or a semicolon, and at a blank or a closing brace too (this project's own)
 abbrev pub belongs : Sort → ℕ → Bool
 belongs Blank b = is_blank b
 belongs Separator b = is_blank b || b == 10 || b == 59
+belongs Bang b = is_blank b || b == 33
 belongs Digit b = is_digit b
+belongs Name b = not (is_blank b || b == 10 || b == 59 || b == 125)
+belongs Line b = not (b == 10)
 
 -- how many bytes of the sort stand at the front
 abbrev pub run_of : Sort → List ℕ → ℕ
@@ -39,3 +43,8 @@ with_digit (Some n) d = if nat_lt (n * 10 + (d - 48)) (2 ^ 64) then Some (n * 10
 abbrev pub with_digits : Option ℕ → List ℕ → Option ℕ
 with_digits n [] = n
 with_digits n (d ∷ ds) = with_digits (with_digit n d) ds
+
+-- whether this byte stands there
+abbrev pub is_byte : ℕ → Option ℕ → Bool
+is_byte b None = false
+is_byte b (Some c) = c == b

@@ -1,10 +1,20 @@
 -- The numbers of the reasons (this project's own).
 use Rattle.std.specs.Prelude.{ℕ}
 use Rattle.sedscript.specs.declared.types.Reason.{Reason}
-use Rattle.sedscript.specs.declared.types.Reason.TheVariants.{UnknownCommand, BadAddress, TrailingBytes, NoMemory}
+use Rattle.sedscript.specs.declared.types.Reason.TheVariants.{UnknownCommand, TooManyAddresses, BadAddress, MissingText, OpenDelimiter, BadDelimiter, UnknownLabel, RepeatedLabel, MissingLabel, OpenBlock, StrayClose, TrailingBytes, Expression, NoMemory}
 
 abbrev pub number_of : Reason → ℕ
 number_of UnknownCommand = 1
+number_of TooManyAddresses = 2
 number_of BadAddress = 3
+number_of MissingText = 4
+number_of OpenDelimiter = 5
+number_of BadDelimiter = 6
+number_of UnknownLabel = 10
+number_of RepeatedLabel = 11
+number_of MissingLabel = 12
+number_of OpenBlock = 13
+number_of StrayClose = 14
 number_of TrailingBytes = 15
+number_of (Expression f) = 21
 number_of NoMemory = 22

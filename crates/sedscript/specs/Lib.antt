@@ -1,4 +1,10 @@
 pub mod Bytes
-pub mod Commands
 pub mod Faults
+pub mod Functions
+pub mod Addresses
+pub mod Expressions
+pub mod Targets
 pub mod Script
+pub mod Ranges
+pub mod Answers
+pub mod Tables

@@ -1,7 +1,7 @@
 //! Places of a text.
 
-ghost use Rattle.std.specs.Prelude.{◌≡◌, ◌≤◌, ◌<◌, ◌+◌, length, slice_get};
-ghost use Rattle.sedscript.specs.Bytes.{belongs, past};
+ghost use Rattle.std.specs.Prelude.{◌≡◌, ◌≤◌, ◌<◌, ◌+◌, Some, length, slice_get};
+ghost use Rattle.sedscript.specs.Bytes.{belongs, past, part, with_digit, with_digits};
 
 /// Bytes that are passed over together.
 #[derive(Clone, Copy)]
@@ -10,8 +10,14 @@ pub enum Sort {
     Blank,
     /// What may stand between commands: blanks, newlines and semicolons.
     Separator,
+    /// `!`, and the blanks round it.
+    Bang,
     /// A decimal digit.
     Digit,
+    /// A byte of a label's name.
+    Name,
+    /// Any byte but a newline.
+    Line,
 }
 
 fn is_blank(b: u8) -> bool
@@ -33,7 +39,10 @@ fn belongs(sort: Sort, b: u8) -> bool
     match sort {
         Sort::Blank => is_blank(b),
         Sort::Separator => is_blank(b) || b == b'\n' || b == b';',
+        Sort::Bang => is_blank(b) || b == b'!',
         Sort::Digit => is_digit(b),
+        Sort::Name => !(is_blank(b) || b == b'\n' || b == b';' || b == b'}'),
+        Sort::Line => b != b'\n',
     }
 }
 
@@ -42,6 +51,16 @@ pub fn byte_at(text: &[u8], at: usize) -> Option<u8>
     ensures { result ≡ slice_get text.now at }
 {
     text.get(at).copied()
+}
+
+/// Whether this byte stands there.
+pub fn is_byte(b: u8, found: Option<u8>) -> bool
+    ensures { result ≡ Rattle.sedscript.specs.Bytes.is_byte b found }
+{
+    match found {
+        None => false,
+        Some(c) => c == b,
+    }
 }
 
 /// The first place from here on with a byte that isn't of the sort, or the end.
@@ -59,4 +78,37 @@ pub fn past(sort: Sort, text: &[u8], at: usize) -> usize
         next += 1;
     }
     next
+}
+
+/// The bytes from a place up to another, as far as they stand there.
+pub fn part(text: &[u8], from: usize, to: usize) -> &[u8]
+    ensures { result.now ≡ part text.now from to }
+{
+    if to <= from || text.len() <= from {
+        &[]
+    } else if text.len() <= to {
+        &text[from..]
+    } else {
+        &text[from..to]
+    }
+}
+
+fn with_digit(n: Option<u64>, d: u8) -> Option<u64>
+    ensures { result ≡ with_digit n d }
+{
+    let digit = d.saturating_sub(b'0') as u64;
+    n?.checked_mul(10)?.checked_add(digit)
+}
+
+/// The number that decimal digits say, if it is below 2^64.
+pub fn number_of(digits: &[u8]) -> Option<u64>
+    ensures { result ≡ with_digits (Some 0) digits.now }
+{
+    let mut n = Some(0);
+    let mut at = 0;
+    'digits: while at < digits.len() {
+        n = with_digit(n, digits[at]);
+        at += 1;
+    }
+    n
 }

@@ -1,126 +1,172 @@
-//! One command of a text: its address, its letter, and what ends it.
+//! The commands and texts that the items leave.
 
-ghost use Rattle.std.specs.Prelude.{◌≡◌, ◌≤◌, ◌<◌, ◌+◌, Some, length, slice_get, IfOk, IfSome};
-ghost use Rattle.sedscript.specs.Bytes.{part, with_digit, with_digits};
-ghost use Rattle.sedscript.specs.Commands.{line_of, address_at, action_of, may_end, function_at, command_at};
+ghost use Rattle.std.specs.Prelude.{◌≡◌, ◌<◌, ◌≤◌, ◌+◌, ◌++◌, [], Some, false, map, length, drop, take, slice_get, IfOk, OnOk};
+ghost use Rattle.sedscript.specs.Bytes.{part};
+ghost use Rattle.sedscript.specs.Tables.{TargetsAre};
+ghost use Rattle.sedscript.specs.Script.{has_text, texts_with, simple_action, text_action, action_of, with_action, commands_of, texts_of, unescaped_from, is_quiet};
 
-use crate::bytes::{Sort, byte_at, is_digit, past};
-use crate::types::{Action, Address, Command, Reason, ScriptFault};
+use crate::bytes::part;
+use crate::items::{Addresses, Function, Item, Simple, TextUse};
+use crate::targets::Targets;
+use crate::types::{Action, Command};
+use std::alloc::{AllocError, Global};
 
-fn with_digit(n: Option<u64>, d: u8) -> Option<u64>
-    ensures { result ≡ with_digit n d }
+/// Whether a function has a text.
+fn has_text(function: Function) -> bool
+    ensures { result ≡ has_text function }
 {
-    let digit = d.saturating_sub(b'0') as u64;
-    n?.checked_mul(10)?.checked_add(digit)
+    matches!(function, Function::Text(..))
 }
 
-/// The number that decimal digits say, if it is below 2^64.
-fn number_of(digits: &[u8]) -> Option<u64>
-    ensures { result ≡ with_digits (Some 0) digits.now }
+/// How many texts there are with this item, with so many before it.
+fn texts_with(n: usize, item: Item) -> usize
+    requires { n < usize.MAX }
+    ensures is { result ≡ texts_with n item }
+    ensures few { result ≤ n + 1 }
 {
-    let mut n = Some(0);
-    let mut at = 0;
-    'digits: while at < digits.len() {
-        n = with_digit(n, digits[at]);
-        at += 1;
-    }
-    n
+    if has_text(item.function) { n + 1 } else { n }
 }
 
-/// The line's address whose digits stand between two places.
-fn line_at(text: &[u8], from: usize, to: usize) -> Result<(Option<Address>, usize), ScriptFault>
-    requires { (from ≤ to) × (to ≤ length text.now) }
-    ensures is { result ≡ line_of from to (with_digits (Some 0) (part text.now from to)) }
-    ensures to { IfOk result (λ found. found.1 ≡ to) }
+fn simple_action(simple: Simple) -> Action
+    ensures { result ≡ simple_action simple }
 {
-    match number_of(&text[from..to]) {
-        None | Some(0) => Err(ScriptFault {
-            place: from,
-            reason: Reason::BadAddress,
-        }),
-        Some(n) => Ok((Some(Address::Line(n)), to)),
+    match simple {
+        Simple::Delete => Action::Delete,
+        Simple::LineNumber => Action::LineNumber,
+        Simple::Print => Action::Print,
+        Simple::Quit => Action::Quit,
     }
 }
 
-/// The address at a place, if one stands there, and the place behind it.
-#[tactic(auto, unfolding(crate::specs::Commands::address_at))]
-fn address_at(text: &[u8], at: usize) -> Result<(Option<Address>, usize), ScriptFault>
-    requires { at ≤ length text.now }
-    ensures is { result ≡ address_at text.now at }
-    ensures within { IfOk result (λ found. (at ≤ found.1) × (found.1 ≤ length text.now)) }
+fn text_action(text_use: TextUse, k: usize) -> Action
+    ensures { result ≡ text_action text_use k }
 {
-    match byte_at(text, at) {
-        None => Ok((None, at)),
-        Some(b) => {
-            if is_digit(b) {
-                line_at(text, at, past(Sort::Digit, text, at))
+    match text_use {
+        TextUse::Insert => Action::Insert(k),
+        TextUse::Change => Action::Change(k),
+    }
+}
+
+/// What the item of an index does, with so many texts before it. None where it leaves no command.
+fn action_of<'a>(
+    text: &'a [u8],
+    items: &[Item],
+    targets: &Targets<'a>,
+    k: usize,
+    texts: usize,
+    item: Item,
+) -> Option<Action>
+    requires item { slice_get items.now k ≡ Some item }
+    requires targets { TargetsAre text.now items.now targets.now.labels targets.now.ends.items targets.now.commands }
+    ensures { result ≡ action_of text.now items.now (take k items.now) texts (drop (k + 1) items.now) item.function }
+{
+    match item.function {
+        Function::Plain(simple) => Some(simple_action(simple)),
+        Function::Open => Some(Action::Block(targets.block_end(k).unwrap_or(0))),
+        Function::Branch(from, to) => {
+            if from == to {
+                Some(Action::Branch(targets.commands))
             } else {
-                Ok((None, at))
+                Some(Action::Branch(targets.label(part(text, from, to)).unwrap_or(0)))
             }
         }
+        Function::Text(text_use, _, _) => Some(text_action(text_use, texts)),
+        Function::Close | Function::Label(..) | Function::Comment => None,
     }
 }
 
-fn action_of(letter: Option<u8>) -> Option<Action>
-    ensures { result ≡ action_of letter }
+/// Adds the command of an item.
+fn add_command(
+    commands: &mut Vec<Command>,
+    item: Item,
+    action: Option<Action>,
+) -> Result<(), AllocError>
+    ensures { OnOk result (commands.new.items ≡ commands.old.items ++ with_action item.addresses action []) }
 {
-    match letter {
-        Some(b'p') => Some(Action::Print),
-        Some(b'd') => Some(Action::Delete),
-        _ => None,
+    if let Some(action) = action {
+        let Addresses {
+            first,
+            second,
+            negate,
+        } = item.addresses;
+        commands.push(Command {
+            first,
+            second,
+            negate,
+            action,
+        })?;
     }
+    Ok(())
 }
 
-/// Whether a command may end before this byte.
-fn may_end(next: Option<u8>) -> bool
-    ensures { result ≡ may_end next }
+/// The commands that the items leave, in their order.
+pub fn commands_of<'a>(
+    alloc: Global,
+    text: &'a [u8],
+    items: &[Item],
+    targets: &Targets<'a>,
+) -> Result<Vec<Command>, AllocError>
+    requires targets { TargetsAre text.now items.now targets.now.labels targets.now.ends.items targets.now.commands }
+    ensures { IfOk result (λ v. v.items ≡ commands_of text.now items.now [] 0 items.now) }
 {
-    match next {
-        None => true,
-        Some(b) => b == b'\n' || b == b';' || b == b'}' || b == b'#',
+    let mut commands = Vec::new(alloc);
+    let mut texts = 0;
+    let mut k = 0;
+    'items: while k < items.len() {
+        let item = items[k];
+        add_command(
+            &mut commands,
+            item,
+            action_of(text, items, targets, k, texts, item),
+        )?;
+        texts = texts_with(texts, item);
+        k += 1;
     }
+    Ok(commands)
 }
 
-/// The command whose letter stands behind blanks, and the place behind it.
-#[tactic(auto, unfolding(crate::specs::Commands::function_at))]
-fn function_at(
-    text: &[u8],
-    first: Option<Address>,
-    at: usize,
-) -> Result<Option<(Command, usize)>, ScriptFault>
-    requires { at ≤ length text.now }
-    ensures is { result ≡ function_at text.now first at }
-    ensures within { IfOk result (λ found. IfSome found (λ f. (at < f.1) × (f.1 ≤ length text.now))) }
+/// A text without its backslashes.
+fn unescaped(alloc: Global, bytes: &[u8]) -> Result<Vec<u8>, AllocError>
+    ensures { IfOk result (λ v. v.items ≡ unescaped_from false bytes.now) }
 {
-    let place = past(Sort::Blank, text, at);
-    let Some(action) = action_of(byte_at(text, place)) else {
-        return Err(ScriptFault {
-            place,
-            reason: Reason::UnknownCommand,
-        });
-    };
-    let end = past(Sort::Blank, text, place + 1);
-    if may_end(byte_at(text, end)) {
-        Ok(Some((Command { first, action }, end)))
-    } else {
-        Err(ScriptFault {
-            place: end,
-            reason: Reason::TrailingBytes,
-        })
+    let mut plain = Vec::new(alloc);
+    let mut escaped = false;
+    let mut k = 0;
+    'bytes: while k < bytes.len() {
+        let b = bytes[k];
+        if !escaped && b == b'\\' {
+            escaped = true;
+        } else {
+            plain.push(b)?;
+            escaped = false;
+        }
+        k += 1;
     }
+    Ok(plain)
 }
 
-/// The next command from a place on and the place behind it, or none where only separators are left.
-#[tactic(auto, unfolding(crate::specs::Commands::command_at))]
-pub fn command_at(text: &[u8], at: usize) -> Result<Option<(Command, usize)>, ScriptFault>
-    requires { at ≤ length text.now }
-    ensures is { result ≡ command_at text.now at }
-    ensures within { IfOk result (λ found. IfSome found (λ f. (at < f.1) × (f.1 ≤ length text.now))) }
+/// The texts of the items, in their order.
+pub fn texts_of(alloc: Global, text: &[u8], items: &[Item]) -> Result<Vec<Vec<u8>>, AllocError>
+    ensures { IfOk result (λ v. map (λ t. t.items) v.items ≡ texts_of text.now items.now) }
 {
-    let start = past(Sort::Separator, text, at);
-    if start == text.len() {
-        return Ok(None);
+    let mut texts = Vec::new(alloc);
+    let mut k = 0;
+    'items: while k < items.len() {
+        if let Function::Text(_, from, to) = items[k].function {
+            texts.push(unescaped(alloc, part(text, from, to))?)?;
+        }
+        k += 1;
     }
-    let (first, next) = address_at(text, start)?;
-    function_at(text, first, next)
+    Ok(texts)
+}
+
+/// Whether the first line of a script is exactly `#n`.
+pub fn is_quiet(text: &[u8]) -> bool
+    ensures { result ≡ is_quiet text.now }
+{
+    match text {
+        [b'#', b'n'] => true,
+        [b'#', b'n', b'\n', ..] => true,
+        _ => false,
+    }
 }

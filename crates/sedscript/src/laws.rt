@@ -1,21 +1,26 @@
 //! Laws of what a text means, for callers' proofs. The calls do nothing.
 
 ghost use Rattle.std.specs.Prelude.{◌≡◌, ℕ, List};
+ghost use Rattle.sedre.specs.declared.types.Kind.{Kind};
 ghost use Rattle.sedscript.specs.Script.{Program, Means, Faulty};
-ghost use Rattle.sedscript.specs.declared.types.Kind.{Kind};
+ghost use Rattle.sedscript.specs.Ranges.{InRange};
 ghost use Rattle.sedscript.specs.declared.types.ScriptFault.{ScriptFault};
-
-/// A text means one script only.
-pub fn one_meaning()
-    ensures { (text : List ℕ) (kind : Kind) (max_nodes : ℕ) (s t : Program) → Means text kind max_nodes s → Means text kind max_nodes t → s ≡ t }
-{}
 
 /// What means a script has no fault.
 pub fn no_fault()
-    ensures { (text : List ℕ) (kind : Kind) (max_nodes : ℕ) (s : Program) (f : ScriptFault) → Means text kind max_nodes s → Faulty text kind max_nodes f → ⊥ }
+    ensures { (text : List ℕ) (kind : Kind) (max_nodes : ℕ) (s : Program) (f : ScriptFault) →
+        Means text kind max_nodes s → Faulty text kind max_nodes f → ⊥ }
 {}
 
-/// A text has one first fault only.
-pub fn one_fault()
-    ensures { (text : List ℕ) (kind : Kind) (max_nodes : ℕ) (f g : ScriptFault) → Faulty text kind max_nodes f → Faulty text kind max_nodes g → f ≡ g }
+/// A text means the same commands and texts whenever it means a script, and is quiet or not.
+pub fn one_meaning()
+    ensures { (text : List ℕ) (kind : Kind) (max_nodes : ℕ) (s t : Program) →
+        Means text kind max_nodes s → Means text kind max_nodes t →
+        (s.commands ≡ t.commands) × (s.texts ≡ t.texts) × (s.quiet ≡ t.quiet) × (s.max_nodes ≡ t.max_nodes) }
+{}
+
+/// The numbers in a script that a text means are in range.
+pub fn in_range()
+    ensures { (text : List ℕ) (kind : Kind) (max_nodes : ℕ) (s : Program) →
+        Means text kind max_nodes s → InRange s.commands s.expressions s.texts max_nodes }
 {}

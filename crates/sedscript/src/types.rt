@@ -3,36 +3,50 @@
 ghost use Rattle.std.specs.Prelude.{◌≡◌};
 ghost use Rattle.sedscript.specs.Faults.{number_of};
 
-/// The regular expressions that a script is written with.
-#[derive(Clone, Copy, Debug, PartialEq, Eq)]
-pub enum Kind {
-    /// Basic regular expressions (XBD 9.3).
-    Basic,
-    /// Extended regular expressions (XBD 9.4).
-    Extended,
-}
+pub use sedre::{ExprFault, Kind};
 
 /// Which pattern spaces a command is for (XCU sed, "Addresses in sed").
 #[derive(Clone, Copy, Debug, PartialEq, Eq)]
 pub enum Address {
     /// The line of this number, 1 to 2^64 - 1.
     Line(u64),
+    /// `$`: the last line.
+    Last,
+    /// `/RE/` or `\cREc`: pattern spaces that match the script's regular expression of this number, counted from 0.
+    /// None stands for the empty RE, the one last used.
+    Match(Option<usize>),
 }
 
-/// What a command does (XCU sed, "Editing Commands in sed").
+/// What a command does (XCU sed, "Editing Commands in sed"). `}`, `:` and `#` leave no command.
 #[derive(Clone, Copy, Debug, PartialEq, Eq)]
 pub enum Action {
-    /// `p`: writes the pattern space.
-    Print,
+    /// `{`: where it isn't selected, goes to the command of this number, which stands behind the closing brace.
+    Block(usize),
+    /// `b`: goes to the command of this number. The number of commands is the end of the script.
+    Branch(usize),
+    /// `c`: changes the pattern space to the script's text of this number, counted from 0.
+    Change(usize),
     /// `d`: deletes the pattern space and starts the next cycle.
     Delete,
+    /// `i`: writes the script's text of this number, counted from 0.
+    Insert(usize),
+    /// `=`: writes the line number.
+    LineNumber,
+    /// `p`: writes the pattern space.
+    Print,
+    /// `q`: goes to the end of the script and quits.
+    Quit,
 }
 
 /// A command of a script.
 #[derive(Clone, Copy, Debug, PartialEq, Eq)]
 pub struct Command {
-    /// The lines that it is for, all where there is none.
+    /// The pattern spaces that it is for, or the first of a range. None selects all.
     pub first: Option<Address>,
+    /// The end of the range, where there are two addresses.
+    pub second: Option<Address>,
+    /// `!`: it is for the pattern spaces that aren't selected.
+    pub negate: bool,
     /// What it does there.
     pub action: Action,
 }
@@ -40,12 +54,32 @@ pub struct Command {
 /// Why a text is no script.
 #[derive(Clone, Copy, Debug, PartialEq, Eq)]
 pub enum Reason {
-    /// S1: no command stands where one is expected.
+    /// S1: no function stands where one is expected.
     UnknownCommand,
-    /// S3: a line's number isn't from 1 to 2^64 - 1.
+    /// S2: the function takes fewer addresses.
+    TooManyAddresses,
+    /// S3: a line's number isn't from 1 to 2^64 - 1, or no second address stands behind a comma.
     BadAddress,
+    /// S4: a text is missing.
+    MissingText,
+    /// S5: the delimiter that ends a part is missing.
+    OpenDelimiter,
+    /// S6: this byte can't be a delimiter.
+    BadDelimiter,
+    /// S10: the script has no label of this name.
+    UnknownLabel,
+    /// S11: an earlier label has this name.
+    RepeatedLabel,
+    /// S12: a label has no name.
+    MissingLabel,
+    /// S13: a block isn't closed.
+    OpenBlock,
+    /// S14: no block is open here.
+    StrayClose,
     /// S15: something follows a command on its line.
     TrailingBytes,
+    /// S21: a regular expression has this fault, with its place in the expression.
+    Expression(ExprFault),
     /// S22: a request for memory was refused.
     NoMemory,
 }
@@ -57,8 +91,18 @@ impl Reason {
     {
         match self {
             Reason::UnknownCommand => 1,
+            Reason::TooManyAddresses => 2,
             Reason::BadAddress => 3,
+            Reason::MissingText => 4,
+            Reason::OpenDelimiter => 5,
+            Reason::BadDelimiter => 6,
+            Reason::UnknownLabel => 10,
+            Reason::RepeatedLabel => 11,
+            Reason::MissingLabel => 12,
+            Reason::OpenBlock => 13,
+            Reason::StrayClose => 14,
             Reason::TrailingBytes => 15,
+            Reason::Expression(_) => 21,
             Reason::NoMemory => 22,
         }
     }
@@ -67,8 +111,18 @@ impl Reason {
     pub fn name(self) -> &'static str {
         match self {
             Reason::UnknownCommand => "UnknownCommand",
+            Reason::TooManyAddresses => "TooManyAddresses",
             Reason::BadAddress => "BadAddress",
+            Reason::MissingText => "MissingText",
+            Reason::OpenDelimiter => "OpenDelimiter",
+            Reason::BadDelimiter => "BadDelimiter",
+            Reason::UnknownLabel => "UnknownLabel",
+            Reason::RepeatedLabel => "RepeatedLabel",
+            Reason::MissingLabel => "MissingLabel",
+            Reason::OpenBlock => "OpenBlock",
+            Reason::StrayClose => "StrayClose",
             Reason::TrailingBytes => "TrailingBytes",
+            Reason::Expression(_) => "Expression",
             Reason::NoMemory => "NoMemory",
         }
     }

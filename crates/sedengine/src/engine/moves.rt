@@ -13,14 +13,15 @@ use crate::place::Place;
 use sedspace::{ByteSource, Lines, Outputs};
 
 impl Engine {
-    /// Makes one move, or finds the end.
+    /// Makes the next moves, or finds the end.
     fn step<R: ByteSource, O: Outputs>(
         &mut self,
         lines: &mut Lines<R>,
         outputs: &mut O,
     ) -> Result<(), Ended>
         requires { 0 < O.count outputs.old }
-        ensures steps { lines.old.fault ≡ None → ForSome (lines_left R.remaining lines.old) (λ ls. (files : ℕ → List ℕ) →
+        ensures steps { lines.old.fault ≡ None → ForSome (lines_left R.remaining lines.old) (λ ls.
+            (files : ℕ → List ℕ) →
             Steps R.remaining lines.old lines.new ls self.old.limits (setting self.old files) self.old self.new
             (Gained (O.contents outputs.old) (O.contents outputs.new)) result) }
         ensures input { Reads R.remaining R.failures R.reference lines.old lines.new result }
@@ -30,16 +31,8 @@ impl Engine {
     {
         match self.place {
             Place::Begin => self.begin(lines),
-            Place::Do(k) => self.come_to(k, outputs),
-            Place::Print => self.print_pattern(outputs),
-            Place::Flush(then) => {
-                self.flush(then);
-                Ok(())
-            }
-            Place::Empty => {
-                self.empty();
-                Ok(())
-            }
+            Place::Do(k) => self.come_to(k, lines, outputs),
+            Place::Quit => self.quit(outputs),
             Place::Ended => Err(Ended::Done),
         }
     }
@@ -52,14 +45,16 @@ impl Engine {
     ) -> Ended
         requires sink { 0 < O.count outputs.old }
         requires look { lines.old.look ≡ self.old.limits.look }
-        ensures ends { lines.old.fault ≡ None → ForSome (lines_left R.remaining lines.old) (λ ls. (files : ℕ → List ℕ) →
+        ensures ends { lines.old.fault ≡ None → ForSome (lines_left R.remaining lines.old) (λ ls.
+            (files : ℕ → List ℕ) →
             Ending self.old.limits (setting self.old files) (at_lines self.old ls)
             (Gained (O.contents outputs.old) (O.contents outputs.new))
             (R.remaining lines.old.source) (R.remaining lines.new.source) self.new.state result) }
-        ensures input { Reads R.remaining R.failures R.reference lines.old lines.new (Err result) }
+        ensures input { Reads {T = Unit {0}} R.remaining R.failures R.reference lines.old lines.new (Err result) }
         ensures output { Writes O.failures O.count outputs.old outputs.new (Err result) }
         ensures same { KeepsRun self.old self.new }
     {
+        // The engine is open from here on, so its state is known to be within the limits.
         let _ = &self.turns;
         'moves: loop {
             if let Err(end) = self.step(lines, outputs) {
@@ -83,14 +78,17 @@ impl Engine {
     ) -> Progress
         requires sink { 0 < O.count outputs.old }
         requires look { lines.old.look ≡ self.old.limits.look }
-        ensures cycles { lines.old.fault ≡ None → ForSome (lines_left R.remaining lines.old) (λ ls. (files : ℕ → List ℕ) →
+        ensures cycles { lines.old.fault ≡ None → ForSome (lines_left R.remaining lines.old) (λ ls.
+            (files : ℕ → List ℕ) →
             Cycles self.old.limits (setting self.old files) (at_lines self.old ls)
             (Gained (O.contents outputs.old) (O.contents outputs.new))
-            (R.remaining lines.old.source) (R.remaining lines.new.source) self.new (lines_left R.remaining lines.new) result) }
+            (R.remaining lines.old.source) (R.remaining lines.new.source)
+            self.new (lines_left R.remaining lines.new) result) }
         ensures input { Reads R.remaining R.failures R.reference lines.old lines.new (outcome result) }
         ensures output { Writes O.failures O.count outputs.old outputs.new (outcome result) }
         ensures same { KeepsRun self.old self.new }
     {
+        // The engine is open from here on, so its state is known to be within the limits.
         let _ = &self.turns;
         'moves: loop {
             if let Err(end) = self.step(lines, outputs) {

@@ -1,27 +1,47 @@
-//! The tasks of a cycle besides the commands.
-ghost use Rattle.std.specs.Prelude.{◌≡◌, ◌<◌, ◌≤◌, [], ◌∷◌, None, Some, Ok, Err, OnOk, ℕ, Option, List};
+//! The start of a cycle, and its end.
+ghost use Rattle.std.specs.Prelude.{◌≡◌, ◌<◌, ◌≤◌, [], ◌∷◌, None, Some, Ok, Err, OnOk, ℕ, Option, List, length, if◌then◌else◌};
 ghost use Rattle.std.specs.Option.{ForSome};
 ghost use Rattle.sedspace.specs.Stream.{lines_left};
-ghost use Rattle.sedengine.specs.State.{begin, flush, empty_pattern};
-ghost use Rattle.sedengine.specs.Move.{move, at_end};
+ghost use Rattle.sedengine.specs.State.{begin, do_at, print_pattern, flush};
+ghost use Rattle.sedengine.specs.Move.{line_to};
 ghost use Rattle.sedengine.specs.Devices.{Gained};
-ghost use Rattle.sedengine.specs.Calls.{Reads, Writes};
-ghost use Rattle.sedengine.specs.Inside.{tasks_then};
+ghost use Rattle.sedengine.specs.Calls.{Puts, Reads, Writes};
 ghost use Rattle.sedengine.specs.Run.{at_lines, setting};
-ghost use Rattle.sedengine.specs.Steps.{KeepsRun, Made, Moves, Nothing, Steps, weight};
+ghost use Rattle.sedengine.specs.Steps.{KeepsRun, Moves, Steps, weight};
 
 use super::Engine;
 use crate::ends::Ended;
-use crate::place::{Place, Then};
+use crate::place::Place;
 use crate::write::write_all;
-use sedspace::{ByteSource, Got, LineFault, Lines, Outputs};
+use sedscript::Script;
+use sedspace::{ByteSource, Got, LineFault, Lines, Outputs, Space};
+
+/// Writes the pattern space, unless default output is suppressed.
+fn print_by_default<O: Outputs>(
+    script: &Script,
+    pattern: &Space,
+    outputs: &mut O,
+) -> Result<(), Ended>
+    requires { 0 < O.count outputs.old }
+    ensures puts { Puts (Gained (O.contents outputs.old) (O.contents outputs.new))
+        (if script.now.quiet then [] else line_to 0 pattern.now.bytes) result }
+    ensures output { Writes O.failures O.count outputs.old outputs.new result }
+    ensures input { result ≡ Err Ended.InputBroken → ⊥ }
+{
+    if script.quiet() {
+        return Ok(());
+    }
+    write_all(outputs, 0, pattern.line())
+}
 
 impl Engine {
     /// Starts a cycle with the next line.
     pub(super) fn begin<R: ByteSource>(&mut self, lines: &mut Lines<R>) -> Result<(), Ended>
         requires { self.old.state.tasks ≡ begin ∷ [] }
-        ensures steps { lines.old.fault ≡ None → ForSome (lines_left R.remaining lines.old) (λ ls. (files : ℕ → List ℕ) →
-            Steps R.remaining lines.old lines.new ls self.old.limits (setting self.old files) self.old self.new Nothing result) }
+        ensures steps { lines.old.fault ≡ None → ForSome (lines_left R.remaining lines.old) (λ ls.
+            (files : ℕ → List ℕ) (sinks : ℕ → Option (List ℕ)) →
+            Steps R.remaining lines.old lines.new ls self.old.limits (setting self.old files) self.old self.new
+            (Gained sinks sinks) result) }
         ensures input { Reads R.remaining R.failures R.reference lines.old lines.new result }
         ensures output { (k : ℕ) → result ≡ Err (Ended.OutputBroken k) → ⊥ }
         ensures falls { OnOk result (weight self.new < weight self.old) }
@@ -53,47 +73,40 @@ impl Engine {
         }
     }
 
-    /// Writes the pattern space at the end of the script, unless default output is suppressed.
-    pub(super) fn print_pattern<O: Outputs>(&mut self, outputs: &mut O) -> Result<(), Ended>
-        requires at { self.old.state.tasks ≡ at_end }
+    /// Ends a cycle at the end of the script: writes the pattern space and the queue, which is empty, and empties
+    /// the pattern space.
+    pub(super) fn finish<O: Outputs>(&mut self, k: usize, outputs: &mut O) -> Result<(), Ended>
+        requires at { self.old.state.tasks ≡ do_at k ∷ [] }
+        requires end { length self.old.script.commands ≤ k }
         requires sink { 0 < O.count outputs.old }
-        ensures moves { (files : ℕ → List ℕ) (ls : List (List ℕ)) → Moves self.old.limits (setting self.old files)
-            (at_lines self.old ls) (at_lines self.new ls) (Gained (O.contents outputs.old) (O.contents outputs.new)) result }
+        ensures moves { (files : ℕ → List ℕ) (ls : List (List ℕ)) →
+            Moves self.old.limits (setting self.old files) (at_lines self.old ls)
+            (at_lines self.new ls) (Gained (O.contents outputs.old) (O.contents outputs.new)) result }
         ensures output { Writes O.failures O.count outputs.old outputs.new result }
         ensures input { result ≡ Err Ended.InputBroken → ⊥ }
         ensures falls { OnOk result (weight self.new < weight self.old) }
         ensures same { KeepsRun self.old self.new }
     {
-        self.place = Place::Flush(Then::Empty);
-        if self.script.quiet() {
-            return Ok(());
-        }
-        write_all(outputs, 0, self.pattern.line())
-    }
-
-    /// Writes the queue, which is empty.
-    pub(super) fn flush(&mut self, then: Then)
-        requires { self.old.state.tasks ≡ flush ∷ tasks_then then }
-        ensures made { (files : ℕ → List ℕ) (ls : List (List ℕ)) →
-            Made self.old.limits (move (setting self.old files) (at_lines self.old ls)) (at_lines self.new ls) Nothing }
-        ensures falls { weight self.new < weight self.old }
-        ensures same { KeepsRun self.old self.new }
-    {
-        match then {
-            Then::Empty => self.place = Place::Empty,
-            Then::Begin => self.place = Place::Begin,
-        }
-    }
-
-    /// Empties the pattern space at the end of a cycle.
-    pub(super) fn empty(&mut self)
-        requires { self.old.state.tasks ≡ empty_pattern ∷ begin ∷ [] }
-        ensures made { (files : ℕ → List ℕ) (ls : List (List ℕ)) →
-            Made self.old.limits (move (setting self.old files) (at_lines self.old ls)) (at_lines self.new ls) Nothing }
-        ensures falls { weight self.new < weight self.old }
-        ensures same { KeepsRun self.old self.new }
-    {
+        print_by_default(&self.script, &self.pattern, outputs)?;
         self.pattern.clear();
         self.place = Place::Begin;
+        Ok(())
+    }
+
+    /// Ends the run: writes the pattern space and the queue, which is empty, for the last time.
+    pub(super) fn quit<O: Outputs>(&mut self, outputs: &mut O) -> Result<(), Ended>
+        requires at { self.old.state.tasks ≡ print_pattern ∷ flush ∷ [] }
+        requires sink { 0 < O.count outputs.old }
+        ensures moves { (files : ℕ → List ℕ) (ls : List (List ℕ)) →
+            Moves self.old.limits (setting self.old files) (at_lines self.old ls)
+            (at_lines self.new ls) (Gained (O.contents outputs.old) (O.contents outputs.new)) result }
+        ensures output { Writes O.failures O.count outputs.old outputs.new result }
+        ensures input { result ≡ Err Ended.InputBroken → ⊥ }
+        ensures falls { OnOk result (weight self.new < weight self.old) }
+        ensures same { KeepsRun self.old self.new }
+    {
+        print_by_default(&self.script, &self.pattern, outputs)?;
+        self.place = Place::Ended;
+        Ok(())
     }
 }

@@ -1,4 +1,4 @@
-use Rattle.std.proofs.Common.{◌≡◌, rules, ℕ, List, refl}
+use Rattle.std.proofs.Common.{rules}
 use Rattle.sed.proofs.EditLemmas.{Edits-run, Gains-all, Gains-beginning, Takes-first}
 use Rattle.sed.proofs.editing.edit.Goals as goal
 

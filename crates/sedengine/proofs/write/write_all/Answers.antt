@@ -1,5 +1,4 @@
-use Rattle.std.proofs.Common.{◌≡◌, ℕ, ◌<◌, ◌≤◌, ◌++◌, length, take, drop, ◌+◌, ◌-◌, refl, arith, rules}
-use Rattle.sedengine.specs.Move.{to_sink}
+use Rattle.std.proofs.Common.{◌≡◌, ◌++◌, length, take, drop, ◌+◌, ◌-◌, refl, arith}
 use Rattle.sedengine.proofs.Gains.{Gained-append, Gained-add_none, Gained-one, Gained-kept, to_sink-append, take_part, slice_get-to_sink, take-to_sink}
 use Rattle.sedengine.proofs.Writing.{Writes-then, grown}
 use Rattle.sedengine.proofs.write.write_all.Goals as goal

@@ -1,4 +1,4 @@
-use Rattle.std.proofs.Common.{ℕ, ◌-◌, ◌≡◌, ◌≤◌, length, take, Ok}
+use Rattle.std.proofs.Common.{◌-◌, ◌≤◌, length, take, Ok}
 use Rattle.sedengine.specs.Move.{to_sink}
 use Rattle.sedengine.specs.Devices.{Gained}
 use Rattle.sedengine.specs.Calls.{Writes}

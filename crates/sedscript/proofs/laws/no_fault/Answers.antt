@@ -1,4 +1,4 @@
-use Rattle.sedscript.proofs.Cuts.{no_fault as law}
+use Rattle.sedscript.proofs.Exclusive.{means_no_fault as law}
 use Rattle.sedscript.proofs.laws.no_fault.Goals as goal
 
 pub returns : goal.returns

@@ -1,24 +1,36 @@
-use Rattle.std.proofs.Common.{◌≡◌, ◌<◌, ◌≤◌, length, refl, sym, ap, ◌∙◌, arith, rules}
-use Rattle.sedengine.proofs.Gains.{Gained-none}
-use Rattle.sedengine.proofs.Tasks.{comes_past, comes_spent, comes_by, comes_printing, comes_deleting}
+use Rattle.std.proofs.Common.{sym, ◌∙◌, arith}
+use Rattle.sedengine.proofs.Writing.{Writes-unwritten}
+use Rattle.sedengine.proofs.Tasks.{steps_by_moves}
+use Rattle.sedengine.proofs.Acts.{steps_spent, comes_stopping, comes_acting, comes_passing}
 use Rattle.sedengine.proofs.engine.Engine.come_to.Goals as goal
 
-pub returns-then-k-len-clause-moves : goal.returns-then-k-len-clause-moves
-returns-then-k-len-clause-moves g c = λ files ls.
-    comes_past c.self.inside _ c.self.view_is c.self.invariant files ls _ c.args.k (Gained-none _) c.requires.at (omega arith)
+pub returns-then-k-len-clause-steps : goal.returns-then-k-len-clause-steps
+returns-then-k-len-clause-steps g c = λ sound ls known files.
+    steps_by_moves g.R.ByteSource.remaining c.args.lines.now ls _ _ c.args.self.now c.finish.new.self _ _ known (c.finish.ensures.moves files ls)
 
-pub returns-then-self-turns-clause-moves : goal.returns-then-self-turns-clause-moves
-returns-then-self-turns-clause-moves g c = λ files ls.
-    comes_spent c.self.inside _ c.self.view_is c.self.invariant files ls _ c.args.k (Gained-none _) c.requires.at (omega arith) (c.if-self-turns.true ∙ c.turns.ensures)
+pub returns-then-self-turns-clause-steps : goal.returns-then-self-turns-clause-steps
+returns-then-self-turns-clause-steps g c = λ sound ls known files.
+    steps_spent g.R.ByteSource.remaining c.args.lines.now c.self.inside c.args.self.now c.self.view_is c.self.invariant files ls known _ c.args.k c.requires.at (omega arith) (c.if-self-turns.true ∙ c.turns.ensures)
 
-pub returns-then-not-selected-clause-moves : goal.returns-then-not-selected-clause-moves
-returns-then-not-selected-clause-moves g c = λ files ls.
-    comes_by c.self.inside _ c.self.view_is c.self.invariant files ls c.args.k c.command-command.result.now c.requires.at c.command-command.ensures (λ e. c.if-self-turns.false (e ∙ sym c.turns.ensures)) _ (Gained-none _) (sym c.if-not-selected.ensures)
+pub returns-in-Err-clause-output : goal.returns-in-Err-clause-output
+returns-in-Err-clause-output g c = Writes-unwritten _ _ _ c.in-Err.end c.in-Err.ensures.output
 
-pub returns-in-Print-clause-moves : goal.returns-in-Print-clause-moves
-returns-in-Print-clause-moves g c = λ files ls.
-    comes_printing c.self.inside _ c.self.view_is c.self.invariant files ls c.args.k c.command-command.result.now c.requires.at c.command-command.ensures (λ e. c.if-self-turns.false (e ∙ sym c.turns.ensures)) _ _ c.act_print.new.self (sym c.if-not-selected.ensures) c.in-Print.is c.act_print.ensures.same c.act_print.ensures.puts
+pub returns-in-Err-clause-steps : goal.returns-in-Err-clause-steps
+returns-in-Err-clause-steps g c = λ sound ls known files.
+    comes_stopping g.R.ByteSource.remaining c.args.lines.now c.judge.new.lines c.self.inside c.args.self.now c.self.view_is c.self.invariant files ls c.args.k c.command.result.now
+    c.requires.at c.command.ensures.is (λ e. c.if-self-turns.false (e ∙ sym c.turns.ensures)) (c.in-Err.ensures.left ls known)
+    (g.O.Outputs.contents c.args.outputs.now) c.judge.new.self.state.used c.in-Err.end c.judge.new.self c.in-Err.ensures.comes (c.in-Err.ensures.judges sound ls known)
 
-pub returns-in-Delete-clause-moves : goal.returns-in-Delete-clause-moves
-returns-in-Delete-clause-moves g c = λ files ls.
-    comes_deleting c.self.inside _ c.self.view_is c.self.invariant files ls c.args.k c.command-command.result.now c.requires.at c.command-command.ensures (λ e. c.if-self-turns.false (e ∙ sym c.turns.ensures)) _ c.act_delete.new.self (Gained-none _) (sym c.if-not-selected.ensures) c.in-Delete.is c.act_delete.ensures
+pub returns-then-choice-clause-steps : goal.returns-then-choice-clause-steps
+returns-then-choice-clause-steps g c = λ sound ls known files.
+    comes_acting g.R.ByteSource.remaining c.args.lines.now c.judge.new.lines c.self.inside c.args.self.now c.self.view_is c.self.invariant files ls c.args.k c.command.result.now
+    c.requires.at c.command.ensures.is (λ e. c.if-self-turns.false (e ∙ sym c.turns.ensures)) (c.in-Ok.ensures.left ls known)
+    c.in-Ok.choice c.judge.new.self.state.used c.judge.new.self c.act.new.self (c.in-Ok.ensures.judges sound ls known) c.in-Ok.ensures.comes
+    _ _ c.tells.result c.if-choice.true c.tells.ensures (c.act.ensures.acts files ls)
+
+pub returns-else-choice-clause-steps : goal.returns-else-choice-clause-steps
+returns-else-choice-clause-steps g c = λ sound ls known files.
+    comes_passing g.R.ByteSource.remaining c.args.lines.now c.judge.new.lines c.self.inside c.args.self.now c.self.view_is c.self.invariant files ls c.args.k c.command.result.now
+    c.requires.at c.command.ensures.is (λ e. c.if-self-turns.false (e ∙ sym c.turns.ensures)) (c.in-Ok.ensures.left ls known)
+    c.in-Ok.choice c.judge.new.self.state.used c.judge.new.self c.pass.new.self (c.in-Ok.ensures.judges sound ls known) c.in-Ok.ensures.comes
+    _ c.if-choice.false (c.pass.ensures.passes files _ ls)

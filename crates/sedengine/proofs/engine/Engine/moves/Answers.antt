@@ -1,5 +1,4 @@
-use Rattle.std.proofs.Common.{◌≡◌, ◌∙◌, refl, sym, subst}
-use Rattle.sedengine.specs.Inside.{run_of}
+use Rattle.std.proofs.Common.{refl, subst}
 use Rattle.sedengine.specs.Ends.{Fits}
 use Rattle.sedengine.specs.Run.{Run, at_lines}
 use Rattle.sedengine.proofs.Writing.{Writes-none, Writes-then}

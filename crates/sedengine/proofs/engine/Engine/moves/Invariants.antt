@@ -9,7 +9,7 @@ use Rattle.sedengine.proofs.engine.Engine.moves.Given as goal
 abbrev pub invariant-moves : goal.invariant-moves
 invariant-moves g l = record {
   same : KeepsRun l.fn.self l.self;
-  input : Reads g.R.ByteSource.remaining g.R.ByteSource.failures g.R.ByteSource.reference l.fn.lines l.lines (Ok tt);
+  input : Reads {T = Unit {0}} g.R.ByteSource.remaining g.R.ByteSource.failures g.R.ByteSource.reference l.fn.lines l.lines (Ok tt);
   output : Writes g.O.Outputs.failures g.O.Outputs.count l.fn.outputs l.outputs (Ok tt);
   reached : l.fn.lines.fault ≡ None → (ls : List (List ℕ)) → lines_left g.R.ByteSource.remaining l.fn.lines ≡ Some ls → (files : ℕ → List ℕ) →
       Reached g.R.ByteSource.remaining l.fn.lines l.lines l.fn.self.limits (setting l.fn.self files) (at_lines l.fn.self ls) l.self (g.O.Outputs.contents l.fn.outputs) (g.O.Outputs.contents l.outputs);

@@ -1,11 +1,11 @@
-use Rattle.std.proofs.Common.{◌≡◌, ◌∙◌, ◌+◌, ◌<◌, false, refl, sym, ap, subst, Ok, arith}
+use Rattle.std.proofs.Common.{◌∙◌, refl, sym, ap, subst, arith}
 use Rattle.sedengine.specs.State.{State}
-use Rattle.sedengine.specs.Inside.{run_of}
 use Rattle.sedengine.specs.Ends.{Fits}
 use Rattle.sedengine.specs.Run.{Run, at_lines, setting, starts_cycle}
 use Rattle.sedengine.proofs.Writing.{Writes-none, Writes-then}
 use Rattle.sedengine.proofs.Streams.{Reads-none, Reads-then}
-use Rattle.sedengine.proofs.Runs.{Reached, Reached-none, KeepsRun-then, step_on, stop_on, one_more, cycled}
+use Rattle.sedengine.proofs.Moves.{InOneCycle-more}
+use Rattle.sedengine.proofs.Runs.{Reached, Reached-none, KeepsRun-then, step_on, stop_on, one_on, some_on, one_stop, cycled}
 use Rattle.sedengine.proofs.Tasks.{fits_of}
 use Rattle.sedengine.proofs.engine.Engine.moves_of_cycle.Goals as goal
 
@@ -27,11 +27,11 @@ returns-in-Err-clause-cycles g c = λ sound ls known files.
     let h = c.moves.invariant in
     let reached = h.reached sound ls known files in
     let r = reached.0 in
-    let input = Reads-then _ _ _ _ _ _ _ h.input c.step.ensures.input in
+    let input = Reads-then _ _ _ _ _ _ _ h.input c.in-Err.ensures.input in
+    let stop = c.in-Err.ensures.steps (h.input.sound sound) r.rest r.taken.known files in
     record {
-      ending = stop_on g.R.ByteSource.remaining c.args.lines.now c.moves.lines c.step.new.lines files c.args.self.now _ c.moves.self _ _ _ h.same r c.step.new.self c.in-Err.end
-          (c.in-Err.ensures.steps (h.input.sound sound) r.rest r.taken.known files) input.shrinks input.ahead c.requires.look;
-      one = reached.1;
+      ending = stop_on g.R.ByteSource.remaining c.args.lines.now c.moves.lines c.step.new.lines files c.args.self.now _ c.moves.self _ _ _ h.same r c.step.new.self c.in-Err.end stop input.shrinks input.ahead c.requires.look;
+      one = one_stop g.R.ByteSource.remaining c.args.lines.now c.moves.lines c.step.new.lines files c.args.self.now _ c.moves.self _ _ _ h.same r c.step.new.self c.in-Err.end stop reached.1;
     }
 
 pub returns-then-at_start-clause-input : goal.returns-then-at_start-clause-input
@@ -43,10 +43,12 @@ returns-then-at_start-clause-cycles g c = λ sound ls known files.
     let reached = h.reached sound ls known files in
     let r = reached.0 in
     let input = Reads-then _ _ _ _ _ _ _ h.input c.in_default.ensures.input in
+    let ran = c.in_default.ensures.steps (h.input.sound sound) r.rest r.taken.known files in
     let next : Reached g.R.ByteSource.remaining c.args.lines.now c.step.new.lines _ (setting c.args.self.now files) (at_lines c.args.self.now ls) c.step.new.self _ _ =
-    step_on g.R.ByteSource.remaining c.args.lines.now c.moves.lines c.step.new.lines files c.args.self.now _ c.moves.self _ _ _ h.same r c.step.new.self
-    (c.in_default.ensures.steps (h.input.sound sound) r.rest r.taken.known files) in
-    cycled g.R.ByteSource.remaining c.args.lines.now c.step.new.lines _ _ _ c.step.new.self _ _ r.t next refl reached.1 (sym c.at_start.ensures ∙ c.if-at_start.true)
+    step_on g.R.ByteSource.remaining c.args.lines.now c.moves.lines c.step.new.lines files c.args.self.now _ c.moves.self _ _ _ h.same r c.step.new.self ran in
+    let one = one_on g.R.ByteSource.remaining c.args.lines.now c.moves.lines c.step.new.lines files c.args.self.now _ c.moves.self _ _ _ h.same r c.step.new.self ran reached.1 in
+    let some = some_on g.R.ByteSource.remaining c.args.lines.now c.moves.lines c.step.new.lines files c.args.self.now _ c.moves.self _ _ _ h.same r c.step.new.self ran in
+    cycled g.R.ByteSource.remaining c.args.lines.now c.step.new.lines _ _ _ c.step.new.self _ _ next some one (sym c.at_start.ensures ∙ c.if-at_start.true)
     input.shrinks input.ahead c.requires.look
 
 pub moves-preserved : goal.moves-preserved
@@ -59,8 +61,9 @@ moves-preserved g c =
       reached = λ sound ls known files.
           let reached = h.reached sound ls known files in
           let r = reached.0 in
+          let ran = c.in_default.ensures.steps (h.input.sound sound) r.rest r.taken.known files in
           let next : Reached g.R.ByteSource.remaining c.args.lines.now c.step.new.lines _ (setting c.args.self.now files) (at_lines c.args.self.now ls) c.step.new.self _ _ =
-          step_on g.R.ByteSource.remaining c.args.lines.now c.moves.lines c.step.new.lines files c.args.self.now _ c.moves.self _ _ _ h.same r c.step.new.self
-          (c.in_default.ensures.steps (h.input.sound sound) r.rest r.taken.known files) in
-          (next, one_more _ _ r.t reached.1 (ap (λ (s : State). starts_cycle s.tasks) next.is ∙ sym c.at_start.ensures ∙ c.if-at_start.false));
+          step_on g.R.ByteSource.remaining c.args.lines.now c.moves.lines c.step.new.lines files c.args.self.now _ c.moves.self _ _ _ h.same r c.step.new.self ran in
+          let one = one_on g.R.ByteSource.remaining c.args.lines.now c.moves.lines c.step.new.lines files c.args.self.now _ c.moves.self _ _ _ h.same r c.step.new.self ran reached.1 in
+          (next, InOneCycle-more _ _ next.t one (ap (λ (s : State). starts_cycle s.tasks) next.is ∙ sym c.at_start.ensures ∙ c.if-at_start.false));
     }

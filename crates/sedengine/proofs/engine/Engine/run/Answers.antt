@@ -1,4 +1,3 @@
-use Rattle.std.proofs.Common.{◌≡◌, sym}
 use Rattle.sedengine.specs.Run.{files_in}
 use Rattle.sedengine.specs.Inside.{run_of}
 use Rattle.sedengine.proofs.Runs.{ending_seen}

@@ -1,0 +1,156 @@
+//! A bench for matching alone: one call of the matcher, again and again over the pieces of a text.
+//!
+//!     matchbench CALL KIND EXPRESSION LENGTH ROUNDS < TEXT
+//!
+//! CALL is `find`, `span` or `match`, and KIND `basic` or `extended`. The text is cut into pieces of LENGTH bytes, the
+//! last one maybe shorter. Each round makes the call once for each piece, from its beginning on. What is printed is
+//! the number of calls with a hit, so it depends on the words and the text alone: `bench/matching` takes the times.
+#![tactic(auto)]
+
+ghost use Rattle.std.specs.Prelude.{◌≡◌, ◌<◌, ◌≤◌, length};
+
+use anyhow::{Context, Result, bail, ensure};
+use sedmatch::{Scratch, Text, find, find_span, is_match};
+use sedre::{Expr, Kind, Steps, read};
+use std::alloc::Global;
+use std::env;
+use std::io::Read;
+
+/// The longest piece, in bytes.
+const MAX_LENGTH: usize = 1 << 20;
+
+/// The most nodes of the expression.
+const MAX_NODES: usize = 16384;
+
+/// A call of the matcher.
+#[derive(Clone, Copy)]
+enum Call {
+    /// `find`: the match and its groups.
+    Find,
+    /// `find_span`: where the match begins and ends.
+    Span,
+    /// `is_match`: whether there is one.
+    Match,
+}
+
+impl Call {
+    /// The call of a name.
+    fn named(name: &str) -> Result<Call> {
+        match name {
+            "find" => Ok(Call::Find),
+            "span" => Ok(Call::Span),
+            "match" => Ok(Call::Match),
+            _ => bail!("CALL is find, span or match"),
+        }
+    }
+
+    /// Makes the call from the beginning of a piece on, and says whether it has a hit.
+    fn hits(self, expr: &Expr, piece: &[u8], scratch: &mut Scratch) -> bool
+        requires text { length piece.now ≤ scratch.old.text }
+        requires nodes { length expr.now.nodes ≤ scratch.old.nodes }
+        ensures scratch { scratch.new ≡ scratch.old }
+    {
+        let text = Text::new(piece);
+        let mut steps = Steps::new();
+        match self {
+            Call::Find => find(expr, &text, 0, scratch, &mut steps).is_some(),
+            Call::Span => find_span(expr, &text, 0, scratch, &mut steps).is_some(),
+            Call::Match => is_match(expr, &text, 0, scratch, &mut steps),
+        }
+    }
+
+    /// In how many pieces of a text the call has a hit.
+    fn round(self, expr: &Expr, text: &[u8], size: usize, scratch: &mut Scratch) -> u64
+        requires some { 0 < size }
+        requires text { size ≤ scratch.old.text }
+        requires nodes { length expr.now.nodes ≤ scratch.old.nodes }
+        ensures scratch { scratch.new ≡ scratch.old }
+    {
+        let mut hits = 0u64;
+        for piece in text.chunks(size) {
+            if self.hits(expr, piece, scratch) {
+                hits = hits.saturating_add(1);
+            }
+        }
+        hits
+    }
+
+    /// The hits of so many rounds, none of them left out.
+    fn rounds(self, count: u32, expr: &Expr, text: &[u8], size: usize, scratch: &mut Scratch) -> u64
+        requires some { 0 < size }
+        requires text { size ≤ scratch.old.text }
+        requires nodes { length expr.now.nodes ≤ scratch.old.nodes }
+    {
+        let mut hits = 0u64;
+        for _ in 0..count {
+            hits = hits.saturating_add(self.round(expr, text, size, scratch));
+        }
+        hits
+    }
+}
+
+/// The kind of a name.
+fn kind_named(name: &str) -> Result<Kind> {
+    match name {
+        "basic" => Ok(Kind::Basic),
+        "extended" => Ok(Kind::Extended),
+        _ => bail!("KIND is basic or extended"),
+    }
+}
+
+/// What the words after the program's name ask for.
+#[derive(Drop)]
+struct Job {
+    call: Call,
+    expr: Expr,
+    size: usize,
+    rounds: u32,
+}
+
+impl Job {
+    /// Reads the words.
+    fn of(alloc: Global, words: &[String]) -> Result<Job> {
+        let [call, kind, expression, size, rounds] = words else {
+            bail!("the words are CALL KIND EXPRESSION LENGTH ROUNDS");
+        };
+        let call = Call::named(call)?;
+        let kind = kind_named(kind)?;
+        let expr = match read(alloc, kind, expression.as_bytes(), None, MAX_NODES) {
+            Ok(expr) => expr,
+            Err(fault) => bail!("EXPRESSION has a fault at byte {}", fault.place),
+        };
+        let size = size.parse().context("LENGTH is a number")?;
+        let rounds = rounds.parse().context("ROUNDS is a number")?;
+        Ok(Job {
+            call,
+            expr,
+            size,
+            rounds,
+        })
+    }
+
+    /// Does what is asked for, and counts the hits.
+    fn run(&self, alloc: Global, text: &[u8]) -> Result<u64> {
+        ensure!(
+            1 <= self.size && self.size <= MAX_LENGTH,
+            "LENGTH is 1 to {MAX_LENGTH}"
+        );
+        let nodes = self.expr.nodes();
+        ensure!(nodes <= MAX_NODES, "EXPRESSION has too many nodes");
+        let mut scratch = Scratch::new(alloc, self.size, MAX_NODES)?;
+        Ok(
+            self.call
+                .rounds(self.rounds, &self.expr, text, self.size, &mut scratch),
+        )
+    }
+}
+
+fn main(rt: HostRuntime) -> Result<()> {
+    let words: Vec<String> = env::args(&rt)?.skip(1).collect(rt.alloc())?;
+    let job = Job::of(rt.alloc(), words.as_slice())?;
+    let mut text = Vec::new(rt.alloc());
+    rt.stdin().read_to_end(&mut text)?;
+    let hits = job.run(rt.alloc(), text.as_slice())?;
+    println!(rt; "{hits}")?;
+    Ok(())
+}

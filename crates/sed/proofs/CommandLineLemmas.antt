@@ -1,0 +1,32 @@
+-- The command line that `clap` is given.
+use Rattle.std.proofs.Common.{◌≡◌, ◌∙◌, List, Option, Result, Ok, Err, IfOk, IfErr, true, refl, ap, codes, unwrap_or}
+use Rattle.clap.specs.Words.{App, Text, first_of, first_value, found_of, is_simple, kind_of, matches_of, rows_of, takes, HasMatchesOf}
+use Rattle.clap.specs.declared.error.Error.{Error}
+use Rattle.clap.specs.declared.error.kind.ErrorKind.TheVariants.{OutOfMemory}
+use Rattle.clap.specs.declared.parser.matches.ArgMatches.{ArgMatches}
+use Rattle.clap.proofs.WalkLemmas.{first_value-rows}
+use Rattle.sed.specs.CommandLine.{script_in, sed_command}
+
+-- its words are read one by one
+pub is_simple-sed_command : is_simple sed_command ≡ true
+unfolding sed_command
+is_simple-sed_command = refl
+
+-- so its matches are known
+pub rows_of-sed_command : {E : Type 0} (words : List Text) (a : App) (r : Result ArgMatches E) → a ≡ sed_command → IfOk r (HasMatchesOf a words) →
+    IfOk r (λ m. rows_of (found_of m) ≡ matches_of sed_command words)
+rows_of-sed_command words a (Ok m) is h = let h' = rw is at h in (h' is_simple-sed_command).0
+rows_of-sed_command words a (Err e) is h = tt
+
+-- and so is when it is read
+pub takes-sed_command : {T : Type 0} (words : List Text) (a : App) (r : Result T Error) → a ≡ sed_command → IfErr r (λ e. takes a words ≡ true → kind_of e ≡ OutOfMemory) →
+    IfErr r (λ e. takes sed_command words ≡ true → kind_of e ≡ OutOfMemory)
+takes-sed_command words a (Ok m) is h = tt
+takes-sed_command words a (Err e) is h = rw is at h
+
+-- and the script that the matches give
+pub script_in-matches : (words : List Text) (m : ArgMatches) (given : Option Text) (script : Text) →
+    rows_of (found_of m) ≡ matches_of sed_command words → given ≡ first_value (found_of m) (codes "script") →
+    script ≡ unwrap_or given (codes "") → script ≡ script_in (matches_of sed_command words)
+script_in-matches words m given script rows is same =
+    same ∙ ap (λ t. unwrap_or t (codes "")) (is ∙ first_value-rows (found_of m) (codes "script") ∙ ap (first_of (codes "script")) rows)

@@ -1,0 +1,20 @@
+-- From the end of an edit to the status of the program.
+use Rattle.std.proofs.Common.{◌≡◌, ℕ, List, [], Some, refl}
+use Rattle.std.specs.Prelude.{Vec}
+use Rattle.sedspace.specs.Memory.{text_bytes}
+use Rattle.sedscript.specs.Script.{Program}
+use Rattle.sedengine.specs.Run.{files_in, setting_of}
+use Rattle.sed.specs.Editing.{GainsAll, GainsBeginning, start_over}
+use Rattle.sed.specs.Program.{no_files}
+
+-- a list of no texts gives no files
+pub files_in-nil : {A : Type 0} (texts : List (Vec ℕ A)) → texts ≡ [] → files_in (λ k. Some (text_bytes texts k)) ≡ no_files
+files_in-nil texts is = rw is refl
+
+pub Gains-all-files : (p : Program) (files : ℕ → List ℕ) (bytes : List ℕ) (gained : List (ℕ × ℕ) → Type 0) → files ≡ no_files →
+    GainsAll (setting_of p files) (start_over p bytes) gained → GainsAll (setting_of p no_files) (start_over p bytes) gained
+Gains-all-files p files bytes gained is h = rw is at h
+
+pub Gains-beginning-files : (p : Program) (files : ℕ → List ℕ) (bytes : List ℕ) (gained : List (ℕ × ℕ) → Type 0) → files ≡ no_files →
+    GainsBeginning (setting_of p files) (start_over p bytes) gained → GainsBeginning (setting_of p no_files) (start_over p bytes) gained
+Gains-beginning-files p files bytes gained is h = rw is at h

@@ -1,0 +1,8 @@
+use Rattle.sed.proofs.CommandLineLemmas.{rows_of-sed_command, takes-sed_command}
+use Rattle.sed.proofs.command_line.read.Goals as goal
+
+pub returns-clause-rows : goal.returns-clause-rows
+returns-clause-rows g c = rows_of-sed_command _ _ _ c.in_ok-command.ensures.shape c.try_get_matches_from.ensures.matches
+
+pub returns-clause-taken : goal.returns-clause-taken
+returns-clause-taken g c = takes-sed_command _ _ _ c.in_ok-command.ensures.shape c.try_get_matches_from.ensures.passes

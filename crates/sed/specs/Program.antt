@@ -1,0 +1,41 @@
+-- What the program does with the words of its command line.
+use Rattle.std.specs.Prelude.{◌≡◌, ◌||◌, ℕ, Bool, true, List, [], Option}
+use Rattle.std.specs.Option.{ForSome}
+use Rattle.clap.specs.Words.{Text, matches_of, takes}
+use Rattle.sedscript.specs.Script.{Means, Program}
+use Rattle.sedscript.specs.declared.types.Kind.TheVariants.{Basic}
+use Rattle.sedengine.specs.Run.{setting_of}
+use Rattle.sed.specs.CommandLine.{quiet_in, script_in, sed_command}
+use Rattle.sed.specs.Editing.{GainsAll, GainsBeginning, start_over}
+
+-- The text means the script p, but that -n suppresses default output too, as a first line `#n` does (XCU sed, "Options").
+abbrev pub GivesScript : List ℕ → Bool → ℕ → Program → Type 0
+GivesScript text quiet nodes p = (q : Program) × Means text Basic nodes q × (p ≡ record q { quiet = quiet || q.quiet })
+
+-- the script reads no file
+abbrev pub no_files : ℕ → List ℕ
+no_files k = []
+
+-- The text of a script, with -n or without it, means a script; and where the bytes of the input are known, the sinks
+-- have gained all that it writes over them.
+abbrev pub WritesAll : List ℕ → Bool → ℕ → Option (List ℕ) → (List (ℕ × ℕ) → Type 0) → Type 0
+WritesAll text quiet nodes input gained =
+    (p : Program) × GivesScript text quiet nodes p
+    × ForSome input (λ bytes. GainsAll (setting_of p no_files) (start_over p bytes) gained)
+
+-- the same for a beginning of what it writes
+abbrev pub WritesBeginning : List ℕ → Bool → ℕ → Option (List ℕ) → (List (ℕ × ℕ) → Type 0) → Type 0
+WritesBeginning text quiet nodes input gained =
+    (p : Program) × GivesScript text quiet nodes p
+    × ForSome input (λ bytes. GainsBeginning (setting_of p no_files) (start_over p bytes) gained)
+
+-- whether the words are a command line
+abbrev pub IsCommandLine : List Text → Type 0
+IsCommandLine words = takes sed_command words ≡ true
+
+-- the script's text that they give, and whether they have -n
+abbrev pub script_of : List Text → List ℕ
+script_of words = script_in (matches_of sed_command words)
+
+abbrev pub quiet_of : List Text → Bool
+quiet_of words = quiet_in (matches_of sed_command words)

@@ -1,0 +1,163 @@
+-- What commands do are moves.
+use Rattle.std.proofs.Common.{◌≡◌, ℕ, ◌<◌, Bool, true, false, cond, List, [], ◌∷◌, ◌++◌, length, Option, Some, None, Result, Ok, Err, refl, subst, sym, ap, ◌∙◌, arith, length-append}
+use Rattle.std.specs.Prelude.{slice_get, slice_set, option_and_then}
+use Rattle.sedscript.specs.declared.types.Command.{Command}
+use Rattle.sedscript.specs.declared.types.Action.{Action}
+use Rattle.sedscript.specs.declared.types.Action.TheVariants.{Block, Branch, Change, Delete, Insert, LineNumber, Print, Quit}
+use Rattle.sedspace.specs.Stream.{Stream, TakesAtMost, left, lines_left}
+use Rattle.sedengine.specs.Limits.{Limits}
+use Rattle.sedengine.specs.State.{Task, begin, do_at, flush, State, Move, Setting}
+use Rattle.sedengine.specs.Select.{Choice, selects}
+use Rattle.sedengine.specs.Move.{move, comes_to, performs, acts, passes, writing, quietly, then_do, none_left, is_active, tells_at}
+use Rattle.sedengine.specs.Ends.{Fits, comes, reads, asks_last}
+use Rattle.sedengine.specs.Held.{SameLengths}
+use Rattle.sedengine.specs.Devices.{Gained}
+use Rattle.sedengine.specs.Calls.{Puts}
+use Rattle.sedengine.specs.Run.{Run, at_lines, setting, size_of, starts_cycle}
+use Rattle.sedengine.specs.Choose.{Judges, as_choice, come_with, current}
+use Rattle.sedengine.specs.Steps.{Moves, Performs, Steps, TakesLines}
+use Rattle.sedengine.specs.Inside.{run_of, tasks_of, IsRun}
+use Rattle.sedengine.specs.declared.engine.Engine.TheInside.{Inside}
+use Rattle.sedengine.specs.declared.place.Place.{Place}
+use Rattle.sedengine.specs.declared.select.Chosen.{Chosen}
+use Rattle.sedengine.specs.declared.ends.Ended.{Ended}
+use Rattle.sedengine.specs.declared.ends.Ended.TheVariants.{Done, PatternFull, TurnsSpent, NoPrevious, InputBroken, OutputBroken}
+use Rattle.sedengine.proofs.Streams.{TakesAtMost-more}
+use Rattle.sedengine.proofs.Moves.{move_at, ran_once, ran_quietly, stopped_writing, moves_writing, Moves-then}
+use Rattle.sedengine.proofs.Tasks.{fits_at, fits_of, halts_here, comes_spent, steps_by_moves}
+
+-- the engine whose pattern space is deleted, and which has these tasks
+abbrev pub deleted : Run → List Task → Run
+deleted e ts = record e { state = record e.state { pattern = []; tasks = ts } }
+
+deletes : (l : Limits) (g : Setting) (s m now : State) (old new : ℕ → Option (List ℕ)) (out : List (ℕ × ℕ)) (r : Result Unit Ended) → Fits l s → move g s ≡ writing out m → m.tasks ≡ flush ∷ begin ∷ [] → move g m ≡ quietly now →
+    Fits l m → Fits l now → SameLengths m now → s.lines ≡ now.lines → Puts (Gained old new) out r → Moves l g s now (Gained old new) r
+deletes l g s m now old new out (Ok u) f first tasks then f' f'' same lines put =
+    Moves-then l g s m now old new new (Ok tt) (ran_once l g s m old new out f first f' put) (ap starts_cycle tasks) (ran_quietly l g m now new f' then f'')
+deletes l g s m now old new out (Err end) f first tasks then f' f'' same lines put = stopped_writing l g s m now old new out end f first f' same lines put
+
+-- A command of an engine with the fields a that is seen as e.
+module _ (a : Inside) (e : Run) (seen : run_of a ≡ e) (i : IsRun a) (ls : List (List ℕ)) (g : Setting) (old new : ℕ → Option (List ℕ)) (o : Option Move) where
+  fits : Fits e.limits (at_lines e ls)
+  fits = let Q : Run → Type 0 = λ e. Fits e.limits (at_lines e ls) in subst Q seen (fits_of a ls i)
+
+  -- one that writes alone
+  pub acts_writing : (out : List (ℕ × ℕ)) (r : Result Unit Ended) → o ≡ writing out (at_lines e ls) → Puts (Gained old new) out r → Performs e.limits g o ls (at_lines e ls) (Gained old new) r
+  acts_writing out r is put = λ s f lines first. moves_writing e.limits g s (at_lines e ls) old new out r f (first ∙ is) fits lines put
+
+  -- one that does nothing
+  pub acts_nothing : o ≡ quietly (at_lines e ls) → Performs e.limits g o ls (at_lines e ls) (Gained old old) (Ok tt)
+  acts_nothing is = λ s f lines first. ran_quietly e.limits g s (at_lines e ls) old f (first ∙ is) fits
+
+  -- one that goes on elsewhere
+  pub acts_going : (ts : List Task) (place : Place) → tasks_of place ≡ ts → o ≡ quietly (then_do ts (at_lines e ls)) → Performs e.limits g o ls (at_lines (run_of (record a { place = place })) ls) (Gained old old) (Ok tt)
+  acts_going ts place to is =
+      let now : Inside = record a { place = place } in
+      let Q : Run → Type 0 = λ e. o ≡ quietly (then_do ts (at_lines e ls)) → Performs e.limits g o ls (at_lines (run_of now) ls) (Gained old old) (Ok tt) in
+      subst Q seen (λ is s f lines first. ran_quietly a.limits g s (at_lines (run_of now) ls) old f (first ∙ rw to is) (fits_at now ls i.pattern i.hold i.turns)) is
+
+  -- one that deletes the pattern space
+  pub acts_deleting : (out : List (ℕ × ℕ)) (r : Result Unit Ended) (e' : Run) → e' ≡ deleted e (begin ∷ []) → o ≡ writing out (at_lines (deleted e (flush ∷ begin ∷ [])) ls) → Puts (Gained old new) out r →
+      Performs e.limits g o ls (at_lines e' ls) (Gained old new) r
+  acts_deleting out r e' same is put =
+      let Q : Run → Type 0 = λ e'. Performs e.limits g o ls (at_lines e' ls) (Gained old new) r in
+      let S : Run → Type 0 = λ e. o ≡ writing out (at_lines (deleted e (flush ∷ begin ∷ [])) ls) → Performs e.limits g o ls (at_lines (deleted e (begin ∷ [])) ls) (Gained old new) r in
+      let f' : Fits a.limits (at_lines (deleted (run_of a) (flush ∷ begin ∷ [])) ls) = record { pattern = omega arith; hold = i.hold; queue = omega arith; turns = i.turns } in
+      let f'' : Fits a.limits (at_lines (deleted (run_of a) (begin ∷ [])) ls) = record { pattern = omega arith; hold = i.hold; queue = omega arith; turns = i.turns } in
+      subst Q (sym same) (subst S seen (λ is s f lines first. deletes a.limits g s (at_lines (deleted (run_of a) (flush ∷ begin ∷ [])) ls) (at_lines (deleted (run_of a) (begin ∷ [])) ls) old new out r f (first ∙ is) refl
+      (move_at g _ (flush ∷ begin ∷ []) refl) f' f'' (record { pattern = refl; hold = refl; queue = refl }) lines put) is)
+
+-- what no `{` does that doesn't apply
+pub passes_other : (s : State) (action : Action) → ((behind : ℕ) → action ≡ Block behind → ⊥) → passes s action ≡ quietly s
+passes_other s (Block behind) h = absurd (h behind refl)
+passes_other s (Branch target) h = refl
+passes_other s (Change k) h = refl
+passes_other s Delete h = refl
+passes_other s (Insert k) h = refl
+passes_other s LineNumber h = refl
+passes_other s Print h = refl
+passes_other s Quit h = refl
+
+-- a turn is left
+pub turn_left : (a : Inside) (e : Run) → run_of a ≡ e → IsRun a → (a.turns ≡ a.limits.turns → ⊥) → e.state.turns < e.limits.turns
+turn_left a e seen i more =
+    let most = i.turns in
+    let less : a.turns < a.limits.turns = omega arith in
+    let Q : Run → Type 0 = λ e. e.state.turns < e.limits.turns in
+    subst Q seen less
+
+-- the command of the script as it is seen
+pub command_seen : (a : Inside) (e : Run) (k : ℕ) (c : Command) → run_of a ≡ e → slice_get a.script.commands k ≡ Some c → slice_get e.script.commands k ≡ Some c
+command_seen a e k c seen is = let Q : Run → Type 0 = λ e. slice_get e.script.commands k ≡ Some c in subst Q seen is
+
+-- no turn is left
+pub steps_spent : {R : Type 0} (remaining : R → Option (List ℕ)) (old : Stream R) (a : Inside) (e : Run) (seen : run_of a ≡ e) (i : IsRun a) (files : ℕ → List ℕ) (ls : List (List ℕ)) → lines_left remaining old ≡ Some ls → (sinks : ℕ → Option (List ℕ)) (k : ℕ) →
+    e.state.tasks ≡ do_at k ∷ [] → k < length a.script.commands → a.turns ≡ a.limits.turns → Steps remaining old old ls e.limits (setting e files) e e (Gained sinks sinks) (Err TurnsSpent)
+steps_spent {R} remaining old a e seen i files ls known sinks k t there spent =
+    steps_by_moves remaining old ls e.limits (setting e files) e e (Gained sinks sinks) (Err TurnsSpent) known (comes_spent a e seen i files ls k t sinks there spent)
+
+-- no line was taken where all are left
+none_taken : (xs ls : List (List ℕ)) → ls ≡ xs ++ ls → size_of xs ≡ 0
+none_taken [] ls h = refl
+none_taken (x ∷ xs) ls h = absurd (omega (arith, ap length h, length-append (x ∷ xs) ls))
+
+-- Coming to the command c, of number k, with a turn left; a are the fields of the engine, which is seen as e.
+module _ {R : Type 0} (remaining : R → Option (List ℕ)) (old new : Stream R) (a : Inside) (e : Run) (seen : run_of a ≡ e) (i : IsRun a) (files : ℕ → List ℕ) (ls : List (List ℕ)) (k : ℕ) (c : Command)
+    (t : e.state.tasks ≡ do_at k ∷ []) (is : slice_get a.script.commands k ≡ Some c) (more : a.turns ≡ a.limits.turns → ⊥) (taken : TakesLines remaining old new ls ls) where
+  here : Fits e.limits (at_lines e ls)
+  here = let Q : Run → Type 0 = λ e. Fits e.limits (at_lines e ls) in subst Q seen (fits_of a ls i)
+
+  bytes_stay : (n : ℕ) → TakesAtMost (left remaining old) (left remaining new) n
+  bytes_stay n = TakesAtMost-more _ _ _ _ (omega arith) (rw (none_taken taken.lines ls taken.are) at taken.bytes)
+
+  come_as : (choice : Option Choice) → selects (current e (none_left ls)) (is_active e.state k) c ≡ choice →
+      move (setting e files) (at_lines e ls) ≡ option_and_then (performs (setting e files) (at_lines e ls) k c) choice
+  come_as choice h =
+      move_at _ _ _ t ∙ ap (comes_to (setting e files) (at_lines e ls) k) (command_seen a e k c seen is) ∙ ap (option_and_then (performs (setting e files) (at_lines e ls) k c)) h
+
+  -- the end comes where the addresses are judged
+  pub comes_stopping : (sinks : ℕ → Option (List ℕ)) (used : Option ℕ) (end : Ended) (e' : Run) → e' ≡ e → Judges (current e (none_left ls)) (is_active e.state k) c used (Err end) →
+      Steps remaining old new ls e.limits (setting e files) e e' (Gained sinks sinks) (Err end)
+  comes_stopping sinks used end e' same h =
+      let Q : Run → Type 0 = λ e'. Steps remaining old new ls e.limits (setting e files) e e' (Gained sinks sinks) (Err end) in
+      subst Q (sym same) (stops end h)
+    where
+      stops : (end : Ended) → Judges (current e (none_left ls)) (is_active e.state k) c used (Err end) → Steps remaining old new ls e.limits (setting e files) e e (Gained sinks sinks) (Err end)
+      stops (NoPrevious n) (without, number) =
+          halts_here remaining old new e.limits (setting e files) (at_lines e ls) e sinks (NoPrevious n) here refl
+          (number, (λ _. turn_left a e seen i more), ap comes t, come_as None without) (record { pattern = refl; hold = refl; queue = refl }) (bytes_stay _)
+      stops InputBroken h =
+          halts_here remaining old new e.limits (setting e files) (at_lines e ls) e sinks InputBroken here refl
+          (ap (reads (setting e files)) t ∙ ap asks_last (command_seen a e k c seen is) ∙ h) (record { pattern = refl; hold = refl; queue = refl }) (bytes_stay _)
+      stops Done h = absurd h
+      stops (PatternFull n) h = absurd h
+      stops TurnsSpent h = absurd h
+      stops (OutputBroken k) h = absurd h
+
+  -- The addresses chose.
+  module _ (choice : Chosen) (used : Option ℕ) (e1 e2 : Run) (chose : selects (current e (none_left ls)) (is_active e.state k) c ≡ Some (as_choice choice used)) (came : e1 ≡ come_with e k (slice_set e.state.ranges k choice.active) used) where
+    moves_as : (b : Bool) → choice.yes ≡ b → move (setting e files) (at_lines e ls) ≡
+        cond b (acts (setting e files) (at_lines (come_with e k (slice_set e.state.ranges k choice.active) used) ls) (tells_at c choice.end) c.action) (passes (at_lines (come_with e k (slice_set e.state.ranges k choice.active) used) ls) c.action)
+    moves_as b chosen = come_as (Some (as_choice choice used)) chose ∙
+        ap (λ b. cond b (acts (setting e files) (at_lines (come_with e k (slice_set e.state.ranges k choice.active) used) ls) (tells_at c choice.end) c.action) (passes (at_lines (come_with e k (slice_set e.state.ranges k choice.active) used) ls) c.action)) chosen
+
+    acted : (P : List (ℕ × ℕ) → Type 0) (r : Result Unit Ended) → Moves e.limits (setting e files) (at_lines e ls) (at_lines e2 ls) P r → Steps remaining old new ls e.limits (setting e files) e e2 P r
+    acted P (Ok u) h = (ls, taken, h)
+    acted P (Err end) h = record { rest = ls; stopped = h; lines = []; are = refl; bytes = bytes_stay _ }
+
+    -- the command applies
+    pub comes_acting : (P : List (ℕ × ℕ) → Type 0) (r : Result Unit Ended) (tells : Bool) → choice.yes ≡ true → tells ≡ tells_at c choice.end →
+        Performs e1.limits (setting e1 files) (acts (setting e1 files) (at_lines e1 ls) tells c.action) ls (at_lines e2 ls) P r → Steps remaining old new ls e.limits (setting e files) e e2 P r
+    comes_acting P r tells chosen tells_is h =
+        let Q : Run → Type 0 = λ e1. Performs e1.limits (setting e1 files) (acts (setting e1 files) (at_lines e1 ls) tells c.action) ls (at_lines e2 ls) P r in
+        let S : Bool → Type 0 = λ b. Performs e.limits (setting e files) (acts (setting e files) (at_lines (come_with e k (slice_set e.state.ranges k choice.active) used) ls) b c.action) ls (at_lines e2 ls) P r in
+        let there = subst S tells_is (subst Q came h) in
+        acted P r (there (at_lines e ls) here refl (moves_as true chosen))
+
+    -- it doesn't
+    pub comes_passing : (sinks : ℕ → Option (List ℕ)) → choice.yes ≡ false →
+        Performs e1.limits (setting e1 files) (passes (at_lines e1 ls) c.action) ls (at_lines e2 ls) (Gained sinks sinks) (Ok tt) → Steps remaining old new ls e.limits (setting e files) e e2 (Gained sinks sinks) (Ok tt)
+    comes_passing sinks passed h =
+        let Q : Run → Type 0 = λ e1. Performs e1.limits (setting e1 files) (passes (at_lines e1 ls) c.action) ls (at_lines e2 ls) (Gained sinks sinks) (Ok tt) in
+        let there = subst Q came h in
+        acted (Gained sinks sinks) (Ok tt) (there (at_lines e ls) here refl (moves_as false passed))

@@ -1,0 +1,149 @@
+-- How addresses are judged.
+use Rattle.std.proofs.Common.{◌≡◌, ℕ, Bool, true, false, cond, not, ◌||◌, ◌↔◌, IsTrue, List, Option, Some, None, Result, Err, refl, sym, subst, ap, ◌∙◌, arith}
+use Rattle.std.specs.Prelude.{is_some, option_and_then, slice_get, nat_le, nat_lt, nat_eq}
+use Rattle.std.proofs.lemmas.Bool.Decides.{nat_tests}
+use Rattle.sedre.specs.Arena.{Written, tree}
+use Rattle.sedmatch.specs.Spans.{SomeFound}
+use Rattle.sedmatch.specs.Matching.{found, NotFoundLaw}
+use Rattle.sedscript.specs.Ranges.{AddressWithin}
+use Rattle.sedscript.specs.declared.types.Address.{Address}
+use Rattle.sedscript.specs.declared.types.Address.TheVariants.{Line, Last, Match}
+use Rattle.sedscript.specs.declared.types.Command.{Command}
+use Rattle.sedengine.specs.Select.{Current, Answer, Choice, answer, on_idle, on_active, of_addresses, negated, selects, ends_at_once}
+use Rattle.sedengine.specs.Choose.{deciding, deciding_in, decides, chosen, chosen_idle, chosen_active, as_choice, is_over, turned, Answers, Judges}
+use Rattle.sedengine.specs.Ends.{is_dollar}
+use Rattle.sedengine.specs.declared.ends.Ended.{Ended}
+use Rattle.sedengine.specs.declared.ends.Ended.TheVariants.{Done, PatternFull, TurnsSpent, NoPrevious, InputBroken, OutputBroken}
+use Rattle.sedengine.specs.Run.{has_match, finds_in}
+use Rattle.sedengine.specs.declared.select.Chosen.{Chosen}
+
+by_answer : (b : Bool) (o : Option (ℕ × ℕ)) → (b ≡ true → o ≡ None → ⊥) → (b ≡ false → o ≡ None) → b ≡ is_some o
+by_answer true None some none = absurd (some refl refl)
+by_answer true (Some x) some none = refl
+by_answer false None some none = refl
+by_answer false (Some x) some none = let e : Some x ≡ None = none refl in cc
+
+-- whether there is a match, as the matcher's call answers it
+pub finds_as : (expressions : List Written) (k : ℕ) (e : Written) (v w : List ℕ) (b : Bool) → slice_get expressions k ≡ Some e → NotFoundLaw → v ≡ w → (IsTrue b ↔ SomeFound (tree e) v 0) → b ≡ finds_in expressions k w
+finds_as expressions k e v w b is law same h0 =
+    let S : List ℕ → Type 0 = λ x. IsTrue b ↔ SomeFound (tree e) x 0 in
+    let h = subst S same h0 in
+    let found_as : b ≡ is_some (found (tree e) w 0) = by_answer b (found (tree e) w 0)
+    (λ yes none. let s = h.0 yes in (law (tree e) w 0 (omega arith)).0 none s.0 s.1 s.2 s.3 s.4)
+    (λ no. (law (tree e) w 0 (omega arith)).1 (λ i k from to spans. let yes : b ≡ true = h.1 (i, k, from, to, spans) in cc)) in
+    found_as ∙ ap (λ (o : Option Written). has_match o w) (sym is)
+
+-- the choice that follows from the answer of the address that decides
+abbrev follows : Current → Bool → Option Address → Option Address → Answer → Option Choice
+follows c active first second a = Some (as_choice (chosen first second active c.number a.yes) a.used)
+
+ext : {A B : Type 0} (o : Option A) (f g : A → Option B) → ((a : A) → f a ≡ g a) → option_and_then f o ≡ option_and_then g o
+ext {A} {B} None f g h = refl
+ext {A} {B} (Some a) f g h = h a
+
+over_same : (c : Current) (second : Address) → ends_at_once c second ≡ is_over second c.number
+over_same c (Line n) = refl
+over_same c Last = refl
+over_same c (Match e) = refl
+
+idle_follows : (c : Current) (second : Address) (yes : Bool) (used : Option ℕ) →
+    Some (cond yes (as_choice (record { yes = true; end = ends_at_once c second; active = not (ends_at_once c second) }) used) (as_choice (record { yes = false; end = false; active = false }) used))
+    ≡ Some (as_choice (chosen_idle second c.number yes) used)
+idle_follows c second true used = ap (λ over. Some (as_choice (record { yes = true; end = over; active = not over }) used)) (over_same c second)
+idle_follows c second false used = refl
+
+on_idle-as : (c : Current) (first second : Address) → on_idle c first second ≡ option_and_then (λ (a : Answer). Some (as_choice (chosen_idle second c.number a.yes) a.used)) (answer c first)
+on_idle-as c first second = ext (answer c first) _ _ (λ a. idle_follows c second a.yes a.used)
+
+le_as : (a b : ℕ) → nat_le a b ≡ (nat_lt a b || nat_eq a b)
+le_as a b = grind (arith, nat_tests)
+
+-- an active range up to the line n, by how the number of this line compares
+line_follows : (c : Current) (first : Address) (n : ℕ) (less same : Bool) →
+    cond less (Some (as_choice (record { yes = true; end = false; active = true }) c.used)) (cond same (Some (as_choice (record { yes = true; end = true; active = false }) c.used)) (on_idle c first (Line n)))
+    ≡ option_and_then (λ (a : Answer). Some (as_choice (cond less (record { yes = true; end = false; active = true }) (cond same (record { yes = true; end = true; active = false }) (chosen_idle (Line n) c.number a.yes))) a.used)) (decides c (cond (less || same) None (Some first)))
+line_follows c first n true same = refl
+line_follows c first n false true = refl
+line_follows c first n false false = on_idle-as c first (Line n)
+
+on_active-as : (c : Current) (first second : Address) → on_active c first second ≡ option_and_then (λ (a : Answer). Some (as_choice (chosen_active second c.number a.yes) a.used)) (decides c (deciding_in first second c.number))
+on_active-as c first (Line n) = rw (le_as c.number n) (line_follows c first n (nat_lt c.number n) (nat_eq c.number n))
+on_active-as c first Last = refl
+on_active-as c first (Match e) = refl
+
+-- the answer of all addresses is the one that follows from that of the address that decides
+of_addresses-as : (c : Current) (active : Bool) (first second : Option Address) → of_addresses c active first second ≡ option_and_then (follows c active first second) (decides c (deciding first second active c.number))
+of_addresses-as c active None second = refl
+of_addresses-as c active (Some first) None = refl
+of_addresses-as c true (Some first) (Some second) = on_active-as c first second
+of_addresses-as c false (Some first) (Some second) = on_idle-as c first second
+
+-- with the answer of the address that decides
+pub selects_some : (c : Current) (active : Bool) (command : Command) (matched : Bool) (used : Option ℕ) → decides c (deciding command.first command.second active c.number) ≡ Some (record { yes = matched; used = used }) →
+    selects c active command ≡ Some (as_choice (turned command.negate (chosen command.first command.second active c.number matched)) used)
+unfolding selects
+selects_some c active command matched used h =
+    ap (λ o. option_and_then (λ choice. Some (negated command.negate choice)) o) (of_addresses-as c active command.first command.second ∙ ap (λ o. option_and_then (follows c active command.first command.second) o) h)
+
+-- without one
+pub selects_none : (c : Current) (active : Bool) (command : Command) → decides c (deciding command.first command.second active c.number) ≡ None → selects c active command ≡ None
+unfolding selects
+selects_none c active command h =
+    ap (λ o. option_and_then (λ choice. Some (negated command.negate choice)) o) (of_addresses-as c active command.first command.second ∙ ap (λ o. option_and_then (follows c active command.first command.second) o) h)
+
+-- the address that decides is one of the command's
+within_in : (n : ℕ) (first second : Address) (number : ℕ) (before : Bool) → AddressWithin n (Some first) → AddressWithin n (cond before None (Some first))
+within_in n first second number true h = tt
+within_in n first second number false h = h
+
+pub deciding_within : (n : ℕ) (first second : Option Address) (active : Bool) (number : ℕ) → AddressWithin n first → AddressWithin n second → AddressWithin n (deciding first second active number)
+deciding_within n None second active number h i = tt
+deciding_within n (Some first) None active number h i = h
+deciding_within n (Some first) (Some second) false number h i = h
+deciding_within n (Some first) (Some (Line line)) true number h i = within_in n first first number (nat_le number line) h
+deciding_within n (Some first) (Some Last) true number h i = tt
+deciding_within n (Some first) (Some (Match e)) true number h i = i
+
+dollar_in : (first : Address) (before : Bool) → is_dollar (cond before None (Some first)) ≡ true → is_dollar (Some first) ≡ true
+dollar_in first true h = cc
+dollar_in first false h = h
+
+or_left : (a b : Bool) → a ≡ true → (a || b) ≡ true
+or_left true b h = refl
+or_left false b h = cc
+
+or_right : (a b : Bool) → b ≡ true → (a || b) ≡ true
+or_right true b h = refl
+or_right false b h = h
+
+deciding_dollar : (first second : Option Address) (active : Bool) (number : ℕ) → is_dollar (deciding first second active number) ≡ true → (is_dollar first || is_dollar second) ≡ true
+deciding_dollar None second active number h = cc
+deciding_dollar (Some first) None active number h = or_left (is_dollar (Some first)) (is_dollar None) h
+deciding_dollar (Some first) (Some second) false number h = or_left (is_dollar (Some first)) (is_dollar (Some second)) h
+deciding_dollar (Some first) (Some (Line line)) true number h = or_left (is_dollar (Some first)) false (dollar_in first (nat_le number line) h)
+deciding_dollar (Some first) (Some Last) true number h = or_right (is_dollar (Some first)) true refl
+deciding_dollar (Some first) (Some (Match e)) true number h = cc
+
+-- what is answered of the address that decides is answered of the command
+pub judges_err : (c : Current) (a active : Bool) (command : Command) (number : ℕ) (used : Option ℕ) (end : Ended) → a ≡ active → number ≡ c.number →
+    Answers c (decides c (deciding command.first command.second a number)) used (is_dollar (deciding command.first command.second a number)) (Err end) → Judges c active command used (Err end)
+judges_err c a active command number used (NoPrevious n) same_active same (none, is) = (rw (← same_active) (selects_none c a command (rw same at none)), is)
+judges_err c a active command number used InputBroken same_active same h = deciding_dollar command.first command.second a number h
+judges_err c a active command number used Done same_active same h = h
+judges_err c a active command number used (PatternFull n) same_active same h = h
+judges_err c a active command number used TurnsSpent same_active same h = h
+judges_err c a active command number used (OutputBroken k) same_active same h = h
+
+pub judges_ok : (c : Current) (a active : Bool) (command : Command) (matched : Bool) (number : ℕ) (used used' : Option ℕ) (choice : Chosen) → a ≡ active → number ≡ c.number → used' ≡ used →
+    choice ≡ turned command.negate (chosen command.first command.second a number matched) → decides c (deciding command.first command.second a c.number) ≡ Some (record { yes = matched; used = used }) →
+    selects c active command ≡ Some (as_choice choice used')
+judges_ok c a active command matched number used used' choice same_active same_number same_used is h =
+    rw (is, same_used, same_number, ← same_active) (selects_some c a command matched used h)
+
+pub answers_at : (c : Current) (a b : Address) (used : Option ℕ) (r : Result Bool Ended) → a ≡ b → Answers c (answer c b) used (is_dollar (Some b)) r → Answers c (answer c a) used (is_dollar (Some a)) r
+answers_at c a b used r same h = let P : Address → Type 0 = λ x. Answers c (answer c x) used (is_dollar (Some x)) r in subst P (sym same) h
+
+-- no address decides where there is none
+pub decides_always : (c : Current) (first second : Option Address) (active : Bool) (number : ℕ) → is_some first ≡ false → decides c (deciding first second active number) ≡ Some (record { yes = true; used = c.used })
+decides_always c None second active number h = refl
+decides_always c (Some first) second active number h = cc

@@ -1,0 +1,200 @@
+-- Moves one after another.
+use Rattle.std.proofs.Common.{◌≡◌, ℕ, suc, zero, ◌<◌, ◌+◌, ◌-◌, ◌≤◌, ◌⊎◌, inl, inr, false, List, [], ◌++◌, length, Option, Some, None, Result, Ok, Err, refl, subst, sym, ap, ◌∙◌, arith, length-append, append-nil, append_assoc, add-zero, add-suc}
+use Rattle.std.proofs.Math.Seq.{take-append-add}
+use Rattle.sedengine.specs.Limits.{Limits}
+use Rattle.sedengine.specs.State.{Task, State, Move, Setting}
+use Rattle.sedengine.specs.Move.{move, first_task, after, written, next_or_stay, writes_of, writing, quietly}
+use Rattle.sedengine.specs.Devices.{Gained}
+use Rattle.sedengine.specs.Calls.{Puts}
+use Rattle.sedengine.specs.Ends.{Fits, Within, WholeOrCut, Cause, Whole, IsCause, broken_sink}
+use Rattle.sedengine.specs.Held.{HoldsAt, SameLengths}
+use Rattle.sedengine.specs.Run.{InOneCycle, starts_cycle}
+use Rattle.sedengine.specs.Steps.{Ran, Stopped, Moves}
+use Rattle.sedengine.specs.declared.ends.Ended.{Ended}
+use Rattle.sedengine.proofs.Gains.{Gained-append, Gained-none}
+use Rattle.sedengine.proofs.Writing.{slice_get-append_add}
+
+-- the move by the first task
+pub move_at : (g : Setting) (s : State) (ts : List Task) → s.tasks ≡ ts → move g s ≡ first_task g s ts
+unfolding move
+move_at g s ts h = ap (first_task g s) h
+
+-- no move, and one
+pub after_none : (g : Setting) (s : State) → after g s 0 ≡ s
+unfolding after
+after_none g s = refl
+
+pub written_none : (g : Setting) (s : State) → written g s 0 ≡ []
+unfolding written
+written_none g s = refl
+
+after_one : (g : Setting) (s : State) (m : Move) → move g s ≡ Some m → after g s 1 ≡ m.next
+unfolding after
+after_one g s m h = ap (next_or_stay s) h
+
+written_one : (g : Setting) (s : State) (m : Move) → move g s ≡ Some m → written g s 1 ≡ m.writes
+unfolding written after
+written_one g s m h = ap writes_of h
+
+last_or_less : (k t : ℕ) → k ≤ suc t → (k ≤ t) ⊎ (k ≡ suc t)
+last_or_less zero t h = inl (omega arith)
+last_or_less (suc k) zero h = inr (omega arith)
+last_or_less (suc k) (suc t) h = elim (last_or_less k t (omega arith)) [ inl less ↦ inl (omega arith) | inr same ↦ inr (ap suc same) ]
+
+pub within_none : (l : Limits) (g : Setting) (s : State) → Fits l s → Within l g s 0
+unfolding Within after
+within_none l g s f = λ k h. let none : k ≡ 0 = omega arith in rw none f
+
+within_one : (l : Limits) (g : Setting) (s : State) → Fits l s → Fits l (after g s 1) → Within l g s 1
+unfolding Within after
+within_one l g s f n = λ k h. elim (last_or_less k 0 h) [ inl less ↦ (let none : k ≡ 0 = omega arith in rw none f) | inr same ↦ rw same n ]
+
+pub one_single : (g : Setting) (s : State) → InOneCycle g s 1
+one_single g s = λ k some k_lt. absurd (omega arith)
+
+-- more moves after the first t
+pub after-add : (g : Setting) (s : State) (t u : ℕ) → after g s (t + u) ≡ after g (after g s t) u
+unfolding after
+after-add g s t zero = rw add-zero refl
+after-add g s t (suc u) = rw add-suc (ap (λ x. next_or_stay x (move g x)) (after-add g s t u))
+
+pub written-add : (g : Setting) (s : State) (t u : ℕ) → written g s (t + u) ≡ written g s t ++ written g (after g s t) u
+unfolding written
+written-add g s t zero = rw (add-zero, append-nil) refl
+written-add g s t (suc u) =
+    rw (add-suc, after-add) (ap (λ w. w ++ writes_of (move g (after g (after g s t) u))) (written-add g s t u) ∙ append_assoc (written g s t) (written g (after g s t) u) _)
+
+pub Within-add : (l : Limits) (g : Setting) (s : State) (t u : ℕ) → Within l g s t → Within l g (after g s t) u → Within l g s (t + u)
+unfolding Within
+Within-add l g s t zero v w = λ k h. v k (omega arith)
+Within-add l g s t (suc u) v w = λ k h. elim (last_or_less k (t + u) (omega arith)) [ inl less ↦ Within-add l g s t u v (λ j i. w j (omega arith)) k less | inr same ↦ rw (same, ← add-suc, after-add) (w (suc u) (omega arith)) ]
+
+less_or_more : (k t : ℕ) → (k < t + 1) ⊎ (t < k)
+less_or_more zero t = inl (omega arith)
+less_or_more (suc k) zero = inr (omega arith)
+less_or_more (suc k) (suc t) = elim (less_or_more k t) [ inl less ↦ inl (omega arith) | inr more ↦ inr (omega arith) ]
+
+pub InOneCycle-add : (g : Setting) (s : State) (t n : ℕ) → InOneCycle g s (t + 1) → InOneCycle g (after g s t) n → InOneCycle g s (t + n)
+InOneCycle-add g s t n h i = λ k some k_lt. elim (less_or_more k t) [ inl less ↦ h k some less | inr more ↦ later k more k_lt ]
+  where
+    later : (k : ℕ) → t < k → k < t + n → starts_cycle (after g s k).tasks ≡ false
+    later k more k_lt =
+        let at : k ≡ t + (k - t) = omega arith in
+        let P : ℕ → Type 0 = λ k. starts_cycle (after g s k).tasks ≡ false in
+        subst P (sym at) (rw after-add (i (k - t) (omega arith) (omega arith)))
+
+-- none of the moves starts a cycle, the last one too
+pub InOneCycle-more : (g : Setting) (s : State) (t : ℕ) → InOneCycle g s t → starts_cycle (after g s t).tasks ≡ false → InOneCycle g s (t + 1)
+InOneCycle-more g s zero h goes = λ k some k_lt. absurd (omega arith)
+InOneCycle-more g s (suc t) h goes = λ k some k_lt. elim (last_or_less k t (omega arith)) [ inl less ↦ h k some (omega arith) | inr same ↦ rw same goes ]
+
+-- An end that comes u moves after the first t comes after t + u moves.
+WholeOrCut-add : (l : Limits) (g : Setting) (s : State) (old mid new : ℕ → Option (List ℕ)) (end : Ended) (t u : ℕ) (o : Option ℕ) → Within l g s t → Gained old mid (written g s t) →
+    WholeOrCut l g (after g s t) (Gained mid new) end u o → WholeOrCut l g s (Gained old new) end (t + u) o
+WholeOrCut-add l g s old mid new end t u None v a h =
+    record { within = Within-add l g s t u v h.within; sinks = rw written-add (Gained-append a h.sinks); cause = rw after-add h.cause }
+WholeOrCut-add l g s old mid new end t u (Some k) v a h =
+    let all : written g s (suc (t + u)) ≡ written g s t ++ written g (after g s t) (suc u) = rw (← add-suc) (written-add g s t (suc u)) in
+    record {
+      within = rw (← add-suc) (Within-add l g s t (suc u) v h.within);
+      b = length (written g s t) + h.b;
+      byte = h.byte;
+      past = rw (written-add, length-append) (let p = h.past in omega arith);
+      due = rw all (slice_get-append_add (written g s t) _ h.b ∙ h.due);
+      sinks = rw (all, take-append-add) (Gained-append a h.sinks);
+    }
+
+pub Cause-add : (l : Limits) (g : Setting) (s : State) (old mid new : ℕ → Option (List ℕ)) (end : Ended) (t u : ℕ) → Within l g s t → Gained old mid (written g s t) →
+    Cause l g (after g s t) (Gained mid new) end u → Cause l g s (Gained old new) end (t + u)
+Cause-add l g s old mid new end t u v a h = WholeOrCut-add l g s old mid new end t u (broken_sink end) v a h
+
+pub HoldsAt-add : (g : Setting) (s now : State) (t u : ℕ) (o : Option ℕ) → HoldsAt g (after g s t) u now o → HoldsAt g s (t + u) now o
+HoldsAt-add g s now t u None h = rw after-add h
+HoldsAt-add g s now t u (Some k) (inl h) = inl (rw after-add h)
+HoldsAt-add g s now t u (Some k) (inr h) =
+    let at : after g s (suc (t + u)) ≡ after g (after g s t) (suc u) = rw (← add-suc) (after-add g s t (suc u)) in inr (rw at h)
+
+-- what a call does after the first t moves
+chain : (l : Limits) (g : Setting) (s now : State) (old mid new : ℕ → Option (List ℕ)) (t : ℕ) (r : Result Unit Ended) → Within l g s t → InOneCycle g s (t + 1) → Gained old mid (written g s t) →
+    Moves l g (after g s t) now (Gained mid new) r → Moves l g s now (Gained old new) r
+chain l g s now old mid new t (Ok u) within one gained b = let some = b.some in record {
+  t = t + b.t;
+  some = omega arith;
+  is = after-add g s t b.t ∙ b.is;
+  one = InOneCycle-add g s t b.t one b.one;
+  within = Within-add l g s t b.t within b.within;
+  sinks = rw written-add (Gained-append gained b.sinks);
+}
+chain l g s now old mid new t (Err end) within one gained b = record {
+  t = t + b.t;
+  cause = Cause-add l g s old mid new end t b.t within gained b.cause;
+  holds = HoldsAt-add g s now t b.t (broken_sink end) b.holds;
+  one = rw append_one (InOneCycle-add g s t (b.t + 1) one b.one);
+  lines = ap (λ (x : State). x.lines) (after-add g s t b.t) ∙ b.lines;
+}
+  where
+    append_one : t + b.t + 1 ≡ t + (b.t + 1)
+    append_one = omega arith
+
+-- one call after another, within a cycle
+pub Moves-then : (l : Limits) (g : Setting) (s m now : State) (old mid new : ℕ → Option (List ℕ)) (r : Result Unit Ended) → Ran l g s m (Gained old mid) → starts_cycle m.tasks ≡ false →
+    Moves l g m now (Gained mid new) r → Moves l g s now (Gained old new) r
+Moves-then l g s m now old mid new r a goes b =
+    let Q : State → Type 0 = λ m. Moves l g m now (Gained mid new) r in
+    let S : State → Type 0 = λ m. starts_cycle m.tasks ≡ false in
+    chain l g s now old mid new a.t r a.within (InOneCycle-more g s a.t a.one (subst S (sym a.is) goes)) a.sinks (subst Q (sym a.is) b)
+
+-- one move that writes these bytes
+pub ran_once : (l : Limits) (g : Setting) (s now : State) (old new : ℕ → Option (List ℕ)) (out : List (ℕ × ℕ)) → Fits l s → move g s ≡ writing out now → Fits l now → Gained old new out → Ran l g s now (Gained old new)
+ran_once l g s now old new out f is n gained =
+    let m : Move = record { next = now; writes = out } in
+    let at : after g s 1 ≡ now = after_one g s m is in
+    record {
+      t = 1;
+      some = omega arith;
+      is = at;
+      one = one_single g s;
+      within = within_one l g s f (rw at n);
+      sinks = rw (written_one g s m is) gained;
+    }
+
+pub ran_quietly : (l : Limits) (g : Setting) (s now : State) (sinks : ℕ → Option (List ℕ)) → Fits l s → move g s ≡ quietly now → Fits l now → Ran l g s now (Gained sinks sinks)
+ran_quietly l g s now sinks f is n = ran_once l g s now sinks sinks [] f is n (Gained-none sinks)
+
+-- a sink failed in the next move
+pub stopped_writing : (l : Limits) (g : Setting) (s next now : State) (old new : ℕ → Option (List ℕ)) (out : List (ℕ × ℕ)) (end : Ended) → Fits l s → move g s ≡ writing out next → Fits l next →
+    SameLengths next now → s.lines ≡ now.lines → Puts (Gained old new) out (Err end) → Stopped l g s now (Gained old new) end
+stopped_writing l g s next now old new out end f is n same lines (k, b, byte, end_is, due, gained) =
+    let Q : Ended → Type 0 = λ e. Stopped l g s now (Gained old new) e in
+    let m : Move = record { next = next; writes = out } in
+    let at : after g s 1 ≡ next = after_one g s m is in
+    let all : written g s 1 ≡ out = written_one g s m is in
+    subst Q (sym end_is) (record {
+      t = 0;
+      cause = record {
+        within = within_one l g s f (rw at n);
+        b = b;
+        byte = byte;
+        past = rw written_none (omega arith);
+        due = rw all due;
+        sinks = rw all gained;
+      };
+      holds = inr (rw at same);
+      one = one_single g s;
+      lines = ap (λ (x : State). x.lines) (after_none g s) ∙ lines;
+    })
+
+-- a move that writes these bytes, as far as the sink takes them
+pub moves_writing : (l : Limits) (g : Setting) (s now : State) (old new : ℕ → Option (List ℕ)) (out : List (ℕ × ℕ)) (r : Result Unit Ended) → Fits l s → move g s ≡ writing out now → Fits l now → s.lines ≡ now.lines → Puts (Gained old new) out r →
+    Moves l g s now (Gained old new) r
+moves_writing l g s now old new out (Ok u) f is n lines put = ran_once l g s now old new out f is n put
+moves_writing l g s now old new out (Err end) f is n lines put = stopped_writing l g s now now old new out end f is n (record { pattern = refl; hold = refl; queue = refl }) lines put
+
+-- the end has come
+pub stopped_here : (l : Limits) (g : Setting) (s now : State) (sinks : ℕ → Option (List ℕ)) (end : Ended) → Fits l s → broken_sink end ≡ None → IsCause l g s end → SameLengths s now → s.lines ≡ now.lines → Stopped l g s now (Gained sinks sinks) end
+stopped_here l g s now sinks end f none cause same lines =
+    let whole : Whole l g s (Gained sinks sinks) end 0 = record { within = within_none l g s f; sinks = rw written_none (Gained-none sinks); cause = rw after_none cause } in
+    let C : Option ℕ → Type 0 = λ o. WholeOrCut l g s (Gained sinks sinks) end 0 o in
+    let here : SameLengths (after g s 0) now = rw after_none same in
+    let H : Option ℕ → Type 0 = λ o. HoldsAt g s 0 now o in
+    record { t = 0; cause = subst C (sym none) whole; holds = subst H (sym none) here; one = one_single g s; lines = ap (λ (x : State). x.lines) (after_none g s) ∙ lines }

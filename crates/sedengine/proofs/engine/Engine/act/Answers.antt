@@ -1,0 +1,48 @@
+use Rattle.std.proofs.Common.{[], ◌∷◌, Ok, refl, ap}
+use Rattle.sedengine.specs.State.{do_at, print_pattern, flush}
+use Rattle.sedengine.specs.Move.{acts}
+use Rattle.sedengine.specs.Run.{at_lines, setting}
+use Rattle.sedengine.specs.declared.place.Place.TheVariants as p
+use Rattle.sedengine.proofs.Gains.{Gained-none}
+use Rattle.sedengine.proofs.Acts.{acts_writing, acts_nothing, acts_going, acts_deleting}
+use Rattle.sedengine.proofs.engine.Engine.act.Goals as goal
+
+pub returns-in-Block-clause-acts : goal.returns-in-Block-clause-acts
+returns-in-Block-clause-acts g c = λ files ls.
+    acts_nothing c.self.inside c.args.self.now c.self.view_is c.self.invariant ls (setting c.args.self.now files) (g.O.Outputs.contents c.args.outputs.now) (g.O.Outputs.contents c.args.outputs.now) _
+    (ap (acts (setting c.args.self.now files) (at_lines c.args.self.now ls) c.args.tells) c.in-Block.is)
+
+pub returns-in-Branch-clause-acts : goal.returns-in-Branch-clause-acts
+returns-in-Branch-clause-acts g c = λ files ls.
+    acts_going c.self.inside c.args.self.now c.self.view_is c.self.invariant ls (setting c.args.self.now files) (g.O.Outputs.contents c.args.outputs.now) (g.O.Outputs.contents c.args.outputs.now) _
+    (do_at c.in-Branch.target ∷ []) (p.Do c.in-Branch.target) refl (ap (acts (setting c.args.self.now files) (at_lines c.args.self.now ls) c.args.tells) c.in-Branch.is)
+
+pub returns-in-Change-clause-acts : goal.returns-in-Change-clause-acts
+returns-in-Change-clause-acts g c = λ files ls.
+    acts_deleting c.self.inside c.args.self.now c.self.view_is c.self.invariant ls (setting c.args.self.now files) (g.O.Outputs.contents c.args.outputs.now) (g.O.Outputs.contents c.act_change.new.outputs) _ _ _ c.act_change.new.self c.act_change.ensures.deleted
+    (ap (acts (setting c.args.self.now files) (at_lines c.args.self.now ls) c.args.tells) c.in-Change.is) c.act_change.ensures.puts
+
+pub returns-in-Delete-clause-acts : goal.returns-in-Delete-clause-acts
+returns-in-Delete-clause-acts g c = λ files ls.
+    acts_deleting c.self.inside c.args.self.now c.self.view_is c.self.invariant ls (setting c.args.self.now files) (g.O.Outputs.contents c.args.outputs.now) (g.O.Outputs.contents c.args.outputs.now) _ [] (Ok tt) c.act_delete.new.self c.act_delete.ensures
+    (ap (acts (setting c.args.self.now files) (at_lines c.args.self.now ls) c.args.tells) c.in-Delete.is) (Gained-none _)
+
+pub returns-in-Insert-clause-acts : goal.returns-in-Insert-clause-acts
+returns-in-Insert-clause-acts g c = λ files ls.
+    acts_writing c.self.inside c.args.self.now c.self.view_is c.self.invariant ls (setting c.args.self.now files) (g.O.Outputs.contents c.args.outputs.now) (g.O.Outputs.contents c.act_insert.new.outputs) _ _ _
+    (ap (acts (setting c.args.self.now files) (at_lines c.args.self.now ls) c.args.tells) c.in-Insert.is) c.act_insert.ensures.puts
+
+pub returns-in-LineNumber-clause-acts : goal.returns-in-LineNumber-clause-acts
+returns-in-LineNumber-clause-acts g c = λ files ls.
+    acts_writing c.self.inside c.args.self.now c.self.view_is c.self.invariant ls (setting c.args.self.now files) (g.O.Outputs.contents c.args.outputs.now) (g.O.Outputs.contents c.act_line_number.new.outputs) _ _ _
+    (ap (acts (setting c.args.self.now files) (at_lines c.args.self.now ls) c.args.tells) c.in-LineNumber.is) c.act_line_number.ensures.puts
+
+pub returns-in-Print-clause-acts : goal.returns-in-Print-clause-acts
+returns-in-Print-clause-acts g c = λ files ls.
+    acts_writing c.self.inside c.args.self.now c.self.view_is c.self.invariant ls (setting c.args.self.now files) (g.O.Outputs.contents c.args.outputs.now) (g.O.Outputs.contents c.act_print.new.outputs) _ _ _
+    (ap (acts (setting c.args.self.now files) (at_lines c.args.self.now ls) c.args.tells) c.in-Print.is) c.act_print.ensures.puts
+
+pub returns-in-Quit-clause-acts : goal.returns-in-Quit-clause-acts
+returns-in-Quit-clause-acts g c = λ files ls.
+    acts_going c.self.inside c.args.self.now c.self.view_is c.self.invariant ls (setting c.args.self.now files) (g.O.Outputs.contents c.args.outputs.now) (g.O.Outputs.contents c.args.outputs.now) _
+    (print_pattern ∷ flush ∷ []) p.Quit refl (ap (acts (setting c.args.self.now files) (at_lines c.args.self.now ls) c.args.tells) c.in-Quit.is)

@@ -1,0 +1,113 @@
+-- How addresses are judged: one address decides at a line, and the choice follows from whether it matches.
+use Rattle.std.specs.Prelude.{◌≡◌, ℕ, ◌+◌, Bool, true, false, not, Option, Some, None, List, [], ◌∷◌, nat_lt, nat_le, nat_eq, slice_set, Result, Ok, Err, if◌then◌else◌}
+use Rattle.sedscript.specs.declared.types.Address.{Address}
+use Rattle.sedscript.specs.declared.types.Address.TheVariants.{Line, Last, Match}
+use Rattle.sedscript.specs.declared.types.Command.{Command}
+use Rattle.sedengine.specs.Select.{Current, Answer, Choice, answer, selects}
+use Rattle.sedengine.specs.State.{do_at}
+use Rattle.sedengine.specs.Ends.{names_last}
+use Rattle.sedengine.specs.Run.{Run, finds_in}
+use Rattle.sedengine.specs.declared.ends.Ended.{Ended}
+use Rattle.sedengine.specs.declared.ends.Ended.TheVariants.{NoPrevious, InputBroken}
+use Rattle.sedengine.specs.declared.select.Chosen.{Chosen}
+
+-- the address that decides, where one does
+abbrev pub deciding_in : Address → Address → ℕ → Option Address
+deciding_in first (Line n) number = if nat_le number n then None else Some first
+deciding_in first Last number = Some Last
+deciding_in first (Match e) number = Some (Match e)
+
+abbrev pub deciding : Option Address → Option Address → Bool → ℕ → Option Address
+deciding None second active number = None
+deciding (Some first) None active number = Some first
+deciding (Some first) (Some second) active number = if active then deciding_in first second number else Some first
+
+-- whether a range that begins here is over at once
+abbrev pub is_over : Address → ℕ → Bool
+is_over (Line n) number = nat_le n number
+is_over Last number = false
+is_over (Match e) number = false
+
+abbrev pub chosen_idle : Address → ℕ → Bool → Chosen
+chosen_idle second number matched =
+    if matched then record { yes = true; end = is_over second number; active = not (is_over second number) }
+    else record { yes = false; end = false; active = false }
+
+abbrev pub chosen_active : Address → ℕ → Bool → Chosen
+chosen_active (Line n) number matched =
+    if nat_lt number n then record { yes = true; end = false; active = true }
+    else (if nat_eq number n then record { yes = true; end = true; active = false } else chosen_idle (Line n) number matched)
+chosen_active Last number matched = record { yes = true; end = matched; active = not matched }
+chosen_active (Match e) number matched = record { yes = true; end = matched; active = not matched }
+
+abbrev pub chosen_in : Address → Bool → ℕ → Bool → Chosen
+chosen_in second active number matched = if active then chosen_active second number matched else chosen_idle second number matched
+
+-- the choice, by whether the deciding address matches
+abbrev pub chosen : Option Address → Option Address → Bool → ℕ → Bool → Chosen
+chosen None second active number matched = record { yes = matched; end = false; active = active }
+chosen (Some first) None active number matched = record { yes = matched; end = false; active = active }
+chosen (Some first) (Some second) active number matched = chosen_in second active number matched
+
+-- `!` turns the yes alone
+abbrev pub turned : Bool → Chosen → Chosen
+turned negate c = record c { yes = if negate then not c.yes else c.yes }
+
+-- where no address decides, the answer is yes
+abbrev pub decides : Current → Option Address → Option Answer
+decides c None = Some (record { yes = true; used = c.used })
+decides c (Some a) = answer c a
+
+-- what addresses are judged by, in this state of the engine
+abbrev pub current : Run → Bool → Current
+current e last = record {
+  number = e.state.number;
+  last = last;
+  pattern = e.state.pattern;
+  finds = finds_in e.script.expressions;
+  used = e.state.used;
+}
+
+-- the engine with another expression last used
+abbrev pub with_used : Run → Option ℕ → Run
+with_used e used = record e { state = record e.state { used = used } }
+
+-- What a call that judges one address answers, used being the expression last used after it.
+abbrev pub Answers : Current → Option Answer → Option ℕ → Bool → Result Bool Ended → Type 0
+Answers c a used asks (Ok matched) = a ≡ Some (record { yes = matched; used = used })
+Answers c a used asks (Err (NoPrevious n)) = (a ≡ None) × (n ≡ c.number)
+Answers c a used asks (Err InputBroken) = asks ≡ true
+Answers c a used asks (Err _) = ⊥
+
+-- the choice with the expression last used after it
+abbrev pub as_choice : Chosen → Option ℕ → Choice
+as_choice c used = record { yes = c.yes; end = c.end; active = c.active; used = used }
+
+-- What a call that judges the addresses of a command answers, used being the expression last used after it.
+abbrev pub Judges : Current → Bool → Command → Option ℕ → Result Chosen Ended → Type 0
+Judges c active command used (Ok choice) = selects c active command ≡ Some (as_choice choice used)
+Judges c active command used (Err (NoPrevious n)) = (selects c active command ≡ None) × (n ≡ c.number)
+Judges c active command used (Err InputBroken) = names_last command ≡ true
+Judges c active command used (Err _) = ⊥
+
+-- the engine that has come to command k, with these ranges and this expression last used
+abbrev pub come_with : Run → ℕ → List Bool → Option ℕ → Run
+come_with e k ranges used = record e {
+  state = record e.state {
+    ranges = ranges;
+    used = used;
+    tasks = do_at (k + 1) ∷ [];
+    turns = e.state.turns + 1;
+  };
+}
+
+-- how a call that judges the addresses of command k leaves the engine
+abbrev pub Comes : Run → Run → ℕ → Result Chosen Ended → Type 0
+Comes e e' k (Ok choice) = e' ≡ come_with e k (slice_set e.state.ranges k choice.active) e'.state.used
+Comes e e' k (Err end) = e' ≡ e
+
+-- what a call that asks for the last line answers
+abbrev pub TellsLine : Bool → Result Bool Ended → Type 0
+TellsLine last (Ok told) = told ≡ last
+TellsLine last (Err InputBroken) = Unit {0}
+TellsLine last (Err _) = ⊥

@@ -1,0 +1,144 @@
+//! Which lines the addresses of a command select (XCU sed, "Addresses in sed").
+//!
+//! At a line one address decides at most: the first of an idle range, the second of an active one. Only that one is
+//! judged, and the choice follows from whether it matches.
+ghost use Rattle.std.specs.Prelude.{◌≡◌, ◌<◌, ◌≤◌, length};
+ghost use Rattle.sedengine.specs.Choose.{chosen, chosen_active, chosen_idle, deciding, is_over, turned};
+ghost use Rattle.sedengine.specs.Run.{finds_in};
+
+use sedmatch::{Scratch, Text, found_law, is_match};
+use sedre::Steps;
+use sedscript::{Address, Command, Script};
+use sedspace::Space;
+
+/// What the addresses of a command choose at a line.
+#[derive(Clone, Copy)]
+pub(crate) struct Chosen {
+    /// Whether the command applies.
+    pub(crate) yes: bool,
+    /// Whether this is the end of the command's range.
+    pub(crate) end: bool,
+    /// Whether the range is active afterwards.
+    pub(crate) active: bool,
+}
+
+/// The address that decides at the line of this number, where one does.
+pub(crate) fn deciding(command: &Command, active: bool, number: u64) -> Option<Address>
+    ensures { result ≡ deciding command.now.first command.now.second active number }
+{
+    let first = command.first?;
+    match command.second {
+        Some(Address::Line(line)) if active => { if number <= line { None } else { Some(first) } }
+        Some(second) if active => Some(second),
+        _ => Some(first),
+    }
+}
+
+/// The choice, by whether the deciding address matches. `!` turns the yes alone.
+pub(crate) fn choose(command: &Command, active: bool, number: u64, matched: bool) -> Chosen
+    ensures { result ≡ turned command.now.negate (chosen command.now.first command.now.second active number matched) }
+{
+    let choice = choose_straight(command.first, command.second, active, number, matched);
+    Chosen {
+        yes: if command.negate {
+            !choice.yes
+        } else {
+            choice.yes
+        },
+        ..choice
+    }
+}
+
+/// The choice without `!`.
+fn choose_straight(
+    first: Option<Address>,
+    second: Option<Address>,
+    active: bool,
+    number: u64,
+    matched: bool,
+) -> Chosen
+    ensures { result ≡ chosen first second active number matched }
+{
+    match (first, second) {
+        (Some(_), Some(second)) if active => choose_active(second, number, matched),
+        (Some(_), Some(second)) => choose_idle(second, number, matched),
+        _ => Chosen {
+            yes: matched,
+            end: false,
+            active,
+        },
+    }
+}
+
+/// On a range that isn't active.
+fn choose_idle(second: Address, number: u64, matched: bool) -> Chosen
+    ensures { result ≡ chosen_idle second number matched }
+{
+    if !matched {
+        return Chosen {
+            yes: false,
+            end: false,
+            active: false,
+        };
+    }
+    let over = is_over(second, number);
+    Chosen {
+        yes: true,
+        end: over,
+        active: !over,
+    }
+}
+
+/// On an active range.
+fn choose_active(second: Address, number: u64, matched: bool) -> Chosen
+    ensures { result ≡ chosen_active second number matched }
+{
+    match second {
+        Address::Line(line) if number < line => Chosen {
+            yes: true,
+            end: false,
+            active: true,
+        },
+        Address::Line(line) if number == line => Chosen {
+            yes: true,
+            end: true,
+            active: false,
+        },
+        Address::Line(_) => choose_idle(second, number, matched),
+        _ => Chosen {
+            yes: true,
+            end: matched,
+            active: !matched,
+        },
+    }
+}
+
+/// Whether a range that begins at the line of this number is over there.
+fn is_over(second: Address, number: u64) -> bool
+    ensures { result ≡ is_over second number }
+{
+    match second {
+        Address::Line(line) => line <= number,
+        Address::Last | Address::Match(_) => false,
+    }
+}
+
+/// Whether the script's expression of number `k` has a match in the pattern space.
+pub(crate) fn finds(script: &Script, k: usize, pattern: &Space, scratch: &mut Scratch) -> bool
+    requires number { k < length script.now.expressions }
+    requires text { length pattern.now.bytes ≤ scratch.old.text }
+    requires nodes { script.now.max_nodes ≤ scratch.old.nodes }
+    ensures finds { result ≡ finds_in script.now.expressions k pattern.now.bytes }
+    ensures scratch { scratch.new ≡ scratch.old }
+{
+    // The match that the definition computes is the one that the search tells.
+    found_law();
+    let mut steps = Steps::new();
+    is_match(
+        script.expr(k),
+        &Text::new(pattern.bytes()),
+        0,
+        scratch,
+        &mut steps,
+    )
+}

@@ -1,0 +1,17 @@
+pub mod PartLemmas
+pub mod CapsLemmas
+pub mod Examples
+pub mod GroupLemmas
+pub mod MatchingLemmas
+pub mod WorkLemmas
+pub mod TailLemmas
+pub mod CostLemmas
+pub mod SweepLemmas
+pub mod SkipLemmas
+pub mod BytesLemmas
+pub mod SpanLemmas
+pub mod ReachLemmas
+pub mod PassLemmas
+pub mod SearchLemmas
+pub mod OpenLemmas
+pub mod WordLemmas

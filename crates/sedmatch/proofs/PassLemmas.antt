@@ -1,0 +1,172 @@
+-- One step of each pass.
+use Rattle.std.proofs.Common.{◌≡◌, ◌≢◌, ℕ, ◌+◌, ◌<◌, ◌≤◌, ◌⊎◌, ◌↔◌, Bool, false, List, length, Option, Some, IsTrue, refl, sym, ap, ◌∙◌, subst, inl, inr, ⊎_elim, arith, length-set}
+use Rattle.std.specs.Prelude.{slice_get, slice_index_or, slice_set, eqb}
+use Rattle.std.proofs.lemmas.Bool.{cases_eq, cases_lt, eqb-true, eq-eqb}
+use Rattle.std.proofs.lemmas.List.{get_or-set_same, get_or-set_other}
+use Rattle.sedre.specs.Arena.{IsArena, IsPart}
+use Rattle.sedre.specs.declared.types.Node.{Node}
+use Rattle.sedre.specs.declared.types.Node.TheVariants.{Empty, Set, Begin, End, Seq, Alt, Group, Star, Opt}
+use Rattle.sedmatch.specs.declared.passes.Starts.{Starts}
+use Rattle.sedmatch.specs.Reach.{IsStart, Marked, Below, PartFrom, IsLoose, At, Enters, Ends, Entered, at_root}
+use Rattle.sedmatch.specs.Local.{PartsBelow, null_of, end_of, enter_parts}
+use Rattle.sedmatch.proofs.ReachLemmas.{null_of-At, end_of-Ends, enter_parts-Marked, Enters-root, Enters-loose}
+
+-- the parts of the node at x are below anything from x on
+pub parts_below : (nodes : List Node) → IsArena nodes → (x : ℕ) (node : Node) → slice_get nodes x ≡ Some node → (n : ℕ) → x ≤ n → PartsBelow n node
+parts_below nodes arena x Empty is n le = tt
+parts_below nodes arena x (Set s) is n le = tt
+parts_below nodes arena x Begin is n le = tt
+parts_below nodes arena x End is n le = tt
+parts_below nodes arena x (Seq a b) is n le =
+    let low = arena.below x a.index (Seq a b) is (inl refl) in
+    let low' = arena.below x b.index (Seq a b) is (inr refl) in
+    (omega arith, omega arith)
+parts_below nodes arena x (Alt a b) is n le =
+    let low = arena.below x a.index (Alt a b) is (inl refl) in
+    let low' = arena.below x b.index (Alt a b) is (inr refl) in
+    (omega arith, omega arith)
+parts_below nodes arena x (Group k a) is n le = let low = arena.below x a.index (Group k a) is refl in omega arith
+parts_below nodes arena x (Star a first) is n le = let low = arena.below x a.index (Star a first) is refl in omega arith
+parts_below nodes arena x (Opt a first) is n le = let low = arena.below x a.index (Opt a first) is refl in omega arith
+
+-- the next mark is set, and tells the truth
+Marked-next : (marks after : List Bool) (x : ℕ) (v : Bool) (P : ℕ → Type 0) → after ≡ slice_set marks x v → x < length marks →
+    Marked marks (Below x) P → (IsTrue v ↔ P x) → Marked after (Below (x + 1)) P
+Marked-next marks after x v P is inside marked truth c below =
+    ⊎_elim
+    (λ (e : c ≡ x).
+    let at : slice_index_or after c false ≡ v =
+    subst (λ n. slice_index_or after n false ≡ v) (sym e) (ap (λ l. slice_index_or l x false) is ∙ get_or-set_same marks x v false inside) in
+    (λ h. subst P (sym e) (truth.0 (sym at ∙ h)), λ h. at ∙ truth.1 (subst P e h)))
+    (λ (ne : c ≡ x → ⊥).
+    let at : slice_index_or after c false ≡ slice_index_or marks c false =
+    ap (λ l. slice_index_or l c false) is ∙ get_or-set_other marks x c v false ne in
+    let old = marked c (omega arith) in
+    (λ h. old.0 (sym at ∙ h), λ h. at ∙ old.1 h))
+    (cases_eq c x)
+
+is_zero : (n : ℕ) → IsTrue (eqb n 0) ↔ (n ≡ 0)
+is_zero n = (eqb-true n 0, eq-eqb n 0)
+
+is_end : (w : List ℕ) (len n : ℕ) → len ≡ length w → IsTrue (eqb n len) ↔ (n ≡ length w)
+is_end w len n e = (λ h. eqb-true n len h ∙ e, λ h. eq-eqb n len (h ∙ sym e))
+
+module _ (nodes : List Node) (w : List ℕ) (arena : IsArena nodes) (place x : ℕ) (node : Node) (is : slice_get nodes x ≡ Some node) where
+  pub ascend_null : (len : ℕ) → len ≡ length w → (null after : List Bool) (v : Bool) → x < length null →
+      v ≡ null_of (eqb place 0) (eqb place len) (λ c. slice_index_or null c false) node → after ≡ slice_set null x v →
+      Marked null (Below x) (λ c. At nodes w c place place) → Marked after (Below (x + 1)) (λ c. At nodes w c place place)
+  ascend_null len long null after v inside value is_after marked =
+      Marked-next null after x v (λ c. At nodes w c place place) is_after inside marked
+      (let truth = null_of-At nodes w 0 (record { first = 0; last = 0 }) arena place x node is (eqb place 0) (eqb place len) (is_zero place) (is_end w len place long) (λ c. slice_index_or null c false) marked in
+      (λ h. truth.0 (sym value ∙ h), λ h. value ∙ truth.1 h))
+
+  pub ascend_ended : (r : ℕ) (p : Starts) → x ≤ r → (entered null ended after : List Bool) (byte : Option ℕ) (v : Bool) → x < length ended →
+      ((i : ℕ) → i + 1 ≡ place → slice_get w i ≡ byte) →
+      v ≡ end_of (slice_index_or entered x false) byte (λ c. slice_index_or null c false) (λ c. slice_index_or ended c false) node →
+      after ≡ slice_set ended x v →
+      Marked null (Below (x + 1)) (λ c. At nodes w c place place) →
+      Marked entered (Below (r + 1)) (λ c. Entered nodes w r p c place) →
+      Marked ended (Below x) (λ c. Ends nodes w r p c place) → Marked after (Below (x + 1)) (λ c. Ends nodes w r p c place)
+  ascend_ended r p le entered null ended after byte v inside bytes value is_after nulls enters marked =
+      Marked-next ended after x v (λ c. Ends nodes w r p c place) is_after inside marked
+      (let truth = end_of-Ends nodes w r p arena place x le node is (slice_index_or entered x false) (enters x (omega arith)) byte bytes (λ c. slice_index_or null c false) (λ c lt. nulls c (omega arith)) (λ c. slice_index_or ended c false) marked in
+      (λ h. truth.0 (sym value ∙ h), λ h. value ∙ truth.1 h))
+
+-- which nodes have been told where they begin, when the nodes from y to r have told their parts
+-- told already, or never
+abbrev pub Told : List Node → ℕ → ℕ → ℕ → Type 0
+Told nodes r y c = PartFrom nodes r y c ⊎ (IsLoose nodes r c × (c ≢ r))
+
+module _ (nodes : List Node) (r : ℕ) (arena : IsArena nodes) where
+  pub Told-self : r < length nodes → (x : ℕ) → x ≤ r → Told nodes r (x + 1) x
+  Told-self inside x le =
+      ⊎_elim
+      (λ (e : x ≡ r). inl (inl e))
+      (λ (ne : x ≡ r → ⊥).
+      let whole = arena.each x (omega arith) in
+      let above = arena.below whole.0 x whole.1 whole.2 whole.3 in
+      ⊎_elim
+      (λ (high : r < whole.0). inr ((whole.0, whole.1, high, whole.2, whole.3), ne))
+      (λ (low : whole.0 ≤ r). inl (inr (whole.0, whole.1, omega arith, low, whole.2, whole.3)))
+      (cases_lt r whole.0))
+      (cases_eq x r)
+
+  pub Told-all : r < length nodes → (c : ℕ) → c ≤ r → Told nodes r 0 c
+  Told-all inside c le =
+      ⊎_elim
+      (λ (from : PartFrom nodes r (c + 1) c). inl (⊎_elim
+      (λ (e : c ≡ r). inl e)
+      (λ (h : (z : ℕ) × (node : Node) × (c + 1 ≤ z) × (z ≤ r) × (slice_get nodes z ≡ Some node) × IsPart node c). inr (h.0, h.1, omega arith, h.3, h.4, h.5))
+      from))
+      (λ (loose : IsLoose nodes r c × (c ≢ r)). inr loose)
+      (Told-self inside c le)
+
+  Told-step : (x : ℕ) (node : Node) → slice_get nodes x ≡ Some node → (c : ℕ) → Told nodes r x c → Told nodes r (x + 1) c ⊎ IsPart node c
+  Told-step x node is c told =
+      ⊎_elim
+      (λ (from : PartFrom nodes r x c). ⊎_elim
+      (λ (e : c ≡ r). inl (inl (inl e)))
+      (λ (h : (z : ℕ) × (n : Node) × (x ≤ z) × (z ≤ r) × (slice_get nodes z ≡ Some n) × IsPart n c).
+      ⊎_elim
+      (λ (e : h.0 ≡ x).
+      let same : slice_get nodes h.0 ≡ slice_get nodes x = ap (slice_get nodes) e in
+      let here : h.1 ≡ node = (let at = h.4 in cc) in
+      inr (subst (λ n. IsPart n c) here h.5))
+      (λ (ne : h.0 ≡ x → ⊥). inl (inl (inr (h.0, h.1, omega arith, h.3, h.4, h.5))))
+      (cases_eq h.0 x))
+      from)
+      (λ (loose : IsLoose nodes r c × (c ≢ r)). inl (inr loose))
+      told
+
+  -- r alone is told at first; what is never told has no mark
+  pub descend_root : (w : List ℕ) (p : Starts) (place y : ℕ) (marks after : List Bool) (first : Bool) → r < y → r < length marks →
+      after ≡ slice_set marks r first → (IsTrue first ↔ IsStart p place) →
+      Marked marks (Below (r + 1)) (λ c. Entered nodes w r p c place) →
+      Marked after (λ c. (c ≤ r) × Told nodes r y c) (λ c. Enters nodes w r p c place)
+  descend_root w p place y marks after first all inside is_after begins before c told =
+      ⊎_elim
+      (λ (from : PartFrom nodes r y c).
+      let e : c ≡ r =
+      ⊎_elim (λ (h : c ≡ r). h)
+      (λ (h : (z : ℕ) × (n : Node) × (y ≤ z) × (z ≤ r) × (slice_get nodes z ≡ Some n) × IsPart n c). absurd (omega arith))
+      from in
+      let at : slice_index_or after c false ≡ first =
+      subst (λ n. slice_index_or after n false ≡ first) (sym e) (ap (λ l. slice_index_or l r false) is_after ∙ get_or-set_same marks r first false inside) in (
+        λ h. at_root c place e (begins.0 (sym at ∙ h)),
+        λ h. at ∙ begins.1 (Enters-root nodes w r p arena c place e h),
+      ))
+      (λ (loose : IsLoose nodes r c × (c ≢ r)).
+      let at = ap (λ l. slice_index_or l c false) is_after ∙ get_or-set_other marks r c first false loose.1 in (
+        λ h. let old = (before c (omega arith)).0 (sym at ∙ h) in absurd (Enters-loose nodes w r p arena c old.0 loose.0 told.0 loose.1 old.2),
+        λ h. absurd (Enters-loose nodes w r p arena c place loose.0 told.0 loose.1 h),
+      ))
+      told.1
+
+  pub descend_step : (w : List ℕ) (p : Starts) (place x y : ℕ) (node : Node) → y ≡ x + 1 → x ≤ r → r < length nodes → slice_get nodes x ≡ Some node → (null ended marks after : List Bool) →
+      length nodes ≤ length marks →
+      after ≡ enter_parts (slice_index_or marks x false) (λ c. slice_index_or null c false) (λ c. slice_index_or ended c false) node marks →
+      Marked null (Below (r + 1)) (λ c. At nodes w c place place) →
+      Marked ended (Below (r + 1)) (λ c. Ends nodes w r p c place) →
+      Marked marks (λ c. (c ≤ r) × Told nodes r y c) (λ c. Enters nodes w r p c place) →
+      Marked after (λ c. (c ≤ r) × Told nodes r x c) (λ c. Enters nodes w r p c place)
+  descend_step w p place x y node next_place le inside is null ended marks after long is_after nulls ends marked_y c told =
+      let S : ℕ → Type 0 = λ n. (n ≤ r) × Told nodes r (x + 1) n in
+      let marked : Marked marks S (λ n. Enters nodes w r p n place) = subst (λ k. Marked marks (λ n. (n ≤ r) × Told nodes r k n) (λ n. Enters nodes w r p n place)) next_place marked_y in
+      let here : S c ⊎ IsPart node c = ⊎_elim (λ (t : Told nodes r (x + 1) c). inl (told.0, t)) (λ (part : IsPart node c). inr part) (Told-step x node is c told.1) in
+      let next = enter_parts-Marked nodes w r p arena place x le node is (slice_index_or marks x false) (marked x (le, Told-self inside x le))
+      (λ c. slice_index_or null c false) (λ c lt. nulls c (omega arith)) (λ c. slice_index_or ended c false) (λ c lt. ends c (omega arith))
+      marks S long marked c here in
+      let at = ap (λ l. slice_index_or l c false) is_after in
+      (λ h. next.0 (sym at ∙ h), λ h. at ∙ next.1 h)
+
+-- what the parts are told leaves the number of marks
+pub length-enter_parts : (entered : Bool) (null ended : ℕ → Bool) (node : Node) (marks : List Bool) → length (enter_parts entered null ended node marks) ≡ length marks
+length-enter_parts entered null ended Empty marks = refl
+length-enter_parts entered null ended (Set s) marks = refl
+length-enter_parts entered null ended Begin marks = refl
+length-enter_parts entered null ended End marks = refl
+length-enter_parts entered null ended (Seq a b) marks = simp length-set
+length-enter_parts entered null ended (Alt a b) marks = simp length-set
+length-enter_parts entered null ended (Group k a) marks = simp length-set
+length-enter_parts entered null ended (Star a first) marks = simp length-set
+length-enter_parts entered null ended (Opt a first) marks = simp length-set

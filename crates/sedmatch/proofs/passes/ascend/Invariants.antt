@@ -1,0 +1,16 @@
+use Rattle.std.proofs.Common.{◌≡◌, ◌+◌, ◌*◌, ◌≤◌}
+use Rattle.sedmatch.specs.Fits.{SameMarks}
+use Rattle.sedmatch.specs.Reach.{Marked, Below, At, Ends, Entered}
+use Rattle.sedmatch.specs.declared.passes.Starts.{Starts}
+use Rattle.sedmatch.proofs.passes.ascend.Given as goal
+
+abbrev pub invariant-loop-x : goal.invariant-loop-x
+invariant-loop-x l = record {
+  marks : SameMarks l.initial.sets l.sets;
+  kept : l.sets.entered ≡ l.initial.sets.entered;
+  grows : l.initial.steps ≤ l.steps;
+  cost : l.steps ≤ l.initial.steps + 9 * l.x;
+  null : Marked l.sets.null (Below l.x) (λ c. At l.expr.nodes l.text c l.place l.place);
+  ended : (s : Starts) → Marked l.initial.sets.entered (Below (l.root + 1)) (λ c. Entered l.expr.nodes l.text l.root s c l.place) →
+      Marked l.sets.ended (Below l.x) (λ c. Ends l.expr.nodes l.text l.root s c l.place);
+}

@@ -1,0 +1,23 @@
+use Rattle.std.proofs.Common.{length, refl, arith, rules}
+use Rattle.sedre.specs.Arena.{tree}
+use Rattle.sedmatch.specs.Reach.{one_start}
+use Rattle.sedmatch.proofs.SearchLemmas.{clear_entered, LongestBelow-none, Longest-from_below, pass_cost}
+use Rattle.sedmatch.proofs.search.longest_at.Goals as goal
+
+pub loop-place-init : goal.loop-place-init
+loop-place-init c = record {
+  marks = (refl, refl, refl);
+  grows = omega arith;
+  cost = omega arith;
+  entered = clear_entered c.args.expr.now.nodes c.args.text.now c.index-root.result (one_start c.args.start) c.root.ensures.arena c.clear.new.self c.args.start refl (λ n below. c.clear.ensures.clear n (omega arith));
+  longest = LongestBelow-none (tree c.args.expr.now) c.args.text.now c.args.start;
+  lies = search rules;
+}
+
+pub returns-clause-longest : goal.returns-clause-longest
+returns-clause-longest c =
+    Longest-from_below (tree c.args.expr.now) c.args.text.now c.args.start c.loop-place.place c.loop-place.best c.requires.start (omega arith) c.loop-place.invariant.longest
+
+pub returns-clause-cost : goal.returns-clause-cost
+returns-clause-cost c =
+    pass_cost 20 (length c.args.expr.now.nodes) (length c.args.text.now) c.loop-place.place c.loop-place.steps c.args.steps.now (omega arith) (omega arith)

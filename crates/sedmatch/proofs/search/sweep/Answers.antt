@@ -1,0 +1,55 @@
+use Rattle.std.proofs.Common.{◌≡◌, ◌+◌, refl, subst, arith}
+use Rattle.std.proofs.lemmas.Bool.{not-true}
+use Rattle.sedre.specs.Arena.{tree}
+use Rattle.sedmatch.specs.Search.{NoneIn}
+use Rattle.sedmatch.proofs.SearchLemmas.{clear_entered, next_entered}
+use Rattle.sedmatch.proofs.SweepLemmas.{swept_hit, missed_init, missed_step, missed_closed, missed_end}
+use Rattle.sedmatch.proofs.search.sweep.Goals as goal
+
+pub loop-place-init : goal.loop-place-init
+loop-place-init c = record {
+  marks = (refl, refl, refl);
+  grows = omega arith;
+  cost = omega arith;
+  entered = clear_entered c.args.expr.now.nodes c.args.text.now c.index-root.result (record { first = c.args.start; last = c.len.result }) c.root.ensures.arena c.clear.new.self c.args.start refl (λ n below. c.clear.ensures.clear n (omega arith));
+  missed = missed_init c.args.expr.now.nodes c.args.text.now c.index-root.result c.args.start c.len.result (omega arith) c.len.ensures;
+}
+
+pub loop-place-preserved : goal.loop-place-preserved
+loop-place-preserved c = record {
+  marks = (omega arith, omega arith, omega arith);
+  grows = omega arith;
+  cost = omega arith;
+  entered = next_entered c.args.expr.now.nodes c.args.text.now c.index-root.result (record { first = c.args.start; last = c.len.result }) c.root.ensures.arena c.advance-here.new.sets.entered c.loop-place.place c.advance-here.ensures.entered;
+  missed = missed_step c.args.expr.now.nodes c.args.text.now c.index-root.result c.args.start c.len.result (omega arith) c.len.ensures
+      c.loop-place.place (omega arith) c.advance-here.result.matched c.if-here.false c.advance-here.ensures.spans c.loop-place.invariant.missed;
+}
+
+pub returns-then-here-clause-swept : goal.returns-then-here-clause-swept
+returns-then-here-clause-swept c =
+    swept_hit c.args.expr.now.nodes c.args.text.now c.index-root.result c.args.start c.len.result (omega arith) c.len.ensures
+    c.loop-place.place (c.advance-here.ensures.spans.0 c.if-here.true)
+
+pub returns-then-not-here-clause-swept : goal.returns-then-not-here-clause-swept
+returns-then-not-here-clause-swept c =
+    let nodes = c.args.expr.now.nodes in
+    let w = c.args.text.now in (
+      omega arith,
+      omega arith,
+      missed_closed nodes w c.index-root.result c.args.start c.len.result (omega arith) c.len.ensures
+          c.loop-place.place (omega arith) c.advance-here.result.more (not-true c.advance-here.result.more c.if-not-here.true) c.advance-here.ensures.opens
+          (missed_step nodes w c.index-root.result c.args.start c.len.result (omega arith) c.len.ensures
+          c.loop-place.place (omega arith) c.advance-here.result.matched c.if-here.false c.advance-here.ensures.spans c.loop-place.invariant.missed),
+    )
+
+pub returns-clause-swept : goal.returns-clause-swept
+returns-clause-swept c =
+    let place : c.loop-place.place ≡ c.len.result + 1 = omega arith in
+    let same : c.len.result ≡ c.len-2.result = omega arith in
+    let none : NoneIn (tree c.args.expr.now) c.args.text.now c.args.start (c.len.result + 1) =
+    missed_end c.args.expr.now.nodes c.args.text.now c.index-root.result c.args.start c.len.result (omega arith) c.len.ensures
+    (λ i k from before. c.loop-place.invariant.missed i k from (omega arith)) in (
+      omega arith,
+      omega arith,
+      subst (λ v. NoneIn (tree c.args.expr.now) c.args.text.now c.args.start (v + 1)) same none,
+    )

@@ -1,0 +1,12 @@
+-- Where a text holds a byte.
+use Rattle.std.specs.Prelude.{◌≡◌, ℕ, ◌+◌, ◌-◌, ◌<◌, ◌≤◌, List, slice_get, Option, Some, None}
+
+-- the first place from p on that holds the byte, if there is one
+abbrev pub FirstAt : List ℕ → ℕ → ℕ → Option ℕ → Type 0
+FirstAt w byte p None = (k : ℕ) → p ≤ k → slice_get w k ≡ Some byte → ⊥
+FirstAt w byte p (Some k) = (p ≤ k) × (slice_get w k ≡ Some byte) × ((h : ℕ) → p ≤ h → h < k → slice_get w h ≡ Some byte → ⊥)
+
+-- how many bytes are looked at from p to the place found, or to the end n of the text
+abbrev pub looked_at : ℕ → ℕ → Option ℕ → ℕ
+looked_at n p None = n - p
+looked_at n p (Some k) = k + 1 - p

@@ -1,0 +1,38 @@
+-- Private to this crate: what fits into the room for a search.
+use Rattle.std.specs.Prelude.{◌≡◌, ℕ, ◌*◌, ◌^◌, ◌<◌, ◌≤◌, [], length, vec_len, vec_capacity}
+use Rattle.sedmatch.specs.declared.scratch.Sets.{Sets}
+use Rattle.sedmatch.specs.declared.scratch.Notes.{Notes}
+use Rattle.sedmatch.specs.declared.scratch.Plan.{Plan}
+
+-- there are marks for n nodes
+abbrev pub FitsNodes : ℕ → Sets → Type 0
+FitsNodes n s = (n ≤ length s.null) × (n ≤ length s.entered) × (n ≤ length s.ended)
+
+-- there are as many marks as before
+abbrev pub SameMarks : Sets → Sets → Type 0
+SameMarks old new = (length new.null ≡ length old.null) × (length new.entered ≡ length old.entered) × (length new.ended ≡ length old.ended)
+
+-- there are notes for n places
+abbrev pub FitsPlaces : ℕ → Notes → Type 0
+FitsPlaces n s = (n ≤ length s.places) × (n ≤ vec_len s.next)
+
+-- there are as many notes as before
+abbrev pub SameNotes : Notes → Notes → Type 0
+SameNotes old new = (length new.places ≡ length old.places) × (vec_len new.next ≡ vec_len old.next)
+
+-- nothing is left to do, and there is room for all that an expression of n nodes can give to do
+abbrev pub FitsWork : ℕ → Plan → Type 0
+FitsWork n p = (p.tasks.items ≡ []) × (p.stack.items ≡ []) × (2 * n < vec_capacity p.tasks) × (n < vec_capacity p.stack)
+
+-- nothing is left to do, and there is as much room as before
+abbrev pub AllDone : Plan → Plan → Type 0
+AllDone old new = (new.tasks.items ≡ []) × (new.stack.items ≡ []) × (vec_capacity old.tasks ≤ vec_capacity new.tasks) × (vec_capacity old.stack ≤ vec_capacity new.stack)
+
+-- the room for texts of so many bytes and expressions of so many nodes
+pub record HasRoom (text nodes : ℕ) (sets : Sets) (notes : Notes) (plan : Plan) : Type 0 where
+  pub short : text ≤ 2 ^ 30
+  pub few : nodes ≤ 65536
+  pub fits_nodes : FitsNodes nodes sets
+  pub fits_places : text < length notes.places
+  pub fits_next : text < vec_len notes.next
+  pub fits_work : FitsWork nodes plan

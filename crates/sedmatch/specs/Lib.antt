@@ -1,0 +1,15 @@
+pub mod Spans
+pub mod Caps
+pub mod Parts
+pub mod Answer
+pub mod Matching
+pub mod Bytes
+pub mod Room
+pub mod Words
+pub mod Fits
+pub mod Local
+pub mod Reach
+pub mod Skip
+pub mod Search
+pub mod Cuts
+pub mod Work

@@ -1,0 +1,7 @@
+-- The room for a search, as its callers see it.
+use Rattle.std.specs.Prelude.{ℕ}
+
+-- the most bytes that a text may have, and the most nodes that an expression may have
+pub record Room : Type 0 where
+  pub text : ℕ
+  pub nodes : ℕ

@@ -1,0 +1,129 @@
+-- Private to this crate: what is left to do while the groups of a match are decided.
+use Rattle.std.specs.Prelude.{◌≡◌, ℕ, ◌+◌, ◌-◌, ◌*◌, ◌<◌, ◌≤◌, Bool, false, if◌then◌else◌, List, [], ◌∷◌, ◌++◌, length, slice_set, Some, None}
+use Rattle.sedre.specs.Arena.{tree_at}
+use Rattle.sedre.specs.Tree.{Tree, empty, set, begin, end, seq, alt, group, star, opt, size}
+use Rattle.sedre.specs.declared.types.Node.{Node}
+use Rattle.sedre.specs.declared.types.Node.TheVariants.{Empty, Set, Begin, End, Seq, Alt, Group, Star, Opt}
+use Rattle.sedmatch.specs.declared.scratch.Task.{Task}
+use Rattle.sedmatch.specs.declared.groups.Split.{Split}
+use Rattle.sedmatch.specs.declared.groups.Split.TheVariants.{Done, One, Two}
+use Rattle.sedmatch.specs.declared.scratch.Task.TheVariants.{Enter, Close}
+use Rattle.sedmatch.specs.Reach.{At}
+use Rattle.sedmatch.specs.Caps.{Groups, Caps, forget}
+
+abbrev pub Does : List Node → List ℕ → Task → Groups → Groups → Type 0
+Does nodes w (Enter x i j) old new = Caps (tree_at nodes x) w i j old new
+Does nodes w (Close k i j) old new = new ≡ slice_set old k (Some (i, j))
+
+-- the tasks, the first one first, take the groups from old to new
+abbrev pub Run : List Node → List ℕ → List Task → Groups → Groups → Type 0
+Run nodes w [] old new = new ≡ old
+Run nodes w (task ∷ tasks) old new = (mid : Groups) × Does nodes w task old mid × Run nodes w tasks mid new
+
+-- each node to be entered is there, and matches its span within the text
+abbrev pub IsReady : List Node → List ℕ → List Task → Type 0
+IsReady nodes w [] = Unit {0}
+IsReady nodes w (Enter x i j ∷ tasks) = (x < length nodes) × (i ≤ j) × (j ≤ length w) × At nodes w x i j × IsReady nodes w tasks
+IsReady nodes w (Close k i j ∷ tasks) = IsReady nodes w tasks
+
+-- the groups inside the nodes are forgotten, the first node's first
+abbrev pub forget_all : List Node → List ℕ → Groups → Groups
+forget_all nodes [] g = g
+forget_all nodes (x ∷ xs) g = forget_all nodes xs (forget (tree_at nodes x) g)
+
+-- the sizes of the trees at the nodes
+abbrev pub sizes : List Node → List ℕ → ℕ
+sizes nodes [] = 0
+sizes nodes (x ∷ xs) = size (tree_at nodes x) + sizes nodes xs
+
+abbrev pub InRange : ℕ → List ℕ → Type 0
+InRange n [] = Unit {0}
+InRange n (x ∷ xs) = (x < n) × InRange n xs
+
+-- the parts of a node, the left one first
+abbrev pub parts_of : Node → List ℕ
+parts_of Empty = []
+parts_of (Set s) = []
+parts_of Begin = []
+parts_of End = []
+parts_of (Seq a b) = a.index ∷ b.index ∷ []
+parts_of (Alt a b) = a.index ∷ b.index ∷ []
+parts_of (Group k a) = a.index ∷ []
+parts_of (Star a first) = a.index ∷ []
+parts_of (Opt a first) = a.index ∷ []
+
+-- the node's own group is forgotten
+abbrev pub forget_node : Node → Groups → Groups
+forget_node Empty g = g
+forget_node (Set s) g = g
+forget_node Begin g = g
+forget_node End g = g
+forget_node (Seq a b) g = g
+forget_node (Alt a b) g = g
+forget_node (Group k a) g = slice_set g k None
+forget_node (Star a first) g = g
+forget_node (Opt a first) g = g
+
+-- how many tasks can still come of these
+abbrev pub weights : List Node → List Task → ℕ
+weights nodes [] = 0
+weights nodes (Enter x i j ∷ tasks) = 2 * size (tree_at nodes x) + weights nodes tasks
+weights nodes (Close k i j ∷ tasks) = 1 + weights nodes tasks
+
+-- how many nodes of a tree have parts
+abbrev pub inner : Tree → ℕ
+inner empty = 0
+inner (set has) = 0
+inner begin = 0
+inner end = 0
+inner (seq a b) = 1 + (inner a + inner b)
+inner (alt a b) = 1 + (inner a + inner b)
+inner (group k a) = 1 + inner a
+inner (star a first) = 1 + inner a
+inner (opt a first) = 1 + inner a
+
+-- of all nodes to be entered
+abbrev pub inners : List Node → List Task → ℕ
+inners nodes [] = 0
+inners nodes (Enter x i j ∷ tasks) = inner (tree_at nodes x) + inners nodes tasks
+inners nodes (Close k i j ∷ tasks) = inners nodes tasks
+
+-- the sizes of all trees to be entered
+abbrev pub wholes : List Node → List Task → ℕ
+wholes nodes [] = 0
+wholes nodes (Enter x i j ∷ tasks) = size (tree_at nodes x) + wholes nodes tasks
+wholes nodes (Close k i j ∷ tasks) = wholes nodes tasks
+
+-- cost, if the node has parts
+abbrev pub node_cost : ℕ → Node → ℕ
+node_cost cost Empty = 0
+node_cost cost (Set s) = 0
+node_cost cost Begin = 0
+node_cost cost End = 0
+node_cost cost (Seq a b) = cost
+node_cost cost (Alt a b) = cost
+node_cost cost (Group k a) = cost
+node_cost cost (Star a first) = cost
+node_cost cost (Opt a first) = cost
+
+-- the groups inside are forgotten, if it is to be done
+abbrev pub forget_if : Bool → Tree → Groups → Groups
+forget_if before t g = (if before then forget t g else g)
+
+-- what is done in place of one task: the tasks, the first one first, and whether the groups inside are forgotten before
+pub record IsStep (nodes : List Node) (w : List ℕ) (x i j : ℕ) (forgets : Bool) (tasks : List Task) : Type 0 where
+  pub run : (rest : List Task) (g f : Groups) → Run nodes w (tasks ++ rest) (forget_if forgets (tree_at nodes x) g) f → Run nodes w (Enter x i j ∷ rest) g f
+  pub ready : IsReady nodes w tasks
+  pub less : weights nodes tasks + 1 ≤ 2 * size (tree_at nodes x)
+  pub fewer : inners nodes tasks ≤ inner (tree_at nodes x) - 1
+  pub smaller : wholes nodes tasks + 1 ≤ size (tree_at nodes x)
+
+abbrev pub tasks_of : Split → List Task
+tasks_of Done = []
+tasks_of (One forgets a) = a ∷ []
+tasks_of (Two forgets a b) = a ∷ b ∷ []
+
+abbrev pub forgets_of : Split → Bool
+forgets_of Done = false
+forgets_of (One forgets a) = forgets
+forgets_of (Two forgets a b) = forgets

@@ -1,0 +1,181 @@
+//! What can be looked at only by calls that count.
+ghost use Rattle.std.specs.Prelude.{◌≡◌, ℕ, Bool, false, true, List, ◌+◌, ◌-◌, ◌^◌, ◌<◌, ◌≤◌, length, slice_index};
+ghost use Rattle.std.specs.Prelude.{slice_index_or, slice_set, slice_get, Some, IfOk, replicate, eqb, ◌≢◌, ◌*◌};
+ghost use Rattle.std.specs.Prelude.{vec_len};
+ghost use Rattle.std.specs.Int.{bit_at};
+ghost use Rattle.sedmatch.specs.Bytes.{FirstAt, looked_at};
+ghost use Rattle.sedmatch.specs.Words.{marks_of};
+
+use memchr::memchr;
+use sedre::Steps;
+use std::alloc::{AllocError, Global};
+use std::marker::Model;
+
+/// A text whose bytes are looked at by calls that count.
+#[derive(Drop)]
+pub struct Text<'a> {
+    bytes: &'a [u8],
+}
+
+impl<'a> Model for Text<'a> {
+    ghost Value = { List ℕ };
+
+    ghost view = { λ t. t.bytes.now };
+}
+
+impl<'a> Text<'a> {
+    /// The text of these bytes.
+    pub fn new(bytes: &'a [u8]) -> Text<'a>
+        ensures { result ≡ bytes.now }
+    {
+        Text { bytes }
+    }
+
+    /// How many bytes it has.
+    pub fn len(&self) -> usize
+        ensures { result ≡ length self.now }
+    {
+        self.bytes.len()
+    }
+
+    /// The byte at a place. Counts one look.
+    pub fn byte(&self, i: usize, steps: &mut Steps) -> u8
+        requires inside { i < length self.now }
+        requires room { steps.old < 2 ^ 120 }
+        ensures byte { slice_get self.now i ≡ Some result }
+        ensures cost { steps.new ≡ steps.old + 1 }
+    {
+        steps.add(1);
+        self.bytes[i]
+    }
+
+    /// The first place from `from` on that holds the byte.
+    /// Counts a look for each byte from `from` to that place, or to the end where there is none.
+    pub fn find_byte(&self, value: u8, from: usize, steps: &mut Steps) -> Option<usize>
+        requires from { from ≤ length self.now }
+        requires room { steps.old < 2 ^ 120 }
+        ensures first { FirstAt self.now value from result }
+        ensures cost { steps.new ≡ steps.old + looked_at (length self.now) from result }
+    {
+        let rest = &self.bytes[from..];
+        match memchr(value, rest) {
+            None => {
+                steps.add(rest.len());
+                None
+            }
+            Some(k) => {
+                steps.add(k + 1);
+                Some(from + k)
+            }
+        }
+    }
+}
+
+/// A list of marks, each set or not. A word holds 64 of them.
+#[derive(Drop)]
+pub struct Marks {
+    words: Vec<u64>,
+    count: usize,
+}
+
+impl Model for Marks {
+    ghost Value = { List Bool };
+
+    ghost view = { λ m. marks_of m.words.items m.count };
+
+    ghost invariant = { λ m. m.count ≤ 64 * length m.words.items };
+}
+
+impl Marks {
+    /// So many marks, none of them set. Memory is wanting only where a request was refused.
+    pub fn new(alloc: Global, len: usize) -> Result<Marks, AllocError>
+        ensures { IfOk result (λ m. m ≡ replicate len false) }
+    {
+        Ok(Marks {
+            words: zero_words(alloc, len / 64 + 1)?,
+            count: len,
+        })
+    }
+
+    /// How many marks there are.
+    pub fn len(&self) -> usize
+        ensures { result ≡ length self.now }
+    {
+        self.count
+    }
+
+    /// Whether the mark is set. Counts one look.
+    pub fn get(&self, i: usize, steps: &mut Steps) -> bool
+        requires inside { i < length self.now }
+        requires room { steps.old < 2 ^ 120 }
+        ensures mark { result ≡ slice_index_or self.now i false }
+        ensures cost { steps.new ≡ steps.old + 1 }
+    {
+        steps.add(1);
+        has_bit(self.words[i / 64], i % 64)
+    }
+
+    /// Sets the mark, or takes it away. Counts one look.
+    pub fn set(&mut self, i: usize, mark: bool, steps: &mut Steps)
+        requires inside { i < length self.old }
+        requires room { steps.old < 2 ^ 120 }
+        ensures marks { self.new ≡ slice_set self.old i mark }
+        ensures cost { steps.new ≡ steps.old + 1 }
+    {
+        steps.add(1);
+        let word = put_bit(self.words[i / 64], i % 64, mark);
+        self.words[i / 64] = word;
+    }
+
+    /// Takes the first `count` marks away, a word at a time; those behind them may go too.
+    /// Counts a look for each of the `count`.
+    pub fn clear(&mut self, count: usize, steps: &mut Steps)
+        requires inside { count ≤ length self.old }
+        requires room { steps.old < 2 ^ 120 }
+        ensures len { length self.new ≡ length self.old }
+        ensures clear { (c : ℕ) → c < count → slice_index_or self.new c false ≡ false }
+        ensures cost { steps.new ≡ steps.old + count }
+    {
+        steps.add(count);
+        clear_words(&mut self.words, count.div_ceil(64));
+    }
+}
+
+/// So many words without a mark.
+fn zero_words(alloc: Global, count: usize) -> Result<Vec<u64>, AllocError>
+    ensures { IfOk result (λ v. v.items ≡ replicate count 0) }
+{
+    vec![in alloc; 0; count]
+}
+
+/// Whether the bit is set.
+fn has_bit(word: u64, k: usize) -> bool
+    requires { k < 64 }
+    ensures { result ≡ eqb (bit_at word k) 1 }
+{
+    (word >> k) & 1 == 1
+}
+
+/// Sets the bit, or takes it away.
+fn put_bit(word: u64, k: usize, mark: bool) -> u64
+    requires { k < 64 }
+    ensures same { eqb (bit_at result k) 1 ≡ mark }
+    ensures other { (i : ℕ) → i < 64 → i ≢ k → bit_at result i ≡ bit_at word i }
+{
+    if mark {
+        word | (1u64 << k)
+    } else {
+        word & !(1u64 << k)
+    }
+}
+
+/// Empties the first words.
+fn clear_words(words: &mut Vec<u64>, count: usize)
+    requires { count ≤ vec_len words.old }
+    ensures len { length words.new.items ≡ length words.old.items }
+    ensures clear { (k : ℕ) → k < count → slice_index_or words.new.items k 0 ≡ 0 }
+{
+    for x in 0..count {
+        words[x] = 0;
+    }
+}

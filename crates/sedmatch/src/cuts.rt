@@ -1,0 +1,272 @@
+//! Where the parts of a node that matches a given span begin and end.
+ghost use Rattle.std.specs.Prelude.{◌≡◌, ℕ, Bool, false, true, List, ◌+◌, ◌-◌, ◌*◌, ◌^◌, ◌<◌, ◌≤◌, ◌↔◌, length};
+ghost use Rattle.std.specs.Prelude.{vec_len, slice_index_or, IfSome, IfNone, IsTrue, slice_get, slice_index, Some};
+ghost use Rattle.sedmatch.specs.Spans.{Spans, Copies};
+ghost use Rattle.sedmatch.specs.Fits.{FitsNodes, SameMarks, FitsPlaces, SameNotes};
+ghost use Rattle.sedmatch.specs.Reach.{Marked, Below, At, one_start, Entered, Enters, Ends, OpenFrom};
+ghost use Rattle.sedmatch.specs.Reach.{TellEntered, TellBegun};
+ghost use Rattle.sedmatch.specs.Caps.{LastCut, LastCopy};
+ghost use Rattle.sedmatch.specs.Cuts.{GreatestBelow, IsNext};
+
+use crate::counted::{Marks, Text};
+use crate::passes::Here;
+use crate::scratch::{Notes, Sets};
+use crate::search::advance_from;
+use sedre::{Expr, Steps};
+
+/// Whether the node `root` matches `start..stop`.
+pub fn reaches(
+    expr: &Expr,
+    root: usize,
+    text: &Text,
+    start: usize,
+    stop: usize,
+    sets: &mut Sets,
+    steps: &mut Steps,
+) -> bool
+    requires root { root < length expr.now.nodes }
+    requires few { length expr.now.nodes ≤ 65536 }
+    requires short { length text.now ≤ 2 ^ 30 }
+    requires start { start ≤ stop }
+    requires stop { stop ≤ length text.now }
+    requires fits { FitsNodes (length expr.now.nodes) sets.old }
+    requires room { steps.old < 2 ^ 116 }
+    ensures marks { SameMarks sets.old sets.new }
+    ensures spans { IsTrue result ↔ At expr.now.nodes text.now root start stop }
+    ensures grows { steps.old ≤ steps.new }
+    ensures cost { steps.new ≤ steps.old + 21 * length expr.now.nodes * (length text.now + 1) }
+{
+    let _count = expr.nodes();
+    sets.entered.clear(root + 1, steps);
+    let mut last = false;
+    for place in start..stop + 1 {
+        let here = advance_from(expr, root, text, start, place, sets, steps);
+        last = here.matched;
+        if !here.more && place < stop {
+            return false;
+        }
+    }
+    last
+}
+
+/// Brings the marks of a pass to the next place, unless no match can end there or later.
+fn advance_if(
+    more: bool,
+    expr: &Expr,
+    root: usize,
+    text: &Text,
+    start: usize,
+    place: usize,
+    sets: &mut Sets,
+    steps: &mut Steps,
+) -> Here
+    requires root { root < length expr.now.nodes }
+    requires few { length expr.now.nodes ≤ 65536 }
+    requires start { start ≤ place }
+    requires place { place ≤ length text.now }
+    requires fits { FitsNodes (length expr.now.nodes) sets.old }
+    requires entered { IsTrue more → TellEntered expr.now.nodes text.now root (one_start start) place sets.old.entered }
+    requires closed { (k : ℕ) → place ≤ k → At expr.now.nodes text.now root start k → IsTrue more }
+    requires room { steps.old < 2 ^ 117 }
+    ensures marks { SameMarks sets.old sets.new }
+    ensures entered { IsTrue result.more → TellBegun expr.now.nodes text.now root (one_start start) place sets.new.entered }
+    ensures spans { IsTrue result.matched ↔ At expr.now.nodes text.now root start place }
+    ensures opens { OpenFrom expr.now.nodes text.now root start place result.more }
+    ensures grows { steps.old ≤ steps.new }
+    ensures cost { steps.new ≤ steps.old + 15 * length expr.now.nodes + 5 }
+{
+    if more {
+        advance_from(expr, root, text, start, place, sets, steps)
+    } else {
+        Here {
+            matched: false,
+            more: false,
+        }
+    }
+}
+
+/// Marks each place up to `stop` at which a match of the node `root` from `start` can end.
+fn ends_from(
+    expr: &Expr,
+    root: usize,
+    text: &Text,
+    start: usize,
+    stop: usize,
+    sets: &mut Sets,
+    ends: &mut Marks,
+    steps: &mut Steps,
+)
+    requires root { root < length expr.now.nodes }
+    requires few { length expr.now.nodes ≤ 65536 }
+    requires short { length text.now ≤ 2 ^ 30 }
+    requires start { start ≤ stop }
+    requires stop { stop ≤ length text.now }
+    requires fits { FitsNodes (length expr.now.nodes) sets.old }
+    requires ends_fit { length text.now < length ends.old }
+    requires room { steps.old < 2 ^ 116 }
+    ensures marks { SameMarks sets.old sets.new }
+    ensures ends_len { length ends.new ≡ length ends.old }
+    ensures ends { (k : ℕ) → start ≤ k → k ≤ stop → IsTrue (slice_index_or ends.new k false) ↔ At expr.now.nodes text.now root start k }
+    ensures grows { steps.old ≤ steps.new }
+    ensures cost { steps.new ≤ steps.old + 22 * length expr.now.nodes * (length text.now + 1) }
+{
+    let _count = expr.nodes();
+    sets.entered.clear(root + 1, steps);
+    let mut more = true;
+    for place in start..stop + 1 {
+        let here = advance_if(more, expr, root, text, start, place, sets, steps);
+        more = here.more;
+        ends.set(place, here.matched, steps);
+    }
+}
+
+/// The greatest place up to which `left` matches from `start`, and from which `right` matches to `stop`.
+pub fn last_cut(
+    expr: &Expr,
+    left: usize,
+    right: usize,
+    text: &Text,
+    start: usize,
+    stop: usize,
+    sets: &mut Sets,
+    ends: &mut Marks,
+    steps: &mut Steps,
+) -> usize
+    requires left_inside { left < length expr.now.nodes }
+    requires right_inside { right < length expr.now.nodes }
+    requires few { length expr.now.nodes ≤ 65536 }
+    requires short { length text.now ≤ 2 ^ 30 }
+    requires start { start ≤ stop }
+    requires stop { stop ≤ length text.now }
+    requires fits { FitsNodes (length expr.now.nodes) sets.old }
+    requires ends_fit { length text.now < length ends.old }
+    requires spans { (k : ℕ) × At expr.now.nodes text.now left start k × At expr.now.nodes text.now right k stop }
+    requires room { steps.old < 2 ^ 115 }
+    ensures marks { SameMarks sets.old sets.new }
+    ensures ends_len { length ends.new ≡ length ends.old }
+    ensures cut { LastCut (At expr.now.nodes text.now left) (At expr.now.nodes text.now right) start stop result }
+    ensures grows { steps.old ≤ steps.new }
+    ensures cost { let m = length expr.now.nodes in let n = length text.now in
+        steps.new ≤ steps.old + 22 * m * (n + 1) * (n + 2) }
+{
+    ends_from(expr, left, text, start, stop, sets, ends, steps);
+    for k in (start..stop + 1).rev() {
+        if ends.get(k, steps) && reaches(expr, right, text, k, stop, sets, steps) {
+            return k;
+        }
+    }
+    unreachable!()
+}
+
+/// The greatest marked place after `start` up to which one copy of `root` matches.
+fn copy_to(
+    expr: &Expr,
+    root: usize,
+    text: &Text,
+    start: usize,
+    stop: usize,
+    sets: &mut Sets,
+    tail: &Marks,
+    steps: &mut Steps,
+) -> Option<usize>
+    requires root { root < length expr.now.nodes }
+    requires few { length expr.now.nodes ≤ 65536 }
+    requires short { length text.now ≤ 2 ^ 30 }
+    requires start { start ≤ stop }
+    requires stop { stop ≤ length text.now }
+    requires fits { FitsNodes (length expr.now.nodes) sets.old }
+    requires tail_fits { length text.now < length tail.now }
+    requires room { steps.old < 2 ^ 116 }
+    ensures marks { SameMarks sets.old sets.new }
+    ensures greatest { GreatestBelow (λ l. (start < l) × At expr.now.nodes text.now root start l × IsTrue (slice_index_or tail.now l false)) (stop + 1) result }
+    ensures grows { steps.old ≤ steps.new }
+    ensures cost { steps.new ≤ steps.old + 22 * length expr.now.nodes * (length text.now + 1) }
+{
+    let _count = expr.nodes();
+    sets.entered.clear(root + 1, steps);
+    let mut best = None;
+    for place in start..stop + 1 {
+        let here = advance_from(expr, root, text, start, place, sets, steps);
+        if here.matched && start < place && tail.get(place, steps) {
+            best = Some(place);
+        }
+        if !here.more {
+            return best;
+        }
+    }
+    best
+}
+
+/// Notes for each place from `start` on how far the next copy of `root` goes in a cut of the rest up to `stop`.
+fn mark_tail(
+    expr: &Expr,
+    root: usize,
+    text: &Text,
+    start: usize,
+    stop: usize,
+    sets: &mut Sets,
+    notes: &mut Notes,
+    steps: &mut Steps,
+)
+    requires root { root < length expr.now.nodes }
+    requires few { length expr.now.nodes ≤ 65536 }
+    requires short { length text.now ≤ 2 ^ 30 }
+    requires start { start ≤ stop }
+    requires stop { stop ≤ length text.now }
+    requires fits { FitsNodes (length expr.now.nodes) sets.old }
+    requires notes_fit { FitsPlaces (length text.now + 1) notes.old }
+    requires room { steps.old < 2 ^ 115 }
+    ensures marks { SameMarks sets.old sets.new }
+    ensures notes { SameNotes notes.old notes.new }
+    ensures next { (l : ℕ) → start ≤ l → l < stop → Copies (At expr.now.nodes text.now root) stop l → IsNext (At expr.now.nodes text.now root) stop l (slice_index notes.new.next.items l) }
+    ensures grows { steps.old ≤ steps.new }
+    ensures cost { let m = length expr.now.nodes in let n = length text.now in
+        steps.new ≤ steps.old + 23 * m * (n + 1) * (n + 1) + 1 }
+{
+    notes.places.set(stop, true, steps);
+    for k in (start..stop).rev() {
+        let found = copy_to(expr, root, text, k, stop, sets, &notes.places, steps);
+        notes.places.set(k, found.is_some(), steps);
+        notes.next[k] = found.unwrap_or(stop);
+    }
+}
+
+/// Where the last copy of `root` begins when `start..stop` is cut into copies that are as long as can be.
+pub fn last_copy(
+    expr: &Expr,
+    root: usize,
+    text: &Text,
+    start: usize,
+    stop: usize,
+    sets: &mut Sets,
+    notes: &mut Notes,
+    steps: &mut Steps,
+) -> usize
+    requires root { root < length expr.now.nodes }
+    requires few { length expr.now.nodes ≤ 65536 }
+    requires short { length text.now ≤ 2 ^ 30 }
+    requires start { start < stop }
+    requires stop { stop ≤ length text.now }
+    requires fits { FitsNodes (length expr.now.nodes) sets.old }
+    requires notes_fit { FitsPlaces (length text.now + 1) notes.old }
+    requires spans { Copies (At expr.now.nodes text.now root) stop start }
+    requires room { steps.old < 2 ^ 115 }
+    ensures marks { SameMarks sets.old sets.new }
+    ensures notes { SameNotes notes.old notes.new }
+    ensures last { LastCopy (At expr.now.nodes text.now root) stop start result }
+    ensures after { start ≤ result }
+    ensures before { result < stop }
+    ensures grows { steps.old ≤ steps.new }
+    ensures cost { let m = length expr.now.nodes in let n = length text.now in
+        steps.new ≤ steps.old + 23 * m * (n + 1) * (n + 1) + 1 }
+{
+    mark_tail(expr, root, text, start, stop, sets, notes, steps);
+    let mut copy = start;
+    loop {
+        let end = notes.copy_end(copy);
+        if end >= stop {
+            return copy;
+        }
+        copy = end;
+    }
+}

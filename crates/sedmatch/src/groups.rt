@@ -1,0 +1,421 @@
+//! Which span each group of a match has.
+//!
+//! The tasks of a plan take the place of a recursion over the expression, so that its depth costs no stack.
+ghost use Rattle.std.specs.Prelude.{◌≡◌, ℕ, List, [], ◌∷◌, ◌++◌, reverse, ◌+◌, ◌-◌, ◌*◌, ◌^◌, ◌<◌, ◌≤◌, length};
+ghost use Rattle.std.specs.Prelude.{vec_len, vec_capacity, slice_get, Some, None, slice_set, IsTrue, ◌↔◌};
+ghost use Rattle.sedre.specs.Tree.{size};
+ghost use Rattle.sedre.specs.Arena.{tree_at, tree};
+ghost use Rattle.sedmatch.specs.Spans.{Spans};
+ghost use Rattle.sedmatch.specs.Caps.{Caps, Groups, forget, IsReport};
+ghost use Rattle.sedmatch.specs.Fits.{FitsNodes, SameMarks, FitsPlaces, SameNotes, FitsWork, AllDone};
+ghost use Rattle.sedmatch.specs.Reach.{At};
+ghost use Rattle.sedmatch.specs.Work.{IsStep, Run, IsReady, weights, inners, wholes, node_cost, forget_if};
+ghost use Rattle.sedmatch.specs.Work.{tasks_of, forgets_of, forget_all, sizes, InRange, parts_of, forget_node};
+
+use crate::counted::Text;
+use crate::cuts::{last_copy, last_cut, reaches};
+use crate::scratch::{Notes, Plan, Sets, Task};
+use sedre::{Expr, Node, Steps};
+
+/// What is done in place of one task, and whether the groups inside are forgotten before.
+#[derive(Clone, Copy)]
+pub enum Split {
+    /// Nothing.
+    Done,
+    /// One task.
+    One(bool, Task),
+    /// Two, the first one first.
+    Two(bool, Task, Task),
+}
+
+/// Pushes onto a stack that has room.
+fn put(stack: &mut Vec<usize>, x: usize)
+    requires { vec_len stack.old < vec_capacity stack.old }
+    ensures items { stack.new.items ≡ stack.old.items ++ x ∷ [] }
+    ensures room { vec_capacity stack.old ≤ vec_capacity stack.new }
+{
+    if stack.push(x).is_err() {
+        unreachable!()
+    }
+}
+
+/// Pushes the parts of a node, the left one last.
+fn put_parts(node: &Node, stack: &mut Vec<usize>)
+    requires { vec_len stack.old + 2 ≤ vec_capacity stack.old }
+    ensures items { reverse stack.new.items ≡ parts_of node.now ++ reverse stack.old.items }
+    ensures room { vec_capacity stack.old ≤ vec_capacity stack.new }
+{
+    match node {
+        Node::Empty | Node::Set(_) | Node::Begin | Node::End => {}
+        Node::Seq(a, b) | Node::Alt(a, b) => {
+            put(stack, b.index());
+            put(stack, a.index());
+        }
+        Node::Group(_, a) | Node::Star(a, _) | Node::Opt(a, _) => put(stack, a.index()),
+    }
+}
+
+/// Forgets the node's own group.
+fn drop_group(node: &Node, groups: &mut [Option<(usize, usize)>])
+    ensures { groups.new ≡ forget_node node.now groups.old }
+{
+    if let Node::Group(k, _) = node {
+        if *k < groups.len() {
+            groups[*k] = None;
+        }
+    }
+}
+
+/// Forgets the groups inside a node.
+fn forget_inside(
+    expr: &Expr,
+    root: usize,
+    stack: &mut Vec<usize>,
+    groups: &mut [Option<(usize, usize)>],
+    steps: &mut Steps,
+)
+    requires inside { root < length expr.now.nodes }
+    requires empty { stack.old.items ≡ [] }
+    requires room { size (tree_at expr.now.nodes root) < vec_capacity stack.old }
+    requires few { size (tree_at expr.now.nodes root) ≤ 65536 }
+    requires steps { steps.old < 2 ^ 119 }
+    ensures groups { groups.new ≡ forget (tree_at expr.now.nodes root) groups.old }
+    ensures empty { stack.new.items ≡ [] }
+    ensures room { vec_capacity stack.old ≤ vec_capacity stack.new }
+    ensures grows { steps.old ≤ steps.new }
+    ensures cost { steps.new ≤ steps.old + size (tree_at expr.now.nodes root) }
+{
+    let _count = expr.nodes();
+    put(stack, root);
+    while let Some(x) = stack.pop() {
+        let node = expr.look(expr.id(x), steps);
+        put_parts(&node, stack);
+        drop_group(&node, groups);
+    }
+}
+
+/// Whether a repetition that matches the null string takes one empty copy of its part: the first one it could have.
+fn has_empty_copy(
+    expr: &Expr,
+    part: usize,
+    first: bool,
+    text: &Text,
+    place: usize,
+    sets: &mut Sets,
+    steps: &mut Steps,
+) -> bool
+    requires part { part < length expr.now.nodes }
+    requires few { length expr.now.nodes ≤ 65536 }
+    requires short { length text.now ≤ 2 ^ 30 }
+    requires place { place ≤ length text.now }
+    requires fits { FitsNodes (length expr.now.nodes) sets.old }
+    requires room { steps.old < 2 ^ 116 }
+    ensures marks { SameMarks sets.old sets.new }
+    ensures copy { IsTrue result ↔ (IsTrue first × At expr.now.nodes text.now part place place) }
+    ensures grows { steps.old ≤ steps.new }
+    ensures cost { steps.new ≤ steps.old + 21 * length expr.now.nodes * (length text.now + 1) }
+{
+    first && reaches(expr, part, text, place, place, sets, steps)
+}
+
+/// How to go on with a node that matches a span.
+fn split_node(
+    expr: &Expr,
+    x: usize,
+    node: &Node,
+    start: usize,
+    stop: usize,
+    text: &Text,
+    sets: &mut Sets,
+    notes: &mut Notes,
+    steps: &mut Steps,
+) -> Split
+    requires inside { x < length expr.now.nodes }
+    requires few { length expr.now.nodes ≤ 65536 }
+    requires short { length text.now ≤ 2 ^ 30 }
+    requires start { start ≤ stop }
+    requires stop { stop ≤ length text.now }
+    requires fits { FitsNodes (length expr.now.nodes) sets.old }
+    requires notes_fit { FitsPlaces (length text.now + 1) notes.old }
+    requires node { slice_get expr.now.nodes x ≡ Some node.now }
+    requires spans { At expr.now.nodes text.now x start stop }
+    requires room { steps.old ≤ 2 ^ 114 }
+    ensures marks { SameMarks sets.old sets.new }
+    ensures notes { SameNotes notes.old notes.new }
+    ensures step { IsStep expr.now.nodes text.now x start stop (forgets_of result) (tasks_of result) }
+    ensures grows { steps.old ≤ steps.new }
+    ensures cost { let m = length expr.now.nodes in let n = length text.now in
+        steps.new ≤ steps.old + node_cost (23 * m * (n + 1) * (n + 2) + 1) node.now }
+{
+    let _count = expr.nodes();
+    match node {
+        Node::Empty => Split::Done,
+        Node::Set(_) => Split::Done,
+        Node::Begin => Split::Done,
+        Node::End => Split::Done,
+        Node::Seq(a, b) => {
+            let (left, right) = (a.index(), b.index());
+            let cut = last_cut(
+                expr,
+                left,
+                right,
+                text,
+                start,
+                stop,
+                sets,
+                &mut notes.places,
+                steps,
+            );
+            Split::Two(
+                false,
+                Task::Enter(left, start, cut),
+                Task::Enter(right, cut, stop),
+            )
+        }
+        Node::Alt(a, b) => {
+            let (left, right) = (a.index(), b.index());
+            let spans = reaches(expr, left, text, start, stop, sets, steps);
+            if spans {
+                Split::One(false, Task::Enter(left, start, stop))
+            } else {
+                Split::One(false, Task::Enter(right, start, stop))
+            }
+        }
+        Node::Group(k, a) => {
+            let inner = a.index();
+            Split::Two(
+                true,
+                Task::Enter(inner, start, stop),
+                Task::Close(*k, start, stop),
+            )
+        }
+        Node::Star(a, first) => {
+            let inner = a.index();
+            if start < stop {
+                let copy = last_copy(expr, inner, text, start, stop, sets, notes, steps);
+                Split::One(true, Task::Enter(inner, copy, stop))
+            } else if has_empty_copy(expr, inner, *first, text, start, sets, steps) {
+                Split::One(true, Task::Enter(inner, start, stop))
+            } else {
+                Split::Done
+            }
+        }
+        Node::Opt(a, first) => {
+            let inner = a.index();
+            if start < stop {
+                Split::One(true, Task::Enter(inner, start, stop))
+            } else if has_empty_copy(expr, inner, *first, text, start, sets, steps) {
+                Split::One(true, Task::Enter(inner, start, stop))
+            } else {
+                Split::Done
+            }
+        }
+    }
+}
+
+/// Pushes a task onto a stack that has room.
+fn put_task(tasks: &mut Vec<Task>, task: Task)
+    requires { vec_len tasks.old < vec_capacity tasks.old }
+    ensures items { tasks.new.items ≡ tasks.old.items ++ task ∷ [] }
+    ensures room { vec_capacity tasks.old ≤ vec_capacity tasks.new }
+{
+    if tasks.push(task).is_err() {
+        unreachable!()
+    }
+}
+
+/// Pushes the tasks of a split, the first one last.
+fn put_split(split: &Split, tasks: &mut Vec<Task>)
+    requires { vec_len tasks.old + 2 ≤ vec_capacity tasks.old }
+    ensures items { reverse tasks.new.items ≡ tasks_of split.now ++ reverse tasks.old.items }
+    ensures room { vec_capacity tasks.old ≤ vec_capacity tasks.new }
+{
+    match split {
+        Split::Done => {}
+        Split::One(_, first) => put_task(tasks, *first),
+        Split::Two(_, first, second) => {
+            put_task(tasks, *second);
+            put_task(tasks, *first);
+        }
+    }
+}
+
+/// Whether the groups inside are forgotten first.
+fn forgets(split: &Split) -> bool
+    ensures { result ≡ forgets_of split.now }
+{
+    match split {
+        Split::Done => false,
+        Split::One(forgets, _) => *forgets,
+        Split::Two(forgets, _, _) => *forgets,
+    }
+}
+
+/// Gives a group its span, if it is one that is kept.
+fn close_group(groups: &mut [Option<(usize, usize)>], k: usize, start: usize, stop: usize)
+    ensures { groups.new ≡ slice_set groups.old k (Some (record { 0 = start; 1 = stop })) }
+{
+    if k < groups.len() {
+        groups[k] = Some((start, stop));
+    }
+}
+
+/// Forgets the groups inside a node, if it is to be done.
+fn forget_first(
+    expr: &Expr,
+    x: usize,
+    before: bool,
+    stack: &mut Vec<usize>,
+    groups: &mut [Option<(usize, usize)>],
+    steps: &mut Steps,
+)
+    requires inside { x < length expr.now.nodes }
+    requires empty { stack.old.items ≡ [] }
+    requires room { size (tree_at expr.now.nodes x) < vec_capacity stack.old }
+    requires few { size (tree_at expr.now.nodes x) ≤ 65536 }
+    requires steps { steps.old < 2 ^ 119 }
+    ensures groups { groups.new ≡ forget_if before (tree_at expr.now.nodes x) groups.old }
+    ensures empty { stack.new.items ≡ [] }
+    ensures room { vec_capacity stack.old ≤ vec_capacity stack.new }
+    ensures grows { steps.old ≤ steps.new }
+    ensures cost { steps.new ≤ steps.old + size (tree_at expr.now.nodes x) }
+{
+    if before {
+        forget_inside(expr, x, stack, groups, steps);
+    }
+}
+
+/// Does one task.
+fn work(
+    expr: &Expr,
+    task: &Task,
+    text: &Text,
+    groups: &mut [Option<(usize, usize)>],
+    plan: &mut Plan,
+    sets: &mut Sets,
+    notes: &mut Notes,
+    steps: &mut Steps,
+)
+    requires few { length expr.now.nodes ≤ 65536 }
+    requires short { length text.now ≤ 2 ^ 30 }
+    requires sizes { (x : ℕ) → x < length expr.now.nodes → size (tree_at expr.now.nodes x) ≤ length expr.now.nodes }
+    requires fits { FitsNodes (length expr.now.nodes) sets.old }
+    requires notes_fit { FitsPlaces (length text.now + 1) notes.old }
+    requires stack_empty { plan.old.stack.items ≡ [] }
+    requires stack_room { length expr.now.nodes < vec_capacity plan.old.stack }
+    requires ready { IsReady expr.now.nodes text.now (task.now ∷ reverse plan.old.tasks.items) }
+    requires tasks_room { weights expr.now.nodes (task.now ∷ reverse plan.old.tasks.items) < vec_capacity plan.old.tasks }
+    requires room { steps.old < 2 ^ 114 }
+    ensures marks { SameMarks sets.old sets.new }
+    ensures notes { SameNotes notes.old notes.new }
+    ensures stack_empty { plan.new.stack.items ≡ [] }
+    ensures stack_room { vec_capacity plan.old.stack ≤ vec_capacity plan.new.stack }
+    ensures tasks_room { vec_capacity plan.old.tasks ≤ vec_capacity plan.new.tasks }
+    ensures run { (f : Groups) → Run expr.now.nodes text.now (reverse plan.new.tasks.items) groups.new f → Run expr.now.nodes text.now (task.now ∷ reverse plan.old.tasks.items) groups.old f }
+    ensures ready { IsReady expr.now.nodes text.now (reverse plan.new.tasks.items) }
+    ensures less { weights expr.now.nodes (reverse plan.new.tasks.items) + 1 ≤ weights expr.now.nodes (task.now ∷ reverse plan.old.tasks.items) }
+    ensures grows { steps.old ≤ steps.new }
+    ensures cost { steps.new + (23 * length expr.now.nodes * (length text.now + 1) * (length text.now + 2) + 1 + length expr.now.nodes) * inners expr.now.nodes (reverse plan.new.tasks.items) + 3 * wholes expr.now.nodes (reverse plan.new.tasks.items)
+        ≤ steps.old + (23 * length expr.now.nodes * (length text.now + 1) * (length text.now + 2) + 1 + length expr.now.nodes) * inners expr.now.nodes (task.now ∷ reverse plan.old.tasks.items) + 3 * wholes expr.now.nodes (task.now ∷ reverse plan.old.tasks.items) }
+{
+    match task {
+        Task::Close(k, start, stop) => close_group(groups, *k, *start, *stop),
+        Task::Enter(x, start, stop) => {
+            let (x, start, stop) = (*x, *start, *stop);
+            let _count = expr.nodes();
+            let node = expr.look(expr.id(x), steps);
+            let parts = split_node(expr, x, &node, start, stop, text, sets, notes, steps);
+            forget_first(expr, x, forgets(&parts), &mut plan.stack, groups, steps);
+            put_split(&parts, &mut plan.tasks);
+        }
+    }
+}
+
+/// Which span each group has in a match of the node `root`, given the groups decided before.
+pub fn decide(
+    expr: &Expr,
+    root: usize,
+    start: usize,
+    stop: usize,
+    text: &Text,
+    groups: &mut [Option<(usize, usize)>],
+    plan: &mut Plan,
+    sets: &mut Sets,
+    notes: &mut Notes,
+    steps: &mut Steps,
+)
+    requires root { root < length expr.now.nodes }
+    requires few { length expr.now.nodes ≤ 65536 }
+    requires short { length text.now ≤ 2 ^ 30 }
+    requires start { start ≤ stop }
+    requires stop { stop ≤ length text.now }
+    requires spans { At expr.now.nodes text.now root start stop }
+    requires sizes { (x : ℕ) → x < length expr.now.nodes → size (tree_at expr.now.nodes x) ≤ length expr.now.nodes }
+    requires fits { FitsNodes (length expr.now.nodes) sets.old }
+    requires notes_fit { FitsPlaces (length text.now + 1) notes.old }
+    requires work_fits { FitsWork (length expr.now.nodes) plan.old }
+    requires room { let m = length expr.now.nodes in let n = length text.now in
+        steps.old + (23 * m * (n + 1) * (n + 2) + 1 + m) * m + 3 * m < 2 ^ 114 }
+    ensures marks { SameMarks sets.old sets.new }
+    ensures notes { SameNotes notes.old notes.new }
+    ensures done { AllDone plan.old plan.new }
+    ensures caps { Caps (tree_at expr.now.nodes root) text.now start stop groups.old groups.new }
+    ensures grows { steps.old ≤ steps.new }
+    ensures cost { let m = length expr.now.nodes in let n = length text.now in
+        steps.new + (23 * m * (n + 1) * (n + 2) + 1 + m) ≤ steps.old + (23 * m * (n + 1) * (n + 2) + 1 + m) * m + 3 * m }
+{
+    put_task(&mut plan.tasks, Task::Enter(root, start, stop));
+    while let Some(task) = plan.tasks.pop() {
+        work(expr, &task, text, groups, plan, sets, notes, steps);
+    }
+}
+
+/// The groups of the match `start..stop` of a whole expression. Entry 0 is the whole match.
+pub fn report(
+    expr: &Expr,
+    text: &Text,
+    start: usize,
+    stop: usize,
+    plan: &mut Plan,
+    sets: &mut Sets,
+    notes: &mut Notes,
+    steps: &mut Steps,
+) -> [Option<(usize, usize)>; 10]
+    requires few { length expr.now.nodes ≤ 65536 }
+    requires short { length text.now ≤ 2 ^ 30 }
+    requires start { start ≤ stop }
+    requires stop { stop ≤ length text.now }
+    requires spans { Spans (tree expr.now) text.now start stop }
+    requires fits { FitsNodes (length expr.now.nodes) sets.old }
+    requires notes_fit { FitsPlaces (length text.now + 1) notes.old }
+    requires work_fits { FitsWork (length expr.now.nodes) plan.old }
+    requires room { let m = length expr.now.nodes in let n = length text.now in
+        steps.old + (23 * m * (n + 1) * (n + 2) + 1 + m) * m + 3 * m < 2 ^ 114 }
+    ensures marks { SameMarks sets.old sets.new }
+    ensures notes { SameNotes notes.old notes.new }
+    ensures done { AllDone plan.old plan.new }
+    ensures report { IsReport (tree expr.now) text.now start stop result }
+    ensures grows { steps.old ≤ steps.new }
+    ensures none_cost { expr.now.groups ≡ 0 → steps.new ≡ steps.old }
+    ensures cost { let m = length expr.now.nodes in let n = length text.now in
+        steps.new + 45 * m * (n + 1) * (n + 1) ≤ steps.old + 48 * m * m * (n + 1) * (n + 1) }
+{
+    let root = expr.root().index();
+    let mut groups = [None; 10];
+    if expr.groups() > 0 {
+        decide(
+            expr,
+            root,
+            start,
+            stop,
+            text,
+            &mut groups,
+            plan,
+            sets,
+            notes,
+            steps,
+        );
+    }
+    groups[0] = Some((start, stop));
+    groups
+}

@@ -1,0 +1,28 @@
+//! The search for the match that begins earliest and of those is the longest, with its groups (XBD 9.1).
+//!
+//! [`find`] answers it whole, [`find_span`] without the groups, [`is_match`] only whether there is one. They go over
+//! the text with marks at the nodes of the expression, never back, so that their steps are bounded for every
+//! expression and text: 64 times nodes times places where there is no match, as many times the places again where
+//! there is one, and as many times the nodes again where groups are reported. A step is one look at a node, a byte
+//! or a mark. They work in the room of a [`Scratch`] and take no memory.
+#![tactic(auto)]
+
+mod counted;
+mod cuts;
+mod groups;
+mod laws;
+mod matcher;
+mod passes;
+mod scratch;
+mod search;
+mod skip;
+
+pub use counted::{Marks, Text};
+pub use laws::{found_law, groups_law, spans_law};
+pub use matcher::{Found, find, find_span, is_match};
+pub use scratch::Scratch;
+
+#[cfg(test)]
+mod cases;
+#[cfg(test)]
+mod tests;

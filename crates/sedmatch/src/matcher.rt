@@ -1,0 +1,133 @@
+//! The calls that search (XBD 9.1).
+ghost use Rattle.std.specs.Prelude.{◌≡◌, ℕ, ◌+◌, ◌*◌, ◌^◌, ◌<◌, ◌≤◌, ◌↔◌, length, IfSome, IfNone, IsTrue, is_some};
+ghost use Rattle.sedre.specs.Arena.{tree};
+ghost use Rattle.sedmatch.specs.Spans.{Spans, Found as IsFound, NotFound, SomeFound};
+ghost use Rattle.sedmatch.specs.Caps.{IsReport};
+ghost use Rattle.sedmatch.specs.Answer.{span_found};
+ghost use Rattle.sedmatch.specs.Matching.{found, report};
+ghost use Rattle.sedmatch.specs.Parts.{SpanIn, span_of, part_of};
+
+use crate::counted::Text;
+use crate::groups::report;
+use crate::scratch::Scratch;
+use crate::search::{leftmost, scan};
+use crate::skip::how_begins;
+use sedre::{Expr, Steps};
+
+/// A match, and which part of the text each group reports.
+#[derive(Clone, Copy)]
+pub struct Found {
+    /// Where the match begins.
+    pub start: usize,
+    /// Where it ends: the place behind its last byte.
+    pub end: usize,
+    /// Entry 0 is the whole match, entry k the span of group k; None where the group has no match.
+    pub groups: [Option<(usize, usize)>; 10],
+}
+
+impl Found {
+    /// The bytes of group `k` in the text, and of the whole match for 0; empty where the group has no match.
+    pub fn part<'a>(&self, text: &'a [u8], k: usize) -> &'a [u8]
+        requires group { k ≤ 9 }
+        requires lies { SpanIn (length text.now) (span_of self.now.groups k) }
+        ensures { result.now ≡ part_of text.now (span_of self.now.groups k) }
+    {
+        match self.groups[k] {
+            None => &[],
+            Some((start, end)) => &text[start..end],
+        }
+    }
+}
+
+/// The leftmost-longest match that begins at `from` or later, with its groups. None just where there is none.
+///
+/// It takes no memory, and its steps are bounded whatever the expression; None costs steps in proportion to the
+/// text.
+pub fn find(
+    expr: &Expr,
+    text: &Text,
+    from: usize,
+    scratch: &mut Scratch,
+    steps: &mut Steps,
+) -> Option<Found>
+    requires from { from ≤ length text.now }
+    requires text_fits { length text.now ≤ scratch.old.text }
+    requires expr_fits { length expr.now.nodes ≤ scratch.old.nodes }
+    requires room { steps.old ≤ 2 ^ 100 }
+    ensures scratch { scratch.new ≡ scratch.old }
+    ensures found { IfSome result (λ f. IsFound (tree expr.now) text.now from f.start f.end) }
+    ensures groups { IfSome result (λ f. IsReport (tree expr.now) text.now f.start f.end f.groups) }
+    ensures none { IfNone result (NotFound (tree expr.now) text.now from) }
+    ensures computed { span_found result ≡ found (tree expr.now) text.now from }
+    ensures reported { IfSome result (λ f. f.groups ≡ report (tree expr.now) text.now f.start f.end) }
+    ensures lies { IfSome result (λ f. (k : ℕ) → SpanIn (length text.now) (span_of f.groups k)) }
+    ensures grows { steps.old ≤ steps.new }
+    ensures cost { let m = length expr.now.nodes in let n = length text.now in
+        steps.new ≤ steps.old + 64 * m * m * (n + 1) * (n + 1) }
+    ensures cost_without_groups { let m = length expr.now.nodes in let n = length text.now in
+        expr.now.groups ≡ 0 → steps.new ≤ steps.old + 64 * m * (n + 1) * (n + 1) }
+    ensures cost_of_none { let m = length expr.now.nodes in let n = length text.now in
+        IfNone result (steps.new ≤ steps.old + 64 * m * (n + 1)) }
+{
+    let (start, end) = leftmost(expr, text, from, &mut scratch.sets, steps)?;
+    let groups = report(
+        expr,
+        text,
+        start,
+        end,
+        &mut scratch.plan,
+        &mut scratch.sets,
+        &mut scratch.notes,
+        steps,
+    );
+    Some(Found { start, end, groups })
+}
+
+/// Where the leftmost-longest match that begins at `from` or later begins and ends, without its groups.
+pub fn find_span(
+    expr: &Expr,
+    text: &Text,
+    from: usize,
+    scratch: &mut Scratch,
+    steps: &mut Steps,
+) -> Option<(usize, usize)>
+    requires from { from ≤ length text.now }
+    requires text_fits { length text.now ≤ scratch.old.text }
+    requires expr_fits { length expr.now.nodes ≤ scratch.old.nodes }
+    requires room { steps.old ≤ 2 ^ 100 }
+    ensures scratch { scratch.new ≡ scratch.old }
+    ensures found { IfSome result (λ f. IsFound (tree expr.now) text.now from f.0 f.1) }
+    ensures none { IfNone result (NotFound (tree expr.now) text.now from) }
+    ensures computed { result ≡ found (tree expr.now) text.now from }
+    ensures lies { IfSome result (λ f. (f.0 ≤ f.1) × (f.1 ≤ length text.now)) }
+    ensures grows { steps.old ≤ steps.new }
+    ensures cost { let m = length expr.now.nodes in let n = length text.now in
+        steps.new ≤ steps.old + 64 * m * (n + 1) * (n + 1) }
+    ensures cost_of_none { let m = length expr.now.nodes in let n = length text.now in
+        IfNone result (steps.new ≤ steps.old + 64 * m * (n + 1)) }
+{
+    leftmost(expr, text, from, &mut scratch.sets, steps)
+}
+
+/// Whether any match begins at `from` or later. Its steps are in proportion to the text, whatever the expression.
+pub fn is_match(
+    expr: &Expr,
+    text: &Text,
+    from: usize,
+    scratch: &mut Scratch,
+    steps: &mut Steps,
+) -> bool
+    requires from { from ≤ length text.now }
+    requires text_fits { length text.now ≤ scratch.old.text }
+    requires expr_fits { length expr.now.nodes ≤ scratch.old.nodes }
+    requires room { steps.old ≤ 2 ^ 100 }
+    ensures scratch { scratch.new ≡ scratch.old }
+    ensures matches { IsTrue result ↔ SomeFound (tree expr.now) text.now from }
+    ensures computed { result ≡ is_some (found (tree expr.now) text.now from) }
+    ensures grows { steps.old ≤ steps.new }
+    ensures cost { steps.new ≤ steps.old + 64 * length expr.now.nodes * (length text.now + 1) }
+{
+    let sets = &mut scratch.sets;
+    let begins = how_begins(expr, steps);
+    scan(expr, &begins, text, from, sets, steps).is_some()
+}

@@ -1,0 +1,321 @@
+//! The marks at one place of the text, from those at the place before it.
+//!
+//! A pass goes over the text once, and keeps for each node of an expression whether it begins or ends at the
+//! place that the pass has come to, in a match from one of its starts.
+ghost use Rattle.std.specs.Prelude.{◌≡◌, ℕ, Bool, false, List, ◌+◌, ◌-◌, ◌*◌, ◌^◌, ◌<◌, ◌≤◌, ◌↔◌, ◌&&◌, ◌||◌};
+ghost use Rattle.std.specs.Prelude.{length, slice_index_or, slice_set, slice_get, Some, nat_eq, IsTrue};
+ghost use Rattle.sedre.specs.Arena.{IsPart, IsArena, Written};
+ghost use Rattle.sedmatch.specs.Fits.{FitsNodes, SameMarks};
+ghost use Rattle.sedmatch.specs.Local.{PartsBelow, takes_next, null_of, end_of, enter_parts, takes};
+ghost use Rattle.sedmatch.specs.Reach.{Marked, Below, At, IsStart, Enters, Ends, Entered, SetsFrom, SomeSpan, OpenAt};
+ghost use Rattle.sedmatch.specs.Reach.{TellNull, TellEntered, TellEnded, TellBegun};
+
+use crate::counted::{Marks, Text};
+use crate::scratch::Sets;
+use sedre::{ByteSet, Expr, Node, Steps};
+
+/// The places from which a match may begin, `first` to `last`.
+#[derive(Clone, Copy)]
+pub struct Starts {
+    /// The first of them.
+    pub first: usize,
+    /// The last of them.
+    pub last: usize,
+}
+
+impl Starts {
+    /// Whether the place is one of them.
+    fn has(&self, place: usize) -> bool
+        ensures { IsTrue result ↔ IsStart self.now place }
+    {
+        self.first <= place && place <= self.last
+    }
+}
+
+/// Whether a byte is there and in the set.
+pub fn takes_byte(set: &ByteSet, byte: Option<u8>) -> bool
+    ensures { result ≡ takes byte set.now }
+{
+    match byte {
+        None => false,
+        Some(b) => set.has(b),
+    }
+}
+
+/// Whether a node matches the null string here, given the marks of its parts.
+fn null_here(node: &Node, begin: bool, end: bool, null: &Marks, steps: &mut Steps) -> bool
+    requires inside { PartsBelow (length null.now) node.now }
+    requires room { steps.old < 2 ^ 119 }
+    ensures value { result ≡ null_of begin end (λ c. slice_index_or null.now c false) node.now }
+    ensures grows { steps.old ≤ steps.new }
+    ensures cost { steps.new ≤ steps.old + 2 }
+{
+    match node {
+        Node::Empty => true,
+        Node::Set(_) => false,
+        Node::Begin => begin,
+        Node::End => end,
+        Node::Seq(a, b) => null.get(a.index(), steps) && null.get(b.index(), steps),
+        Node::Alt(a, b) => null.get(a.index(), steps) || null.get(b.index(), steps),
+        Node::Group(_, a) => null.get(a.index(), steps),
+        Node::Star(_, _) => true,
+        Node::Opt(_, _) => true,
+    }
+}
+
+/// Whether a node ends here after at least one byte, given the marks of its parts.
+fn end_here(
+    node: &Node,
+    entered: bool,
+    byte: Option<u8>,
+    null: &Marks,
+    ended: &Marks,
+    steps: &mut Steps,
+) -> bool
+    requires null_inside { PartsBelow (length null.now) node.now }
+    requires ended_inside { PartsBelow (length ended.now) node.now }
+    requires room { steps.old < 2 ^ 119 }
+    ensures value { result ≡ end_of entered byte (λ c. slice_index_or null.now c false) (λ c. slice_index_or ended.now c false) node.now }
+    ensures grows { steps.old ≤ steps.new }
+    ensures cost { steps.new ≤ steps.old + 3 }
+{
+    match node {
+        Node::Empty => false,
+        Node::Set(set) => entered && takes_byte(set, byte),
+        Node::Begin => false,
+        Node::End => false,
+        Node::Seq(a, b) => {
+            ended.get(b.index(), steps)
+                || (ended.get(a.index(), steps) && null.get(b.index(), steps))
+        }
+        Node::Alt(a, b) => ended.get(a.index(), steps) || ended.get(b.index(), steps),
+        Node::Group(_, a) => ended.get(a.index(), steps),
+        Node::Star(a, _) => ended.get(a.index(), steps),
+        Node::Opt(a, _) => ended.get(a.index(), steps),
+    }
+}
+
+/// Marks where the parts of a node begin, given whether it begins here itself.
+fn mark_parts(
+    node: &Node,
+    here: bool,
+    null: &Marks,
+    ended: &Marks,
+    entered: &mut Marks,
+    steps: &mut Steps,
+)
+    requires null_inside { PartsBelow (length null.now) node.now }
+    requires ended_inside { PartsBelow (length ended.now) node.now }
+    requires entered_inside { PartsBelow (length entered.old) node.now }
+    requires room { steps.old < 2 ^ 119 }
+    ensures value { entered.new ≡ enter_parts here (λ c. slice_index_or null.now c false) (λ c. slice_index_or ended.now c false) node.now entered.old }
+    ensures grows { steps.old ≤ steps.new }
+    ensures cost { steps.new ≤ steps.old + 4 }
+{
+    match node {
+        Node::Empty | Node::Set(_) | Node::Begin | Node::End => {}
+        Node::Seq(a, b) => {
+            entered.set(a.index(), here, steps);
+            let next = ended.get(a.index(), steps) || (here && null.get(a.index(), steps));
+            entered.set(b.index(), next, steps);
+        }
+        Node::Alt(a, b) => {
+            entered.set(a.index(), here, steps);
+            entered.set(b.index(), here, steps);
+        }
+        Node::Group(_, a) => entered.set(a.index(), here, steps),
+        Node::Star(a, _) => {
+            let next = here || ended.get(a.index(), steps);
+            entered.set(a.index(), next, steps);
+        }
+        Node::Opt(a, _) => entered.set(a.index(), here, steps),
+    }
+}
+
+/// From the lowest node up to `root`: which nodes match the null string at this place, and which end here.
+/// `byte` is the one before the place.
+fn ascend(
+    expr: &Expr,
+    root: usize,
+    text: &Text,
+    place: usize,
+    byte: Option<u8>,
+    sets: &mut Sets,
+    steps: &mut Steps,
+)
+    requires root { root < length expr.now.nodes }
+    requires few { length expr.now.nodes ≤ 65536 }
+    requires fits { FitsNodes (length expr.now.nodes) sets.old }
+    requires byte { (i : ℕ) → i + 1 ≡ place → slice_get text.now i ≡ byte }
+    requires room { steps.old < 2 ^ 118 }
+    ensures marks { SameMarks sets.old sets.new }
+    ensures kept { sets.new.entered ≡ sets.old.entered }
+    ensures null { TellNull expr.now.nodes text.now root place sets.new.null }
+    ensures ended { (s : Starts) → TellEntered expr.now.nodes text.now root s place sets.old.entered →
+        TellEnded expr.now.nodes text.now root s place sets.new.ended }
+    ensures grows { steps.old ≤ steps.new }
+    ensures cost { steps.new ≤ steps.old + 9 * (root + 1) }
+{
+    let begin = place == 0;
+    let end = place == text.len();
+    let _count = expr.nodes();
+    for x in 0..root + 1 {
+        let node = expr.look(expr.id(x), steps);
+        let empty = null_here(&node, begin, end, &sets.null, steps);
+        sets.null.set(x, empty, steps);
+        let before = sets.entered.get(x, steps);
+        let here = end_here(&node, before, byte, &sets.null, &sets.ended, steps);
+        sets.ended.set(x, here, steps);
+    }
+}
+
+/// Whether the node takes the byte that comes.
+fn takes_next(node: &Node, next: Option<u8>) -> bool
+    ensures { result ≡ takes_next next node.now }
+{
+    match node {
+        Node::Set(set) => takes_byte(set, next),
+        _ => false,
+    }
+}
+
+/// Whether a node that takes the byte that comes begins here: this one, or one seen before.
+fn opens(more: bool, here: bool, node: &Node, next: Option<u8>) -> bool
+    ensures { result ≡ (more || (here && takes_next next node.now)) }
+{
+    more || (here && takes_next(node, next))
+}
+
+/// From `root` down: which nodes begin here in a match of it, and whether one of them takes the byte that comes.
+/// `first` says whether the root itself begins here.
+fn descend(
+    expr: &Expr,
+    root: usize,
+    first: bool,
+    next: Option<u8>,
+    sets: &mut Sets,
+    steps: &mut Steps,
+) -> bool
+    requires root { root < length expr.now.nodes }
+    requires few { length expr.now.nodes ≤ 65536 }
+    requires fits { FitsNodes (length expr.now.nodes) sets.old }
+    requires room { steps.old < 2 ^ 118 }
+    ensures marks { SameMarks sets.old sets.new }
+    ensures kept_null { sets.new.null ≡ sets.old.null }
+    ensures kept_ended { sets.new.ended ≡ sets.old.ended }
+    ensures entered { (w : List ℕ) (s : Starts) (place : ℕ) →
+        TellNull expr.now.nodes w root place sets.old.null →
+        TellEnded expr.now.nodes w root s place sets.old.ended →
+        (IsTrue first ↔ IsStart s place) →
+        TellEntered expr.now.nodes w root s place sets.old.entered →
+        TellBegun expr.now.nodes w root s place sets.new.entered }
+    ensures opens { (w : List ℕ) (s : Starts) (place : ℕ) →
+        TellNull expr.now.nodes w root place sets.old.null →
+        TellEnded expr.now.nodes w root s place sets.old.ended →
+        (IsTrue first ↔ IsStart s place) →
+        TellEntered expr.now.nodes w root s place sets.old.entered →
+        SetsFrom expr.now.nodes w root s place 0 next result }
+    ensures grows { steps.old ≤ steps.new }
+    ensures cost { steps.new ≤ steps.old + 6 * (root + 1) + 1 }
+{
+    let _count = expr.nodes();
+    sets.entered.set(root, first, steps);
+    let mut more = false;
+    for x in (0..root + 1).rev() {
+        let node = expr.look(expr.id(x), steps);
+        let here = sets.entered.get(x, steps);
+        more = opens(more, here, &node, next);
+        mark_parts(
+            &node,
+            here,
+            &sets.null,
+            &sets.ended,
+            &mut sets.entered,
+            steps,
+        );
+    }
+    more
+}
+
+/// Whether the root ends here, or matches the null string where it begins.
+fn ends_here(root: usize, first: bool, null: &Marks, ended: &Marks, steps: &mut Steps) -> bool
+    requires null_inside { root < length null.now }
+    requires ended_inside { root < length ended.now }
+    requires room { steps.old < 2 ^ 119 }
+    ensures value { result ≡ (slice_index_or ended.now root false || (first && slice_index_or null.now root false)) }
+    ensures grows { steps.old ≤ steps.new }
+    ensures cost { steps.new ≤ steps.old + 2 }
+{
+    ended.get(root, steps) || (first && null.get(root, steps))
+}
+
+/// The byte before the place, if there is one.
+fn byte_before(text: &Text, place: usize, steps: &mut Steps) -> Option<u8>
+    requires place { place ≤ length text.now }
+    requires room { steps.old < 2 ^ 119 }
+    ensures byte { (i : ℕ) → i + 1 ≡ place → slice_get text.now i ≡ result }
+    ensures grows { steps.old ≤ steps.new }
+    ensures cost { steps.new ≤ steps.old + 1 }
+{
+    if place == 0 {
+        None
+    } else {
+        Some(text.byte(place - 1, steps))
+    }
+}
+
+/// The byte at the place, if there is one.
+fn byte_after(text: &Text, place: usize, steps: &mut Steps) -> Option<u8>
+    requires room { steps.old < 2 ^ 119 }
+    ensures byte { slice_get text.now place ≡ result }
+    ensures grows { steps.old ≤ steps.new }
+    ensures cost { steps.new ≤ steps.old + 1 }
+{
+    if place < text.len() {
+        Some(text.byte(place, steps))
+    } else {
+        None
+    }
+}
+
+/// What a pass tells at a place.
+#[derive(Clone, Copy)]
+pub struct Here {
+    /// A match from one of its starts ends here.
+    pub matched: bool,
+    /// One that began here or before may end later.
+    pub more: bool,
+}
+
+/// Brings the marks of a pass to the next place, and tells whether a match ends there or may end later.
+pub fn advance(
+    expr: &Expr,
+    root: usize,
+    text: &Text,
+    starts: Starts,
+    place: usize,
+    sets: &mut Sets,
+    steps: &mut Steps,
+) -> Here
+    requires root { root < length expr.now.nodes }
+    requires few { length expr.now.nodes ≤ 65536 }
+    requires place { place ≤ length text.now }
+    requires fits { FitsNodes (length expr.now.nodes) sets.old }
+    requires entered { TellEntered expr.now.nodes text.now root starts place sets.old.entered }
+    requires room { steps.old < 2 ^ 117 }
+    ensures marks { SameMarks sets.old sets.new }
+    ensures entered { TellBegun expr.now.nodes text.now root starts place sets.new.entered }
+    ensures spans { IsTrue result.matched ↔ SomeSpan expr.now.nodes text.now root starts place }
+    ensures opens { OpenAt expr.now.nodes text.now root starts place result.more }
+    ensures grows { steps.old ≤ steps.new }
+    ensures cost { steps.new ≤ steps.old + 15 * length expr.now.nodes + 5 }
+{
+    let _count = expr.nodes();
+    let byte = byte_before(text, place, steps);
+    ascend(expr, root, text, place, byte, sets, steps);
+    let first = starts.has(place);
+    let next = byte_after(text, place, steps);
+    let more = descend(expr, root, first, next, sets, steps);
+    let matched = ends_here(root, first, &sets.null, &sets.ended, steps);
+    Here { matched, more }
+}

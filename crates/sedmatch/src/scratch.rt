@@ -1,0 +1,132 @@
+//! The room that a search works in, made once: marks and numbers alone.
+ghost use Rattle.std.specs.Prelude.{◌≡◌, ℕ, ◌*◌, ◌+◌, ◌^◌, ◌<◌, ◌≤◌, IfOk, [], vec_len, vec_capacity, length};
+ghost use Rattle.std.specs.Prelude.{slice_index};
+ghost use Rattle.sedmatch.specs.Fits.{FitsNodes, FitsPlaces, FitsWork};
+
+use crate::counted::Marks;
+use std::alloc::{AllocError, Global};
+use std::marker::Model;
+
+/// Marks for the nodes of an expression, at the place that a pass over the text has come to.
+#[derive(Drop)]
+pub struct Sets {
+    /// The node matches the null string here.
+    pub null: Marks,
+    /// The node begins here, in a match from one of the pass's starts.
+    pub entered: Marks,
+    /// The node, once entered, ends here after at least one byte.
+    pub ended: Marks,
+}
+
+/// What is noted of the places of the text while a node is cut into its parts.
+#[derive(Drop)]
+pub struct Notes {
+    /// A part can end there, or the rest can begin there.
+    pub places: Marks,
+    /// Where the copy that begins there ends.
+    pub next: Vec<usize>,
+}
+
+impl Notes {
+    /// Where the copy that begins at the place ends.
+    pub fn copy_end(&self, place: usize) -> usize
+        requires { place < vec_len self.now.next }
+        ensures { result ≡ slice_index self.now.next.items place }
+    {
+        self.next[place]
+    }
+}
+
+/// One thing that is still to do while the groups of a match are decided.
+#[derive(Clone, Copy)]
+pub enum Task {
+    /// Decide the groups inside a node that matches a span: its index, the span's start and end.
+    Enter(usize, usize, usize),
+    /// Give a group its span: its number, the span's start and end.
+    Close(usize, usize, usize),
+}
+
+/// What is still to do, the next one last.
+#[derive(Drop)]
+pub struct Plan {
+    /// While the groups are decided.
+    pub tasks: Vec<Task>,
+    /// While groups are forgotten: the nodes still to look at.
+    pub stack: Vec<usize>,
+}
+
+/// The room for searches: `find` and its like take no memory besides.
+#[derive(Drop)]
+pub struct Scratch {
+    pub(crate) sets: Sets,
+    pub(crate) notes: Notes,
+    pub(crate) plan: Plan,
+    max_text: usize,
+    max_nodes: usize,
+}
+
+impl Model for Scratch {
+    ghost use Rattle.sedmatch.specs.Room.{Room};
+
+    ghost Value = { Room };
+
+    ghost use Rattle.sedmatch.specs.Fits.{HasRoom};
+
+    ghost view = { λ s. record { text = s.max_text; nodes = s.max_nodes } };
+
+    ghost invariant = { λ s. HasRoom s.max_text s.max_nodes s.sets s.notes s.plan };
+}
+
+impl Scratch {
+    /// Room for texts of at most `max_text` bytes and expressions of at most `max_nodes` nodes.
+    /// Memory is wanting only where a request was refused.
+    pub fn new(alloc: Global, max_text: usize, max_nodes: usize) -> Result<Scratch, AllocError>
+        requires text { max_text ≤ 2 ^ 30 }
+        requires some_node { 1 ≤ max_nodes }
+        requires nodes { max_nodes ≤ 65536 }
+        ensures { IfOk result (λ s. (s.text ≡ max_text) × (s.nodes ≡ max_nodes)) }
+    {
+        let sets = new_sets(alloc, max_nodes)?;
+        let notes = new_notes(alloc, max_text + 1)?;
+        let plan = new_plan(alloc, max_nodes)?;
+        Ok(Scratch {
+            sets,
+            notes,
+            plan,
+            max_text,
+            max_nodes,
+        })
+    }
+}
+
+/// Marks for so many nodes.
+fn new_sets(alloc: Global, nodes: usize) -> Result<Sets, AllocError>
+    ensures { IfOk result (λ s. FitsNodes nodes s) }
+{
+    Ok(Sets {
+        null: Marks::new(alloc, nodes)?,
+        entered: Marks::new(alloc, nodes)?,
+        ended: Marks::new(alloc, nodes)?,
+    })
+}
+
+/// Notes for so many places.
+fn new_notes(alloc: Global, places: usize) -> Result<Notes, AllocError>
+    ensures { IfOk result (λ n. FitsPlaces places n) }
+{
+    Ok(Notes {
+        places: Marks::new(alloc, places)?,
+        next: vec![in alloc; 0; places]?,
+    })
+}
+
+/// Empty lists with room for what an expression of so many nodes gives to do.
+fn new_plan(alloc: Global, nodes: usize) -> Result<Plan, AllocError>
+    requires { nodes ≤ 65536 }
+    ensures { IfOk result (λ p. FitsWork nodes p) }
+{
+    Ok(Plan {
+        tasks: Vec::with_capacity(alloc, 2 * nodes + 1)?,
+        stack: Vec::with_capacity(alloc, nodes + 1)?,
+    })
+}

@@ -1,0 +1,120 @@
+-- The end of a text, and the steps before it.
+use Rattle.std.proofs.Common.{◌≡◌, ◌≢◌, ℕ, ◌+◌, ◌<◌, ◌≤◌, ◌⊎◌, inl, inr, length, get_or, List, [], ◌∷◌, true, Option, Result, Ok, Err, refl, ap, subst, sym, ◌∙◌, IfOk, IfErr, OnOk, arith, append-nil}
+use Rattle.std.specs.Result.{is_ok}
+use Rattle.sedre.specs.declared.types.Kind.{Kind}
+use Rattle.sedre.specs.declared.types.Reason.{Reason}
+use Rattle.sedre.specs.declared.types.ExprFault.{ExprFault}
+use Rattle.sedre.specs.declared.types.TheConstants.{NO_MEMORY}
+use Rattle.sedre.specs.declared.parts.Part.{Part}
+use Rattle.sedre.specs.declared.stack.Stack.{Stack}
+use Rattle.sedre.specs.declared.syntax.Here.TheVariants.{Is, Ends}
+use Rattle.sedre.specs.declared.syntax.Item.{Item}
+use Rattle.sedre.specs.declared.syntax.Item.TheVariants.{Byte, Open, Close, Bar, Repeat, AtBegin, AtEnd}
+use Rattle.sedre.specs.Items.{item_at}
+use Rattle.sedre.specs.Tree.{Tree, size, depth}
+use Rattle.sedre.specs.Arena.{Written, tree, IsExpr}
+use Rattle.sedre.specs.Grammar.{ReadsAs, ExprFaulty}
+use Rattle.sedre.specs.Stacks.{State, CanTake, whole, Stored, postorder, written, part_of}
+use Rattle.sedre.specs.Finished.{Numbered, IsFinished, IsOverLimit}
+use Rattle.sedre.proofs.Written.{length-postorder}
+use Rattle.sedre.proofs.Kept.{fitting_all}
+use Rattle.sedre.proofs.Holding.{whole_tree, whole_expr}
+use Rattle.sedre.proofs.Numbers.{of_alternatives, of_alternation}
+use Rattle.sedre.proofs.Reading.{Reading, reading_whole, reading_limits}
+use Rattle.sedre.proofs.Repeating.{repeat_follows}
+use Rattle.sedre.proofs.Exclusive.{no_fault}
+
+-- what holds where a call succeeded
+pub on_ok : {A E P : Type 0} (r : Result A E) → is_ok r ≡ true → OnOk r P → P
+on_ok (Ok x) h p = p
+on_ok (Err e) h p = absurd cc
+
+-- another fact for the value, and for the error
+pub if_ok : {A E : Type 0} (P Q : A → Type 0) (r : Result A E) → ((x : A) → P x → Q x) → IfOk r P → IfOk r Q
+if_ok P Q (Ok x) f p = f x p
+if_ok P Q (Err e) f p = tt
+
+pub if_err : {A E : Type 0} (P Q : E → Type 0) (r : Result A E) → ((e : E) → P e → Q e) → IfErr r P → IfErr r Q
+if_err P Q (Ok x) f p = tt
+if_err P Q (Err e) f p = f e p
+
+pub ok_on : {A E : Type 0} (P : A → Type 0) (Q : Type 0) (r : Result A E) → ((x : A) → P x → Q) → IfOk r P → OnOk r Q
+ok_on P Q (Ok x) f p = f x p
+ok_on P Q (Err e) f p = tt
+
+-- a list of length 0
+pub no_length : {A : Type 0} (ls : List A) → length ls ≡ 0 → ls ≡ []
+no_length [] h = refl
+no_length (l ∷ ls) h = absurd (omega (arith, h))
+
+-- the one tree on the stack
+pub one_part : (limit : ℕ) (s : Stack) (t : Tree) (p : Part) → Stored limit s (t ∷ []) → p ≡ get_or s.parts.items 0 p → p ≡ part_of limit (size t) t
+one_part limit s t p st e = e ∙ ap (λ (ps : List Part). get_or ps 0 p) st.parts_are ∙ ap (λ (n : ℕ). part_of limit n t) (let h : 0 + size t ≡ size t = omega arith in h)
+
+pub one_tree : (limit : ℕ) (s : Stack) (t : Tree) → Stored limit s (t ∷ []) → size t < limit → s.nodes ≡ postorder 0 t
+one_tree limit s t st h = st.nodes_are ∙ ap (written 0) (fitting_all limit 0 (t ∷ []) (omega (arith, h))) ∙ append-nil (postorder 0 t)
+
+pub small_tree : (limit : ℕ) (s : Stack) (t : Tree) (p : Part) → Stored limit s (t ∷ []) → p ≡ get_or s.parts.items 0 p → p.end < s.limit → size t < limit
+small_tree limit s t p st e h = omega (arith, h, st.limit_is, ap (λ (q : Part). q.end) (one_part limit s t p st e))
+
+pub shallow_tree : (limit : ℕ) (s : Stack) (t : Tree) (p : Part) → Stored limit s (t ∷ []) → p ≡ get_or s.parts.items 0 p → p.depth ≤ 600 → depth t ≤ 600
+shallow_tree limit s t p st e h = omega (arith, h, ap (λ (q : Part). q.depth) (one_part limit s t p st e))
+
+pub finished_expr : (limit : ℕ) (s : Stack) (t : Tree) (p : Part) (groups opened : ℕ) → Stored limit s (t ∷ []) → p ≡ get_or s.parts.items 0 p → p.end < s.limit → opened ≡ groups → Numbered groups t → IsExpr s.nodes opened
+finished_expr limit s t p groups opened st e h eg g =
+    subst (λ (n : ℕ). IsExpr s.nodes n) (sym eg) (whole_expr t groups s.nodes (one_tree limit s t st (small_tree limit s t p st e h)) g)
+
+pub finished : (limit : ℕ) (s : State) (k : Stack) (p : Part) (e : Written) (opened : ℕ) → Stored limit k (whole s.top ∷ []) → p ≡ get_or k.parts.items 0 p → p.end < k.limit → p.depth ≤ 600 → opened ≡ s.opened →
+    e ≡ record { nodes = k.nodes; groups = opened } → IsFinished s limit e
+finished limit s k p e opened st read small shallow eg is =
+    let size_is : size (whole s.top) < limit = small_tree limit k (whole s.top) p st read small in
+    let nodes : k.nodes ≡ postorder 0 (whole s.top) = one_tree limit k (whole s.top) st size_is in
+    let same : e.nodes ≡ k.nodes = ap (λ (x : Written). x.nodes) is in
+    record {
+      tree_is = ap tree is ∙ whole_tree (whole s.top) k.nodes nodes;
+      groups = ap (λ (x : Written). x.groups) is ∙ eg;
+      count = ap length (same ∙ nodes) ∙ length-postorder 0 (whole s.top);
+      shallow = shallow_tree limit k (whole s.top) p st read shallow;
+      small = size_is;
+    }
+
+module _ (kind : Kind) (delimiter : Option ℕ) (text : List ℕ) where
+  pub can_take : {before : Option Item} {at next : ℕ} (i : Item) {s : State} → Reading kind delimiter text before at s → item_at kind delimiter text before at ≡ Is i next →
+      (i ≡ Close → s.below ≢ []) → CanTake i s
+  can_take (Byte members) r f closes = tt
+  can_take Open r f closes = tt
+  can_take Close r f closes = closes refl
+  can_take Bar r f closes = tt
+  can_take {before = before} {at = at} (Repeat least most) r f closes = let h = repeat_follows kind delimiter text before at f in (r.ready h.0, h.1)
+  can_take AtBegin r f closes = tt
+  can_take AtEnd r f closes = tt
+
+  -- what the whole text reads as has its groups numbered
+  pub reads_numbered : {e : Tree} {groups : ℕ} → ReadsAs kind delimiter text e groups → Numbered groups e
+  reads_numbered {e = e} {groups = groups} r = subst (Numbered groups) r.is (of_alternation groups r.alternatives (of_alternatives r.grammar).1)
+
+  pub finished_reads : {before : Option Item} {at : ℕ} (s : State) (limit : ℕ) (e : Written) → Reading kind delimiter text before at s → item_at kind delimiter text before at ≡ Ends → s.below ≡ [] →
+      IsFinished s limit e → ReadsAs kind delimiter text (tree e) e.groups
+  finished_reads s limit e r f none d =
+      let R : Tree → ℕ → Type 0 = λ t g. ReadsAs kind delimiter text t g in
+      subst (λ (g : ℕ). R (tree e) g) (sym d.groups) (subst (λ (t : Tree). R t s.opened) (sym d.tree_is) (reading_whole kind delimiter text r f none))
+
+  pub finished_no_fault : {before : Option Item} {at : ℕ} (s : State) (max_nodes : ℕ) (e : Written) → Reading kind delimiter text before at s → item_at kind delimiter text before at ≡ Ends → s.below ≡ [] →
+      IsFinished s (max_nodes + 1) e → (place : ℕ) (reason : Reason) → ExprFaulty kind delimiter text max_nodes place reason → ⊥
+  finished_no_fault s max_nodes e r f none d place reason = no_fault kind delimiter text (reading_whole kind delimiter text r f none) d.shallow (omega (arith, d.small))
+
+  pub over_limit : {before : Option Item} {at : ℕ} (s : State) (max_nodes : ℕ) (fault : ExprFault) → Reading kind delimiter text before at s → item_at kind delimiter text before at ≡ Ends → s.below ≡ [] →
+      IsOverLimit s (max_nodes + 1) (length text) fault ⊎ (fault ≡ NO_MEMORY) → ExprFaulty kind delimiter text max_nodes fault.place fault.reason ⊎ (fault ≡ NO_MEMORY)
+  over_limit s max_nodes fault r f none (inr m) = inr m
+  over_limit s max_nodes fault r f none (inl (inl d)) =
+      let F : ExprFault → Type 0 = λ x. ExprFaulty kind delimiter text max_nodes x.place x.reason in
+      inl (subst F (sym d.0) ((reading_limits kind delimiter text max_nodes r f none).0 d.1))
+  over_limit s max_nodes fault r f none (inl (inr d)) =
+      let F : ExprFault → Type 0 = λ x. ExprFaulty kind delimiter text max_nodes x.place x.reason in
+      inl (subst F (sym d.0) ((reading_limits kind delimiter text max_nodes r f none).1 d.1 (omega (arith, d.2))))
+
+-- a fault at the end
+pub limit_within : (s : State) (limit len : ℕ) (fault : ExprFault) → IsOverLimit s limit len fault ⊎ (fault ≡ NO_MEMORY) → fault.place ≤ len
+limit_within s limit len fault (inr m) = omega (arith, ap (λ (x : ExprFault). x.place) m)
+limit_within s limit len fault (inl (inl d)) = omega (arith, ap (λ (x : ExprFault). x.place) d.0)
+limit_within s limit len fault (inl (inr d)) = omega (arith, ap (λ (x : ExprFault). x.place) d.0)

@@ -1,0 +1,191 @@
+-- The trees at the nodes of an expression that is written out.
+use Rattle.std.proofs.Common.{◌≡◌, ℕ, zero, suc, ◌+◌, ◌-◌, ◌<◌, ◌≤◌, inl, inr, length, List, [], ◌∷◌, ◌++◌, Some, refl, ap, subst, ◌∙◌, sym, append_assoc, append-nil, arith, length-append}
+use Rattle.std.specs.Prelude.{slice_get}
+use Rattle.std.proofs.lemmas.Bool.Decides.{leb_tells}
+use Rattle.sedre.specs.declared.types.Node.{Node}
+use Rattle.sedre.specs.declared.types.Node.TheVariants as node
+use Rattle.sedre.specs.Tree.{Tree, empty, set, begin, end, seq, alt, group, star, opt, size}
+use Rattle.sedre.specs.Arena.{IsArena, tree_of, tree_at, IsExpr}
+use Rattle.sedre.specs.Packed.{id}
+use Rattle.sedre.specs.Finished.{Numbered}
+use Rattle.sedre.specs.Stacks.{postorder}
+use Rattle.sedre.proofs.Written.{size_positive, length-postorder}
+use Rattle.sedre.proofs.Tables.{arena_of}
+use Rattle.sedre.proofs.TreeLemmas.{tree_at-node}
+
+-- the nodes from an index on are those of a tree
+abbrev pub Holds : List Node → ℕ → Tree → Type 0
+Holds ns base empty = slice_get ns base ≡ Some node.Empty
+Holds ns base (set members) = slice_get ns base ≡ Some (node.Set members)
+Holds ns base begin = slice_get ns base ≡ Some node.Begin
+Holds ns base end = slice_get ns base ≡ Some node.End
+Holds ns base (seq a b) = Holds ns base a × Holds ns (base + size a) b × (slice_get ns (base + size a + size b) ≡ Some (node.Seq (id (base + size a - 1)) (id (base + size a + size b - 1))))
+Holds ns base (alt a b) = Holds ns base a × Holds ns (base + size a) b × (slice_get ns (base + size a + size b) ≡ Some (node.Alt (id (base + size a - 1)) (id (base + size a + size b - 1))))
+Holds ns base (group k a) = Holds ns base a × (slice_get ns (base + size a) ≡ Some (node.Group k (id (base + size a - 1))))
+Holds ns base (star a first) = Holds ns base a × (slice_get ns (base + size a) ≡ Some (node.Star (id (base + size a - 1)) first))
+Holds ns base (opt a first) = Holds ns base a × (slice_get ns (base + size a) ≡ Some (node.Opt (id (base + size a - 1)) first))
+
+get_seam : (front : List Node) (n : Node) (back : List Node) → slice_get (front ++ n ∷ back) (length front) ≡ Some n
+get_seam [] n back = refl
+get_seam (m ∷ front) n back = get_seam front n back
+
+at_seam : (ns front back : List Node) (n : Node) (i : ℕ) → ns ≡ front ++ n ∷ back → length front ≡ i → slice_get ns i ≡ Some n
+at_seam ns front back n i e h = ap (λ (x : List Node). slice_get x i) e ∙ ap (λ (k : ℕ). slice_get (front ++ n ∷ back) k) (sym h) ∙ get_seam front n back
+
+-- one part and its node
+split_one : (front own back : List Node) (n : Node) → front ++ ((own ++ n ∷ []) ++ back) ≡ front ++ (own ++ n ∷ back)
+split_one front own back n = ap (λ (x : List Node). front ++ x) (append_assoc own (n ∷ []) back)
+
+holds_one : (ns front back : List Node) (base : ℕ) (a : Tree) (n : Node) → ns ≡ front ++ ((postorder base a ++ n ∷ []) ++ back) → length front ≡ base → slice_get ns (base + size a) ≡ Some n
+holds_one ns front back base a n e h =
+    at_seam ns (front ++ postorder base a) back n (base + size a) (e ∙ split_one front (postorder base a) back n ∙ sym (append_assoc front (postorder base a) (n ∷ back)))
+    (omega (arith, h, length-append front (postorder base a), length-postorder base a))
+
+holds_two : (ns front back : List Node) (base : ℕ) (a b : Tree) (n : Node) → ns ≡ front ++ (((postorder base a ++ postorder (base + size a) b) ++ n ∷ []) ++ back) → length front ≡ base →
+    (ns ≡ front ++ (postorder base a ++ (postorder (base + size a) b ++ n ∷ back))) × (ns ≡ (front ++ postorder base a) ++ (postorder (base + size a) b ++ n ∷ back))
+    × (length (front ++ postorder base a) ≡ base + size a) × (slice_get ns (base + size a + size b) ≡ Some n)
+holds_two ns front back base a b n e h =
+    let p : List Node = postorder base a in
+    let q : List Node = postorder (base + size a) b in
+    let whole : ns ≡ front ++ (p ++ (q ++ n ∷ back)) = e ∙ split_one front (p ++ q) back n ∙ ap (λ (x : List Node). front ++ x) (append_assoc p q (n ∷ back)) in
+    let other : ns ≡ (front ++ p) ++ (q ++ n ∷ back) = whole ∙ sym (append_assoc front p (q ++ n ∷ back)) in
+    let len : length (front ++ p) ≡ base + size a = omega (arith, h, length-append front p, length-postorder base a) in (
+      whole,
+      other,
+      len,
+      at_seam ns ((front ++ p) ++ q) back n (base + size a + size b) (other ∙ sym (append_assoc (front ++ p) q (n ∷ back)))
+          (omega (arith, len, length-append (front ++ p) q, length-postorder (base + size a) b)),
+    )
+
+pub holds_of : (t : Tree) (ns front back : List Node) (base : ℕ) → ns ≡ front ++ (postorder base t ++ back) → length front ≡ base → Holds ns base t
+holds_of empty ns front back base e h = at_seam ns front back node.Empty base e h
+holds_of (set members) ns front back base e h = at_seam ns front back (node.Set members) base e h
+holds_of begin ns front back base e h = at_seam ns front back node.Begin base e h
+holds_of end ns front back base e h = at_seam ns front back node.End base e h
+holds_of (seq a b) ns front back base e h =
+    let n : Node = node.Seq (id (base + size a - 1)) (id (base + size a + size b - 1)) in
+    let r = holds_two ns front back base a b n e h in
+    (holds_of a ns front (postorder (base + size a) b ++ n ∷ back) base r.0 h, holds_of b ns (front ++ postorder base a) (n ∷ back) (base + size a) r.1 r.2, r.3)
+holds_of (alt a b) ns front back base e h =
+    let n : Node = node.Alt (id (base + size a - 1)) (id (base + size a + size b - 1)) in
+    let r = holds_two ns front back base a b n e h in
+    (holds_of a ns front (postorder (base + size a) b ++ n ∷ back) base r.0 h, holds_of b ns (front ++ postorder base a) (n ∷ back) (base + size a) r.1 r.2, r.3)
+holds_of (group k a) ns front back base e h =
+    let n : Node = node.Group k (id (base + size a - 1)) in
+    (holds_of a ns front (n ∷ back) base (e ∙ split_one front (postorder base a) back n) h, holds_one ns front back base a n e h)
+holds_of (star a first) ns front back base e h =
+    let n : Node = node.Star (id (base + size a - 1)) first in
+    (holds_of a ns front (n ∷ back) base (e ∙ split_one front (postorder base a) back n) h, holds_one ns front back base a n e h)
+holds_of (opt a first) ns front back base e h =
+    let n : Node = node.Opt (id (base + size a - 1)) first in
+    (holds_of a ns front (n ∷ back) base (e ∙ split_one front (postorder base a) back n) h, holds_one ns front back base a n e h)
+
+module _ (ns : List Node) (arena : IsArena ns) where
+  root_leaf : (base : ℕ) (t : Tree) (n : Node) → size t ≡ 1 → slice_get ns base ≡ Some n → tree_of (tree_at ns) n ≡ t → tree_at ns (base + size t - 1) ≡ t
+  root_leaf base t n s f e = ap (tree_at ns) (let i : base + size t - 1 ≡ base = omega (arith, s) in i) ∙ tree_at-node ns base n arena f ∙ e
+
+  root_over : (base : ℕ) (a t : Tree) (n : Node) → size t ≡ 1 + size a → slice_get ns (base + size a) ≡ Some n → tree_of (tree_at ns) n ≡ t → tree_at ns (base + size t - 1) ≡ t
+  root_over base a t n s f e = ap (tree_at ns) (let i : base + size t - 1 ≡ base + size a = omega (arith, s) in i) ∙ tree_at-node ns (base + size a) n arena f ∙ e
+
+  root_two : (base : ℕ) (a b t : Tree) (n : Node) → size t ≡ 1 + size a + size b → slice_get ns (base + size a + size b) ≡ Some n → tree_of (tree_at ns) n ≡ t → tree_at ns (base + size t - 1) ≡ t
+  root_two base a b t n s f e = ap (tree_at ns) (let i : base + size t - 1 ≡ base + size a + size b = omega (arith, s) in i) ∙ tree_at-node ns (base + size a + size b) n arena f ∙ e
+
+  -- the tree at its last node
+  pub root_is : (t : Tree) (base : ℕ) → Holds ns base t → tree_at ns (base + size t - 1) ≡ t
+  root_is empty base h = root_leaf base empty node.Empty refl h refl
+  root_is (set members) base h = root_leaf base (set members) (node.Set members) refl h refl
+  root_is begin base h = root_leaf base begin node.Begin refl h refl
+  root_is end base h = root_leaf base end node.End refl h refl
+  root_is (seq a b) base h = root_two base a b (seq a b) _ refl h.2 (ap (λ (x : Tree). seq x (tree_at ns (base + size a + size b - 1))) (root_is a base h.0) ∙ ap (λ (x : Tree). seq a x) (root_is b (base + size a) h.1))
+  root_is (alt a b) base h = root_two base a b (alt a b) _ refl h.2 (ap (λ (x : Tree). alt x (tree_at ns (base + size a + size b - 1))) (root_is a base h.0) ∙ ap (λ (x : Tree). alt a x) (root_is b (base + size a) h.1))
+  root_is (group k a) base h = root_over base a (group k a) _ refl h.1 (ap (λ (x : Tree). group k x) (root_is a base h.0))
+  root_is (star a first) base h = root_over base a (star a first) _ refl h.1 (ap (λ (x : Tree). star x first) (root_is a base h.0))
+  root_is (opt a first) base h = root_over base a (opt a first) _ refl h.1 (ap (λ (x : Tree). opt x first) (root_is a base h.0))
+
+  fits_root : (t : Tree) (base x : ℕ) → Holds ns base t → x ≡ base + size t - 1 → size (tree_at ns x) + base ≤ x + 1
+  fits_root t base x h e = omega (arith, e, size_positive t, ap (λ (n : ℕ). size (tree_at ns n)) e, ap size (root_is t base h))
+
+  two_fit : (a b t : Tree) (base x : ℕ) → size t ≡ 1 + size a + size b → Holds ns base t → (x < base + size a → size (tree_at ns x) + base ≤ x + 1) → (base + size a ≤ x → x < base + size a + size b → size (tree_at ns x) + (base + size a) ≤ x + 1) →
+      x < base + size t → size (tree_at ns x) + base ≤ x + 1
+  two_fit a b t base x s h left right hi = elim (leb_tells (base + size a) x) [
+    | inr w ↦ left w.1
+    | inl w ↦ elim (leb_tells (base + size a + size b) x) [
+      | inr v ↦ omega (arith, right w.1 v.1)
+      | inl v ↦ fits_root t base x h (omega (arith, v.1, hi, s))
+    ]
+  ]
+
+  one_fits : (a t : Tree) (base x : ℕ) → size t ≡ 1 + size a → Holds ns base t → (x < base + size a → size (tree_at ns x) + base ≤ x + 1) → x < base + size t → size (tree_at ns x) + base ≤ x + 1
+  one_fits a t base x s h inner hi = elim (leb_tells (base + size a) x) [
+    | inr w ↦ inner w.1
+    | inl w ↦ fits_root t base x h (omega (arith, w.1, hi, s))
+  ]
+
+  -- the trees at its nodes are no larger than the nodes up to there
+  pub sizes_fit : (t : Tree) (base x : ℕ) → Holds ns base t → base ≤ x → x < base + size t → size (tree_at ns x) + base ≤ x + 1
+  sizes_fit empty base x h lo hi = fits_root empty base x h (omega (arith, lo, hi))
+  sizes_fit (set members) base x h lo hi = fits_root (set members) base x h (omega (arith, lo, hi))
+  sizes_fit begin base x h lo hi = fits_root begin base x h (omega (arith, lo, hi))
+  sizes_fit end base x h lo hi = fits_root end base x h (omega (arith, lo, hi))
+  sizes_fit (seq a b) base x h lo hi = two_fit a b (seq a b) base x refl h (λ g. sizes_fit a base x h.0 lo g) (λ f g. sizes_fit b (base + size a) x h.1 f g) hi
+  sizes_fit (alt a b) base x h lo hi = two_fit a b (alt a b) base x refl h (λ g. sizes_fit a base x h.0 lo g) (λ f g. sizes_fit b (base + size a) x h.1 f g) hi
+  sizes_fit (group k a) base x h lo hi = one_fits a (group k a) base x refl h (λ g. sizes_fit a base x h.0 lo g) hi
+  sizes_fit (star a first) base x h lo hi = one_fits a (star a first) base x refl h (λ g. sizes_fit a base x h.0 lo g) hi
+  sizes_fit (opt a first) base x h lo hi = one_fits a (opt a first) base x refl h (λ g. sizes_fit a base x h.0 lo g) hi
+
+-- ---- the numbers of groups
+
+abbrev NumberedNode : ℕ → Node → Type 0
+NumberedNode most node.Empty = Unit {0}
+NumberedNode most (node.Set s) = Unit {0}
+NumberedNode most node.Begin = Unit {0}
+NumberedNode most node.End = Unit {0}
+NumberedNode most (node.Seq a b) = Unit {0}
+NumberedNode most (node.Alt a b) = Unit {0}
+NumberedNode most (node.Group k a) = (1 ≤ k) × (k ≤ most)
+NumberedNode most (node.Star a first) = Unit {0}
+NumberedNode most (node.Opt a first) = Unit {0}
+
+abbrev AllNumbered : ℕ → List Node → Type 0
+AllNumbered most [] = Unit {0}
+AllNumbered most (n ∷ ns) = NumberedNode most n × AllNumbered most ns
+
+all-append : (most : ℕ) (xs ys : List Node) → AllNumbered most xs → AllNumbered most ys → AllNumbered most (xs ++ ys)
+all-append most [] ys p q = q
+all-append most (x ∷ xs) ys p q = (p.0, all-append most xs ys p.1 q)
+
+numbered_nodes : (most base : ℕ) (t : Tree) → Numbered most t → AllNumbered most (postorder base t)
+numbered_nodes most base empty h = (tt, tt)
+numbered_nodes most base (set members) h = (tt, tt)
+numbered_nodes most base begin h = (tt, tt)
+numbered_nodes most base end h = (tt, tt)
+numbered_nodes most base (seq a b) h = all-append most (postorder base a ++ postorder (base + size a) b) _ (all-append most (postorder base a) (postorder (base + size a) b) (numbered_nodes most base a h.0) (numbered_nodes most (base + size a) b h.1)) (tt, tt)
+numbered_nodes most base (alt a b) h = all-append most (postorder base a ++ postorder (base + size a) b) _ (all-append most (postorder base a) (postorder (base + size a) b) (numbered_nodes most base a h.0) (numbered_nodes most (base + size a) b h.1)) (tt, tt)
+numbered_nodes most base (group k a) h = all-append most (postorder base a) _ (numbered_nodes most base a h.2) ((h.0, h.1), tt)
+numbered_nodes most base (star a first) h = all-append most (postorder base a) _ (numbered_nodes most base a h) (tt, tt)
+numbered_nodes most base (opt a first) h = all-append most (postorder base a) _ (numbered_nodes most base a h) (tt, tt)
+
+number_at : (most : ℕ) (ns : List Node) (x : ℕ) (n : Node) → AllNumbered most ns → slice_get ns x ≡ Some n → NumberedNode most n
+number_at most [] x n h f = absurd cc
+number_at most (m ∷ ns) zero n h f = let same : m ≡ n = cc in subst (NumberedNode most) same h.0
+number_at most (m ∷ ns) (suc x) n h f = number_at most ns x n h.1 f
+
+-- ---- a whole expression
+
+pub whole_tree : (t : Tree) (ns : List Node) → ns ≡ postorder 0 t → tree_at ns (length ns - 1) ≡ t
+whole_tree t ns e =
+    let arena : IsArena ns = subst IsArena (sym e) (arena_of t) in
+    let held : Holds ns 0 t = holds_of t ns [] [] 0 (e ∙ sym (append-nil (postorder 0 t))) refl in
+    ap (tree_at ns) (let i : length ns - 1 ≡ 0 + size t - 1 = omega (arith, ap length e, length-postorder 0 t) in i) ∙ root_is ns arena t 0 held
+
+pub whole_expr : (t : Tree) (groups : ℕ) (ns : List Node) → ns ≡ postorder 0 t → Numbered groups t → IsExpr ns groups
+whole_expr t groups ns e g =
+    let arena : IsArena ns = subst IsArena (sym e) (arena_of t) in
+    let held : Holds ns 0 t = holds_of t ns [] [] 0 (e ∙ sym (append-nil (postorder 0 t))) refl in
+    let count : length ns ≡ size t = ap length e ∙ length-postorder 0 t in
+    record {
+      arena = arena;
+      sizes = λ x h. omega (arith, sizes_fit ns arena t 0 x held (omega arith) (omega (arith, h, count)));
+      numbers = λ x k a f. number_at groups ns x (node.Group k a) (subst (AllNumbered groups) (sym e) (numbered_nodes groups 0 t g)) f;
+      whole = ap size (whole_tree t ns e) ∙ sym count;
+    }

@@ -1,0 +1,127 @@
+-- A repetition stands only behind what can be repeated, and its bounds are in order.
+use Rattle.std.proofs.Common.{◌≡◌, ℕ, ◌+◌, ◌≤◌, if◌then◌else◌, ◌&&◌, drop, Result, Ok, Err, List, Bool, true, false, Option, Some, None, refl, subst, arith}
+use Rattle.std.specs.Prelude.{nat_le}
+use Rattle.std.proofs.lemmas.Bool.Decides.{leb_tells}
+use Rattle.std.proofs.Common.{inl, inr}
+use Rattle.sedre.specs.declared.types.Kind.{Kind}
+use Rattle.sedre.specs.declared.types.Kind.TheVariants.{Basic, Extended}
+use Rattle.sedre.specs.declared.types.ExprFault.{ExprFault}
+use Rattle.sedre.specs.declared.byte_set.ByteSet.{ByteSet}
+use Rattle.sedre.specs.declared.intervals.Interval.{Interval as Bounds}
+use Rattle.sedre.specs.declared.syntax.Here.{Here}
+use Rattle.sedre.specs.declared.syntax.Here.TheVariants.{Is, Ends, Bad}
+use Rattle.sedre.specs.declared.syntax.Symbol.{Symbol}
+use Rattle.sedre.specs.declared.syntax.Symbol.TheVariants.{Literal, AnyByte, Opening, Closing, Parting, Star, Plus, Question, Interval, IntervalEnd, BracketOpening, Caret, Dollar, Unknown}
+use Rattle.sedre.specs.declared.syntax.Item.{Item}
+use Rattle.sedre.specs.declared.syntax.Item.TheVariants.{Byte, Open, Close, Bar, Repeat, AtBegin, AtEnd}
+use Rattle.sedre.specs.Repeats.{IsInterval}
+use Rattle.sedre.specs.Brackets.{list_at}
+use Rattle.sedre.specs.Symbols.{symbol}
+use Rattle.sedre.specs.Intervals.{numeral, begins, closes, limit, behind_least, interval}
+use Rattle.sedre.specs.Items.{item_at, item_for, is_repeatable, is_repeat, is_first, ends_alternative, repeats, interval_item, list_item, star_item, question_item, caret_item, dollar_item}
+
+-- a repetition stands where one may, with bounds in order
+abbrev pub FineItem : Bool → Item → Type 0
+FineItem may (Byte members) = Unit {0}
+FineItem may Open = Unit {0}
+FineItem may Close = Unit {0}
+FineItem may Bar = Unit {0}
+FineItem may (Repeat least most) = (may ≡ true) × IsInterval least most
+FineItem may AtBegin = Unit {0}
+FineItem may AtEnd = Unit {0}
+
+abbrev pub Fine : Bool → Here → Type 0
+Fine may (Is i next) = FineItem may i
+Fine may Ends = Unit {0}
+Fine may (Bad f) = Unit {0}
+
+abbrev pub FineBounds : Option Bounds → Type 0
+FineBounds None = Unit {0}
+FineBounds (Some i) = IsInterval i.least i.most
+
+by_test : (b : Bool) (x y : Option Bounds) → (b ≡ true → FineBounds x) → FineBounds y → FineBounds (if b then x else y)
+by_test true x y f g = f refl
+by_test false x y f g = g
+
+second_true : (a b : Bool) → (a && b) ≡ true → b ≡ true
+second_true true b h = h
+second_true false b h = absurd cc
+
+in_order : (a b : ℕ) → nat_le a b ≡ true → a ≤ b
+in_order a b h = elim (leb_tells a b) [ inl w ↦ w.1 | inr w ↦ (let f : nat_le a b ≡ false = w.0 in absurd cc) ]
+
+fine_limit : (kind : Kind) (delimiter : Option ℕ) (least digits : ℕ) (front : List ℕ) (o : Option (ℕ × ℕ)) → FineBounds (limit kind delimiter least digits front o)
+fine_limit kind delimiter least digits front None = by_test (closes kind delimiter front) _ _ (λ h. tt) tt
+fine_limit kind delimiter least digits front (Some (most, more)) =
+    by_test (closes kind delimiter (drop more front) && nat_le least most) _ _ (λ h. in_order least most (second_true (closes kind delimiter (drop more front)) (nat_le least most) h)) tt
+
+fine_behind : (kind : Kind) (delimiter : Option ℕ) (front : List ℕ) (o : Option (ℕ × ℕ)) → FineBounds (behind_least kind delimiter front o)
+fine_behind kind delimiter front None = tt
+fine_behind kind delimiter front (Some (least, digits)) =
+    by_test (closes kind delimiter (drop digits front)) _ _ (λ h. omega arith)
+    (by_test (begins (drop digits front) 44) _ _ (λ h. fine_limit kind delimiter least digits (drop 1 (drop digits front)) (numeral (drop 1 (drop digits front)))) tt)
+
+fine_interval : (kind : Kind) (delimiter : Option ℕ) (front : List ℕ) → FineBounds (interval kind delimiter front)
+unfolding interval
+fine_interval kind delimiter front = fine_behind kind delimiter front (numeral front)
+
+fine_interval_item : (may : Bool) (o : Option Bounds) (at behind : ℕ) → FineBounds o → Fine may (repeats may at (interval_item o at behind))
+fine_interval_item true None at behind h = tt
+fine_interval_item true (Some i) at behind h = (refl, h)
+fine_interval_item false o at behind h = tt
+
+fine_list : (may : Bool) (r : Result (ByteSet × ℕ) ExprFault) → Fine may (list_item r)
+fine_list may (Ok (members, behind)) = tt
+fine_list may (Err f) = tt
+
+fine_star : (kind : Kind) (may : Bool) (at behind : ℕ) → Fine may (star_item kind may at behind)
+fine_star Basic true at behind = (refl, tt)
+fine_star Basic false at behind = tt
+fine_star Extended true at behind = (refl, tt)
+fine_star Extended false at behind = tt
+
+fine_question : (kind : Kind) (may repeated : Bool) (at behind : ℕ) → Fine may (question_item kind may repeated at behind)
+fine_question Basic true repeated at behind = (refl, omega arith)
+fine_question Basic false repeated at behind = tt
+fine_question Extended true true at behind = tt
+fine_question Extended true false at behind = (refl, omega arith)
+fine_question Extended false repeated at behind = tt
+
+fine_plus : (may : Bool) (at behind : ℕ) → Fine may (repeats may at (Is (Repeat 1 None) behind))
+fine_plus true at behind = (refl, tt)
+fine_plus false at behind = tt
+
+fine_caret : (kind : Kind) (may first : Bool) (behind : ℕ) → Fine may (caret_item kind first behind)
+fine_caret Basic may true behind = tt
+fine_caret Basic may false behind = tt
+fine_caret Extended may first behind = tt
+
+fine_dollar : (kind : Kind) (may last : Bool) (behind : ℕ) → Fine may (dollar_item kind last behind)
+fine_dollar Basic may true behind = tt
+fine_dollar Basic may false behind = tt
+fine_dollar Extended may last behind = tt
+
+fine_for : (kind : Kind) (delimiter : Option ℕ) (text : List ℕ) (before : Option Item) (at : ℕ) (o : Option (Symbol × ℕ)) → Fine (is_repeatable before) (item_for kind delimiter text before at o)
+fine_for kind delimiter text before at None = tt
+fine_for kind delimiter text before at (Some (Literal b, n)) = tt
+fine_for kind delimiter text before at (Some (AnyByte, n)) = tt
+fine_for kind delimiter text before at (Some (Opening, n)) = tt
+fine_for kind delimiter text before at (Some (Closing, n)) = tt
+fine_for kind delimiter text before at (Some (Parting, n)) = tt
+fine_for kind delimiter text before at (Some (Star, n)) = fine_star kind (is_repeatable before) at (at + n)
+fine_for kind delimiter text before at (Some (Plus, n)) = fine_plus (is_repeatable before) at (at + n)
+fine_for kind delimiter text before at (Some (Question, n)) = fine_question kind (is_repeatable before) (is_repeat before) at (at + n)
+fine_for kind delimiter text before at (Some (Interval, n)) = fine_interval_item (is_repeatable before) (interval kind delimiter (drop (at + n) text)) at (at + n) (fine_interval kind delimiter (drop (at + n) text))
+fine_for kind delimiter text before at (Some (IntervalEnd, n)) = tt
+fine_for kind delimiter text before at (Some (BracketOpening, n)) = fine_list (is_repeatable before) (list_at delimiter text at)
+fine_for kind delimiter text before at (Some (Caret, n)) = fine_caret kind (is_repeatable before) (is_first before) (at + n)
+fine_for kind delimiter text before at (Some (Dollar, n)) = fine_dollar kind (is_repeatable before) (ends_alternative (symbol kind delimiter (drop (at + n) text))) (at + n)
+fine_for kind delimiter text before at (Some (Unknown reason, n)) = tt
+
+fine_at : (kind : Kind) (delimiter : Option ℕ) (text : List ℕ) (before : Option Item) (at : ℕ) → Fine (is_repeatable before) (item_at kind delimiter text before at)
+unfolding item_at
+fine_at kind delimiter text before at = fine_for kind delimiter text before at (symbol kind delimiter (drop at text))
+
+pub repeat_follows : (kind : Kind) (delimiter : Option ℕ) (text : List ℕ) (before : Option Item) (at : ℕ) {least next : ℕ} {most : Option ℕ} →
+    item_at kind delimiter text before at ≡ Is (Repeat least most) next → (is_repeatable before ≡ true) × IsInterval least most
+repeat_follows kind delimiter text before at h = subst (λ (x : Here). Fine (is_repeatable before) x) h (fine_at kind delimiter text before at)

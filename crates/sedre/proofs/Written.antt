@@ -1,0 +1,65 @@
+-- Trees written out one after another, each with its root last.
+use Rattle.std.proofs.Common.{◌≡◌, ℕ, ◌+◌, ◌<◌, length, List, [], ◌∷◌, ◌++◌, refl, ap, ◌∙◌, sym, append_assoc, arith, length-append, Option, Some}
+use Rattle.std.specs.Option.{option_to_list}
+use Rattle.sedre.specs.declared.types.Node.{Node}
+use Rattle.sedre.specs.Tree.{Tree, empty, set, begin, end, seq, alt, group, star, opt, size}
+use Rattle.sedre.specs.Stacks.{postorder, written, total}
+
+pub size_positive : (t : Tree) → 0 < size t
+size_positive empty = omega arith
+size_positive (set members) = omega arith
+size_positive begin = omega arith
+size_positive end = omega arith
+size_positive (seq a b) = omega arith
+size_positive (alt a b) = omega arith
+size_positive (group k a) = omega arith
+size_positive (star a first) = omega arith
+size_positive (opt a first) = omega arith
+
+pub length-postorder : (base : ℕ) (t : Tree) → length (postorder base t) ≡ size t
+length-postorder base empty = refl
+length-postorder base (set members) = refl
+length-postorder base begin = refl
+length-postorder base end = refl
+length-postorder base (seq a b) = simp (length-append, length-postorder base a, length-postorder (base + size a) b) (omega arith)
+length-postorder base (alt a b) = simp (length-append, length-postorder base a, length-postorder (base + size a) b) (omega arith)
+length-postorder base (group k a) = simp (length-append, length-postorder base a) (omega arith)
+length-postorder base (star a first) = simp (length-append, length-postorder base a) (omega arith)
+length-postorder base (opt a first) = simp (length-append, length-postorder base a) (omega arith)
+
+pub written-append : (base : ℕ) (ts us : List Tree) → written base (ts ++ us) ≡ written base ts ++ written (base + total ts) us
+written-append base [] us = ap (λ (n : ℕ). written n us) (omega arith)
+written-append base (t ∷ ts) us = ap (λ (x : List Node). postorder base t ++ x) (written-append (base + size t) ts us ∙ ap (λ (n : ℕ). written (base + size t) ts ++ written n us) (omega arith)) ∙ sym (append_assoc (postorder base t) (written (base + size t) ts) _)
+
+pub length-written : (base : ℕ) (ts : List Tree) → length (written base ts) ≡ total ts
+length-written base [] = refl
+length-written base (t ∷ ts) = simp (length-append, length-postorder base t, length-written (base + size t) ts) refl
+
+-- the last elements of equal lists are equal
+pub snoc_last : {A : Type 0} (xs ys : List A) (x y : A) → xs ++ x ∷ [] ≡ ys ++ y ∷ [] → (xs ≡ ys) × (x ≡ y)
+snoc_last [] [] x y h = (refl, cc)
+snoc_last [] (z ∷ []) x y h = absurd cc
+snoc_last [] (z ∷ w ∷ ys) x y h = absurd cc
+snoc_last (z ∷ []) [] x y h = absurd cc
+snoc_last (z ∷ w ∷ xs) [] x y h = absurd cc
+snoc_last {A = A} (v ∷ xs) (w ∷ ys) x y h =
+    let heads : v ≡ w = cc in
+    let tails : xs ++ x ∷ [] ≡ ys ++ y ∷ [] = cc in
+    let r = snoc_last xs ys x y tails in
+    (ap (λ (q : A). q ∷ xs) heads ∙ ap (λ (q : List A). w ∷ q) r.0, r.1)
+
+pub written-append_0 : (ts us : List Tree) → written 0 (ts ++ us) ≡ written 0 ts ++ written (total ts) us
+written-append_0 ts us = written-append 0 ts us ∙ ap (λ (n : ℕ). written 0 ts ++ written n us) (omega arith)
+
+-- what a pop leaves, and what it gives
+pub popped : {A : Type 0} (xs ys : List A) (o : Option A) (x : A) → xs ≡ ys ++ option_to_list o → o ≡ Some x → xs ≡ ys ++ x ∷ []
+popped xs ys o x e s = e ∙ ap (λ o. ys ++ option_to_list o) s
+
+pub split_last : (xs : List Tree) → 0 < length xs → (ys : List Tree) × (y : Tree) × (xs ≡ ys ++ y ∷ [])
+split_last [] h = absurd (omega (arith, h))
+split_last (x ∷ []) h = ([], x, refl)
+split_last (x ∷ y ∷ xs) h = let r = split_last (y ∷ xs) (omega arith) in (x ∷ r.0, r.1, ap (λ (q : List Tree). x ∷ q) r.2)
+
+pub total-append : (ts us : List Tree) → total (ts ++ us) ≡ total ts + total us
+total-append [] us = omega arith
+total-append (t ∷ ts) us = omega (arith, total-append ts us)

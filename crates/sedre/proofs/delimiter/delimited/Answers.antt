@@ -1,0 +1,23 @@
+use Rattle.std.proofs.Common.{◌∙◌, sym, ap, drop, None, if◌then◌else◌, arith, refl}
+use Rattle.sedre.specs.Delimited.{delimiter_at, first_delimiter}
+use Rattle.sedre.proofs.DelimiterLemmas.{stepped}
+use Rattle.sedre.proofs.delimiter.delimited.Goals as goal
+
+pub loop-place-init : goal.loop-place-init
+unfolding delimiter_at
+loop-place-init c = record { low = omega arith; rest = refl }
+
+pub returns-then-has_newline-clause-is : goal.returns-then-has_newline-clause-is
+returns-then-has_newline-clause-is c =
+    sym (c.loop-place.invariant.rest
+    ∙ stepped c.args.delimiter c.loop-place.place c.in_ok-next.next c.args.text.now c.has_newline.result (omega arith) c.if-b-delimiter.false (sym c.behind.ensures.is ∙ c.in_ok-next.was) (omega (arith, c.in_ok-next.ensures.within)) c.has_newline.ensures
+    ∙ ap (λ t. if t then None else first_delimiter c.args.delimiter 0 c.in_ok-next.next (drop c.in_ok-next.next c.args.text.now)) c.if-has_newline.true)
+
+pub loop-place-preserved : goal.loop-place-preserved
+loop-place-preserved c = record {
+  low = omega (arith, c.in_ok-next.ensures.within);
+  rest =
+      c.loop-place.invariant.rest
+      ∙ stepped c.args.delimiter c.loop-place.place c.in_ok-next.next c.args.text.now c.has_newline.result (omega arith) c.if-b-delimiter.false (sym c.behind.ensures.is ∙ c.in_ok-next.was) (omega (arith, c.in_ok-next.ensures.within)) c.has_newline.ensures
+      ∙ ap (λ t. if t then None else first_delimiter c.args.delimiter 0 c.in_ok-next.next (drop c.in_ok-next.next c.args.text.now)) c.if-has_newline.false;
+}

@@ -1,0 +1,5 @@
+use Rattle.sedre.proofs.Exclusive.{no_fault}
+use Rattle.sedre.proofs.laws.reads_without_fault.Goals as goal
+
+pub returns : goal.returns
+returns c = λ kind delimiter text expression groups max_nodes place reason r shallow small f. no_fault kind delimiter text r shallow small f

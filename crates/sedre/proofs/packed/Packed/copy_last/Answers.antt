@@ -1,0 +1,7 @@
+use Rattle.std.proofs.Common.{arith}
+use Rattle.sedre.proofs.Packing.{length-nodes, nodes_again, copied_view, on_ok_map}
+use Rattle.sedre.proofs.packed.Packed.copy_last.Goals as goal
+
+pub returns : goal.returns
+returns c = copied_view c.add_again.result _ _ _ c.args.count c.self.view_is
+    (on_ok_map c.add_again.result _ _ (λ e h. nodes_again c.self.inside.sets.items c.saturating_sub-from.result c.args.count c.self.inside.entries.items _ (omega (arith, c.len.ensures, c.saturating_sub-from.ensures)) e c.self.invariant (omega (arith, h, length-nodes c.self.inside.sets.items 0 c.self.inside.entries.items))) c.add_again.ensures.entries)

@@ -1,0 +1,14 @@
+use Rattle.std.proofs.Common.{◌≤◌, ◌-◌, ◌+◌, length}
+use Rattle.sedre.specs.Stacks.{State, Represents}
+use Rattle.sedre.proofs.Reading.{Reading}
+use Rattle.sedre.proofs.reader.read.Given as goal
+
+abbrev pub invariant-items : goal.invariant-items
+invariant-items l = record {
+  within : l.at ≤ length l.text;
+  few : l.builder.opened ≤ l.at;
+  state : (s : State) × Represents (l.max_nodes + 1) l.builder s × Reading l.kind l.delimiter l.text l.before l.at s;
+}
+
+abbrev pub decreases-items : goal.decreases-items
+decreases-items l = length l.initial.text - l.at

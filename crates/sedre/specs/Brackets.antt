@@ -1,0 +1,191 @@
+-- Bracket expressions (XBD 9.3.5): the items of a list, and the set that they list or the first fault.
+-- Which fault a list has, and where, is this project's own.
+use Rattle.std.specs.Prelude.{ℕ, zero, suc, ◌+◌, ◌-◌, List, [], ◌∷◌, length, take, drop, Bool, true, false, not, ◌&&◌, ◌||◌, Option, Some, None, Result, Ok, Err, if◌then◌else◌, nat_le, ◌==◌, option_map}
+use Rattle.sedre.specs.Sets.{set_of, no_byte, only, between, union, complement}
+use Rattle.sedre.specs.Classes.{in_class, class_named}
+use Rattle.sedre.specs.declared.class.Class.{Class}
+use Rattle.sedre.specs.declared.types.Reason.{Reason}
+use Rattle.sedre.specs.declared.types.Reason.TheVariants.{OpenBracket, UnknownClass, LongCollating, BadRange}
+use Rattle.sedre.specs.declared.types.ExprFault.{ExprFault}
+use Rattle.sedre.specs.declared.elements.Element.{Element}
+use Rattle.sedre.specs.declared.elements.Element.TheVariants.{Plain, Delimiter, OfClass, Equivalent, Collating, Wrong, Unclosed}
+use Rattle.sedre.specs.declared.byte_set.ByteSet.{ByteSet}
+
+-- whether a byte is the delimiter
+abbrev pub is_delimiter : Option ℕ → ℕ → Bool
+is_delimiter None b = false
+is_delimiter (Some d) b = d == b
+
+-- ---- the items of a list
+
+-- how many bytes stand before the first c with a ] behind it
+abbrev pub before_closing : ℕ → List ℕ → Option ℕ
+before_closing c [] = None
+before_closing c (x ∷ []) = None
+before_closing c (x ∷ y ∷ rest) =
+    if x == c && y == 93 then Some 0 else option_map (λ n. n + 1) (before_closing c (y ∷ rest))
+
+-- what a form holds, from the bytes behind its opening: at least one byte, so that [.].] and [=]=] name ]
+abbrev pub content : ℕ → List ℕ → Option (List ℕ)
+content c [] = None
+content c (x ∷ rest) = option_map (λ n. x ∷ take n rest) (before_closing c rest)
+
+-- [=x=] and [.x.] hold one byte: each collating element of the POSIX locale is one (XBD 7.3.2)
+abbrev pub of_one : List ℕ → (ℕ → Element) → Element
+of_one [] make = Wrong LongCollating
+of_one (x ∷ []) make = make x
+of_one (x ∷ y ∷ rest) make = Wrong LongCollating
+
+-- [:name:] names a class
+abbrev pub of_class : Option Class → Element
+of_class None = Wrong UnknownClass
+of_class (Some class) = OfClass class
+
+-- a form by the byte behind its [ (XBD 9.3.5, 4 to 6)
+abbrev pub form_of : ℕ → List ℕ → Element
+form_of c held =
+    if c == 58 then of_class (class_named held) else if c == 61 then of_one held Equivalent else of_one held Collating
+
+-- a form and how many bytes it has; one that isn't closed takes all that is left
+abbrev pub form : ℕ → (left : ℕ) → Option (List ℕ) → Element × ℕ
+form c left None = (Unclosed, left)
+form c left (Some held) = (form_of c held, length held + 4)
+
+-- the item at the front of what is left of a list, and how many bytes it has. A backslash and the delimiter are one
+-- item, the delimiter as a literal (this project's own); any other byte loses its special meaning (XBD 9.3.5, 1)
+abbrev pub item : Option ℕ → List ℕ → Element × ℕ
+item delimiter [] = (Unclosed, 0)
+item delimiter (b ∷ []) = (Plain b, 1)
+item delimiter (b ∷ c ∷ rest) =
+    if b == 92 && is_delimiter delimiter c then (Delimiter c, 2)
+    else if b == 91 && (c == 58 || c == 61 || c == 46) then form c (length rest + 2) (content c rest)
+    else (Plain b, 1)
+
+-- the items with their places, and the place behind the closing ], None where the text ends before. A ] that stands
+-- first is an item (XBD 9.3.5, 1); `skip` bytes belong to the item before
+abbrev pub items : Option ℕ → (first : Bool) → (skip place : ℕ) → List ℕ → List (ℕ × Element) × Option ℕ
+items delimiter first skip place [] = ([], None)
+items delimiter first (suc skip) place (b ∷ bs) = items delimiter first skip (place + 1) bs
+items delimiter first zero place (b ∷ bs) =
+    if b == 93 && not first then ([], Some (place + 1))
+    else
+    let found = item delimiter (b ∷ bs) in
+    let rest = items delimiter false (found.1 - 1) (place + 1) bs in
+    ((place, found.0) ∷ rest.0, rest.1)
+
+-- ---- what the items list
+
+-- whether an item makes a range where another one stands before and behind it (XBD 9.3.5, 7)
+abbrev pub is_dash : Element → Bool
+is_dash (Plain b) = b == 45
+is_dash (Delimiter b) = false
+is_dash (OfClass class) = false
+is_dash (Equivalent b) = false
+is_dash (Collating b) = false
+is_dash (Wrong reason) = false
+is_dash Unclosed = false
+
+-- whether what stands behind a range goes on as another one, as in a-c-e
+abbrev pub goes_on : List (ℕ × Element) → Bool
+goes_on [] = false
+goes_on (x ∷ []) = false
+goes_on (x ∷ y ∷ rest) = is_dash x.1
+
+-- the bytes that some items list, or their first fault
+abbrev pub Listing : Type 0
+Listing = Result (List Bool) ExprFault
+
+abbrev pub fault : ℕ → Reason → Listing
+fault place reason = Err (record { place = place; reason = reason })
+
+-- an item by itself. One that isn't closed lists nothing: that the list is open tells of it
+abbrev pub single : ℕ × Element → Listing
+single (place, Plain b) = Ok (only b)
+single (place, Delimiter b) = Ok (only b)
+single (place, OfClass class) = Ok (set_of (in_class class))
+single (place, Equivalent b) = Ok (only b)
+single (place, Collating b) = Ok (only b)
+single (place, Wrong reason) = fault place reason
+single (place, Unclosed) = Ok no_byte
+
+-- the byte with which an item is an end of a range; a class and an equivalence class are none: this project's own
+abbrev pub end_of : Element → Option ℕ
+end_of (Plain b) = Some b
+end_of (Delimiter b) = Some b
+end_of (OfClass class) = None
+end_of (Equivalent b) = None
+end_of (Collating b) = Some b
+end_of (Wrong reason) = None
+end_of Unclosed = None
+
+-- a range between two ends, by byte value (XBD 9.3.5, 7); `on`: it goes on as another one, which is refused: this
+-- project's own
+abbrev pub between_ends : (place : ℕ) → Option ℕ → Option ℕ → (on : Bool) → Listing
+between_ends place None last on = fault place BadRange
+between_ends place (Some a) None on = fault place BadRange
+between_ends place (Some a) (Some b) on =
+    if nat_le a b && not on then Ok (set_of (between a b)) else fault place BadRange
+
+-- a range from an end at a place to its last item, whose own fault comes before that of the range
+abbrev pub range_to : (place : ℕ) → Option ℕ → ℕ × Element → (on : Bool) → Listing
+range_to place first (at, Plain b) on = between_ends place first (Some b) on
+range_to place first (at, Delimiter b) on = between_ends place first (Some b) on
+range_to place first (at, OfClass class) on = between_ends place first None on
+range_to place first (at, Equivalent b) on = between_ends place first None on
+range_to place first (at, Collating b) on = between_ends place first (Some b) on
+range_to place first (at, Wrong reason) on = fault at reason
+range_to place first (at, Unclosed) on = Ok no_byte
+
+-- a range from its first item to its last, where the first one's own fault comes first
+abbrev pub range : (first last : ℕ × Element) → (on : Bool) → Listing
+range (place, Plain b) last on = range_to place (Some b) last on
+range (place, Delimiter b) last on = range_to place (Some b) last on
+range (place, OfClass class) last on = range_to place None last on
+range (place, Equivalent b) last on = range_to place None last on
+range (place, Collating b) last on = range_to place (Some b) last on
+range (place, Wrong reason) last on = fault place reason
+range (place, Unclosed) last on = Ok no_byte
+
+-- what stands first, then the rest
+abbrev pub both : Listing → Listing → Listing
+both (Err f) those = Err f
+both (Ok these) (Err f) = Err f
+both (Ok these) (Ok those) = Ok (union these those)
+
+-- all items from the left: an item, a - and a further item are a range (XBD 9.3.5, 7)
+abbrev pub listed : List (ℕ × Element) → Listing
+listed [] = Ok no_byte
+listed (x ∷ []) = both (single x) (listed [])
+listed (x ∷ y ∷ []) = both (single x) (listed (y ∷ []))
+listed (x ∷ y ∷ z ∷ rest) =
+    if is_dash y.1 then both (range x z (goes_on rest)) (listed rest)
+    else both (single x) (listed (y ∷ z ∷ rest))
+
+-- ---- a whole list
+
+-- the items from the place behind the opening [ on, where a ^ makes a non-matching list (XBD 9.3.5, 3)
+abbrev pub items_behind : Option ℕ → (place : ℕ) → List ℕ → List (ℕ × Element) × Option ℕ
+items_behind delimiter place [] = ([], None)
+items_behind delimiter place (b ∷ bs) =
+    if b == 94 then items delimiter true 0 (place + 1) bs else items delimiter true 0 place (b ∷ bs)
+
+abbrev pub is_negated : List ℕ → Bool
+is_negated [] = false
+is_negated (b ∷ bs) = b == 94
+
+-- the set and the place behind the list, or the first fault; that the list isn't closed comes last, at its [
+abbrev pub judged : (negated : Bool) → (at : ℕ) → Listing → Option ℕ → Result (ByteSet × ℕ) ExprFault
+judged negated at (Err f) end = Err f
+judged negated at (Ok set) None = Err (record { place = at; reason = OpenBracket })
+judged negated at (Ok set) (Some behind) = Ok (if negated then complement set else set, behind)
+
+-- what a text's list comes to whose [ stands at a place
+unfoldable pub list_at : Option ℕ → (text : List ℕ) → (at : ℕ) → Result (ByteSet × ℕ) ExprFault
+list_at delimiter text at =
+    let bytes = drop (at + 1) text in
+    let found = items_behind delimiter (at + 1) bytes in
+    judged (is_negated bytes) at (listed found.0) found.1
+
+-- the place behind a list, whatever it lists, from the place behind its [ on
+unfoldable pub list_end : Option ℕ → (place : ℕ) → List ℕ → Option ℕ
+list_end delimiter place bytes = (items_behind delimiter place bytes).1

@@ -1,0 +1,33 @@
+-- What the reader answers at the end of a text: no caller sees it.
+use Rattle.std.specs.Prelude.{◌≡◌, ◌≤◌, ◌<◌, ◌⊎◌, ℕ, length}
+use Rattle.sedre.specs.declared.types.Reason.TheVariants.{TooDeep, TooManyNodes}
+use Rattle.sedre.specs.declared.types.ExprFault.{ExprFault}
+use Rattle.sedre.specs.Tree.{Tree, empty, set, begin, end, seq, alt, group, star, opt, size, depth}
+use Rattle.sedre.specs.Arena.{Written, tree}
+use Rattle.sedre.specs.Stacks.{State, whole}
+
+-- each group of the tree has a number from 1 to the bound
+abbrev pub Numbered : ℕ → Tree → Type 0
+Numbered most empty = Unit {0}
+Numbered most (set members) = Unit {0}
+Numbered most begin = Unit {0}
+Numbered most end = Unit {0}
+Numbered most (seq a b) = Numbered most a × Numbered most b
+Numbered most (alt a b) = Numbered most a × Numbered most b
+Numbered most (group k a) = (1 ≤ k) × (k ≤ most) × Numbered most a
+Numbered most (star a first) = Numbered most a
+Numbered most (opt a first) = Numbered most a
+
+-- the expression is what the state stands for
+pub record IsFinished (s : State) (limit : ℕ) (e : Written) : Type 0 where
+  pub tree_is : tree e ≡ whole s.top
+  pub groups : e.groups ≡ s.opened
+  pub count : length e.nodes ≡ size (whole s.top)
+  pub shallow : depth (whole s.top) ≤ 600
+  pub small : size (whole s.top) < limit
+
+-- it is too deep, or else has too many nodes
+abbrev pub IsOverLimit : State → (limit len : ℕ) → ExprFault → Type 0
+IsOverLimit s limit len f =
+    ((f ≡ record { place = len; reason = TooDeep }) × (600 < depth (whole s.top)))
+    ⊎ ((f ≡ record { place = len; reason = TooManyNodes }) × (depth (whole s.top) ≤ 600) × (limit ≤ size (whole s.top)))

@@ -1,0 +1,108 @@
+-- The grammar of expressions over items (XBD 9.5.2, 9.5.3): a text is alternatives, an alternative is pieces, a piece is
+-- an atom with its repetitions; and the first fault of a text that is none.
+use Rattle.std.specs.Prelude.{◌≡◌, ℕ, zero, suc, List, [], ◌∷◌, ◌++◌, length, ◌<◌, ◌≤◌, Bool, Option, Some, None}
+use Rattle.sedre.specs.declared.syntax.Item.{Item}
+use Rattle.sedre.specs.declared.syntax.Item.TheVariants.{Byte, Open, Close, Bar, Repeat, AtBegin, AtEnd}
+use Rattle.sedre.specs.declared.types.Kind.{Kind}
+use Rattle.sedre.specs.declared.types.Reason.{Reason}
+use Rattle.sedre.specs.declared.types.Reason.TheVariants.{StrayClose, OpenGroup, TooDeep, TooManyNodes}
+use Rattle.sedre.specs.declared.syntax.Here.TheVariants.{Is, Ends, Bad}
+use Rattle.sedre.specs.Items.{item_at}
+use Rattle.sedre.specs.Tree.{Tree, set, begin, end, group, size, depth}
+use Rattle.sedre.specs.Repeats.{concatenation, alternation, repetition}
+
+-- Groups are numbered by their openings from 1 (XBD 9.3.6): each fact holds from a count of the openings before the
+-- items to that behind them.
+mutual
+  -- these items are these alternatives
+  pub data AreAlternatives : ℕ → List Item → List Tree → ℕ → Type 0 where
+    first : {g h : ℕ} {is : List Item} {ts : List Tree} →
+        ArePieces g is ts h → AreAlternatives g is (concatenation ts ∷ []) h
+    another : {g h k : ℕ} {is js : List Item} {bs ts : List Tree} →
+        AreAlternatives g is bs h → ArePieces h js ts k → AreAlternatives g (is ++ Bar ∷ js) (bs ++ concatenation ts ∷ []) k
+
+  -- these items are these pieces
+  pub data ArePieces : ℕ → List Item → List Tree → ℕ → Type 0 where
+    none : {g : ℕ} → ArePieces g [] [] g
+    more : {g h k : ℕ} {is js : List Item} {ts : List Tree} {t : Tree} →
+        ArePieces g is ts h → IsPiece h js t k → ArePieces g (is ++ js) (ts ++ t ∷ []) k
+
+  -- these items are this piece
+  pub data IsPiece : ℕ → List Item → Tree → ℕ → Type 0 where
+    byte : {g : ℕ} {members : List Bool} → IsPiece g (Byte members ∷ []) (set members) g
+    begin_anchor : {g : ℕ} → IsPiece g (AtBegin ∷ []) begin g
+    end_anchor : {g : ℕ} → IsPiece g (AtEnd ∷ []) end g
+    subexpression : {g h : ℕ} {is : List Item} {bs : List Tree} →
+        AreAlternatives (suc g) is bs h → IsPiece g (Open ∷ is ++ Close ∷ []) (group (suc g) (alternation bs)) h
+    repeated : {g h : ℕ} (least : ℕ) (most : Option ℕ) {is : List Item} {t : Tree} →
+        IsPiece g is t h → IsPiece g (is ++ Repeat least most ∷ []) (repetition least most t) h
+
+-- the text is cut into these items, from one place, behind an item, up to another
+pub data Cut (kind : Kind) (delimiter : Option ℕ) (text : List ℕ) : Option Item → ℕ → List Item → ℕ → Type 0 where
+  done : {before : Option Item} {at : ℕ} → Cut kind delimiter text before at [] at
+  item : {before : Option Item} {at next to : ℕ} {i : Item} {is : List Item} →
+      item_at kind delimiter text before at ≡ Is i next → Cut kind delimiter text (Some i) next is to →
+      Cut kind delimiter text before at (i ∷ is) to
+
+-- the last item, or the one before where there is none
+abbrev pub last_of : Option Item → List Item → Option Item
+last_of before [] = before
+last_of before (i ∷ is) = last_of (Some i) is
+
+-- how many groups are open behind the items, where each closing has its opening
+abbrev pub open_groups : ℕ → List Item → Option ℕ
+open_groups n [] = Some n
+open_groups n (Byte members ∷ is) = open_groups n is
+open_groups n (Open ∷ is) = open_groups (suc n) is
+open_groups zero (Close ∷ is) = None
+open_groups (suc n) (Close ∷ is) = open_groups n is
+open_groups n (Bar ∷ is) = open_groups n is
+open_groups n (Repeat least most ∷ is) = open_groups n is
+open_groups n (AtBegin ∷ is) = open_groups n is
+open_groups n (AtEnd ∷ is) = open_groups n is
+
+-- the text reads as this expression with so many groups
+pub record ReadsAs (kind : Kind) (delimiter : Option ℕ) (text : List ℕ) (e : Tree) (groups : ℕ) : Type 0 where
+  pub items : List Item
+  pub to : ℕ
+  pub cut : Cut kind delimiter text None 0 items to
+  pub ends : item_at kind delimiter text (last_of None items) to ≡ Ends
+  pub alternatives : List Tree
+  pub grammar : AreAlternatives 0 items alternatives groups
+  pub is : alternation alternatives ≡ e
+
+-- the fault behind these items, of which so many groups are open
+pub data Row (kind : Kind) (delimiter : Option ℕ) (text : List ℕ) (max_nodes : ℕ) :
+    List Item → (opened to place : ℕ) → Reason → Type 0 where
+  -- the next item is none
+  bad : {is : List Item} {opened to place : ℕ} {reason : Reason} →
+      item_at kind delimiter text (last_of None is) to ≡ Bad (record { place = place; reason = reason }) →
+      Row kind delimiter text max_nodes is opened to place reason
+  -- a group closes where none is open
+  stray : {is : List Item} {to next : ℕ} →
+      item_at kind delimiter text (last_of None is) to ≡ Is Close next →
+      Row kind delimiter text max_nodes is 0 to to StrayClose
+  -- the text ends and a group is open
+  unclosed : {is : List Item} {opened to : ℕ} →
+      item_at kind delimiter text (last_of None is) to ≡ Ends →
+      Row kind delimiter text max_nodes is (suc opened) to (length text) OpenGroup
+  -- the expression is too deep
+  deep : {is : List Item} {to groups : ℕ} (bs : List Tree) →
+      item_at kind delimiter text (last_of None is) to ≡ Ends → AreAlternatives 0 is bs groups →
+      600 < depth (alternation bs) →
+      Row kind delimiter text max_nodes is 0 to (length text) TooDeep
+  -- it isn't, and has too many nodes
+  large : {is : List Item} {to groups : ℕ} (bs : List Tree) →
+      item_at kind delimiter text (last_of None is) to ≡ Ends → AreAlternatives 0 is bs groups →
+      depth (alternation bs) ≤ 600 → max_nodes < size (alternation bs) →
+      Row kind delimiter text max_nodes is 0 to (length text) TooManyNodes
+
+-- the first fault of the text has this place and reason: what stands before it is cut into items, and each closing there
+-- has its opening
+pub record ExprFaulty (kind : Kind) (delimiter : Option ℕ) (text : List ℕ) (max_nodes place : ℕ) (reason : Reason) : Type 0 where
+  pub items : List Item
+  pub to : ℕ
+  pub cut : Cut kind delimiter text None 0 items to
+  pub opened : ℕ
+  pub balanced : open_groups 0 items ≡ Some opened
+  pub row : Row kind delimiter text max_nodes items opened to place reason

@@ -1,0 +1,140 @@
+-- The items of a text: bytes and sets of bytes, anchors, groups, alternations and repetitions (XBD 9.3, 9.4).
+use Rattle.std.specs.Prelude.{ℕ, ◌+◌, ◌<◌, ◌≤◌, List, drop, Bool, true, false, not, ◌&&◌, Option, Some, None, Result, Ok, Err}
+use Rattle.sedre.specs.Sets.{only, any_byte}
+use Rattle.sedre.specs.Brackets.{list_at}
+use Rattle.sedre.specs.Symbols.{symbol}
+use Rattle.sedre.specs.Intervals.{interval}
+use Rattle.sedre.specs.declared.types.Kind.{Kind}
+use Rattle.sedre.specs.declared.types.Kind.TheVariants.{Basic, Extended}
+use Rattle.sedre.specs.declared.types.Reason.{Reason}
+use Rattle.sedre.specs.declared.types.Reason.TheVariants.{BadInterval, NothingToRepeat}
+use Rattle.sedre.specs.declared.types.ExprFault.{ExprFault}
+use Rattle.sedre.specs.declared.byte_set.ByteSet.{ByteSet}
+use Rattle.sedre.specs.declared.intervals.Interval.{Interval as Bounds}
+use Rattle.sedre.specs.declared.syntax.Symbol.{Symbol}
+use Rattle.sedre.specs.declared.syntax.Symbol.TheVariants.{Literal, AnyByte, Opening, Closing, Parting, Star, Plus, Question, Interval, IntervalEnd, BracketOpening, Caret, Dollar, Unknown}
+use Rattle.sedre.specs.declared.syntax.Item.{Item}
+use Rattle.sedre.specs.declared.syntax.Item.TheVariants.{Byte, Open, Close, Bar, Repeat, AtBegin, AtEnd}
+use Rattle.sedre.specs.declared.syntax.Here.{Here}
+use Rattle.sedre.specs.declared.syntax.Here.TheVariants.{Is, Ends, Bad}
+
+-- whether an item stands first: at the beginning, behind an opening of a group or behind an alternation symbol
+abbrev pub is_first : Option Item → Bool
+is_first None = true
+is_first (Some (Byte members)) = false
+is_first (Some Open) = true
+is_first (Some Close) = false
+is_first (Some Bar) = true
+is_first (Some (Repeat least most)) = false
+is_first (Some AtBegin) = false
+is_first (Some AtEnd) = false
+
+-- whether a repetition may follow: behind an anchor none may (XBD 9.3.6, 9.4.6, 9.4.9)
+abbrev pub is_repeatable : Option Item → Bool
+is_repeatable None = false
+is_repeatable (Some (Byte members)) = true
+is_repeatable (Some Open) = false
+is_repeatable (Some Close) = true
+is_repeatable (Some Bar) = false
+is_repeatable (Some (Repeat least most)) = true
+is_repeatable (Some AtBegin) = false
+is_repeatable (Some AtEnd) = false
+
+abbrev pub is_repeat : Option Item → Bool
+is_repeat None = false
+is_repeat (Some (Byte members)) = false
+is_repeat (Some Open) = false
+is_repeat (Some Close) = false
+is_repeat (Some Bar) = false
+is_repeat (Some (Repeat least most)) = true
+is_repeat (Some AtBegin) = false
+is_repeat (Some AtEnd) = false
+
+-- whether the text, a group or an alternative ends at the front
+abbrev pub ends_alternative : Option (Symbol × ℕ) → Bool
+ends_alternative None = true
+ends_alternative (Some (Literal b, n)) = false
+ends_alternative (Some (AnyByte, n)) = false
+ends_alternative (Some (Opening, n)) = false
+ends_alternative (Some (Closing, n)) = true
+ends_alternative (Some (Parting, n)) = true
+ends_alternative (Some (Star, n)) = false
+ends_alternative (Some (Plus, n)) = false
+ends_alternative (Some (Question, n)) = false
+ends_alternative (Some (Interval, n)) = false
+ends_alternative (Some (IntervalEnd, n)) = false
+ends_alternative (Some (BracketOpening, n)) = false
+ends_alternative (Some (Caret, n)) = false
+ends_alternative (Some (Dollar, n)) = false
+ends_alternative (Some (Unknown reason, n)) = false
+
+abbrev pub fault : ℕ → Reason → Here
+fault place reason = Bad (record { place = place; reason = reason })
+
+-- a repetition of what stands before, or else NothingToRepeat
+abbrev pub repeats : Bool → (at : ℕ) → Here → Here
+repeats true at repeat = repeat
+repeats false at repeat = fault at NothingToRepeat
+
+abbrev pub interval_item : Option Bounds → (at behind : ℕ) → Here
+interval_item None at behind = fault at BadInterval
+interval_item (Some i) at behind = Is (Repeat i.least i.most) (behind + i.width)
+
+abbrev pub list_item : Result (ByteSet × ℕ) ExprFault → Here
+list_item (Ok (members, behind)) = Is (Byte members) behind
+list_item (Err f) = Bad f
+
+-- * is a literal in a basic expression where nothing stands that it could repeat (XBD 9.3.3)
+abbrev pub star_item : Kind → Bool → (at behind : ℕ) → Here
+star_item Basic true at behind = Is (Repeat 0 None) behind
+star_item Basic false at behind = Is (Byte (only 42)) behind
+star_item Extended may at behind = repeats may at (Is (Repeat 0 None) behind)
+
+-- where something stands before it, ? repeats; directly behind a repetition of an extended expression it is left out by
+-- name
+abbrev pub question_item : Kind → (may repeated : Bool) → (at behind : ℕ) → Here
+question_item Basic may repeated at behind = repeats may at (Is (Repeat 0 (Some 1)) behind)
+question_item Extended may repeated at behind = repeats (may && not repeated) at (Is (Repeat 0 (Some 1)) behind)
+
+-- ^ is an anchor where it is first in a basic expression, and everywhere in an extended one (XBD 9.3.8, 9.4.9)
+abbrev pub caret_item : Kind → (first : Bool) → (behind : ℕ) → Here
+caret_item Basic true behind = Is AtBegin behind
+caret_item Basic false behind = Is (Byte (only 94)) behind
+caret_item Extended first behind = Is AtBegin behind
+
+-- $ is an anchor where an alternative of a basic expression ends, and everywhere in an extended one
+abbrev pub dollar_item : Kind → (last : Bool) → (behind : ℕ) → Here
+dollar_item Basic true behind = Is AtEnd behind
+dollar_item Basic false behind = Is (Byte (only 36)) behind
+dollar_item Extended last behind = Is AtEnd behind
+
+-- what a symbol is, behind an item
+abbrev pub item_for : Kind → Option ℕ → List ℕ → Option Item → (at : ℕ) → Option (Symbol × ℕ) → Here
+item_for kind delimiter text before at None = Ends
+item_for kind delimiter text before at (Some (Literal b, n)) = Is (Byte (only b)) (at + n)
+item_for kind delimiter text before at (Some (AnyByte, n)) = Is (Byte any_byte) (at + n)
+item_for kind delimiter text before at (Some (Opening, n)) = Is Open (at + n)
+item_for kind delimiter text before at (Some (Closing, n)) = Is Close (at + n)
+item_for kind delimiter text before at (Some (Parting, n)) = Is Bar (at + n)
+item_for kind delimiter text before at (Some (Star, n)) = star_item kind (is_repeatable before) at (at + n)
+item_for kind delimiter text before at (Some (Plus, n)) = repeats (is_repeatable before) at (Is (Repeat 1 None) (at + n))
+item_for kind delimiter text before at (Some (Question, n)) =
+    question_item kind (is_repeatable before) (is_repeat before) at (at + n)
+item_for kind delimiter text before at (Some (Interval, n)) =
+    repeats (is_repeatable before) at (interval_item (interval kind delimiter (drop (at + n) text)) at (at + n))
+item_for kind delimiter text before at (Some (IntervalEnd, n)) = fault at BadInterval
+item_for kind delimiter text before at (Some (BracketOpening, n)) = list_item (list_at delimiter text at)
+item_for kind delimiter text before at (Some (Caret, n)) = caret_item kind (is_first before) (at + n)
+item_for kind delimiter text before at (Some (Dollar, n)) =
+    dollar_item kind (ends_alternative (symbol kind delimiter (drop (at + n) text))) (at + n)
+item_for kind delimiter text before at (Some (Unknown reason, n)) = fault at reason
+
+-- what stands at a place of a text behind an item
+unfoldable pub item_at : Kind → Option ℕ → List ℕ → Option Item → (at : ℕ) → Here
+item_at kind delimiter text before at = item_for kind delimiter text before at (symbol kind delimiter (drop at text))
+
+-- an item ends behind its place, and a fault is reported within the text
+abbrev pub IsBehind : (at len : ℕ) → Here → Type 0
+IsBehind at len (Is i next) = (at < next) × (next ≤ len)
+IsBehind at len Ends = Unit {0}
+IsBehind at len (Bad f) = f.place ≤ len

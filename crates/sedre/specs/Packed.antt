@@ -1,0 +1,117 @@
+-- Nodes as numbers: what the table keeps of each, and the node that this stands for.
+use Rattle.std.specs.Prelude.{◌≡◌, ◌<◌, ◌≤◌, ℕ, ◌+◌, ◌-◌, List, [], ◌∷◌, ◌++◌, Bool, true, false, length, slice_get, slice_index_or, Some}
+use Rattle.sedre.specs.declared.types.NodeId.{NodeId}
+use Rattle.sedre.specs.declared.types.Node.{Node}
+use Rattle.sedre.specs.declared.types.Node.TheVariants as node
+use Rattle.sedre.specs.declared.packed.Entry.{Entry}
+use Rattle.sedre.specs.declared.packed.Shape.{Shape}
+use Rattle.sedre.specs.declared.packed.Shape.TheVariants as shape
+
+abbrev pub id : ℕ → NodeId
+id n = record { index = n }
+
+-- the node at the index x: its parts stand so many places before it
+abbrev pub node_of : List (List Bool) → ℕ → Shape → ℕ → ℕ → Node
+node_of sets x shape.Empty left right = node.Empty
+node_of sets x shape.Set left right = node.Set (slice_index_or sets left [])
+node_of sets x shape.Begin left right = node.Begin
+node_of sets x shape.End left right = node.End
+node_of sets x shape.Seq left right = node.Seq (id (x - left)) (id (x - right))
+node_of sets x shape.Alt left right = node.Alt (id (x - left)) (id (x - right))
+node_of sets x shape.Group left right = node.Group left (id (x - right))
+node_of sets x shape.FirstStar left right = node.Star (id (x - right)) true
+node_of sets x shape.Star left right = node.Star (id (x - right)) false
+node_of sets x shape.FirstOpt left right = node.Opt (id (x - right)) true
+node_of sets x shape.Opt left right = node.Opt (id (x - right)) false
+
+abbrev pub node_at : List (List Bool) → ℕ → Entry → Node
+node_at sets x e = node_of sets x e.shape e.left e.right
+
+-- the nodes of entries, the first of which has the index x
+abbrev pub nodes_from : List (List Bool) → ℕ → List Entry → List Node
+nodes_from sets x [] = []
+nodes_from sets x (e ∷ es) = node_at sets x e ∷ nodes_from sets (x + 1) es
+
+-- a set's number is that of a set, and parts stand among the nodes
+abbrev pub FitsShape : List (List Bool) → ℕ → Shape → ℕ → ℕ → Type 0
+FitsShape sets x shape.Empty left right = Unit {0}
+FitsShape sets x shape.Set left right = left < length sets
+FitsShape sets x shape.Begin left right = Unit {0}
+FitsShape sets x shape.End left right = Unit {0}
+FitsShape sets x shape.Seq left right = (left ≤ x) × (right ≤ x)
+FitsShape sets x shape.Alt left right = (left ≤ x) × (right ≤ x)
+FitsShape sets x shape.Group left right = right ≤ x
+FitsShape sets x shape.FirstStar left right = right ≤ x
+FitsShape sets x shape.Star left right = right ≤ x
+FitsShape sets x shape.FirstOpt left right = right ≤ x
+FitsShape sets x shape.Opt left right = right ≤ x
+
+abbrev pub Fits : List (List Bool) → ℕ → Entry → Type 0
+Fits sets x e = FitsShape sets x e.shape e.left e.right
+
+abbrev pub FitFrom : List (List Bool) → ℕ → List Entry → Type 0
+FitFrom sets x [] = Unit {0}
+FitFrom sets x (e ∷ es) = Fits sets x e × FitFrom sets (x + 1) es
+
+-- what is kept of a node at the index x, whose set has this number
+abbrev pub star_shape : Bool → Shape
+star_shape true = shape.FirstStar
+star_shape false = shape.Star
+
+abbrev pub opt_shape : Bool → Shape
+opt_shape true = shape.FirstOpt
+opt_shape false = shape.Opt
+
+abbrev pub entry : Shape → ℕ → ℕ → Entry
+entry s left right = record { shape = s; left = left; right = right }
+
+abbrev pub entry_of : ℕ → ℕ → Node → Entry
+entry_of x number node.Empty = entry shape.Empty 0 0
+entry_of x number (node.Set set) = entry shape.Set number 0
+entry_of x number node.Begin = entry shape.Begin 0 0
+entry_of x number node.End = entry shape.End 0 0
+entry_of x number (node.Seq a b) = entry shape.Seq (x - a.index) (x - b.index)
+entry_of x number (node.Alt a b) = entry shape.Alt (x - a.index) (x - b.index)
+entry_of x number (node.Group k a) = entry shape.Group k (x - a.index)
+entry_of x number (node.Star a first) = entry (star_shape first) 0 (x - a.index)
+entry_of x number (node.Opt a first) = entry (opt_shape first) 0 (x - a.index)
+
+-- the number is that of the node's set
+abbrev pub HasNumber : List (List Bool) → ℕ → Node → Type 0
+HasNumber sets number node.Empty = Unit {0}
+HasNumber sets number (node.Set set) = slice_get sets number ≡ Some set
+HasNumber sets number node.Begin = Unit {0}
+HasNumber sets number node.End = Unit {0}
+HasNumber sets number (node.Seq a b) = Unit {0}
+HasNumber sets number (node.Alt a b) = Unit {0}
+HasNumber sets number (node.Group k a) = Unit {0}
+HasNumber sets number (node.Star a first) = Unit {0}
+HasNumber sets number (node.Opt a first) = Unit {0}
+
+-- sets are only added
+abbrev pub Grows : List (List Bool) → List (List Bool) → Type 0
+Grows old new = (more : List (List Bool)) × (new ≡ old ++ more)
+
+-- the node's parts stand before the index x
+abbrev pub PartsBelow : ℕ → Node → Type 0
+PartsBelow x node.Empty = Unit {0}
+PartsBelow x (node.Set set) = Unit {0}
+PartsBelow x node.Begin = Unit {0}
+PartsBelow x node.End = Unit {0}
+PartsBelow x (node.Seq a b) = (a.index < x) × (b.index < x)
+PartsBelow x (node.Alt a b) = (a.index < x) × (b.index < x)
+PartsBelow x (node.Group k a) = a.index < x
+PartsBelow x (node.Star a first) = a.index < x
+PartsBelow x (node.Opt a first) = a.index < x
+
+-- the same node with its parts so many places further on
+abbrev pub shifted : ℕ → Node → Node
+shifted d node.Empty = node.Empty
+shifted d (node.Set set) = node.Set set
+shifted d node.Begin = node.Begin
+shifted d node.End = node.End
+shifted d (node.Seq a b) = node.Seq (id (a.index + d)) (id (b.index + d))
+shifted d (node.Alt a b) = node.Alt (id (a.index + d)) (id (b.index + d))
+shifted d (node.Group k a) = node.Group k (id (a.index + d))
+shifted d (node.Star a first) = node.Star (id (a.index + d)) first
+shifted d (node.Opt a first) = node.Opt (id (a.index + d)) first

@@ -1,0 +1,40 @@
+-- What concatenations, alternations and repetitions are written out to (XBD 9.3.6, 9.4.6, 9.4.7).
+use Rattle.std.specs.Prelude.{ℕ, zero, suc, ◌-◌, ◌≤◌, List, [], ◌∷◌, Bool, false, Option, Some, None, nat_eq}
+use Rattle.sedre.specs.Tree.{Tree, empty, seq, alt, star, opt}
+
+-- pieces one behind the other
+abbrev pub concatenation : List Tree → Tree
+concatenation [] = empty
+concatenation (a ∷ []) = a
+concatenation (a ∷ b ∷ rest) = seq a (concatenation (b ∷ rest))
+
+-- alternatives
+abbrev pub alternation : List Tree → Tree
+alternation [] = empty
+alternation (a ∷ []) = a
+alternation (a ∷ b ∷ rest) = alt a (alternation (b ∷ rest))
+
+-- a number of copies, and what stands behind them
+abbrev pub copies : ℕ → Tree → List Tree → List Tree
+copies zero e behind = behind
+copies (suc n) e behind = e ∷ copies n e behind
+
+-- up to one copy more than the number, each held by the one before it
+abbrev pub optional : ℕ → Tree → Bool → Tree
+optional zero e first = opt e first
+optional (suc n) e first = opt (seq e (optional n e false)) first
+
+-- what may follow the copies that must stand
+abbrev pub further : ℕ → Tree → Bool → List Tree
+further zero e first = []
+further (suc n) e first = optional n e first ∷ []
+
+-- a repetition: at least so many copies, and at most so many where there is a limit
+abbrev pub repetition : ℕ → Option ℕ → Tree → Tree
+repetition least None e = concatenation (copies least e (star e (nat_eq least 0) ∷ []))
+repetition least (Some most) e = concatenation (copies least e (further (most - least) e (nat_eq least 0)))
+
+-- at least so many copies are no more than at most so many
+abbrev pub IsInterval : ℕ → Option ℕ → Type 0
+IsInterval least None = Unit {0}
+IsInterval least (Some most) = least ≤ most

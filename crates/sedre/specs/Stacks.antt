@@ -1,0 +1,201 @@
+-- What the reader holds while it reads: no caller sees it.
+use Rattle.std.specs.Prelude.{◌≡◌, ◌≢◌, ℕ, suc, ◌+◌, ◌-◌, ◌<◌, ◌≤◌, min, take, length, List, [], ◌∷◌, ◌++◌, Bool, true, false, nat_lt, if◌then◌else◌}
+use Rattle.sedre.specs.declared.types.Node.{Node}
+use Rattle.sedre.specs.declared.types.Node.TheVariants as node
+use Rattle.sedre.specs.declared.syntax.Item.{Item}
+use Rattle.sedre.specs.declared.syntax.Item.TheVariants.{Byte, Open, Close, Bar, Repeat, AtBegin, AtEnd}
+use Rattle.sedre.specs.declared.parts.Part.{Part}
+use Rattle.sedre.specs.declared.parts.Mark.{Mark}
+use Rattle.sedre.specs.declared.parts.Cover.{Cover}
+use Rattle.sedre.specs.declared.parts.Cover.TheVariants as cover
+use Rattle.sedre.specs.declared.stack.Stack.{Stack}
+use Rattle.sedre.specs.declared.builder.Builder.{Builder}
+use Rattle.sedre.specs.Packed.{id, PartsBelow}
+use Rattle.sedre.specs.Tree.{Tree, empty, set, begin, end, seq, alt, group, star, opt, size, depth, alternatives_depth}
+use Rattle.sedre.specs.Repeats.{concatenation, alternation, repetition, IsInterval}
+
+-- the finished alternatives of an open group, and the pieces of the one that is read
+pub record Level : Type 0 where
+  pub number : ℕ
+  pub alternatives : List Tree
+  pub pieces : List Tree
+
+-- the openings so far, the innermost level and those around it
+pub record State : Type 0 where
+  pub opened : ℕ
+  pub top : Level
+  pub below : List Level
+
+abbrev pub start : State
+start = record { opened = 0; top = record { number = 0; alternatives = []; pieces = [] }; below = [] }
+
+abbrev pub with_piece : Tree → Level → Level
+with_piece t l = record { number = l.number; alternatives = l.alternatives; pieces = l.pieces ++ t ∷ [] }
+
+abbrev pub all_alternatives : Level → List Tree
+all_alternatives l = l.alternatives ++ concatenation l.pieces ∷ []
+
+-- the whole of a level
+abbrev pub whole : Level → Tree
+whole l = alternation (all_alternatives l)
+
+-- the list with its last element changed
+abbrev pub with_last : (Tree → Tree) → List Tree → List Tree
+with_last f [] = []
+with_last f (t ∷ []) = f t ∷ []
+with_last f (t ∷ u ∷ us) = t ∷ with_last f (u ∷ us)
+
+abbrev pub close : Level → List Level → ℕ → State
+close top [] opened = record { opened = opened; top = top; below = [] }
+close top (l ∷ ls) opened = record { opened = opened; top = with_piece (group top.number (whole top)) l; below = ls }
+
+abbrev pub step : Item → State → State
+step (Byte members) s = record { opened = s.opened; top = with_piece (set members) s.top; below = s.below }
+step AtBegin s = record { opened = s.opened; top = with_piece begin s.top; below = s.below }
+step AtEnd s = record { opened = s.opened; top = with_piece end s.top; below = s.below }
+step Open s = record {
+  opened = suc s.opened;
+  top = record { number = suc s.opened; alternatives = []; pieces = [] };
+  below = s.top ∷ s.below;
+}
+step Close s = close s.top s.below s.opened
+step Bar s = record {
+  opened = s.opened;
+  top = record { number = s.top.number; alternatives = all_alternatives s.top; pieces = [] };
+  below = s.below;
+}
+step (Repeat least most) s = record {
+  opened = s.opened;
+  top = record {
+    number = s.top.number;
+    alternatives = s.top.alternatives;
+    pieces = with_last (repetition least most) s.top.pieces;
+  };
+  below = s.below;
+}
+
+abbrev pub run : List Item → State → State
+run [] s = s
+run (i ∷ is) s = run is (step i s)
+
+-- the nodes of a tree from an index on: those of its parts, and then its root
+abbrev pub postorder : ℕ → Tree → List Node
+postorder base empty = node.Empty ∷ []
+postorder base (set members) = node.Set members ∷ []
+postorder base begin = node.Begin ∷ []
+postorder base end = node.End ∷ []
+postorder base (seq a b) =
+    (postorder base a ++ postorder (base + size a) b)
+    ++ node.Seq (id (base + size a - 1)) (id (base + size a + size b - 1)) ∷ []
+postorder base (alt a b) =
+    (postorder base a ++ postorder (base + size a) b)
+    ++ node.Alt (id (base + size a - 1)) (id (base + size a + size b - 1)) ∷ []
+postorder base (group k a) = postorder base a ++ node.Group k (id (base + size a - 1)) ∷ []
+postorder base (star a first) = postorder base a ++ node.Star (id (base + size a - 1)) first ∷ []
+postorder base (opt a first) = postorder base a ++ node.Opt (id (base + size a - 1)) first ∷ []
+
+-- trees written out one after another
+abbrev pub written : ℕ → List Tree → List Node
+written base [] = []
+written base (t ∷ ts) = postorder base t ++ written (base + size t) ts
+
+abbrev pub total : List Tree → ℕ
+total [] = 0
+total (t ∷ ts) = size t + total ts
+
+-- the trees up to the first whose nodes would reach the limit
+abbrev pub fitting : ℕ → ℕ → List Tree → List Tree
+fitting limit base [] = []
+fitting limit base (t ∷ ts) = if nat_lt (base + size t) limit then t ∷ fitting limit (base + size t) ts else []
+
+-- what is kept of a tree whose nodes end there
+abbrev pub part_of : ℕ → ℕ → Tree → Part
+part_of limit ends t =
+    record { end = min ends limit; depth = min 601 (depth t); inner = min 601 (alternatives_depth t) }
+
+abbrev pub parts_of : ℕ → ℕ → List Tree → List Part
+parts_of limit base [] = []
+parts_of limit base (t ∷ ts) = part_of limit (base + size t) t ∷ parts_of limit (base + size t) ts
+
+-- the node stands for the tree, which has no parts
+abbrev pub IsLeaf : Node → Tree → Type 0
+IsLeaf n t = ((base : ℕ) → postorder base t ≡ n ∷ []) × (size t ≡ 1) × (depth t ≡ 0) × (alternatives_depth t ≡ 0) × ((k : ℕ) → PartsBelow k n)
+
+-- where the nodes of the last tree end
+abbrev pub last_end : List Part → ℕ
+last_end [] = 0
+last_end (p ∷ []) = p.end
+last_end (p ∷ q ∷ ps) = last_end (q ∷ ps)
+
+-- the stack holds these trees: the nodes of those that fit, and of each its measures
+pub record Stored (limit : ℕ) (s : Stack) (ts : List Tree) : Type 0 where
+  pub limit_is : s.limit ≡ limit
+  pub nodes_are : s.nodes ≡ written 0 (fitting limit 0 ts)
+  pub parts_are : s.parts.items ≡ parts_of limit 0 ts
+
+-- the last tree became another
+abbrev pub LastBecomes : (Tree → Tree) → Stack → Stack → Type 0
+LastBecomes f old new =
+    (limit : ℕ) (ts : List Tree) (a : Tree) → Stored limit old (ts ++ a ∷ []) → Stored limit new (ts ++ f a ∷ [])
+
+-- the trees from one on became one
+abbrev pub Joins : ℕ → (List Tree → Tree) → Stack → Stack → Type 0
+Joins from f old new =
+    (limit : ℕ) (ts ps : List Tree) → length ts ≡ from → Stored limit old (ts ++ ps) → Stored limit new (ts ++ f ps ∷ [])
+
+-- a tree came on the stack, whose root is this node and whose parts' nodes end there
+pub record Puts (limit : ℕ) (ns : List Node) (ps : List Part) (new : Stack) (n : Node) (ends d i : ℕ) : Type 0 where
+  pub limit_is : new.limit ≡ limit
+  pub parts : new.parts.items ≡ ps ++ record { end = min (ends + 1) limit; depth = d; inner = i } ∷ []
+  pub kept : ends + 1 < limit → PartsBelow (length ns) n → new.nodes ≡ ns ++ n ∷ []
+  pub over : limit ≤ ends + 1 → new.nodes ≡ take (last_end ps) ns
+
+-- the trees of levels, the innermost level first, in the order in which they were read
+abbrev pub trees_in : List Level → List Tree
+trees_in [] = []
+trees_in (l ∷ ls) = trees_in ls ++ (l.alternatives ++ l.pieces)
+
+-- where the alternatives and the pieces of a level begin among all trees
+abbrev pub mark_of : Level → List Level → Mark
+mark_of l ls = record { number = l.number; alternatives = length (trees_in ls); pieces = length (trees_in ls) + length l.alternatives }
+
+abbrev pub marks_of : List Level → List Mark
+marks_of [] = []
+marks_of (l ∷ ls) = marks_of ls ++ mark_of l ls ∷ []
+
+-- two trees as an alternation or a concatenation
+abbrev pub pair : Bool → Tree → Tree → Tree
+pair true a b = alt a b
+pair false a b = seq a b
+
+-- several
+abbrev pub chain : Bool → List Tree → Tree
+chain true ts = alternation ts
+chain false ts = concatenation ts
+
+-- a tree under a node
+abbrev pub covered : Cover → Tree → Tree
+covered (cover.Group k) a = group k a
+covered (cover.Star first) a = star a first
+covered (cover.Opt first) a = opt a first
+
+-- the reader stands for this state
+pub record Represents (limit : ℕ) (b : Builder) (s : State) : Type 0 where
+  pub stored : Stored limit b.stack (trees_in (s.top ∷ s.below))
+  pub opened : b.opened ≡ s.opened
+  pub top : b.top ≡ mark_of s.top s.below
+  pub below : b.below.items ≡ marks_of s.below
+
+-- the item may stand here
+abbrev pub CanTake : Item → State → Type 0
+CanTake (Byte members) s = Unit {0}
+CanTake Open s = Unit {0}
+CanTake Close s = s.below ≢ []
+CanTake Bar s = Unit {0}
+CanTake (Repeat least most) s = (s.top.pieces ≢ []) × IsInterval least most
+CanTake AtBegin s = Unit {0}
+CanTake AtEnd s = Unit {0}
+
+-- one item more was read
+abbrev pub Takes : Item → Builder → Builder → Type 0
+Takes item old new = (limit : ℕ) (s : State) → Represents limit old s → CanTake item s → Represents limit new (step item s)

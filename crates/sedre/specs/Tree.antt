@@ -1,0 +1,58 @@
+-- Expressions written out as trees, how many nodes they have and how deep they nest.
+use Rattle.std.specs.Prelude.{ℕ, ◌+◌, max, List, Bool}
+
+pub data Tree : Type 0 where
+  -- the null string
+  empty : Tree
+  -- one byte of a set, which is a list of 256 truth values
+  set : List Bool → Tree
+  -- the anchors ^ and $ (XBD 9.3.8, 9.4.9)
+  begin : Tree
+  end : Tree
+  -- one behind the other
+  seq : Tree → Tree → Tree
+  -- either
+  alt : Tree → Tree → Tree
+  -- a group and its number
+  group : ℕ → Tree → Tree
+  -- any number of copies, and at most one; the mark says that no copy stands before it
+  star : Tree → Bool → Tree
+  opt : Tree → Bool → Tree
+
+-- how many nodes it has
+abbrev pub size : Tree → ℕ
+size empty = 1
+size (set members) = 1
+size begin = 1
+size end = 1
+size (seq a b) = 1 + size a + size b
+size (alt a b) = 1 + size a + size b
+size (group k a) = 1 + size a
+size (star a first) = 1 + size a
+size (opt a first) = 1 + size a
+
+-- how deep it nests: a group and a repetition add one, an alternation adds one for all its alternatives together (this
+-- project's own)
+abbrev mutual
+  pub depth : Tree → ℕ
+  depth empty = 0
+  depth (set members) = 0
+  depth begin = 0
+  depth end = 0
+  depth (seq a b) = max (depth a) (depth b)
+  depth (alt a b) = 1 + max (depth a) (alternatives_depth b)
+  depth (group k a) = 1 + depth a
+  depth (star a first) = 1 + depth a
+  depth (opt a first) = 1 + depth a
+
+  -- of the alternatives behind the first
+  pub alternatives_depth : Tree → ℕ
+  alternatives_depth empty = 0
+  alternatives_depth (set members) = 0
+  alternatives_depth begin = 0
+  alternatives_depth end = 0
+  alternatives_depth (seq a b) = max (depth a) (depth b)
+  alternatives_depth (alt a b) = max (depth a) (alternatives_depth b)
+  alternatives_depth (group k a) = 1 + depth a
+  alternatives_depth (star a first) = 1 + depth a
+  alternatives_depth (opt a first) = 1 + depth a

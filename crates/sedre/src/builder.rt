@@ -1,0 +1,125 @@
+//! What was read so far: the trees on the stack, and the groups that are open.
+ghost use Rattle.std.specs.Prelude.{◌≡◌, ◌≢◌, ◌≤◌, ◌<◌, ◌+◌, [], ◌∷◌, ℕ, OnOk, vec_len};
+
+use crate::parts::{Cover, Mark};
+use crate::stack::Stack;
+use crate::syntax::Item;
+use crate::types::Node;
+use std::alloc::{AllocError, Global};
+
+/// The trees read so far, and the groups that are open.
+#[derive(Drop)]
+pub struct Builder {
+    pub stack: Stack,
+    pub opened: usize,
+    pub top: Mark,
+    pub below: Vec<Mark>,
+}
+
+impl Builder {
+    ghost use Rattle.sedre.specs.Tree.{Tree};
+    ghost use Rattle.sedre.specs.Repeats.{IsInterval};
+    ghost use Rattle.sedre.specs.Stacks.{Represents, State, Takes, start, CanTake, Stored, IsLeaf, with_piece, whole};
+
+    /// Nothing was read. The limit is one more than the nodes allowed.
+    pub fn new(alloc: Global, limit: usize) -> Self
+        ensures { Represents limit result start }
+    {
+        Builder {
+            stack: Stack::new(alloc, limit),
+            opened: 0,
+            top: Mark {
+                number: 0,
+                alternatives: 0,
+                pieces: 0,
+            },
+            below: Vec::new(alloc),
+        }
+    }
+
+    /// A piece without parts.
+    fn leaf(&mut self, node: Node) -> Result<(), AllocError>
+        ensures state { OnOk result ((limit : ℕ) (s : State) (t : Tree) → IsLeaf node t → Represents limit self.old s →
+            Represents limit self.new (record { opened = s.opened; top = with_piece t s.top; below = s.below })) }
+        ensures opened { OnOk result (self.new.opened ≤ self.old.opened + 1) }
+    {
+        self.stack.leaf(node)
+    }
+
+    fn open(&mut self) -> Result<(), AllocError>
+        requires { self.old.opened < usize.MAX }
+        ensures state { OnOk result (Takes Item.Open self.old self.new) }
+        ensures opened { OnOk result (self.new.opened ≤ self.old.opened + 1) }
+    {
+        self.below.push(self.top)?;
+        self.opened += 1;
+        self.top = Mark {
+            number: self.opened,
+            alternatives: self.stack.len(),
+            pieces: self.stack.len(),
+        };
+        Ok(())
+    }
+
+    fn bar(&mut self) -> Result<(), AllocError>
+        requires { self.old.top.pieces ≤ vec_len self.old.stack.parts }
+        ensures state { OnOk result (Takes Item.Bar self.old self.new) }
+        ensures opened { OnOk result (self.new.opened ≤ self.old.opened + 1) }
+    {
+        self.stack.concatenate(self.top.pieces)?;
+        self.top.pieces = self.stack.len();
+        Ok(())
+    }
+
+    fn close(&mut self) -> Result<(), AllocError>
+        requires pieces { self.old.top.pieces ≤ vec_len self.old.stack.parts }
+        requires alternatives { self.old.top.alternatives ≤ self.old.top.pieces }
+        requires opened { 0 < vec_len self.old.below }
+        ensures state { OnOk result (Takes Item.Close self.old self.new) }
+        ensures opened { OnOk result (self.new.opened ≤ self.old.opened + 1) }
+    {
+        self.stack.concatenate(self.top.pieces)?;
+        self.stack.alternate(self.top.alternatives)?;
+        self.stack.cover(Cover::Group(self.top.number))?;
+        self.top = self.below.pop().unwrap();
+        Ok(())
+    }
+
+    fn repeat(&mut self, least: u8, most: Option<u8>) -> Result<(), AllocError>
+        requires some { 1 ≤ vec_len self.old.stack.parts }
+        requires order { IsInterval least most }
+        ensures state { OnOk result (Takes (Item.Repeat least most) self.old self.new) }
+        ensures opened { OnOk result (self.new.opened ≤ self.old.opened + 1) }
+    {
+        self.stack.repeat(least, most)
+    }
+
+    /// One item more.
+    pub fn take(&mut self, item: Item) -> Result<(), AllocError>
+        requires some { (limit : ℕ) × (s : State) × Represents limit self.old s × CanTake item s }
+        requires room { self.old.opened < usize.MAX }
+        ensures state { OnOk result (Takes item self.old self.new) }
+        ensures opened { OnOk result (self.new.opened ≤ self.old.opened + 1) }
+    {
+        match item {
+            Item::Byte(set) => self.leaf(Node::Set(set)),
+            Item::Open => self.open(),
+            Item::Close => self.close(),
+            Item::Bar => self.bar(),
+            Item::Repeat(least, most) => self.repeat(least, most),
+            Item::AtBegin => self.leaf(Node::Begin),
+            Item::AtEnd => self.leaf(Node::End),
+        }
+    }
+
+    /// Joins what was read into one tree.
+    pub fn join(&mut self) -> Result<(), AllocError>
+        requires { (limit : ℕ) × (s : State) × Represents limit self.old s × (s.below ≡ []) }
+        ensures { OnOk result ((limit : ℕ) (s : State) → Represents limit self.old s → s.below ≡ [] →
+            Stored limit self.new.stack (whole s.top ∷ []) × (self.new.opened ≡ s.opened)) }
+    {
+        self.stack.concatenate(self.top.pieces)?;
+        self.stack.alternate(0)?;
+        Ok(())
+    }
+}

@@ -1,0 +1,169 @@
+//! Which items stand in a text.
+ghost use Rattle.std.specs.Prelude.{◌≡◌, ◌<◌, ◌≤◌, ◌+◌, length, drop};
+ghost use Rattle.std.specs.Option.{ForSome};
+ghost use Rattle.sedre.specs.Sets.{only};
+ghost use Rattle.sedre.specs.Symbols.{symbol};
+ghost use Rattle.sedre.specs.Intervals.{interval};
+ghost use Rattle.sedre.specs.Items.{is_first, is_repeatable, is_repeat, ends_alternative, fault, repeats, interval_item, list_item, star_item, question_item, caret_item, dollar_item, item_at, IsBehind};
+
+use crate::brackets::list_at;
+use crate::byte_set::ByteSet;
+use crate::intervals::{Interval, interval_at};
+use crate::symbols::symbol_at;
+use crate::syntax::{Here, Item, Symbol};
+use crate::types::{ExprFault, Kind, Reason};
+
+fn is_first(before: &Option<Item>) -> bool
+    ensures { result ≡ is_first before.now }
+{
+    matches!(before, None | Some(Item::Open | Item::Bar))
+}
+
+fn is_repeatable(before: &Option<Item>) -> bool
+    ensures { result ≡ is_repeatable before.now }
+{
+    matches!(before, Some(Item::Byte(_) | Item::Close | Item::Repeat(..)))
+}
+
+fn is_repeat(before: &Option<Item>) -> bool
+    ensures { result ≡ is_repeat before.now }
+{
+    matches!(before, Some(Item::Repeat(..)))
+}
+
+fn ends_alternative(symbol: Option<(Symbol, usize)>) -> bool
+    ensures { result ≡ ends_alternative symbol }
+{
+    matches!(symbol, None | Some((Symbol::Closing | Symbol::Parting, _)))
+}
+
+fn fault(place: usize, reason: Reason) -> Here
+    ensures { result ≡ fault place reason }
+{
+    Here::Bad(ExprFault { place, reason })
+}
+
+/// A literal byte.
+fn literal(b: u8, next: usize) -> Here
+    ensures { result ≡ Here.Is (Item.Byte (only b)) next }
+{
+    Here::Is(Item::Byte(ByteSet::only(b)), next)
+}
+
+/// A repetition, where something stands before it that can be repeated.
+fn repeats(may: bool, at: usize, repeat: Here) -> Here
+    ensures { result ≡ repeats may at repeat }
+{
+    if may {
+        repeat
+    } else {
+        fault(at, Reason::NothingToRepeat)
+    }
+}
+
+fn star_item(kind: Kind, may: bool, at: usize, next: usize) -> Here
+    ensures { result ≡ star_item kind may at next }
+{
+    let repeat = Here::Is(Item::Repeat(0, None), next);
+    match kind {
+        Kind::Basic => if may { repeat } else { literal(b'*', next) },
+        Kind::Extended => repeats(may, at, repeat),
+    }
+}
+
+fn question_item(kind: Kind, may: bool, repeated: bool, at: usize, next: usize) -> Here
+    ensures { result ≡ question_item kind may repeated at next }
+{
+    let repeat = Here::Is(Item::Repeat(0, Some(1)), next);
+    match kind {
+        Kind::Basic => repeats(may, at, repeat),
+        Kind::Extended => repeats(may && !repeated, at, repeat),
+    }
+}
+
+fn interval_item(interval: Option<Interval>, at: usize, behind: usize) -> Here
+    requires { ForSome interval (λ found. behind + found.width ≤ usize.MAX) }
+    ensures { result ≡ interval_item interval at behind }
+{
+    match interval {
+        None => fault(at, Reason::BadInterval),
+        Some(found) => Here::Is(Item::Repeat(found.least, found.most), behind + found.width),
+    }
+}
+
+fn list_item(list: Result<(ByteSet, usize), ExprFault>) -> Here
+    ensures { result ≡ list_item list }
+{
+    match list {
+        Ok((members, behind)) => Here::Is(Item::Byte(members), behind),
+        Err(fault) => Here::Bad(fault),
+    }
+}
+
+fn caret_item(kind: Kind, first: bool, next: usize) -> Here
+    ensures { result ≡ caret_item kind first next }
+{
+    match kind {
+        Kind::Basic => if first {
+            Here::Is(Item::AtBegin, next)
+        } else {
+            literal(b'^', next)
+        },
+        Kind::Extended => Here::Is(Item::AtBegin, next),
+    }
+}
+
+fn dollar_item(kind: Kind, last: bool, next: usize) -> Here
+    ensures { result ≡ dollar_item kind last next }
+{
+    match kind {
+        Kind::Basic => if last {
+            Here::Is(Item::AtEnd, next)
+        } else {
+            literal(b'$', next)
+        },
+        Kind::Extended => Here::Is(Item::AtEnd, next),
+    }
+}
+
+/// What stands at a place of a text behind an item.
+#[tactic(auto, unfolding(crate::specs::Items::item_at))]
+pub fn item_at(
+    kind: Kind,
+    delimiter: Option<u8>,
+    text: &[u8],
+    before: Option<Item>,
+    at: usize,
+) -> Here
+    requires { at ≤ length text.now }
+    ensures item { result ≡ item_at kind delimiter text.now before at }
+    ensures behind { IsBehind at (length text.now) result }
+{
+    let Some((symbol, width)) = symbol_at(kind, delimiter, text, at) else {
+        return Here::Ends;
+    };
+    let next = at + width;
+    let may = is_repeatable(&before);
+    match symbol {
+        Symbol::Literal(b) => literal(b, next),
+        Symbol::AnyByte => Here::Is(Item::Byte(ByteSet::any()), next),
+        Symbol::Opening => Here::Is(Item::Open, next),
+        Symbol::Closing => Here::Is(Item::Close, next),
+        Symbol::Parting => Here::Is(Item::Bar, next),
+        Symbol::Star => star_item(kind, may, at, next),
+        Symbol::Plus => repeats(may, at, Here::Is(Item::Repeat(1, None), next)),
+        Symbol::Question => question_item(kind, may, is_repeat(&before), at, next),
+        Symbol::Interval => {
+            let interval = interval_at(kind, delimiter, &text[next..]);
+            repeats(may, at, interval_item(interval, at, next))
+        }
+        Symbol::IntervalEnd => fault(at, Reason::BadInterval),
+        Symbol::BracketOpening => list_item(list_at(delimiter, text, at)),
+        Symbol::Caret => caret_item(kind, is_first(&before), next),
+        Symbol::Dollar => {
+            let last = ends_alternative(symbol_at(kind, delimiter, text, next));
+            dollar_item(kind, last, next)
+        }
+        Symbol::Unknown(reason) => fault(at, reason),
+    }
+}

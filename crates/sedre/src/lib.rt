@@ -1,0 +1,36 @@
+//! Regular expressions of both POSIX kinds (XBD 9.3, 9.4), read from bytes and written out as nodes.
+//!
+//! [`read`] goes once over the text. Its work grows with the length of the text times `max_nodes`, its memory with
+//! their sum; it uses no recursion. [`delimited`] finds where an expression ends in a script.
+#![tactic(auto)]
+
+mod brackets;
+mod builder;
+mod byte_set;
+mod class;
+mod delimiter;
+mod elements;
+mod intervals;
+mod items;
+pub mod laws;
+#[cfg(test)]
+mod list_tests;
+mod packed;
+mod parts;
+pub mod reader;
+mod repeats;
+mod stack;
+mod steps;
+mod symbols;
+mod syntax;
+mod table;
+#[cfg(test)]
+mod tests;
+pub mod types;
+
+pub use byte_set::ByteSet;
+pub use delimiter::delimited;
+pub use reader::read;
+pub use steps::Steps;
+pub use table::Expr;
+pub use types::{ExprFault, Kind, NO_MEMORY, Node, NodeId, Reason};

@@ -1,0 +1,262 @@
+//! The nodes of an expression as a table: a shape and two numbers for each node, and each set once.
+ghost use Rattle.std.specs.Prelude.{◌≡◌, ◌≢◌, ◌≤◌, ◌<◌, ◌+◌, ◌-◌, ◌++◌, ◌∷◌, [], List, Bool, Some, IfOk, IfSome, OnOk, length, map, take, drop, slice_get, vec_len};
+ghost use Rattle.sedre.specs.Packed.{node_at, nodes_from, Fits, FitFrom, star_shape, opt_shape, entry_of, HasNumber, Grows, PartsBelow, shifted};
+
+use crate::byte_set::ByteSet;
+use crate::types::{Node, NodeId};
+use std::alloc::{AllocError, Global};
+use std::collections::BTreeMap;
+use std::marker::Model;
+
+/// The kind of a node, its mark included.
+#[derive(Clone, Copy)]
+pub enum Shape {
+    Empty,
+    Set,
+    Begin,
+    End,
+    Seq,
+    Alt,
+    Group,
+    FirstStar,
+    Star,
+    FirstOpt,
+    Opt,
+}
+
+/// What is kept of a node. A set is its number, a group its number, and a part how many places it stands before
+/// the node: so a copy of some nodes has the same entries as they have.
+#[derive(Clone, Copy)]
+pub struct Entry {
+    pub shape: Shape,
+    pub left: usize,
+    pub right: usize,
+}
+
+fn star_shape(first: bool) -> Shape
+    ensures { result ≡ star_shape first }
+{
+    if first { Shape::FirstStar } else { Shape::Star }
+}
+
+fn opt_shape(first: bool) -> Shape
+    ensures { result ≡ opt_shape first }
+{
+    if first { Shape::FirstOpt } else { Shape::Opt }
+}
+
+/// What is kept of a node at the index `at`.
+fn entry_of(at: usize, number: usize, node: Node) -> Entry
+    ensures { result ≡ entry_of at number node }
+{
+    let (shape, left, right) = match node {
+        Node::Empty => (Shape::Empty, 0, 0),
+        Node::Set(_) => (Shape::Set, number, 0),
+        Node::Begin => (Shape::Begin, 0, 0),
+        Node::End => (Shape::End, 0, 0),
+        Node::Seq(a, b) => (
+            Shape::Seq,
+            at.saturating_sub(a.index),
+            at.saturating_sub(b.index),
+        ),
+        Node::Alt(a, b) => (
+            Shape::Alt,
+            at.saturating_sub(a.index),
+            at.saturating_sub(b.index),
+        ),
+        Node::Group(k, a) => (Shape::Group, k, at.saturating_sub(a.index)),
+        Node::Star(a, first) => (star_shape(first), 0, at.saturating_sub(a.index)),
+        Node::Opt(a, first) => (opt_shape(first), 0, at.saturating_sub(a.index)),
+    };
+    Entry { shape, left, right }
+}
+
+/// The node that an entry at the index `at` stands for.
+fn node_at(sets: &[ByteSet], at: usize, entry: Entry) -> Node
+    requires { Fits sets.now at entry }
+    ensures { result ≡ node_at sets.now at entry }
+{
+    let left = NodeId {
+        index: at.saturating_sub(entry.left),
+    };
+    let right = NodeId {
+        index: at.saturating_sub(entry.right),
+    };
+    match entry.shape {
+        Shape::Empty => Node::Empty,
+        Shape::Set => Node::Set(sets[entry.left]),
+        Shape::Begin => Node::Begin,
+        Shape::End => Node::End,
+        Shape::Seq => Node::Seq(left, right),
+        Shape::Alt => Node::Alt(left, right),
+        Shape::Group => Node::Group(entry.left, right),
+        Shape::FirstStar => Node::Star(right, true),
+        Shape::Star => Node::Star(right, false),
+        Shape::FirstOpt => Node::Opt(right, true),
+        Shape::Opt => Node::Opt(right, false),
+    }
+}
+
+/// The number of a set that was added before. It is compared, so that nothing rests on `numbers`.
+fn number_among(
+    sets: &[ByteSet],
+    numbers: &BTreeMap<[u64; 4], usize>,
+    set: &ByteSet,
+) -> Option<usize>
+    ensures { IfSome result (λ k. slice_get sets.now k ≡ Some set.now) }
+{
+    let number = *numbers.get(&set.words())?;
+    let found = sets.get(number)?;
+    if found.same(set) { Some(number) } else { None }
+}
+
+/// The number of a set, which is added where it isn't there yet. `numbers` says where to look.
+fn number_of(
+    sets: &mut Vec<ByteSet>,
+    numbers: &mut BTreeMap<[u64; 4], usize>,
+    set: ByteSet,
+) -> Result<usize, AllocError>
+    ensures grows { Grows sets.old.items sets.new.items }
+    ensures number { IfOk result (λ k. slice_get sets.new.items k ≡ Some set) }
+{
+    if let Some(number) = number_among(sets, numbers, &set) {
+        return Ok(number);
+    }
+    let number = sets.len();
+    sets.push(set)?;
+    numbers.insert(set.words(), number)?;
+    Ok(number)
+}
+
+/// The number of the node's set, or 0.
+fn set_number(
+    sets: &mut Vec<ByteSet>,
+    numbers: &mut BTreeMap<[u64; 4], usize>,
+    node: &Node,
+) -> Result<usize, AllocError>
+    ensures grows { Grows sets.old.items sets.new.items }
+    ensures number { IfOk result (λ k. HasNumber sets.new.items k node.now) }
+{
+    match node {
+        Node::Set(set) => number_of(sets, numbers, *set),
+        _ => Ok(0),
+    }
+}
+
+/// Adds one node.
+fn add(
+    entries: &mut Vec<Entry>,
+    sets: &mut Vec<ByteSet>,
+    numbers: &mut BTreeMap<[u64; 4], usize>,
+    node: Node,
+) -> Result<(), AllocError>
+    ensures fits { FitFrom sets.old.items 0 entries.old.items → FitFrom sets.new.items 0 entries.new.items }
+    ensures nodes { OnOk result (FitFrom sets.old.items 0 entries.old.items → PartsBelow (vec_len entries.old) node →
+        nodes_from sets.new.items 0 entries.new.items ≡ nodes_from sets.old.items 0 entries.old.items ++ node ∷ []) }
+{
+    let number = set_number(sets, numbers, &node)?;
+    let entry = entry_of(entries.len(), number, node);
+    entries.push(entry)?;
+    Ok(())
+}
+
+/// Adds the entries from one on once more.
+fn add_again(entries: &mut Vec<Entry>, from: usize) -> Result<(), AllocError>
+    ensures fits { (sets : List (List Bool)) → FitFrom sets 0 entries.old.items → FitFrom sets 0 entries.new.items }
+    ensures entries { OnOk result (entries.new.items ≡ entries.old.items ++ drop from entries.old.items) }
+{
+    for i in from..entries.len() {
+        let entry = entries[i];
+        entries.push(entry)?;
+    }
+    Ok(())
+}
+
+/// Nodes, each behind its parts.
+#[derive(Drop)]
+pub struct Packed {
+    entries: Vec<Entry>,
+    sets: Vec<ByteSet>,
+    /// the number of each set, by its words
+    numbers: BTreeMap<[u64; 4], usize>,
+}
+
+impl Model for Packed {
+    ghost use Rattle.std.specs.Prelude.{List};
+    ghost use Rattle.sedre.specs.declared.types.Node.{Node};
+    ghost use Rattle.sedre.specs.Packed.{nodes_from, FitFrom};
+
+    ghost Value = { List Node };
+
+    ghost view = { λ p. nodes_from p.sets.items 0 p.entries.items };
+
+    ghost invariant = { λ p. FitFrom p.sets.items 0 p.entries.items };
+}
+
+impl Packed {
+    /// No nodes.
+    pub fn new(alloc: Global) -> Self
+        ensures { result ≡ [] }
+    {
+        Packed {
+            entries: Vec::new(alloc),
+            sets: Vec::new(alloc),
+            numbers: BTreeMap::new(alloc),
+        }
+    }
+
+    /// How many nodes there are.
+    pub fn len(&self) -> usize
+        ensures { result ≡ length self.now }
+    {
+        self.entries.len()
+    }
+
+    /// The node of an index.
+    pub fn get(&self, index: usize) -> Node
+        requires { index < length self.now }
+        ensures { slice_get self.now index ≡ Some result }
+    {
+        node_at(&self.sets, index, self.entries[index])
+    }
+
+    /// Adds a node, which is kept as it is where its parts stand before it.
+    pub fn push(&mut self, node: Node) -> Result<(), AllocError>
+        ensures { OnOk result (PartsBelow (length self.old) node → self.new ≡ self.old ++ node ∷ []) }
+    {
+        add(&mut self.entries, &mut self.sets, &mut self.numbers, node)
+    }
+
+    /// Adds the last nodes once more, the parts of each so many places further on.
+    pub fn copy_last(&mut self, count: usize) -> Result<(), AllocError>
+        ensures { OnOk result (count ≤ length self.old →
+            self.new ≡ self.old ++ map (shifted count) (drop (length self.old - count) self.old)) }
+    {
+        let from = self.entries.len().saturating_sub(count);
+        add_again(&mut self.entries, from)
+    }
+
+    /// Leaves no more than so many nodes.
+    pub fn truncate(&mut self, count: usize)
+        ensures { self.new ≡ take count self.old }
+    {
+        self.entries.truncate(count);
+    }
+}
+
+#[cfg(test)]
+mod tests {
+    use super::*;
+    use std::test::Fail;
+
+    #[test]
+    fn equal_sets_are_kept_once(rt: HostRuntime) -> Result<(), Fail> {
+        let mut nodes = Packed::new(rt.alloc());
+        for b in [b'a', b'b', b'a', b'b', b'c'] {
+            nodes.push(Node::Set(ByteSet::only(b)))?;
+        }
+        assert_eq!(rt; nodes.len(), 5);
+        assert_eq!(rt; nodes.sets.len(), 3);
+        Ok(())
+    }
+}

@@ -1,0 +1,28 @@
+//! What the reader keeps of the trees and the groups that it has read.
+
+/// What is kept of a tree.
+#[derive(Clone, Copy)]
+pub struct Part {
+    /// how many nodes the trees up to this one have together, or the limit
+    pub end: usize,
+    /// how deep it nests, up to 601
+    pub depth: usize,
+    /// how deep it nests as an alternative behind the first, up to 601
+    pub inner: usize,
+}
+
+/// An open group: its number, and where its alternatives and the pieces of the last one begin on the stack.
+#[derive(Clone, Copy)]
+pub struct Mark {
+    pub number: usize,
+    pub alternatives: usize,
+    pub pieces: usize,
+}
+
+/// A node with one part.
+#[derive(Clone, Copy)]
+pub enum Cover {
+    Group(usize),
+    Star(bool),
+    Opt(bool),
+}

@@ -1,0 +1,125 @@
+//! Reading of an expression: once over the text, with a stack of its own.
+ghost use Rattle.std.specs.Prelude.{◌≡◌, ◌≢◌, ◌≤◌, ◌<◌, ◌⊎◌, [], ℕ, Some, length, OnOk, IfOk, IfErr, vec_len};
+ghost use Rattle.std.specs.Bool.{OnTrue, OnFalse};
+ghost use Rattle.sedre.specs.declared.types.Reason.{Reason};
+ghost use Rattle.sedre.specs.Grammar.{ReadsAs, ExprFaulty};
+ghost use Rattle.sedre.specs.Arena.{tree};
+ghost use Rattle.sedre.specs.Tree.{size};
+ghost use Rattle.sedre.specs.Stacks.{State, Represents, whole};
+ghost use Rattle.sedre.specs.Finished.{Numbered, IsFinished, IsOverLimit};
+
+use crate::builder::Builder;
+use crate::items::item_at;
+use crate::stack::Stack;
+use crate::syntax::{Here, Item};
+use crate::table::Expr;
+use crate::types::{ExprFault, Kind, NO_MEMORY, Reason};
+use std::alloc::Global;
+
+/// Makes one expression of all that was read, where it is within the limits.
+fn finish(mut builder: Builder, len: usize) -> Result<Expr, ExprFault>
+    requires { (limit : ℕ) × (s : State) × Represents limit builder s × (s.below ≡ []) ×
+        Numbered s.opened (whole s.top) }
+    ensures ok { IfOk result (λ e. (limit : ℕ) (s : State) → Represents limit builder s → s.below ≡ [] →
+        IsFinished s limit e) }
+    ensures err { IfErr result (λ f. (limit : ℕ) (s : State) → Represents limit builder s → s.below ≡ [] →
+        IsOverLimit s limit len f ⊎ (f ≡ NO_MEMORY)) }
+{
+    if builder.join().is_err() {
+        return Err(NO_MEMORY);
+    }
+    let Builder {
+        stack,
+        opened,
+        top: _,
+        below: _,
+    } = builder;
+    let Stack {
+        limit,
+        nodes,
+        parts,
+    } = stack;
+    let part = parts[0];
+    if part.depth > 600 {
+        return Err(ExprFault {
+            place: len,
+            reason: Reason::TooDeep,
+        });
+    }
+    if part.end >= limit {
+        return Err(ExprFault {
+            place: len,
+            reason: Reason::TooManyNodes,
+        });
+    }
+    Ok(Expr::of(nodes, opened))
+}
+
+/// Whether the item closes a group where none is open.
+fn is_stray(builder: &Builder, item: &Item) -> bool
+    ensures stray { OnTrue result ((item.now ≡ Item.Close) × (vec_len builder.now.below ≡ 0)) }
+    ensures fine { OnFalse result (item.now ≡ Item.Close → 0 < vec_len builder.now.below) }
+{
+    matches!(item, Item::Close) && builder.below.is_empty()
+}
+
+/// Reads a text as an expression, or answers its first fault.
+///
+/// With a delimiter, a backslash and the delimiter are the delimiter as a literal. Conditions: `max_nodes` is 1 to
+/// 65,536, the delimiter is neither backslash nor newline. E14 at 0 is answered only where a request for memory was
+/// refused.
+pub fn read(
+    alloc: Global,
+    kind: Kind,
+    text: &[u8],
+    delimiter: Option<u8>,
+    max_nodes: usize,
+) -> Result<Expr, ExprFault>
+    requires some { 1 ≤ max_nodes }
+    requires most { max_nodes ≤ 65536 }
+    requires not_backslash { delimiter ≢ Some 92 }
+    requires not_newline { delimiter ≢ Some 10 }
+    // What is answered is what the text reads as.
+    ensures reads { IfOk result (λ e. ReadsAs kind delimiter text.now (tree e) e.groups) }
+    // It has as many nodes as it has when it is written out, and no more than allowed.
+    ensures size { IfOk result (λ e. (length e.nodes ≡ size (tree e)) × (length e.nodes ≤ max_nodes)) }
+    // No fault is passed over.
+    ensures no_fault { OnOk result ((place : ℕ) (reason : Reason) →
+        ExprFaulty kind delimiter text.now max_nodes place reason → ⊥) }
+    // A fault is the first one of the text, or memory was wanting.
+    ensures fault { IfErr result (λ f.
+        ExprFaulty kind delimiter text.now max_nodes f.place f.reason ⊎ (f ≡ NO_MEMORY)) }
+    // A fault is reported in the text or at its end.
+    ensures within { IfErr result (λ f. f.place ≤ length text.now) }
+{
+    let mut builder = Builder::new(alloc, max_nodes + 1);
+    let mut before: Option<Item> = None;
+    let mut at = 0;
+    'items: loop {
+        match item_at(kind, delimiter, text, before, at) {
+            Here::Bad(fault) => return Err(fault),
+            Here::Ends => {
+                if builder.below.len() > 0 {
+                    return Err(ExprFault {
+                        place: text.len(),
+                        reason: Reason::OpenGroup,
+                    });
+                }
+                return finish(builder, text.len());
+            }
+            Here::Is(item, next) => {
+                if is_stray(&builder, &item) {
+                    return Err(ExprFault {
+                        place: at,
+                        reason: Reason::StrayClose,
+                    });
+                }
+                if builder.take(item).is_err() {
+                    return Err(NO_MEMORY);
+                }
+                before = Some(item);
+                at = next;
+            }
+        }
+    }
+}

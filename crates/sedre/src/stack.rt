@@ -1,0 +1,235 @@
+//! The trees that were read, written out one behind another.
+//!
+//! A tree is kept as its nodes only where the nodes up to it stay below a limit. Of a tree that is too large, and of
+//! all behind it, only the depths are kept: what stands there reads on, and may still go away under `{0}`.
+ghost use Rattle.std.specs.Prelude.{◌≡◌, ◌≤◌, ◌<◌, ◌+◌, ◌-◌, ◌++◌, ◌∷◌, [], ℕ, List, min, max, take, drop, map, length, OnOk, vec_len, false};
+ghost use Rattle.sedre.specs.Covers.{cover_node};
+
+use crate::packed::Packed;
+use crate::parts::{Cover, Part};
+use crate::types::{Node, NodeId};
+use std::alloc::{AllocError, Global};
+
+/// The sum, up to a limit.
+fn sum_within(a: usize, b: usize, limit: usize) -> usize
+    ensures { result ≡ min (a + b) limit }
+{
+    if a < limit && b < limit - a {
+        a + b
+    } else {
+        limit
+    }
+}
+
+fn larger(a: usize, b: usize) -> usize
+    ensures { result ≡ max a b }
+{
+    if a < b { b } else { a }
+}
+
+/// One deeper, up to 601.
+fn deeper(a: usize) -> usize
+    ensures { result ≡ min 600 a + 1 }
+{
+    if a < 600 { a + 1 } else { 601 }
+}
+
+/// The root of a tree whose nodes end there.
+fn root_at(end: usize) -> NodeId
+    ensures { result.index ≡ end - 1 }
+{
+    NodeId {
+        index: end.saturating_sub(1),
+    }
+}
+
+fn cover_node(cover: Cover, part: NodeId) -> Node
+    ensures { result ≡ cover_node cover part }
+{
+    match cover {
+        Cover::Group(number) => Node::Group(number, part),
+        Cover::Star(first) => Node::Star(part, first),
+        Cover::Opt(first) => Node::Opt(part, first),
+    }
+}
+
+/// Trees, the last of which can be changed.
+#[derive(Drop)]
+pub struct Stack {
+    /// one more than the nodes that are kept at most
+    pub limit: usize,
+    pub nodes: Packed,
+    pub parts: Vec<Part>,
+}
+
+impl Stack {
+    ghost use Rattle.sedre.specs.Tree.{Tree, size, depth, alternatives_depth};
+    ghost use Rattle.sedre.specs.Repeats.{concatenation, alternation};
+    ghost use Rattle.sedre.specs.Packed.{shifted};
+    ghost use Rattle.sedre.specs.Stacks.{Stored, LastBecomes, Joins, IsLeaf, Puts, last_end, pair, chain, covered};
+
+    /// No trees.
+    pub fn new(alloc: Global, limit: usize) -> Self
+        ensures { Stored limit result [] }
+    {
+        Stack {
+            limit,
+            nodes: Packed::new(alloc),
+            parts: Vec::new(alloc),
+        }
+    }
+
+    /// How many trees there are.
+    pub fn len(&self) -> usize
+        ensures { result ≡ vec_len self.now.parts }
+    {
+        self.parts.len()
+    }
+
+    /// Where the nodes of the last tree end, up to the limit.
+    fn end(&self) -> usize
+        ensures { result ≡ last_end self.now.parts.items }
+    {
+        match self.parts.last() {
+            Some(part) => part.end,
+            None => 0,
+        }
+    }
+
+    /// Puts a tree on the stack, whose root is this node. The nodes of its parts, which end at `end`, are the last.
+    fn put(&mut self, node: Node, end: usize, depth: usize, inner: usize) -> Result<(), AllocError>
+        ensures put { OnOk result
+            (Puts self.old.limit self.old.nodes self.old.parts.items self.new node end depth inner) }
+        ensures count { OnOk result (vec_len self.new.parts ≡ vec_len self.old.parts + 1) }
+    {
+        let end = sum_within(end, 1, self.limit);
+        if end < self.limit {
+            self.nodes.push(node)?;
+        } else {
+            let base = self.end();
+            self.nodes.truncate(base);
+        }
+        self.parts.push(Part { end, depth, inner })?;
+        Ok(())
+    }
+
+    /// Puts a tree without parts on the stack.
+    pub fn leaf(&mut self, node: Node) -> Result<(), AllocError>
+        ensures trees { OnOk result ((limit : ℕ) (ts : List Tree) (t : Tree) → IsLeaf node t → Stored limit self.old ts →
+            Stored limit self.new (ts ++ t ∷ [])) }
+        ensures count { OnOk result (vec_len self.new.parts ≡ vec_len self.old.parts + 1) }
+    {
+        let end = self.end();
+        self.put(node, end, 0, 0)
+    }
+
+    /// Makes an alternation or a concatenation of the last two trees.
+    pub fn join(&mut self, alternatives: bool) -> Result<(), AllocError>
+        requires { 2 ≤ vec_len self.old.parts }
+        ensures trees { OnOk result ((limit : ℕ) (ts : List Tree) (a b : Tree) → Stored limit self.old (ts ++ a ∷ b ∷ []) →
+            Stored limit self.new (ts ++ pair alternatives a b ∷ [])) }
+        ensures count { OnOk result (vec_len self.new.parts + 1 ≡ vec_len self.old.parts) }
+    {
+        let right = self.parts.pop().unwrap();
+        let left = self.parts.pop().unwrap();
+        let (first, second) = (root_at(left.end), root_at(right.end));
+        if alternatives {
+            let depth = larger(left.depth, right.inner);
+            self.put(Node::Alt(first, second), right.end, deeper(depth), depth)
+        } else {
+            let depth = larger(left.depth, right.depth);
+            self.put(Node::Seq(first, second), right.end, depth, depth)
+        }
+    }
+
+    /// Puts the last tree under a node.
+    pub fn cover(&mut self, cover: Cover) -> Result<(), AllocError>
+        requires { 1 ≤ vec_len self.old.parts }
+        ensures trees { OnOk result (LastBecomes (covered cover) self.old self.new) }
+        ensures count { OnOk result (vec_len self.new.parts ≡ vec_len self.old.parts) }
+    {
+        let part = self.parts.pop().unwrap();
+        let depth = deeper(part.depth);
+        self.put(cover_node(cover, root_at(part.end)), part.end, depth, depth)
+    }
+
+    /// Adds the last nodes once more, where they stay below the limit.
+    fn copy_nodes(&mut self, count: usize, end: usize) -> Result<(), AllocError>
+        ensures limit { self.new.limit ≡ self.old.limit }
+        ensures parts { self.new.parts ≡ self.old.parts }
+        ensures kept { OnOk result (end < self.old.limit → count ≤ length self.old.nodes →
+            self.new.nodes ≡ self.old.nodes ++ map (shifted count) (drop (length self.old.nodes - count) self.old.nodes)) }
+        ensures over { OnOk result (self.old.limit ≤ end → self.new.nodes ≡ self.old.nodes) }
+    {
+        if end < self.limit {
+            self.nodes.copy_last(count)?;
+        }
+        Ok(())
+    }
+
+    /// Puts a copy of the last tree behind it.
+    pub fn copy(&mut self) -> Result<(), AllocError>
+        requires { 1 ≤ vec_len self.old.parts }
+        ensures trees { OnOk result ((limit : ℕ) (ts : List Tree) (a : Tree) → Stored limit self.old (ts ++ a ∷ []) →
+            Stored limit self.new ((ts ++ a ∷ []) ++ a ∷ [])) }
+        ensures count { OnOk result (vec_len self.new.parts ≡ vec_len self.old.parts + 1) }
+    {
+        let part = self.parts.pop().unwrap();
+        let size = part.end.saturating_sub(self.end());
+        let end = sum_within(part.end, size, self.limit);
+        self.copy_nodes(size, end)?;
+        self.parts.push(part)?;
+        self.parts.push(Part {
+            end,
+            depth: part.depth,
+            inner: part.inner,
+        })?;
+        Ok(())
+    }
+
+    /// Takes the last tree away.
+    pub fn drop_last(&mut self)
+        requires { 1 ≤ vec_len self.old.parts }
+        ensures trees { (limit : ℕ) (ts : List Tree) (a : Tree) → Stored limit self.old (ts ++ a ∷ []) →
+            Stored limit self.new ts }
+        ensures count { vec_len self.new.parts + 1 ≡ vec_len self.old.parts }
+    {
+        self.parts.pop();
+        let base = self.end();
+        self.nodes.truncate(base);
+    }
+
+    /// Joins the trees from one on, which are some.
+    pub fn join_all(&mut self, from: usize, alternatives: bool) -> Result<(), AllocError>
+        requires { from < vec_len self.old.parts }
+        ensures trees { OnOk result (Joins from (chain alternatives) self.old self.new) }
+        ensures count { OnOk result (vec_len self.new.parts ≡ from + 1) }
+    {
+        while self.parts.len() > from + 1 {
+            self.join(alternatives)?;
+        }
+        Ok(())
+    }
+
+    /// Makes a concatenation of the trees from one on.
+    pub fn concatenate(&mut self, from: usize) -> Result<(), AllocError>
+        requires { from ≤ vec_len self.old.parts }
+        ensures trees { OnOk result (Joins from concatenation self.old self.new) }
+        ensures count { OnOk result (vec_len self.new.parts ≡ from + 1) }
+    {
+        if self.parts.len() == from {
+            self.leaf(Node::Empty)
+        } else {
+            self.join_all(from, false)
+        }
+    }
+
+    /// Makes an alternation of the trees from one on, which are some.
+    pub fn alternate(&mut self, from: usize) -> Result<(), AllocError>
+        requires { from < vec_len self.old.parts }
+        ensures trees { OnOk result (Joins from alternation self.old self.new) }
+        ensures count { OnOk result (vec_len self.new.parts ≡ from + 1) }
+    {
+        self.join_all(from, true)
+    }
+}

@@ -1,0 +1,52 @@
+//! Symbols and items: what the bytes of a text are cut into.
+use crate::byte_set::ByteSet;
+use crate::types::{ExprFault, Reason};
+
+/// What one or two bytes mean, wherever they stand.
+#[derive(Clone, Copy)]
+pub enum Symbol {
+    Literal(u8),
+    AnyByte,
+    Opening,
+    Closing,
+    Parting,
+    Star,
+    Plus,
+    Question,
+    Interval,
+    IntervalEnd,
+    BracketOpening,
+    Caret,
+    Dollar,
+    Unknown(Reason),
+}
+
+/// An item of a text.
+#[derive(Clone, Copy)]
+pub enum Item {
+    /// one byte of a set
+    Byte(ByteSet),
+    /// opens a group
+    Open,
+    /// closes a group
+    Close,
+    /// parts two alternatives
+    Bar,
+    /// repeats the piece before it, at least and at most so often
+    Repeat(u8, Option<u8>),
+    /// the anchor `^`
+    AtBegin,
+    /// the anchor `$`
+    AtEnd,
+}
+
+/// What stands at a place of a text.
+#[derive(Clone, Copy)]
+pub enum Here {
+    /// an item, and the place behind it
+    Is(Item, usize),
+    /// nothing: the text ends
+    Ends,
+    /// a fault
+    Bad(ExprFault),
+}

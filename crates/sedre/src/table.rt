@@ -1,0 +1,81 @@
+//! Expressions as callers see them: nodes, each behind its parts.
+ghost use Rattle.std.specs.Prelude.{◌≡◌, ◌<◌, ◌+◌, ◌^◌, Some, length, slice_get};
+ghost use Rattle.sedre.specs.Arena.{Written, IsArena, IsExpr};
+
+use crate::packed::Packed;
+use crate::steps::Steps;
+use crate::types::{Node, NodeId};
+use std::marker::Model;
+
+/// An expression written out. A node's parts have smaller indices than the node, and each node but the root, which is
+/// the last one, is a part of exactly one node, once.
+#[derive(Drop)]
+pub struct Expr {
+    nodes: Packed,
+    groups: usize,
+}
+
+impl Model for Expr {
+    ghost use Rattle.sedre.specs.Arena.{Written, IsExpr};
+
+    ghost Value = { Written };
+
+    ghost view = { λ e. record { nodes = e.nodes; groups = e.groups } };
+
+    ghost invariant = { λ e. IsExpr e.nodes e.groups };
+}
+
+impl Expr {
+    /// The expression of these nodes.
+    pub(crate) fn of(nodes: Packed, groups: usize) -> Self
+        requires { IsExpr nodes groups }
+        ensures { result ≡ record { nodes = nodes; groups = groups } }
+    {
+        Expr { nodes, groups }
+    }
+
+    /// How many nodes it has: those of the expression written out.
+    pub fn nodes(&self) -> usize
+        ensures value { result ≡ length self.now.nodes }
+        ensures arena { IsArena self.now.nodes }
+    {
+        self.nodes.len()
+    }
+
+    /// How many groups its text has.
+    pub fn groups(&self) -> usize
+        ensures value { result ≡ self.now.groups }
+        ensures expr { IsExpr self.now.nodes self.now.groups }
+    {
+        self.groups
+    }
+
+    /// The node of the whole expression.
+    pub fn root(&self) -> NodeId
+        ensures last { result.index + 1 ≡ length self.now.nodes }
+        ensures arena { IsArena self.now.nodes }
+    {
+        NodeId {
+            index: self.nodes.len() - 1,
+        }
+    }
+
+    /// The node of an index. Condition: the index is below `nodes()`.
+    pub fn id(&self, index: usize) -> NodeId
+        requires { index < length self.now.nodes }
+        ensures { result.index ≡ index }
+    {
+        NodeId { index }
+    }
+
+    /// The node itself, which counts one step. Conditions: the index is below `nodes()`, the count below 2^120.
+    pub fn look(&self, id: NodeId, steps: &mut Steps) -> Node
+        requires inside { id.index < length self.now.nodes }
+        requires room { steps.old < 2 ^ 120 }
+        ensures node { slice_get self.now.nodes id.index ≡ Some result }
+        ensures cost { steps.new ≡ steps.old + 1 }
+    {
+        steps.add(1);
+        self.nodes.get(id.index)
+    }
+}

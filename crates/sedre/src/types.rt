@@ -1,0 +1,143 @@
+//! Kinds, faults and nodes of expressions.
+ghost use Rattle.std.specs.Prelude.{◌≡◌, ◌≤◌};
+ghost use Rattle.sedre.specs.Reasons.{number};
+
+use crate::byte_set::ByteSet;
+
+/// The two kinds of regular expressions.
+#[derive(Clone, Copy, Debug, PartialEq, Eq)]
+pub enum Kind {
+    /// basic regular expressions (XBD 9.3)
+    Basic,
+    /// extended regular expressions (XBD 9.4)
+    Extended,
+}
+
+/// Why a text is no expression, E1 to E14.
+#[derive(Clone, Copy, Debug, PartialEq, Eq)]
+pub enum Reason {
+    /// E1: a bracket expression, or a form in it, isn't closed
+    OpenBracket,
+    /// E2: the name of a character class is unknown
+    UnknownClass,
+    /// E3: more than one byte stands in `[.` or `[=`
+    LongCollating,
+    /// E4: the ends of a range are no ends of one
+    BadRange,
+    /// E5: a group isn't closed
+    OpenGroup,
+    /// E6: a closing stands where no group is open
+    StrayClose,
+    /// E7: an interval is no interval
+    BadInterval,
+    /// E8: nothing stands there that could be repeated
+    NothingToRepeat,
+    /// E9: a backslash is the last byte
+    LastBackslash,
+    /// E10: this byte has no meaning behind a backslash
+    UnknownEscape,
+    /// E11: back-references are left out
+    BackReference,
+    /// E12: there are more nodes than allowed
+    TooManyNodes,
+    /// E13: it nests deeper than 600
+    TooDeep,
+    /// E14: a request for memory was refused
+    NoMemory,
+}
+
+impl Reason {
+    /// Its number, 1 to 14.
+    pub fn number(self) -> u8
+        ensures is { result ≡ number self }
+        ensures within { (1 ≤ result) × (result ≤ 14) }
+    {
+        match self {
+            Reason::OpenBracket => 1,
+            Reason::UnknownClass => 2,
+            Reason::LongCollating => 3,
+            Reason::BadRange => 4,
+            Reason::OpenGroup => 5,
+            Reason::StrayClose => 6,
+            Reason::BadInterval => 7,
+            Reason::NothingToRepeat => 8,
+            Reason::LastBackslash => 9,
+            Reason::UnknownEscape => 10,
+            Reason::BackReference => 11,
+            Reason::TooManyNodes => 12,
+            Reason::TooDeep => 13,
+            Reason::NoMemory => 14,
+        }
+    }
+
+    /// Its name, as `OpenBracket`.
+    pub fn name(self) -> &'static str {
+        match self {
+            Reason::OpenBracket => "OpenBracket",
+            Reason::UnknownClass => "UnknownClass",
+            Reason::LongCollating => "LongCollating",
+            Reason::BadRange => "BadRange",
+            Reason::OpenGroup => "OpenGroup",
+            Reason::StrayClose => "StrayClose",
+            Reason::BadInterval => "BadInterval",
+            Reason::NothingToRepeat => "NothingToRepeat",
+            Reason::LastBackslash => "LastBackslash",
+            Reason::UnknownEscape => "UnknownEscape",
+            Reason::BackReference => "BackReference",
+            Reason::TooManyNodes => "TooManyNodes",
+            Reason::TooDeep => "TooDeep",
+            Reason::NoMemory => "NoMemory",
+        }
+    }
+}
+
+/// A fault, and the place in the text at which it is reported.
+#[derive(Clone, Copy, Debug, PartialEq, Eq)]
+pub struct ExprFault {
+    pub place: usize,
+    pub reason: Reason,
+}
+
+/// The fault where a request for memory was refused: E14 at 0.
+pub const NO_MEMORY: ExprFault = ExprFault {
+    place: 0,
+    reason: Reason::NoMemory,
+};
+
+/// The number of a node in its expression.
+#[derive(Clone, Copy)]
+pub struct NodeId {
+    pub(crate) index: usize,
+}
+
+impl NodeId {
+    /// Its index, from 0.
+    pub fn index(&self) -> usize
+        ensures { result ≡ self.now.index }
+    {
+        self.index
+    }
+}
+
+/// A node of an expression that is written out.
+#[derive(Clone, Copy)]
+pub enum Node {
+    /// the null string
+    Empty,
+    /// one byte of a set
+    Set(ByteSet),
+    /// the beginning of the text
+    Begin,
+    /// the end of the text
+    End,
+    /// one behind the other
+    Seq(NodeId, NodeId),
+    /// either
+    Alt(NodeId, NodeId),
+    /// a group and its number, from 1
+    Group(usize, NodeId),
+    /// any number of copies; the mark says that it is no rest of a repetition with copies before it
+    Star(NodeId, bool),
+    /// at most one copy; the mark as for `Star`
+    Opt(NodeId, bool),
+}

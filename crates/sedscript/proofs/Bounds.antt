@@ -1,0 +1,334 @@
+-- The numbers of a script are in range.
+use Rattle.std.proofs.Common.{◌≡◌, ℕ, zero, suc, ◌+◌, ◌<◌, ◌≤◌, ◌&&◌, ◌==◌, Bool, true, false, List, [], ◌∷◌, ◌++◌, length, Option, Some, None, unwrap_or, Result, Ok, Err, IfOk, refl, sym, ap, subst, ◌∙◌, arith, if◌then◌else◌, slice_get, length-append}
+use Rattle.sedre.specs.declared.types.Kind.{Kind}
+use Rattle.sedre.specs.Arena.{Written}
+use Rattle.sedre.specs.Delimited.{delimiter_at}
+use Rattle.sedscript.specs.declared.bytes.Sort.TheVariants.{Blank, Bang, Digit, Separator}
+use Rattle.sedscript.specs.declared.types.ScriptFault.{ScriptFault}
+use Rattle.sedscript.specs.declared.types.Address.{Address}
+use Rattle.sedscript.specs.declared.types.Address.TheVariants.{Line, Last, Match}
+use Rattle.sedscript.specs.declared.types.Action.{Action}
+use Rattle.sedscript.specs.declared.types.Command.{Command}
+use Rattle.sedscript.specs.declared.items.Simple.{Simple}
+use Rattle.sedscript.specs.declared.items.Simple.TheVariants.{Delete, LineNumber, Print, Quit}
+use Rattle.sedscript.specs.declared.items.TextUse.{TextUse}
+use Rattle.sedscript.specs.declared.items.TextUse.TheVariants.{Insert, Change}
+use Rattle.sedscript.specs.declared.items.Function.{Function}
+use Rattle.sedscript.specs.declared.items.Function.TheVariants.{Plain, Open, Close, Label, Branch, Text, Comment}
+use Rattle.sedscript.specs.declared.items.Addresses.{Addresses}
+use Rattle.sedscript.specs.declared.items.Item.{Item}
+use Rattle.sedscript.specs.declared.items.Here.{Here}
+use Rattle.sedscript.specs.declared.items.Here.TheVariants.{Is, Ends}
+use Rattle.sedscript.specs.Bytes.{past, part, is_digit, is_byte, with_digits}
+use Rattle.sedscript.specs.Functions.{function_at, allowed, most_addresses, function_of, item_of, item_with, ◌>>=◌ as ◌then◌}
+use Rattle.sedscript.specs.Addresses.{Pattern, Reading, Addressed, Headed, plainly, then_on, line_of, match_to, match_at, own_match, own_delimiter, address_of, address_at, with_second, second_at, behind_first, addresses_at, with_bang, function_behind, item_from, item_at}
+use Rattle.sedscript.specs.Expressions.{AreRead}
+use Rattle.sedscript.specs.Targets.{leaves, counted, commands_in, label_in, is_label, close_in, is_close, depth_behind, block_end}
+use Rattle.sedscript.specs.Script.{Cut, done, item, with_text, texts_of, has_text, texts_with, action_of, simple_action, text_action, with_action, commands_of, Judged, Means, Program}
+use Rattle.sedscript.specs.Ranges.{AddressWithin, ActionWithin, CommandWithin, InRange}
+use Rattle.sedscript.proofs.Labels.{commands_snoc, counted_in}
+use Rattle.sedscript.proofs.Exclusive.{are_read_length}
+
+-- targets
+
+abbrev AtMost : ℕ → Option ℕ → Type 0
+AtMost n None = Unit {0}
+AtMost n (Some k) = k ≤ n
+
+at_most_if : (b : Bool) (n k : ℕ) (o : Option ℕ) → k ≤ n → AtMost n o → AtMost n (if b then Some k else o)
+at_most_if true n k o h g = h
+at_most_if false n k o h g = g
+
+at_most_or : (n : ℕ) (o : Option ℕ) → AtMost n o → unwrap_or o 0 ≤ n
+at_most_or n None h = omega arith
+at_most_or n (Some k) h = h
+
+close_bound : (depth n : ℕ) (is : List Item) → AtMost (n + commands_in is) (close_in depth n is)
+close_bound depth n [] = tt
+close_bound depth n (i ∷ is) =
+    at_most_if (is_close i.function && depth == 0) (n + commands_in (i ∷ is)) n (close_in (depth_behind depth i.function) (counted n i) is) (omega arith)
+    (subst (λ (m : ℕ). AtMost m (close_in (depth_behind depth i.function) (counted n i) is)) (counted_in n i is) (close_bound (depth_behind depth i.function) (counted n i) is))
+
+label_bound : (text name : List ℕ) (n : ℕ) (is : List Item) → AtMost (n + commands_in is) (label_in text name n is)
+label_bound text name n [] = tt
+label_bound text name n (i ∷ is) =
+    at_most_if (is_label text name i.function) (n + commands_in (i ∷ is)) n (label_in text name (counted n i) is) (omega arith)
+    (subst (λ (m : ℕ). AtMost m (label_in text name (counted n i) is)) (counted_in n i is) (label_bound text name (counted n i) is))
+
+-- actions
+
+abbrev MayAct : ℕ → ℕ → Option Action → Type 0
+MayAct commands texts None = Unit {0}
+MayAct commands texts (Some a) = ActionWithin commands texts a
+
+simple_within : (n t : ℕ) (s : Simple) → ActionWithin n t (simple_action s)
+simple_within n t Delete = tt
+simple_within n t LineNumber = tt
+simple_within n t Print = tt
+simple_within n t Quit = tt
+
+text_within : (n t k : ℕ) (u : TextUse) → k < t → ActionWithin n t (text_action u k)
+text_within n t k Insert h = h
+text_within n t k Change h = h
+
+branch_bound : (n : ℕ) (same : Bool) (m : ℕ) (o : Option ℕ) → m ≤ n → AtMost n o → (if same then m else unwrap_or o 0) ≤ n
+branch_bound n true m o h g = h
+branch_bound n false m o h g = at_most_or n o g
+
+may_act : (text : List ℕ) (all before after : List Item) (texts n t : ℕ) (f : Function) → commands_in all ≡ n →
+    commands_in before + (if leaves f then suc (commands_in after) else commands_in after) ≡ n → texts + length (with_text text f (texts_of text after)) ≡ t →
+    MayAct n t (action_of text all before texts after f)
+may_act text all before after texts n t (Plain s) whole count long = simple_within n t s
+may_act text all before after texts n t Open whole count long =
+    at_most_or n (block_end before after)
+    (subst (λ (m : ℕ). AtMost m (block_end before after)) (let e : suc (commands_in before) + commands_in after ≡ n = omega (arith, count) in e) (close_bound 0 (suc (commands_in before)) after))
+may_act text all before after texts n t (Branch from to) whole count long =
+    branch_bound n (from == to) (commands_in all) (label_in text (part text from to) 0 all) (omega (arith, whole))
+    (subst (λ (m : ℕ). AtMost m (label_in text (part text from to) 0 all)) (let e : 0 + commands_in all ≡ n = omega (arith, whole) in e) (label_bound text (part text from to) 0 all))
+may_act text all before after texts n t (Text u from to) whole count long = text_within n t texts u (omega (arith, long))
+may_act text all before after texts n t Close whole count long = tt
+may_act text all before after texts n t (Label from to) whole count long = tt
+may_act text all before after texts n t Comment whole count long = tt
+
+-- addresses
+
+abbrev AddressesWithin : ℕ → Addresses → Type 0
+AddressesWithin n a = AddressWithin n a.first × AddressWithin n a.second
+
+address_more : (m n : ℕ) (a : Option Address) → m ≤ n → AddressWithin m a → AddressWithin n a
+address_more m n None le h = tt
+address_more m n (Some (Line k)) le h = h
+address_more m n (Some Last) le h = tt
+address_more m n (Some (Match None)) le h = tt
+address_more m n (Some (Match (Some k))) le h = omega (arith, le, h)
+
+abbrev ItemsWithin : ℕ → List Item → Type 0
+ItemsWithin n [] = Unit {0}
+ItemsWithin n (i ∷ is) = AddressesWithin n i.addresses × ItemsWithin n is
+
+-- what is read is bounded by the count of expressions behind it
+abbrev Bounds : {A : Type 0} → (ℕ → A → Type 0) → ℕ → Reading A → Type 0
+Bounds P count r = IfOk r.end (P (count + length r.patterns))
+
+bounds_then : {A B : Type 0} (P : ℕ → A → Type 0) (Q : ℕ → B → Type 0) (count : ℕ) (ps : List Pattern) (e : Result A ScriptFault) (f : A → Reading B) →
+    IfOk e (P (count + length ps)) → ((n : ℕ) (x : A) → count ≤ n → P n x → Bounds Q n (f x)) → Bounds Q count (then_on ps e f)
+bounds_then P Q count ps (Ok x) f h g =
+    subst (λ (n : ℕ). IfOk (f x).end (Q n)) (let e : count + length ps + length (f x).patterns ≡ count + length (ps ++ (f x).patterns) = omega (arith, length-append ps (f x).patterns) in e) (g (count + length ps) x (omega arith) h)
+bounds_then P Q count ps (Err x) f h g = tt
+
+abbrev AddressedWithin : ℕ → Addressed → Type 0
+AddressedWithin n x = (x.count ≡ n) × AddressWithin n x.address
+
+abbrev HeadedWithin : ℕ → Headed → Type 0
+HeadedWithin n h = AddressesWithin n h.addresses
+
+abbrev HereWithin : ℕ → Here → Type 0
+HereWithin n (Is i next) = AddressesWithin n i.addresses
+HereWithin n Ends = Unit {0}
+
+line_bounds : (count from to : ℕ) (o : Option ℕ) → Bounds AddressedWithin count (plainly (line_of count from to o))
+line_bounds count from to None = tt
+line_bounds count from to (Some zero) = tt
+line_bounds count from to (Some (suc n)) = (omega arith, omega arith)
+
+match_if : (b : Bool) (count delimiter place to : ℕ) → Bounds AddressedWithin count
+    (if b then plainly (Ok (record { address = Some (Match None); at = to + 1; count = count }))
+    else record { patterns = record { from = place + 1; to = to; delimiter = delimiter } ∷ []; end = Ok (record { address = Some (Match (Some count)); at = to + 1; count = count + 1 }) })
+match_if true count delimiter place to = (omega arith, tt)
+match_if false count delimiter place to = (omega arith, omega arith)
+
+match_bounds : (text : List ℕ) (count delimiter place : ℕ) → Bounds AddressedWithin count (match_at text count delimiter place)
+unfolding match_at
+match_bounds text count delimiter place = by_end (delimiter_at text (place + 1) delimiter)
+  where
+    by_end : (o : Option ℕ) → Bounds AddressedWithin count (match_to count delimiter place o)
+    by_end None = tt
+    by_end (Some to) = match_if (to == place + 1) count delimiter place to
+
+own_bounds : (text : List ℕ) (count place : ℕ) (o : Option ℕ) → Bounds AddressedWithin count (own_match text count place o)
+own_bounds text count place None = tt
+own_bounds text count place (Some d) = match_bounds text count d place
+
+nothing_bounds : (count at : ℕ) → Bounds AddressedWithin count (plainly (Ok (record { address = None; at = at; count = count })))
+nothing_bounds count at = (omega arith, tt)
+
+bounds_if : {A : Type 0} (P : ℕ → A → Type 0) (count : ℕ) (b : Bool) (r s : Reading A) → Bounds P count r → Bounds P count s → Bounds P count (if b then r else s)
+bounds_if P count true r s h g = h
+bounds_if P count false r s h g = g
+
+address_bounds : (text : List ℕ) (count at : ℕ) → Bounds AddressedWithin count (address_at text count at)
+unfolding address_at
+address_bounds text count at = by_byte (slice_get text at)
+  where
+    by_byte : (o : Option ℕ) → Bounds AddressedWithin count (address_of text count at o)
+    by_byte None = nothing_bounds count at
+    by_byte (Some b) =
+        bounds_if AddressedWithin count (is_digit b) _ _ (line_bounds count at (past Digit text at) (with_digits (Some 0) (part text at (past Digit text at))))
+        (bounds_if AddressedWithin count (b == 36) _ _ (omega arith, tt)
+        (bounds_if AddressedWithin count (b == 47) _ _ (match_bounds text count 47 at)
+        (bounds_if AddressedWithin count (b == 92) _ _ (own_bounds text count (at + 1) (own_delimiter (slice_get text (at + 1)))) (nothing_bounds count at))))
+
+second_within : (n : ℕ) (first : Address) (place next : ℕ) (o : Option Address) → AddressWithin n (Some first) → AddressWithin n o → IfOk (with_second first place next o) (HeadedWithin n)
+second_within n first place next None h g = tt
+second_within n first place next (Some a) h g = (h, g)
+
+second_bounds : (text : List ℕ) (count : ℕ) (first : Address) (at : ℕ) → AddressWithin count (Some first) → Bounds HeadedWithin count (second_at text count first at)
+unfolding second_at
+second_bounds text count first at h =
+    bounds_then AddressedWithin HeadedWithin count (address_at text count at).patterns (address_at text count at).end (λ (x : Addressed). plainly (with_second first at x.at x.address))
+    (address_bounds text count at)
+    (λ n x le p. second_within (n + 0) first at x.at x.address (address_more count (n + 0) (Some first) (omega (arith, le)) h) (address_more n (n + 0) x.address (omega arith) p.1))
+
+behind_bounds : (text : List ℕ) (count at : ℕ) (o : Option Address) → AddressWithin count o → Bounds HeadedWithin count (behind_first text count at o)
+behind_bounds text count at None h = (tt, tt)
+behind_bounds text count at (Some first) h =
+    bounds_if HeadedWithin count (is_byte 44 (slice_get text (past Blank text at))) _ _ (second_bounds text count first (past Blank text (past Blank text at + 1)) h)
+    (address_more count (count + 0) (Some first) (omega arith) h, tt)
+
+addresses_bounds : (text : List ℕ) (count at : ℕ) → Bounds HeadedWithin count (addresses_at text count at)
+unfolding addresses_at
+addresses_bounds text count at =
+    bounds_then AddressedWithin HeadedWithin count (address_at text count at).patterns (address_at text count at).end (λ (x : Addressed). behind_first text x.count x.at x.address)
+    (address_bounds text count at)
+    (λ n x le p. subst (λ (k : ℕ). Bounds HeadedWithin k (behind_first text x.count x.at x.address)) p.0
+    (behind_bounds text x.count x.at x.address (address_more n x.count x.address (omega (arith, p.0)) p.1)))
+
+function_within : (text : List ℕ) (a : Addresses) (at n : ℕ) → AddressesWithin n a → IfOk (function_at text a at) (HereWithin n)
+unfolding function_at
+function_within text a at n h = by_letter (slice_get text at)
+  where
+    by_function : (r : Result (Function × ℕ) ScriptFault) → IfOk (◌then◌ r (λ (found : Function × ℕ). Ok (item_of a at found))) (HereWithin n)
+    by_function (Ok found) = h
+    by_function (Err f) = tt
+
+    by_allowed : (r : Result ℕ ScriptFault) → IfOk (◌then◌ r (λ (b : ℕ). ◌then◌ (function_of text b at) (λ (found : Function × ℕ). Ok (item_of a at found)))) (HereWithin n)
+    by_allowed (Ok b) = by_function (function_of text b at)
+    by_allowed (Err f) = tt
+
+    by_letter : (o : Option ℕ) → IfOk (item_with text a at o) (HereWithin n)
+    by_letter None = tt
+    by_letter (Some letter) = by_allowed (allowed a letter at (most_addresses letter))
+
+bang_within : (text : List ℕ) (h : Headed) (n : ℕ) → HeadedWithin n h → HeadedWithin n (with_bang text h)
+bang_within text h n g = by_bang (is_byte 33 (slice_get text (past Blank text h.at)))
+  where
+    by_bang : (b : Bool) → HeadedWithin n
+        (if b then record { addresses = record { first = h.addresses.first; second = h.addresses.second; negate = true }; at = past Bang text (past Blank text h.at) }
+        else record { addresses = h.addresses; at = past Blank text h.at })
+    by_bang true = g
+    by_bang false = g
+
+addresses_more : (m n : ℕ) (a : Addresses) → m ≤ n → AddressesWithin m a → AddressesWithin n a
+addresses_more m n a le h = (address_more m n a.first le h.0, address_more m n a.second le h.1)
+
+item_bounds : (text : List ℕ) (count at : ℕ) → Bounds HereWithin count (item_at text count at)
+unfolding item_at
+item_bounds text count at = by_byte (slice_get text (past Separator text at))
+  where
+    by_byte : (o : Option ℕ) → Bounds HereWithin count (item_from text count (past Separator text at) o)
+    by_byte None = tt
+    by_byte (Some b) =
+        bounds_then HeadedWithin HereWithin count (addresses_at text count (past Separator text at)).patterns (addresses_at text count (past Separator text at)).end (λ (h : Headed). plainly (function_behind text h))
+        (addresses_bounds text count (past Separator text at))
+        (λ n h le p. function_within text (with_bang text h).addresses (with_bang text h).at (n + 0) (bang_within text h (n + 0) (addresses_more n (n + 0) h.addresses (omega arith) p)))
+
+cut_within : (text : List ℕ) (kind : Kind) (m count at to n : ℕ) (is : List Item) (es : List Written) → Cut text kind m count at is es to → n ≡ count + length es → ItemsWithin n is
+cut_within text kind m count at to n _ _ done e = tt
+cut_within text kind m count at to n _ _ (item {next = next} {i = i} {is = is} es fs is_item read rest) e =
+    let long : length es ≡ length (item_at text count at).patterns = are_read_length text kind m (item_at text count at).patterns es read in
+    let here : AddressesWithin (count + length (item_at text count at).patterns) i.addresses =
+    subst (λ (r : Result Here ScriptFault). IfOk r (HereWithin (count + length (item_at text count at).patterns))) is_item (item_bounds text count at) in (
+      addresses_more (count + length (item_at text count at).patterns) n i.addresses (omega (arith, e, long, length-append es fs)) here,
+      cut_within text kind m (count + length es) next to n is fs rest (e ∙ omega (arith, length-append es fs)),
+    )
+
+-- commands
+
+abbrev AllWithin : ℕ → ℕ → ℕ → List Command → Type 0
+AllWithin n e t [] = Unit {0}
+AllWithin n e t (c ∷ cs) = CommandWithin n e t c × AllWithin n e t cs
+
+all_at : (n e t : ℕ) (cs : List Command) (k : ℕ) (c : Command) → AllWithin n e t cs → slice_get cs k ≡ Some c → CommandWithin n e t c
+all_at n e t [] k c h g = let bad : ◌≡◌ {A = Option Command} None (Some c) = g in cc
+all_at n e t (d ∷ cs) zero c h g = let same : d ≡ c = cc in subst (CommandWithin n e t) same h.0
+all_at n e t (d ∷ cs) (suc k) c h g = all_at n e t cs k c h.1 g
+
+with_within : (n e t : ℕ) (a : Addresses) (o : Option Action) (cs : List Command) → AddressesWithin e a → MayAct n t o → AllWithin n e t cs → AllWithin n e t (with_action a o cs)
+with_within n e t a None cs h g k = k
+with_within n e t a (Some x) cs h g k = (record { first = h.0; second = h.1; action = g }, k)
+
+texts_step : (text : List ℕ) (f : Function) (texts t : ℕ) (ts : List (List ℕ)) → texts + length (with_text text f ts) ≡ t → (if has_text f then suc texts else texts) + length ts ≡ t
+texts_step text (Text u from to) texts t ts h = omega (arith, h)
+texts_step text (Plain s) texts t ts h = h
+texts_step text Open texts t ts h = h
+texts_step text Close texts t ts h = h
+texts_step text (Label from to) texts t ts h = h
+texts_step text (Branch from to) texts t ts h = h
+texts_step text Comment texts t ts h = h
+
+commands_within : (text : List ℕ) (all before is : List Item) (texts n e t : ℕ) → commands_in all ≡ n → commands_in before + commands_in is ≡ n → texts + length (texts_of text is) ≡ t → ItemsWithin e is →
+    AllWithin n e t (commands_of text all before texts is)
+commands_within text all before [] texts n e t whole count long h = tt
+commands_within text all before (i ∷ is) texts n e t whole count long h =
+    with_within n e t i.addresses (action_of text all before texts is i.function) (commands_of text all (before ++ i ∷ []) (texts_with texts i) is) h.0
+    (may_act text all before is texts n t i.function whole count long)
+    (commands_within text all (before ++ i ∷ []) is (texts_with texts i) n e t whole
+    (ap (λ (m : ℕ). m + commands_in is) (commands_snoc before i) ∙ (counted_in (commands_in before) i is ∙ count))
+    (texts_step text i.function texts t (texts_of text is) long) h.1)
+
+leaf_length : (text : List ℕ) (all before after : List Item) (texts n : ℕ) (a : Addresses) (f : Function) (cs : List Command) → length cs ≡ n →
+    length (with_action a (action_of text all before texts after f) cs) ≡ (if leaves f then suc n else n)
+leaf_length text all before after texts n a (Plain s) cs h = omega (arith, h)
+leaf_length text all before after texts n a Open cs h = omega (arith, h)
+leaf_length text all before after texts n a (Branch from to) cs h = omega (arith, h)
+leaf_length text all before after texts n a (Text u from to) cs h = omega (arith, h)
+leaf_length text all before after texts n a Close cs h = h
+leaf_length text all before after texts n a (Label from to) cs h = h
+leaf_length text all before after texts n a Comment cs h = h
+
+commands_length : (text : List ℕ) (all before is : List Item) (texts : ℕ) → length (commands_of text all before texts is) ≡ commands_in is
+commands_length text all before [] texts = refl
+commands_length text all before (i ∷ is) texts =
+    leaf_length text all before is texts (commands_in is) i.addresses i.function (commands_of text all (before ++ i ∷ []) (texts_with texts i) is) (commands_length text all (before ++ i ∷ []) is (texts_with texts i))
+
+-- expressions
+
+abbrev AllFit : ℕ → List Written → Type 0
+AllFit m [] = Unit {0}
+AllFit m (e ∷ es) = (length e.nodes ≤ m) × AllFit m es
+
+fit_append : (m : ℕ) (es fs : List Written) → AllFit m es → AllFit m fs → AllFit m (es ++ fs)
+fit_append m [] fs h g = g
+fit_append m (e ∷ es) fs h g = (h.0, fit_append m es fs h.1 g)
+
+fit_read : (text : List ℕ) (kind : Kind) (m : ℕ) (ps : List Pattern) (es : List Written) → AreRead text kind m ps es → AllFit m es
+fit_read text kind m ps [] h = tt
+fit_read text kind m [] (e ∷ es) h = absurd h
+fit_read text kind m (p ∷ ps) (e ∷ es) h = (h.0.fits, fit_read text kind m ps es h.1)
+
+cut_fit : (text : List ℕ) (kind : Kind) (m count at to : ℕ) (is : List Item) (es : List Written) → Cut text kind m count at is es to → AllFit m es
+cut_fit text kind m count at to _ _ done = tt
+cut_fit text kind m count at to _ _ (item {next = next} {is = is} es fs is_item read rest) =
+    fit_append m es fs (fit_read text kind m (item_at text count at).patterns es read) (cut_fit text kind m (count + length es) next to is fs rest)
+
+fit_at : (m : ℕ) (es : List Written) (k : ℕ) (e : Written) → AllFit m es → slice_get es k ≡ Some e → length e.nodes ≤ m
+fit_at m [] k e h g = let bad : ◌≡◌ {A = Option Written} None (Some e) = g in cc
+fit_at m (f ∷ es) zero e h g = let same : f ≡ e = cc in subst (λ (x : Written). length x.nodes ≤ m) same h.0
+fit_at m (f ∷ es) (suc k) e h g = fit_at m es k e h.1 g
+
+-- what a text means is in range
+pub judged_in_range : (text : List ℕ) (kind : Kind) (m to : ℕ) (is : List Item) (es : List Written) (cs : List Command) (ts : List (List ℕ)) → Judged text kind m is es to →
+    cs ≡ commands_of text is [] 0 is → ts ≡ texts_of text is → InRange cs es ts m
+judged_in_range text kind m to is es cs ts j c t =
+    let long : length cs ≡ commands_in is = ap (λ (xs : List Command). length xs) c ∙ commands_length text is [] is 0 in
+    let all : AllWithin (length cs) (length es) (length ts) cs =
+    subst (AllWithin (length cs) (length es) (length ts)) (sym c)
+    (commands_within text is [] is 0 (length cs) (length es) (length ts) (sym long) (omega (arith, long)) (let e : length ts ≡ length (texts_of text is) = ap (λ (xs : List (List ℕ)). length xs) t in omega (arith, e))
+    (cut_within text kind m 0 0 to (length es) is es j.cut (omega arith))) in
+    record {
+      each = λ i x g. all_at (length cs) (length es) (length ts) cs i x all g;
+      nodes = λ k e g. fit_at m es k e (cut_fit text kind m 0 0 to is es j.cut) g;
+    }
+
+pub means_in_range : (text : List ℕ) (kind : Kind) (m : ℕ) (s : Program) → Means text kind m s → InRange s.commands s.expressions s.texts m
+means_in_range text kind m s h = judged_in_range text kind m h.to h.items s.expressions s.commands s.texts h.judged h.commands h.texts

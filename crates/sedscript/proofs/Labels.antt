@@ -1,0 +1,169 @@
+-- The table of labels.
+use Rattle.std.proofs.Common.{◌≡◌, ℕ, zero, suc, ◌+◌, ◌<◌, ◌≤◌, Bool, true, false, cond, List, [], ◌∷◌, ◌++◌, length, take, get_or, not, ◌==◌, Option, Some, None, is_some, refl, sym, ap, ◌∙◌, arith, inl, inr, length-take-le, if◌then◌else◌, slice_get, Bor}
+use Rattle.std.specs.Str.{bytes_eq}
+use Rattle.std.specs.BTreeMap.{BTreeMap, get_by, UpdatesBy}
+use Rattle.std.specs.Cmp.Lexicographic.{slice_cmp}
+use Rattle.std.specs.Ordering.{nat_cmp}
+use Rattle.std.proofs.lemmas.Map.Text.{btree_map_updates_str}
+use Rattle.std.proofs.lemmas.List.{take_more}
+use Rattle.std.proofs.lemmas.Bool.Decides.{eqb_tells, Decides-eqb}
+use Rattle.std.proofs.lemmas.Slice.Eq.{bytes_eq-Decides}
+use Rattle.sedscript.specs.declared.targets.FirstLabel.{FirstLabel}
+use Rattle.sedscript.specs.declared.items.Item.{Item}
+use Rattle.sedscript.specs.declared.items.Function.{Function}
+use Rattle.sedscript.specs.declared.items.Function.TheVariants.{Label}
+use Rattle.sedscript.specs.Bytes.{part}
+use Rattle.sedscript.specs.Targets.{is_label, counted, commands_in, label_in, leaves, or_else, is_missing}
+use Rattle.sedscript.specs.Tables.{first_label, LabelsAre, is_earlier, number}
+
+abbrev Labels : Type 0
+Labels = BTreeMap (Bor (List ℕ)) FirstLabel
+
+abbrev label_of : Labels → List ℕ → Option FirstLabel
+label_of m name = get_by (λ x. slice_cmp nat_cmp name x.now) m
+
+pub commands_snoc : (is : List Item) (i : Item) → commands_in (is ++ i ∷ []) ≡ counted (commands_in is) i
+commands_snoc [] i = by_leaf (leaves i.function)
+  where
+    by_leaf : (b : Bool) → (if b then suc 0 else 0) ≡ (if b then suc 0 else 0)
+    by_leaf b = refl
+commands_snoc (j ∷ is) i = by_leaf (leaves j.function) (leaves i.function) (commands_in (is ++ i ∷ [])) (commands_in is) (commands_snoc is i)
+  where
+    by_leaf : (b c : Bool) (x n : ℕ) → x ≡ (if c then suc n else n) → (if b then suc x else x) ≡ (if c then suc (if b then suc n else n) else (if b then suc n else n))
+    by_leaf true true x n e = ap suc e
+    by_leaf true false x n e = ap suc e
+    by_leaf false true x n e = e
+    by_leaf false false x n e = e
+
+pub counted_step : (items : List Item) (k n next : ℕ) (d : Item) → k < length items → n ≡ commands_in (take k items) → next ≡ counted n (get_or items k d) →
+    next ≡ commands_in (take (k + 1) items)
+counted_step items k n next d h e f =
+    f ∙ (ap (λ (m : ℕ). counted m (get_or items k d)) e ∙ (sym (commands_snoc (take k items) (get_or items k d)) ∙ ap commands_in (sym (take_more items k d h))))
+
+counted_same : (i : Item) (m n : ℕ) → counted m i ≡ counted n i → m ≡ n
+counted_same i m n e = by_leaf (leaves i.function) e
+  where
+    by_leaf : (b : Bool) → (if b then suc m else m) ≡ (if b then suc n else n) → m ≡ n
+    by_leaf true f = cc
+    by_leaf false f = f
+
+-- and back
+pub counted_back : (items : List Item) (k n next : ℕ) (d : Item) → k < length items → n ≡ commands_in (take (k + 1) items) → n ≡ counted next (get_or items k d) →
+    next ≡ commands_in (take k items)
+counted_back items k n next d h e f =
+    counted_same (get_or items k d) next (commands_in (take k items))
+    (sym f ∙ (e ∙ (ap commands_in (take_more items k d h) ∙ commands_snoc (take k items) (get_or items k d))))
+
+-- an item that leaves a command is counted
+pub counted_some : (items : List Item) (k n : ℕ) (d : Item) → k < length items → n ≡ commands_in (take (k + 1) items) → leaves (get_or items k d).function ≡ true → 1 ≤ n
+counted_some items k n d h e l =
+    let f : n ≡ counted (commands_in (take k items)) (get_or items k d) = e ∙ (ap commands_in (take_more items k d h) ∙ commands_snoc (take k items) (get_or items k d)) in
+    let g : counted (commands_in (take k items)) (get_or items k d) ≡ suc (commands_in (take k items)) = rw l refl in
+    omega (arith, f, g)
+
+-- the commands before and behind
+pub counted_in : (n : ℕ) (i : Item) (is : List Item) → counted n i + commands_in is ≡ n + commands_in (i ∷ is)
+counted_in n i is = by_leaf (leaves i.function)
+  where
+    by_leaf : (b : Bool) → (if b then suc n else n) + commands_in is ≡ n + (if b then suc (commands_in is) else commands_in is)
+    by_leaf true = omega arith
+    by_leaf false = refl
+
+or_else_if : {A : Type 0} (b : Bool) (p : A) (x y z : Option A) → x ≡ or_else y z → (if b then Some p else x) ≡ or_else (if b then Some p else y) z
+or_else_if true p x y z e = refl
+or_else_if false p x y z e = e
+
+some_pair : (l : Bool) (k n a b : ℕ) → a ≡ k → b ≡ n → ◌≡◌ {A = Option FirstLabel} (if l then Some (record { item = k; number = n }) else None) (if l then Some (record { item = a; number = b }) else None)
+some_pair false k n a b e f = refl
+some_pair true k n a b e f = rw e (rw f refl)
+
+-- the first label of a name is that of the items before, or else that of one more item
+pub first_label_snoc : (text name : List ℕ) (k n a b : ℕ) (is : List Item) (i : Item) → a ≡ k + length is → b ≡ n + commands_in is →
+    first_label text name k n (is ++ i ∷ []) ≡ or_else (first_label text name k n is) (if is_label text name i.function then Some (record { item = a; number = b }) else None)
+first_label_snoc text name k n a b [] i e f = some_pair (is_label text name i.function) k n a b (e ∙ omega arith) (f ∙ omega arith)
+first_label_snoc text name k n a b (j ∷ is) i e f =
+    or_else_if (is_label text name j.function) (record { item = k; number = n }) (first_label text name (suc k) (counted n j) (is ++ i ∷ [])) (first_label text name (suc k) (counted n j) is)
+    (if is_label text name i.function then Some (record { item = a; number = b }) else None)
+    (first_label_snoc text name (suc k) (counted n j) a b is i (e ∙ omega arith) (f ∙ sym (counted_in n j is)))
+
+pub labels_step : (text : List ℕ) (items : List Item) (k n : ℕ) (d : Item) (old new : Labels) → k < length items → n ≡ commands_in (take k items) → LabelsAre text (take k items) old →
+    ((name : List ℕ) → label_of new name ≡ or_else (label_of old name) (if is_label text name (get_or items k d).function then Some (record { item = k; number = n }) else None)) →
+    LabelsAre text (take (k + 1) items) new
+labels_step text items k n d old new h e are added = λ name.
+    let i : Item = get_or items k d in
+    let last : Option FirstLabel = if is_label text name i.function then Some (record { item = k; number = n }) else None in
+    let long : length (take k items) ≡ k = length-take-le k items (omega (arith, h)) in
+    added name ∙ (ap (λ (o : Option FirstLabel). or_else o last) (are name)
+    ∙ (sym (first_label_snoc text name 0 0 k n (take k items) i (sym long ∙ omega arith) (e ∙ omega arith))
+    ∙ ap (first_label text name 0 0) (sym (take_more items k d h))))
+
+pub label_of_first : (text name : List ℕ) (k n : ℕ) (is : List Item) → label_in text name n is ≡ number (first_label text name k n is)
+label_of_first text name k n [] = refl
+label_of_first text name k n (i ∷ is) = by_label (is_label text name i.function) (label_in text name (counted n i) is) (first_label text name (suc k) (counted n i) is) (label_of_first text name (suc k) (counted n i) is)
+  where
+    by_label : (b : Bool) (x : Option ℕ) (y : Option FirstLabel) → x ≡ number y → (if b then Some n else x) ≡ number (if b then Some (record { item = k; number = n }) else y)
+    by_label true x y e = refl
+    by_label false x y e = e
+
+eq_same : (k : ℕ) → (k == k) ≡ true
+eq_same k = (Decides-eqb k k).1 refl
+
+eq_more : (j k : ℕ) → (j == j + suc k) ≡ false
+eq_more j k = elim (eqb_tells j (j + suc k)) [ inl h ↦ absurd (omega (arith, h.1)) | inr h ↦ h.0 ]
+
+-- whether an earlier item has the label is told by the index of the first that has it
+pub earlier_label : (text name : List ℕ) (k j n m t : ℕ) (is : List Item) (i : Item) → slice_get is k ≡ Some i → is_label text name i.function ≡ true → t ≡ j + k →
+    is_earlier t (first_label text name j m is) ≡ not (is_missing (label_in text name n (take k is)))
+earlier_label text name k j n m t [] i e l f = let g : ◌≡◌ {A = Option Item} None (Some i) = e in cc
+earlier_label text name zero j n m t (x ∷ is) i e l f =
+    let same : x ≡ i = cc in
+    let lx : is_label text name x.function ≡ true = ap (λ (y : Item). is_label text name y.function) same ∙ l in
+    let tj : t ≡ j = f ∙ omega arith in
+    rw lx (rw tj (rw (eq_same j) refl))
+earlier_label text name (suc k) j n m t (x ∷ is) i e l f =
+    by_label (is_label text name x.function) (first_label text name (suc j) (counted m x) is) (label_in text name (counted n x) (take k is))
+    (earlier_label text name k (suc j) (counted n x) (counted m x) t is i e l (f ∙ omega arith))
+  where
+    by_label : (b : Bool) (y : Option FirstLabel) (z : Option ℕ) → is_earlier t y ≡ not (is_missing z) →
+        is_earlier t (if b then Some (record { item = j; number = m }) else y) ≡ not (is_missing (if b then Some n else z))
+    by_label true y z h = ap not (ap (λ (u : ℕ). j == u) f ∙ eq_more j k)
+    by_label false y z h = h
+
+right_none : (o : Option FirstLabel) → o ≡ or_else o None
+right_none None = refl
+right_none (Some x) = refl
+
+-- a label is added where none has its name
+pub label_added : (bs : List ℕ) (v : FirstLabel) (old new : Labels) → UpdatesBy (λ x y. slice_cmp nat_cmp x.now y.now) (λ x. slice_cmp nat_cmp bs x.now) old new (Some v) → label_of old bs ≡ None →
+    (name : List ℕ) → label_of new name ≡ or_else (label_of old name) (if bytes_eq bs name then Some v else None)
+label_added bs v old new u none name =
+    btree_map_updates_str bs old new (Some v) u name ∙ by_name (bytes_eq bs name) refl
+  where
+    by_name : (b : Bool) → bytes_eq bs name ≡ b → cond b (Some v) (label_of old name) ≡ or_else (label_of old name) (if b then Some v else None)
+    by_name true e = let same : bs ≡ name = (bytes_eq-Decides bs name).0 e in
+        rw (sym (ap (label_of old) same) ∙ none) refl
+    by_name false e = right_none (label_of old name)
+
+none_of : {A : Type 0} (o : Option A) (b : Bool) → b ≡ is_some o → b ≡ false → o ≡ None
+none_of None b e f = refl
+none_of (Some x) b e f = let g : true ≡ false = sym e ∙ f in cc
+
+pub label_inserted : (text bs : List ℕ) (from to k n : ℕ) (f : Function) (b : Bool) (old new : Labels) → f ≡ Label from to → bs ≡ part text from to →
+    UpdatesBy (λ x y. slice_cmp nat_cmp x.now y.now) (λ x. slice_cmp nat_cmp bs x.now) old new (Some (record { item = k; number = n })) → b ≡ is_some (label_of old bs) → b ≡ false →
+    (name : List ℕ) → label_of new name ≡ or_else (label_of old name) (if is_label text name f then Some (record { item = k; number = n }) else None)
+label_inserted text bs from to k n f b old new is name_is u found absent = λ name.
+    label_added bs (record { item = k; number = n }) old new u (none_of (label_of old bs) b found absent) name
+    ∙ ap (λ (c : Bool). or_else (label_of old name) (if c then Some (record { item = k; number = n }) else None))
+    (ap (λ (z : List ℕ). bytes_eq z name) name_is ∙ sym (ap (is_label text name) is))
+
+-- what the table says of a name
+pub label_found : (text name : List ℕ) (items : List Item) (m : Labels) (o : Option FirstLabel) → LabelsAre text items m → o ≡ label_of m name → number o ≡ label_in text name 0 items
+label_found text name items m o are is = ap number (is ∙ are name) ∙ sym (label_of_first text name 0 0 items)
+
+pub label_repeated : (text name : List ℕ) (items : List Item) (m : Labels) (o : Option FirstLabel) (k : ℕ) (i : Item) → LabelsAre text items m → o ≡ label_of m name →
+    slice_get items k ≡ Some i → is_label text name i.function ≡ true → is_earlier k o ≡ not (is_missing (label_in text name 0 (take k items)))
+label_repeated text name items m o k i are is e l = ap (is_earlier k) (is ∙ are name) ∙ earlier_label text name k 0 0 0 k items i e l (omega arith)
+
+-- a label has its own name
+pub own_name : (text : List ℕ) (f : Function) (from to : ℕ) → f ≡ Label from to → is_label text (part text from to) f ≡ true
+own_name text f from to is = ap (is_label text (part text from to)) is ∙ (bytes_eq-Decides (part text from to) (part text from to)).1 refl

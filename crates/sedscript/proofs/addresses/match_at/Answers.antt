@@ -1,0 +1,15 @@
+use Rattle.std.proofs.Common.{◌≡◌, inl, sym, subst, ◌∙◌, ◌⊎◌, length}
+use Rattle.sedscript.specs.declared.types.ScriptFault.{ScriptFault}
+use Rattle.sedscript.specs.declared.types.TheConstants.{NO_MEMORY}
+use Rattle.sedscript.specs.Expressions.{Fails}
+use Rattle.sedscript.specs.Addresses.{match_at}
+use Rattle.sedscript.proofs.Coming.{match_open, match_bad}
+use Rattle.sedscript.proofs.addresses.match_at.Goals as goal
+
+pub returns-in_default-clause-comes : goal.returns-in_default-clause-comes
+returns-in_default-clause-comes c = inl (match_open c.args.source.now.text.now c.args.source.now.kind c.args.source.now.max_nodes _ c.args.delimiter c.args.place (sym c.delimited.ensures.is ∙ c.in_default.is))
+
+pub returns-in-Err-clause-comes : goal.returns-in-Err-clause-comes
+returns-in-Err-clause-comes c =
+    subst (λ (x : ScriptFault). Fails c.args.source.now.text.now c.args.source.now.kind c.args.source.now.max_nodes (match_at c.args.source.now.text.now (length c.args.exprs.now.items) c.args.delimiter c.args.place) x ⊎ (x ≡ NO_MEMORY)) (sym c.fault_of.ensures)
+    (match_bad c.args.source.now.text.now c.args.source.now.kind c.args.source.now.max_nodes _ c.args.delimiter c.args.place c.in-Some.to c.in-Err.fault (sym c.delimited.ensures.is ∙ c.in-Some.is) c.if-to-from.false c.in-Err.ensures.fault)

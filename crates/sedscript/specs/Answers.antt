@@ -1,0 +1,67 @@
+-- What the reader's functions answer, against the definitions. Private machinery of the reader.
+use Rattle.std.specs.Prelude.{◌≡◌, ◌<◌, ◌≤◌, ◌⊎◌, ℕ, List, ◌++◌, length, Bool, true, false, if◌then◌else◌, Option, Result, Ok, Err}
+use Rattle.sedre.specs.declared.types.Kind.{Kind}
+use Rattle.sedre.specs.declared.types.Reason.{Reason as ExprReason}
+use Rattle.sedre.specs.declared.types.Reason.TheVariants.{NoMemory}
+use Rattle.sedre.specs.declared.types.ExprFault.{ExprFault}
+use Rattle.sedre.specs.Arena.{Written}
+use Rattle.sedscript.specs.declared.types.ScriptFault.{ScriptFault}
+use Rattle.sedscript.specs.declared.types.TheConstants.{NO_MEMORY}
+use Rattle.sedscript.specs.declared.types.Address.{Address}
+use Rattle.sedscript.specs.declared.items.Source.{Source}
+use Rattle.sedscript.specs.declared.items.Addresses.{Addresses}
+use Rattle.sedscript.specs.declared.items.Item.{Item}
+use Rattle.sedscript.specs.declared.items.Here.{Here}
+use Rattle.sedscript.specs.declared.items.Here.TheVariants.{Is, Ends}
+use Rattle.sedscript.specs.Addresses.{Reading, Addressed, Headed}
+use Rattle.sedscript.specs.Expressions.{AreRead, Fails, in_script}
+use Rattle.sedscript.specs.Script.{IsEnd, Judged}
+
+-- what a function answered is what reading gives, and the expressions grew by those that were read,
+-- unless memory was wanting
+abbrev pub Comes : {X A : Type 0} → List ℕ → Kind → ℕ → List Written → List Written → (X → ℕ → A) → Result X ScriptFault → Reading A → Type 0
+Comes text kind max_nodes old new view (Ok x) r =
+    (r.end ≡ Ok (view x (length new))) × (es : List Written) × AreRead text kind max_nodes r.patterns es × (new ≡ old ++ es)
+Comes text kind max_nodes old new view (Err f) r = Fails text kind max_nodes r f ⊎ (f ≡ NO_MEMORY)
+
+-- the same of a script that is read
+abbrev pub ComesFrom : {X A : Type 0} → Source → List Written → List Written → (X → ℕ → A) → Result X ScriptFault → Reading A → Type 0
+ComesFrom source old new view result r = Comes source.text.now source.kind source.max_nodes old new view result r
+
+-- what a function answered is what this is, with a count of expressions
+abbrev pub Agrees : {X A : Type 0} → (X → ℕ → A) → ℕ → Result X ScriptFault → Result A ScriptFault → Type 0
+Agrees view count (Ok x) r = r ≡ Ok (view x count)
+Agrees view count (Err f) r = r ≡ Err f
+
+-- the answers as the definitions say them
+abbrev pub as_addressed : Option Address × ℕ → ℕ → Addressed
+as_addressed x n = record { address = x.0; at = x.1; count = n }
+
+abbrev pub as_headed : Addresses × ℕ → ℕ → Headed
+as_headed x n = record { addresses = x.0; at = x.1 }
+
+abbrev pub as_here : Here → ℕ → Here
+as_here x n = x
+
+-- what was read stands between a place and the end
+abbrev pub IsBehind : ℕ → ℕ → Here → Type 0
+IsBehind at len (Is item next) = (at < next) × (next ≤ len)
+IsBehind at len Ends = ⊥
+
+-- what stands at a place: an item that ends behind it, or the end
+abbrev pub IsHere : List ℕ → ℕ → Here → Type 0
+IsHere text at (Is item next) = (at < next) × (next ≤ length text)
+IsHere text at Ends = IsEnd text at
+
+abbrev pub is_no_memory : ExprReason → Bool
+is_no_memory NoMemory = true
+is_no_memory _ = false
+
+-- the fault of a script whose expression begins at a place and has this fault
+abbrev pub fault_of : ℕ → ExprFault → ScriptFault
+fault_of from f = if is_no_memory f.reason then NO_MEMORY else in_script from f
+
+-- the text is cut to its end into these items and expressions, and no label or block is wrong
+pub record IsJudged (text : List ℕ) (kind : Kind) (max_nodes : ℕ) (items : List Item) (expressions : List Written) : Type 0 where
+  pub to : ℕ
+  pub judged : Judged text kind max_nodes items expressions to

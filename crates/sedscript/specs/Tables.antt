@@ -1,0 +1,71 @@
+-- The tables by which labels and blocks are found without searching anew. Private machinery of the reader.
+use Rattle.std.specs.Prelude.{◌≡◌, ◌≤◌, ℕ, suc, ◌+◌, List, [], ◌∷◌, ◌++◌, length, Bool, true, false, not, ◌==◌, Option, Some, None, if◌then◌else◌, take, drop, slice_get}
+use Rattle.std.specs.Borrow.{Bor}
+use Rattle.std.specs.BTreeMap.{BTreeMap, get_by}
+use Rattle.std.specs.Cmp.Lexicographic.{slice_cmp}
+use Rattle.std.specs.Ordering.{nat_cmp}
+use Rattle.sedscript.specs.declared.targets.FirstLabel.{FirstLabel}
+use Rattle.sedscript.specs.declared.items.Item.{Item}
+use Rattle.sedscript.specs.declared.items.Function.{Function}
+use Rattle.sedscript.specs.Targets.{is_label, counted, commands_in, is_open, is_close, close_in}
+
+-- the first item with a label of this name, and the number of the command behind it
+abbrev pub first_label : List ℕ → List ℕ → ℕ → ℕ → List Item → Option FirstLabel
+first_label text name k n [] = None
+first_label text name k n (i ∷ is) =
+    if is_label text name i.function then Some (record { item = k; number = n })
+    else first_label text name (suc k) (counted n i) is
+
+-- the number of the command behind a label
+abbrev pub number : Option FirstLabel → Option ℕ
+number None = None
+number (Some l) = Some l.number
+
+-- whether a label's first item stands before an index
+abbrev pub is_earlier : ℕ → Option FirstLabel → Bool
+is_earlier k None = false
+is_earlier k (Some l) = not (l.item == k)
+
+-- what the map has of a name
+abbrev pub labelled : BTreeMap (Bor (List ℕ)) FirstLabel → List ℕ → Option FirstLabel
+labelled m name = get_by (λ x. slice_cmp nat_cmp name x.now) m
+
+-- the map has the first label of each name
+abbrev pub LabelsAre : List ℕ → List Item → BTreeMap (Bor (List ℕ)) FirstLabel → Type 0
+LabelsAre text items m = (name : List ℕ) → labelled m name ≡ first_label text name 0 0 items
+
+abbrev pub tail : List ℕ → List ℕ
+tail [] = []
+tail (x ∷ xs) = xs
+
+-- where the closing braces lead that close no block within what follows, the first of them first:
+-- those from a function on, with so many commands before it, given those behind it
+abbrev pub unopened_by : ℕ → Function → List ℕ → List ℕ
+unopened_by n f ends = if is_close f then n ∷ ends else if is_open f then tail ends else ends
+
+-- the same of items
+abbrev pub unopened : ℕ → List Item → List ℕ
+unopened n [] = []
+unopened n (i ∷ is) = unopened_by n i.function (unopened (counted n i) is)
+
+-- a list from its end, as a stack has it
+abbrev pub reversed : List ℕ → List ℕ
+reversed [] = []
+reversed (x ∷ xs) = reversed xs ++ x ∷ []
+
+abbrev pub first : List ℕ → Option ℕ
+first [] = None
+first (x ∷ xs) = Some x
+
+-- the items that open a block from an index on have its end in the table
+abbrev pub EndsFrom : List Item → ℕ → List (Option ℕ) → Type 0
+EndsFrom items from ends = (k : ℕ) (i : Item) →
+    from ≤ k → slice_get items k ≡ Some i → is_open i.function ≡ true →
+    slice_get ends k ≡ Some (close_in 0 (commands_in (take (k + 1) items)) (drop (k + 1) items))
+
+-- the tables of all items
+pub record TargetsAre (text : List ℕ) (items : List Item) (labels : BTreeMap (Bor (List ℕ)) FirstLabel) (ends : List (Option ℕ)) (commands : ℕ) : Type 0 where
+  pub labels_are : LabelsAre text items labels
+  pub ends_are : EndsFrom items 0 ends
+  pub length_is : length ends ≡ length items
+  pub commands_are : commands ≡ commands_in items

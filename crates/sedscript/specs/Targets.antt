@@ -1,0 +1,112 @@
+-- Where labels and blocks lead, and what is wrong with them (XCU sed, "Editing Commands in sed": `{`, `}`, `b` and `:`).
+use Rattle.std.specs.Prelude.{ℕ, suc, ◌-◌, List, [], ◌∷◌, ◌++◌, Bool, true, false, not, ◌&&◌, Option, Some, None, if◌then◌else◌, ◌==◌}
+use Rattle.std.specs.Str.{bytes_eq}
+use Rattle.sedscript.specs.declared.types.ScriptFault.{ScriptFault}
+use Rattle.sedscript.specs.declared.types.Reason.{Reason}
+use Rattle.sedscript.specs.declared.types.Reason.TheVariants.{UnknownLabel, RepeatedLabel, OpenBlock, StrayClose}
+use Rattle.sedscript.specs.declared.items.Function.{Function}
+use Rattle.sedscript.specs.declared.items.Function.TheVariants.{Plain, Open, Close, Label, Branch, Text, Comment}
+use Rattle.sedscript.specs.declared.items.Item.{Item}
+use Rattle.sedscript.specs.Bytes.{part}
+
+-- whether a function leaves a command: all but `}`, `:` and `#`
+abbrev pub leaves : Function → Bool
+leaves Close = false
+leaves (Label from to) = false
+leaves Comment = false
+leaves (Plain a) = true
+leaves Open = true
+leaves (Branch from to) = true
+leaves (Text t from to) = true
+
+-- how many commands there are with this item, with so many before it
+abbrev pub counted : ℕ → Item → ℕ
+counted n i = if leaves i.function then suc n else n
+
+-- how many commands the items leave
+abbrev pub commands_in : List Item → ℕ
+commands_in [] = 0
+commands_in (i ∷ is) = if leaves i.function then suc (commands_in is) else commands_in is
+
+-- whether the function is a label of this name
+abbrev pub is_label : List ℕ → List ℕ → Function → Bool
+is_label text name (Label from to) = bytes_eq (part text from to) name
+is_label text name Open = false
+is_label text name Close = false
+is_label text name Comment = false
+is_label text name (Plain a) = false
+is_label text name (Branch from to) = false
+is_label text name (Text t from to) = false
+
+-- the number of the command behind the first label of this name, with so many commands before the items
+abbrev pub label_in : List ℕ → List ℕ → ℕ → List Item → Option ℕ
+label_in text name n [] = None
+label_in text name n (i ∷ is) = if is_label text name i.function then Some n else label_in text name (counted n i) is
+
+abbrev pub is_open : Function → Bool
+is_open Open = true
+is_open Close = false
+is_open Comment = false
+is_open (Plain a) = false
+is_open (Label from to) = false
+is_open (Branch from to) = false
+is_open (Text t from to) = false
+
+abbrev pub is_close : Function → Bool
+is_close Close = true
+is_close Open = false
+is_close Comment = false
+is_close (Plain a) = false
+is_close (Label from to) = false
+is_close (Branch from to) = false
+is_close (Text t from to) = false
+
+-- how many blocks are open behind a function, with so many before it
+abbrev pub depth_behind : ℕ → Function → ℕ
+depth_behind depth f = if is_open f then suc depth else if is_close f then depth - 1 else depth
+
+-- the number of the command behind the brace that closes a block,
+-- with so many inner blocks open and so many commands before the items
+abbrev pub close_in : ℕ → ℕ → List Item → Option ℕ
+close_in depth n [] = None
+close_in depth n (i ∷ is) =
+    if is_close i.function && depth == 0 then Some n
+    else close_in (depth_behind depth i.function) (counted n i) is
+
+-- the end of the block whose brace stands between these items
+abbrev pub block_end : List Item → List Item → Option ℕ
+block_end before after = close_in 0 (suc (commands_in before)) after
+
+abbrev pub fault_if : Bool → Reason → ℕ → Option ScriptFault
+fault_if false reason place = None
+fault_if true reason place = Some (record { place = place; reason = reason })
+
+abbrev pub is_missing : {A : Type 0} → Option A → Bool
+is_missing None = true
+is_missing (Some a) = false
+
+-- what is wrong with a function at a place among all items: those before it with so many open blocks, and those behind it
+abbrev pub late_at : List ℕ → List Item → List Item → ℕ → List Item → ℕ → Function → Option ScriptFault
+late_at text all before depth after place Open = fault_if (is_missing (block_end before after)) OpenBlock place
+late_at text all before depth after place Close = fault_if (depth == 0) StrayClose place
+late_at text all before depth after place (Label from to) =
+    fault_if (not (is_missing (label_in text (part text from to) 0 before))) RepeatedLabel place
+late_at text all before depth after place (Branch from to) =
+    fault_if (not (from == to) && is_missing (label_in text (part text from to) 0 all)) UnknownLabel place
+late_at text all before depth after place (Plain a) = None
+late_at text all before depth after place (Text t from to) = None
+late_at text all before depth after place Comment = None
+
+abbrev pub or_else : {A : Type 0} → Option A → Option A → Option A
+or_else None o = o
+or_else (Some a) o = Some a
+
+abbrev pub late_in : List ℕ → List Item → List Item → ℕ → List Item → Option ScriptFault
+late_in text all before depth [] = None
+late_in text all before depth (i ∷ is) =
+    or_else (late_at text all before depth is i.place i.function)
+    (late_in text all (before ++ i ∷ []) (depth_behind depth i.function) is)
+
+-- the fault of labels and blocks with the least place, judged once the whole text is cut (this project's own)
+abbrev pub late : List ℕ → List Item → Option ScriptFault
+late text items = late_in text items [] 0 items

@@ -1,0 +1,34 @@
+//! A text is cut into items.
+
+ghost use Rattle.std.specs.Prelude.{◌≡◌, ◌≤◌, ◌⊎◌, [], IfOk, IfErr};
+ghost use Rattle.sedscript.specs.Script.{Cut, IsEnd, Faulty};
+
+use crate::addresses::item_at;
+use crate::items::{Here, Item, Source};
+use crate::types::{NO_MEMORY, ScriptFault};
+use sedre::Expr;
+
+/// Cuts a text into its items and regular expressions up to its end, and answers where the last item ends.
+pub fn cut(
+    source: &Source,
+    items: &mut Vec<Item>,
+    exprs: &mut Vec<Expr>,
+) -> Result<usize, ScriptFault>
+    requires empty { (items.old.items ≡ []) × (exprs.old.items ≡ []) }
+    ensures cut { IfOk result (λ to.
+        Cut source.now.text.now source.now.kind source.now.max_nodes 0 0 items.new.items exprs.new.items to × IsEnd source.now.text.now to) }
+    ensures fault { IfErr result (λ f.
+        Faulty source.now.text.now source.now.kind source.now.max_nodes f ⊎ (f ≡ NO_MEMORY)) }
+{
+    let mut at = 0;
+    'items: loop {
+        match item_at(source, exprs, at) {
+            Err(fault) => return Err(fault),
+            Ok(Here::Ends) => return Ok(at),
+            Ok(Here::Is(item, next)) => match items.push(item) {
+                Err(_) => return Err(NO_MEMORY),
+                Ok(()) => at = next,
+            },
+        }
+    }
+}

@@ -1,0 +1,76 @@
+//! What is read, and the items of a script, before labels and blocks are found.
+//! Names and texts are the places between which they stand.
+
+ghost use Rattle.std.specs.Prelude.{◌≤◌};
+
+use crate::types::{Address, Kind};
+use std::alloc::Global;
+
+/// A script's text, and how its regular expressions are read.
+#[derive(Clone, Copy)]
+pub struct Source<'a> {
+    pub alloc: Global,
+    pub text: &'a [u8],
+    pub kind: Kind,
+    /// The most nodes that a regular expression may have.
+    pub max_nodes: usize,
+    ghost nodes: { (1 ≤ max_nodes) × (max_nodes ≤ 65536) },
+}
+
+/// What stands before a function.
+#[derive(Clone, Copy)]
+pub struct Addresses {
+    pub first: Option<Address>,
+    pub second: Option<Address>,
+    pub negate: bool,
+}
+
+/// The commands of one letter that need nothing more.
+#[derive(Clone, Copy)]
+pub enum Simple {
+    Delete,
+    LineNumber,
+    Print,
+    Quit,
+}
+
+/// The commands that have a text.
+#[derive(Clone, Copy)]
+pub enum TextUse {
+    Insert,
+    Change,
+}
+
+/// A function, as its letter and what follows say.
+#[derive(Clone, Copy)]
+pub enum Function {
+    /// `=`, `d`, `p` or `q`
+    Plain(Simple),
+    /// `{`
+    Open,
+    /// `}`
+    Close,
+    /// `:` and a name.
+    Label(usize, usize),
+    /// `b` and a name, which is empty where there is none.
+    Branch(usize, usize),
+    /// `i` or `c` and a text as it is written.
+    Text(TextUse, usize, usize),
+    /// `#`
+    Comment,
+}
+
+/// A function with its addresses, and the place of its letter.
+#[derive(Clone, Copy)]
+pub struct Item {
+    pub addresses: Addresses,
+    pub place: usize,
+    pub function: Function,
+}
+
+/// What stands at a place: an item and the place behind it, or the end.
+#[derive(Clone, Copy)]
+pub enum Here {
+    Is(Item, usize),
+    Ends,
+}

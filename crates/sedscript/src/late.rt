@@ -1,0 +1,92 @@
+//! Faults of labels and blocks, which are judged once the whole text is cut.
+
+ghost use Rattle.std.specs.Prelude.{◌≡◌, ◌<◌, ◌≤◌, ◌+◌, Some, length, drop, take, slice_get};
+ghost use Rattle.sedscript.specs.Targets.{fault_if, late_at, late, depth_behind};
+ghost use Rattle.sedscript.specs.Tables.{TargetsAre};
+
+use crate::bytes::part;
+use crate::items::{Function, Item};
+use crate::targets::{Targets, is_close, is_open};
+use crate::types::{Reason, ScriptFault};
+
+fn fault_if(wrong: bool, reason: Reason, place: usize) -> Option<ScriptFault>
+    ensures { result ≡ fault_if wrong reason place }
+{
+    if wrong {
+        Some(ScriptFault { place, reason })
+    } else {
+        None
+    }
+}
+
+/// What is wrong with the item of an index, before which so many blocks are open.
+fn late_at<'a>(
+    text: &'a [u8],
+    items: &[Item],
+    targets: &Targets<'a>,
+    k: usize,
+    depth: usize,
+    item: Item,
+) -> Option<ScriptFault>
+    requires item { slice_get items.now k ≡ Some item }
+    requires targets { TargetsAre text.now items.now targets.now.labels targets.now.ends.items targets.now.commands }
+    ensures { result ≡
+        late_at text.now items.now (take k items.now) depth (drop (k + 1) items.now) item.place item.function }
+{
+    match item.function {
+        Function::Open => fault_if(
+            targets.block_end(k).is_none(),
+            Reason::OpenBlock,
+            item.place,
+        ),
+        Function::Close => fault_if(depth == 0, Reason::StrayClose, item.place),
+        Function::Label(from, to) => {
+            fault_if(
+                targets.is_repeated(part(text, from, to), k),
+                Reason::RepeatedLabel,
+                item.place,
+            )
+        }
+        Function::Branch(from, to) => {
+            fault_if(
+                from != to && targets.label(part(text, from, to)).is_none(),
+                Reason::UnknownLabel,
+                item.place,
+            )
+        }
+        Function::Plain(_) | Function::Text(..) | Function::Comment => None,
+    }
+}
+
+fn depth_behind(depth: usize, function: Function) -> usize
+    requires { depth < usize.MAX }
+    ensures is { result ≡ depth_behind depth function }
+    ensures few { result ≤ depth + 1 }
+{
+    if is_open(function) {
+        depth + 1
+    } else if is_close(function) {
+        depth.saturating_sub(1)
+    } else {
+        depth
+    }
+}
+
+/// The fault of labels and blocks with the least place, if there is one.
+pub fn late<'a>(text: &'a [u8], items: &[Item], targets: &Targets<'a>) -> Option<ScriptFault>
+    requires targets { TargetsAre text.now items.now targets.now.labels targets.now.ends.items targets.now.commands }
+    ensures { result ≡ late text.now items.now }
+{
+    let mut depth: usize = 0;
+    let mut k = 0;
+    'items: while k < items.len() {
+        let item = items[k];
+        let fault = late_at(text, items, targets, k, depth, item);
+        if fault.is_some() {
+            return fault;
+        }
+        depth = depth_behind(depth, item.function);
+        k += 1;
+    }
+    None
+}

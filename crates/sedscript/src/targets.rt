@@ -1,0 +1,245 @@
+//! Where labels and blocks lead: tables that are made once, so that nothing is searched anew.
+
+ghost use Rattle.std.specs.Prelude.{◌≡◌, ◌<◌, ◌≤◌, ◌+◌, ℕ, List, [], Some, None, true, not, length, drop, take, slice_get, if◌then◌else◌, IfOk, OnOk};
+ghost use Rattle.sedscript.specs.Targets.{counted, commands_in, is_label, label_in, or_else, block_end, is_missing};
+ghost use Rattle.sedscript.specs.declared.items.Item.{Item};
+ghost use Rattle.sedscript.specs.declared.items.Function.TheVariants.{Open};
+ghost use Rattle.sedscript.specs.Tables.{LabelsAre, EndsFrom, TargetsAre, unopened, unopened_by, reversed, first, number, is_earlier, labelled};
+
+use crate::bytes::part;
+use crate::items::{Function, Item};
+use std::alloc::{AllocError, Global};
+use std::collections::BTreeMap;
+
+/// The first item with a label.
+#[derive(Clone, Copy)]
+pub struct FirstLabel {
+    /// The item's index.
+    pub item: usize,
+    /// The number of commands before it.
+    pub number: usize,
+}
+
+/// Whether a function leaves a command.
+pub fn leaves(function: Function) -> bool
+    ensures { result ≡ Rattle.sedscript.specs.Targets.leaves function }
+{
+    matches!(
+        function,
+        Function::Plain(_) | Function::Open | Function::Branch(..) | Function::Text(..)
+    )
+}
+
+/// Whether a function opens a block.
+pub fn is_open(function: Function) -> bool
+    ensures { result ≡ Rattle.sedscript.specs.Targets.is_open function }
+{
+    matches!(function, Function::Open)
+}
+
+/// Whether a function closes a block.
+pub fn is_close(function: Function) -> bool
+    ensures { result ≡ Rattle.sedscript.specs.Targets.is_close function }
+{
+    matches!(function, Function::Close)
+}
+
+/// How many commands there are with this item, with so many before it.
+pub fn counted(n: usize, item: Item) -> usize
+    requires { n < usize.MAX }
+    ensures is { result ≡ counted n item }
+    ensures few { result ≤ n + 1 }
+{
+    if leaves(item.function) { n + 1 } else { n }
+}
+
+/// How many commands there are before this item, with so many up to it.
+fn uncounted(n: usize, item: Item) -> usize
+    requires { Rattle.sedscript.specs.Targets.leaves item.function ≡ true → 1 ≤ n }
+    ensures { n ≡ counted result item }
+{
+    if leaves(item.function) { n - 1 } else { n }
+}
+
+fn commands_in(items: &[Item]) -> usize
+    ensures is { result ≡ commands_in items.now }
+    ensures few { result ≤ length items.now }
+{
+    let mut n = 0;
+    let mut k = 0;
+    'items: while k < items.len() {
+        n = counted(n, items[k]);
+        k += 1;
+    }
+    n
+}
+
+/// Passes an item from behind, with so many commands before it and the ends of the closing braces behind it that close
+/// no block there. Answers the end of the block that the item opens, if it opens one.
+fn pass_back(
+    ends: &mut Vec<usize>,
+    n: usize,
+    function: Function,
+) -> Result<Option<usize>, AllocError>
+    ensures ends { OnOk result ((us : List ℕ) → ends.old.items ≡ reversed us →
+        ends.new.items ≡ reversed (unopened_by n function us)) }
+    ensures end { IfOk result (λ end. (us : List ℕ) → ends.old.items ≡ reversed us →
+        Rattle.sedscript.specs.Targets.is_open function ≡ true → end ≡ first us) }
+{
+    if is_close(function) {
+        ends.push(n)?;
+        Ok(None)
+    } else if is_open(function) {
+        Ok(ends.pop())
+    } else {
+        Ok(None)
+    }
+}
+
+/// For each item that opens a block the number of the command behind its end, none where it isn't closed.
+fn ends_of(alloc: Global, items: &[Item]) -> Result<Vec<Option<usize>>, AllocError>
+    ensures ends { IfOk result (λ ends. EndsFrom items.now 0 ends.items) }
+    ensures length { IfOk result (λ ends. length ends.items ≡ length items.now) }
+{
+    let mut ends = Vec::new(alloc);
+    ends.resize(items.len(), None)?;
+    let mut unopened = Vec::new(alloc);
+    let mut n = commands_in(items);
+    let mut k = items.len();
+    'items: while k > 0 {
+        k -= 1;
+        n = uncounted(n, items[k]);
+        ends[k] = pass_back(&mut unopened, n, items[k].function)?;
+    }
+    Ok(ends)
+}
+
+/// Adds the name of an item that is a label, where no earlier one has it.
+fn add_label<'a>(
+    labels: &mut BTreeMap<&'a [u8], FirstLabel>,
+    text: &'a [u8],
+    function: Function,
+    k: usize,
+    n: usize,
+) -> Result<(), AllocError>
+    ensures { OnOk result ((name : List ℕ) → labelled labels.new name ≡
+        or_else (labelled labels.old name) (if is_label text.now name function then Some (record { item = k; number = n }) else None)) }
+{
+    let Function::Label(from, to) = function else {
+        return Ok(());
+    };
+    let name = part(text, from, to);
+    if labels.contains_key(&name) {
+        return Ok(());
+    }
+    match labels.insert(name, FirstLabel { item: k, number: n }) {
+        Ok(_) => Ok(()),
+        Err(_) => Err(AllocError),
+    }
+}
+
+/// The first label of each name.
+fn labels_of<'a>(
+    alloc: Global,
+    text: &'a [u8],
+    items: &[Item],
+) -> Result<BTreeMap<&'a [u8], FirstLabel>, AllocError>
+    ensures { IfOk result (λ labels. LabelsAre text.now items.now labels) }
+{
+    let mut labels = BTreeMap::new(alloc);
+    let mut n = 0;
+    let mut k = 0;
+    'items: while k < items.len() {
+        add_label(&mut labels, text, items[k].function, k, n)?;
+        n = counted(n, items[k]);
+        k += 1;
+    }
+    Ok(labels)
+}
+
+/// Where the labels and blocks of a script lead.
+#[derive(Drop)]
+pub struct Targets<'a> {
+    /// The first label of each name.
+    pub labels: BTreeMap<&'a [u8], FirstLabel>,
+    /// For each item that opens a block the number of the command behind its end, none where it isn't closed.
+    pub ends: Vec<Option<usize>>,
+    /// How many commands there are.
+    pub commands: usize,
+}
+
+/// Finds where the labels and blocks of the items lead, in one pass over them for each table.
+pub fn targets_of<'a>(
+    alloc: Global,
+    text: &'a [u8],
+    items: &[Item],
+) -> Result<Targets<'a>, AllocError>
+    ensures { IfOk result (λ t. TargetsAre text.now items.now t.labels t.ends.items t.commands) }
+{
+    let labels = labels_of(alloc, text, items)?;
+    let ends = ends_of(alloc, items)?;
+    Ok(Targets {
+        labels,
+        ends,
+        commands: commands_in(items),
+    })
+}
+
+/// The number of the command behind a label.
+fn number(label: Option<FirstLabel>) -> Option<usize>
+    ensures { result ≡ number label }
+{
+    match label {
+        None => None,
+        Some(first) => Some(first.number),
+    }
+}
+
+/// Whether the first item with a label stands before an index.
+fn is_earlier(k: usize, label: Option<FirstLabel>) -> bool
+    ensures { result ≡ is_earlier k label }
+{
+    match label {
+        None => false,
+        Some(first) => first.item != k,
+    }
+}
+
+impl<'a> Targets<'a> {
+    /// The first label of a name.
+    fn first_label(&self, name: &'a [u8]) -> Option<FirstLabel>
+        ensures { result ≡ labelled self.now.labels name.now }
+    {
+        self.labels.get(&name).copied()
+    }
+
+    /// The number of the command behind the first label of a name, none where no label has it.
+    pub fn label(&self, name: &'a [u8]) -> Option<usize>
+        ensures { (text : List ℕ) (items : List Item) →
+            TargetsAre text items self.now.labels self.now.ends.items self.now.commands →
+            result ≡ label_in text name.now 0 items }
+    {
+        number(self.first_label(name))
+    }
+
+    /// Whether an earlier item than the label of a name at an index is a label of this name.
+    pub fn is_repeated(&self, name: &'a [u8], k: usize) -> bool
+        ensures { (text : List ℕ) (items : List Item) (i : Item) →
+            TargetsAre text items self.now.labels self.now.ends.items self.now.commands →
+            slice_get items k ≡ Some i → is_label text name.now i.function ≡ true →
+            result ≡ not (is_missing (label_in text name.now 0 (take k items))) }
+    {
+        is_earlier(k, self.first_label(name))
+    }
+
+    /// The number of the command behind the end of the block that the item of an index opens, none where it isn't closed.
+    pub fn block_end(&self, k: usize) -> Option<usize>
+        requires { k < length self.now.ends.items }
+        ensures { (text : List ℕ) (items : List Item) (i : Item) →
+            TargetsAre text items self.now.labels self.now.ends.items self.now.commands →
+            slice_get items k ≡ Some i → i.function ≡ Open →
+            result ≡ block_end (take k items) (drop (k + 1) items) }
+    {
+        self.ends[k]
+    }
+}

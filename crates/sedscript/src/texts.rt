@@ -1,0 +1,92 @@
+//! The texts of `i` and `c` as they are written.
+
+ghost use Rattle.std.specs.Prelude.{◌≡◌, ◌≤◌, ◌<◌, ◌+◌, length, drop, IfSome};
+ghost use Rattle.sedscript.specs.Functions.{text_end, stops, behind, text_from, ends_line};
+
+use crate::bytes::{byte_at, is_byte};
+
+/// How far a text is read.
+#[derive(Clone, Copy)]
+pub enum Inside {
+    /// Within a line.
+    InLine,
+    /// Behind a backslash that is in force.
+    Escape,
+    /// Where a further line has to stand.
+    Due,
+}
+
+fn ends_line(b: Option<u8>) -> bool
+    ensures { result ≡ ends_line b }
+{
+    match b {
+        None => true,
+        Some(b) => b == b'\n',
+    }
+}
+
+/// Whether a text ends before this byte.
+fn stops(inside: Inside, b: u8) -> bool
+    ensures { result ≡ stops inside b }
+{
+    match inside {
+        Inside::Escape => false,
+        Inside::InLine | Inside::Due => b == b'\n',
+    }
+}
+
+fn behind(inside: Inside, b: u8) -> Inside
+    ensures { result ≡ behind inside b }
+{
+    match inside {
+        Inside::Escape => if b == b'\n' {
+            Inside::Due
+        } else {
+            Inside::InLine
+        },
+        Inside::InLine | Inside::Due => if b == b'\\' {
+            Inside::Escape
+        } else {
+            Inside::InLine
+        },
+    }
+}
+
+/// Where the text ends whose rest stands at a place.
+fn text_end(text: &[u8], start: Inside, from: usize) -> Option<usize>
+    requires { from ≤ length text.now }
+    ensures is { result ≡ text_end start from (drop from text.now) }
+    ensures bounds { IfSome result (λ to. (from ≤ to) × (to ≤ length text.now)) }
+{
+    let mut inside = start;
+    let mut at = from;
+    'bytes: while at < text.len() {
+        if stops(inside, text[at]) {
+            return Some(at);
+        }
+        inside = behind(inside, text[at]);
+        at += 1;
+    }
+    match inside {
+        Inside::InLine => Some(at),
+        Inside::Escape | Inside::Due => None,
+    }
+}
+
+/// The text from behind the blanks that follow its letter: where it begins and ends, none where it is missing.
+#[tactic(auto, unfolding(crate::specs::Functions::text_from))]
+pub fn text_from(text: &[u8], from: usize) -> Option<(usize, usize)>
+    requires { from ≤ length text.now }
+    ensures is { result ≡ text_from text.now from }
+    ensures bounds { IfSome result (λ span. (from ≤ span.0) × (span.0 ≤ span.1) × (span.1 ≤ length text.now)) }
+{
+    if is_byte(b'\\', byte_at(text, from)) && is_byte(b'\n', byte_at(text, from + 1)) {
+        let to = text_end(text, Inside::Due, from + 2)?;
+        Some((from + 2, to))
+    } else if ends_line(byte_at(text, from)) {
+        None
+    } else {
+        let to = text_end(text, Inside::InLine, from)?;
+        Some((from, to))
+    }
+}
