@@ -57,6 +57,6 @@ pub record IsRun (a : Inside) : Type 0 where
   pub empty : IsEmptied a.place a.pattern.bytes
   pub ranges : length a.ranges.items ≡ length a.script.commands
   pub used : IsOneOf (length a.script.expressions) a.used
-  pub scratch_text : a.scratch.text ≡ a.limits.space
+  pub scratch_text : 0 < length a.script.expressions → a.scratch.text ≡ a.limits.space
   pub scratch_nodes : a.scratch.nodes ≡ a.limits.nodes
   pub nodes : a.script.max_nodes ≤ a.limits.nodes

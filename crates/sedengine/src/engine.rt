@@ -63,6 +63,19 @@ fn idle_ranges(alloc: Global, count: usize) -> Result<Vec<bool>, AllocError>
     vec![in alloc; false; count]
 }
 
+/// Room for searches: little where the script has no regular expression, since none is sought then.
+fn search_room(alloc: Global, script: &Script, limits: &Limits) -> Result<Scratch, AllocError>
+    ensures text { IfOk result (λ s. 0 < length script.now.expressions → s.text ≡ limits.now.space) }
+    ensures nodes { IfOk result (λ s. s.nodes ≡ limits.now.nodes) }
+{
+    let text = if script.expressions() == 0 {
+        0
+    } else {
+        limits.space()
+    };
+    Scratch::new(alloc, text, limits.nodes())
+}
+
 impl Engine {
     /// An engine that stands at the start of a run. It reserves all the memory that its run takes.
     ///
@@ -79,6 +92,7 @@ impl Engine {
     {
         let space = limits.space();
         let ranges = idle_ranges(alloc, script.len())?;
+        let scratch = search_room(alloc, &script, &limits)?;
         Ok(Engine {
             script,
             limits,
@@ -86,7 +100,7 @@ impl Engine {
             hold: Space::new(alloc, space)?,
             build: Space::new(alloc, space)?,
             queue: Queue::new(alloc, limits.queue())?,
-            scratch: Scratch::new(alloc, space, limits.nodes())?,
+            scratch,
             ranges,
             used: None,
             number: 0,

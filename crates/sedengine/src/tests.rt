@@ -34,15 +34,16 @@ fn engine(
     Ok(Engine::open(rt.alloc(), script, limits)?)
 }
 
-/// How a run ends and what it writes, with 2 bytes read ahead, and reads and writes of at most so many bytes.
+/// How a run ends and what it writes, with 2 bytes read ahead, and reads and writes of one byte or of many.
 fn run(
     rt: &HostRuntime,
     script: &[u8],
     quiet: bool,
     input: &[u8],
     turns: u64,
-    piece: usize,
+    whole: bool,
 ) -> Result<(Ended, Vec<u8>), Fail> {
+    let piece = if whole { 100 } else { 1 };
     let mut engine = engine(rt, script, quiet, 3, 2, turns)?;
     let mut source = MemorySource::new(input.to_vec(rt.alloc())?, Vec::new(rt.alloc()));
     source.give_at_most(piece);
@@ -79,8 +80,8 @@ const RUNS: [(&[u8], bool, &[u8], &[u8]); 12] = [
 #[test]
 fn runs_scripts(rt: HostRuntime) -> Result<(), Fail> {
     for (script, quiet, input, written) in RUNS {
-        for piece in [1, 100] {
-            let (ended, bytes) = run(&rt, script, quiet, input, MOST, piece)?;
+        for whole in [false, true] {
+            let (ended, bytes) = run(&rt, script, quiet, input, MOST, whole)?;
             assert_eq!(rt; ended, Ended::Done);
             assert_eq!(rt; bytes.as_slice(), written);
         }
@@ -99,7 +100,7 @@ fn ends_with_a_cause(rt: HostRuntime) -> Result<(), Fail> {
         (b"1,//p", MOST, b"a\na\n", Ended::PatternFull(2)),
     ];
     for (script, turns, written, end) in rows {
-        let (ended, bytes) = run(&rt, script, false, b"a\nbcde\n", turns, 1)?;
+        let (ended, bytes) = run(&rt, script, false, b"a\nbcde\n", turns, false)?;
         assert_eq!(rt; ended, end);
         assert_eq!(rt; bytes.as_slice(), written);
     }

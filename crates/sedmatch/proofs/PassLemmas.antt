@@ -64,12 +64,12 @@ module _ (nodes : List Node) (w : List ℕ) (arena : IsArena nodes) (place x : �
       ((i : ℕ) → i + 1 ≡ place → slice_get w i ≡ byte) →
       v ≡ end_of (slice_index_or entered x false) byte (λ c. slice_index_or null c false) (λ c. slice_index_or ended c false) node →
       after ≡ slice_set ended x v →
-      Marked null (Below (x + 1)) (λ c. At nodes w c place place) →
+      Marked null (Below x) (λ c. At nodes w c place place) →
       Marked entered (Below (r + 1)) (λ c. Entered nodes w r p c place) →
       Marked ended (Below x) (λ c. Ends nodes w r p c place) → Marked after (Below (x + 1)) (λ c. Ends nodes w r p c place)
   ascend_ended r p le entered null ended after byte v inside bytes value is_after nulls enters marked =
       Marked-next ended after x v (λ c. Ends nodes w r p c place) is_after inside marked
-      (let truth = end_of-Ends nodes w r p arena place x le node is (slice_index_or entered x false) (enters x (omega arith)) byte bytes (λ c. slice_index_or null c false) (λ c lt. nulls c (omega arith)) (λ c. slice_index_or ended c false) marked in
+      (let truth = end_of-Ends nodes w r p arena place x le node is (slice_index_or entered x false) (enters x (omega arith)) byte bytes (λ c. slice_index_or null c false) nulls (λ c. slice_index_or ended c false) marked in
       (λ h. truth.0 (sym value ∙ h), λ h. value ∙ truth.1 h))
 
 -- which nodes have been told where they begin, when the nodes from y to r have told their parts

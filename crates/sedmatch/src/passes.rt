@@ -42,93 +42,92 @@ pub fn takes_byte(set: &ByteSet, byte: Option<u8>) -> bool
     }
 }
 
-/// Whether a node matches the null string here, given the marks of its parts.
-fn null_here(node: &Node, begin: bool, end: bool, null: &Marks, steps: &mut Steps) -> bool
-    requires inside { PartsBelow (length null.now) node.now }
-    requires room { steps.old < 2 ^ 119 }
-    ensures value { result ≡ null_of begin end (λ c. slice_index_or null.now c false) node.now }
-    ensures grows { steps.old ≤ steps.new }
-    ensures cost { steps.new ≤ steps.old + 2 }
-{
-    match node {
-        Node::Empty => true,
-        Node::Set(_) => false,
-        Node::Begin => begin,
-        Node::End => end,
-        Node::Seq(a, b) => null.get(a.index(), steps) && null.get(b.index(), steps),
-        Node::Alt(a, b) => null.get(a.index(), steps) || null.get(b.index(), steps),
-        Node::Group(_, a) => null.get(a.index(), steps),
-        Node::Star(_, _) => true,
-        Node::Opt(_, _) => true,
-    }
-}
-
-/// Whether a node ends here after at least one byte, given the marks of its parts.
-fn end_here(
+/// Whether a node matches the null string here, and whether it ends here after at least one byte, given the marks of
+/// its parts. One look at the node decides both.
+fn marks_here(
     node: &Node,
+    begin: bool,
+    end: bool,
     entered: bool,
     byte: Option<u8>,
     null: &Marks,
     ended: &Marks,
     steps: &mut Steps,
-) -> bool
+) -> (bool, bool)
     requires null_inside { PartsBelow (length null.now) node.now }
     requires ended_inside { PartsBelow (length ended.now) node.now }
     requires room { steps.old < 2 ^ 119 }
-    ensures value { result ≡ end_of entered byte (λ c. slice_index_or null.now c false) (λ c. slice_index_or ended.now c false) node.now }
+    ensures null { result.0 ≡ null_of begin end (λ c. slice_index_or null.now c false) node.now }
+    ensures ended { result.1 ≡ end_of entered byte (λ c. slice_index_or null.now c false) (λ c. slice_index_or ended.now c false) node.now }
     ensures grows { steps.old ≤ steps.new }
-    ensures cost { steps.new ≤ steps.old + 3 }
+    ensures cost { steps.new ≤ steps.old + 5 }
 {
     match node {
-        Node::Empty => false,
-        Node::Set(set) => entered && takes_byte(set, byte),
-        Node::Begin => false,
-        Node::End => false,
+        Node::Empty => (true, false),
+        Node::Set(set) => (false, entered && takes_byte(set, byte)),
+        Node::Begin => (begin, false),
+        Node::End => (end, false),
         Node::Seq(a, b) => {
-            ended.get(b.index(), steps)
-                || (ended.get(a.index(), steps) && null.get(b.index(), steps))
+            let null_behind = null.get(b.index(), steps);
+            (
+                null_behind && null.get(a.index(), steps),
+                ended.get(b.index(), steps) || (null_behind && ended.get(a.index(), steps)),
+            )
         }
-        Node::Alt(a, b) => ended.get(a.index(), steps) || ended.get(b.index(), steps),
-        Node::Group(_, a) => ended.get(a.index(), steps),
-        Node::Star(a, _) => ended.get(a.index(), steps),
-        Node::Opt(a, _) => ended.get(a.index(), steps),
+        Node::Alt(a, b) => (
+            null.get(a.index(), steps) || null.get(b.index(), steps),
+            ended.get(a.index(), steps) || ended.get(b.index(), steps),
+        ),
+        Node::Group(_, a) => (null.get(a.index(), steps), ended.get(a.index(), steps)),
+        Node::Star(a, _) => (true, ended.get(a.index(), steps)),
+        Node::Opt(a, _) => (true, ended.get(a.index(), steps)),
     }
 }
 
-/// Marks where the parts of a node begin, given whether it begins here itself.
+/// Marks where the parts of a node begin, given whether it begins here itself, and says whether a node that takes the
+/// byte that comes begins here: this one, or one seen before. One look at the node decides both.
 fn mark_parts(
     node: &Node,
     here: bool,
+    more: bool,
+    byte: Option<u8>,
     null: &Marks,
     ended: &Marks,
     entered: &mut Marks,
     steps: &mut Steps,
-)
+) -> bool
     requires null_inside { PartsBelow (length null.now) node.now }
     requires ended_inside { PartsBelow (length ended.now) node.now }
     requires entered_inside { PartsBelow (length entered.old) node.now }
     requires room { steps.old < 2 ^ 119 }
     ensures value { entered.new ≡ enter_parts here (λ c. slice_index_or null.now c false) (λ c. slice_index_or ended.now c false) node.now entered.old }
+    ensures opens { result ≡ (more || (here && takes_next byte node.now)) }
     ensures grows { steps.old ≤ steps.new }
     ensures cost { steps.new ≤ steps.old + 4 }
 {
     match node {
-        Node::Empty | Node::Set(_) | Node::Begin | Node::End => {}
+        Node::Empty | Node::Begin | Node::End => more,
+        Node::Set(set) => more || (here && takes_byte(set, byte)),
         Node::Seq(a, b) => {
             entered.set(a.index(), here, steps);
             let next = ended.get(a.index(), steps) || (here && null.get(a.index(), steps));
             entered.set(b.index(), next, steps);
+            more
         }
         Node::Alt(a, b) => {
             entered.set(a.index(), here, steps);
             entered.set(b.index(), here, steps);
+            more
         }
-        Node::Group(_, a) => entered.set(a.index(), here, steps),
+        Node::Group(_, a) | Node::Opt(a, _) => {
+            entered.set(a.index(), here, steps);
+            more
+        }
         Node::Star(a, _) => {
             let next = here || ended.get(a.index(), steps);
             entered.set(a.index(), next, steps);
+            more
         }
-        Node::Opt(a, _) => entered.set(a.index(), here, steps),
     }
 }
 
@@ -160,30 +159,21 @@ fn ascend(
     let end = place == text.len();
     let _count = expr.nodes();
     for x in 0..root + 1 {
-        let node = expr.look(expr.id(x), steps);
-        let empty = null_here(&node, begin, end, &sets.null, steps);
-        sets.null.set(x, empty, steps);
         let before = sets.entered.get(x, steps);
-        let here = end_here(&node, before, byte, &sets.null, &sets.ended, steps);
-        sets.ended.set(x, here, steps);
+        let node = expr.look(expr.id(x), steps);
+        let here = marks_here(
+            &node,
+            begin,
+            end,
+            before,
+            byte,
+            &sets.null,
+            &sets.ended,
+            steps,
+        );
+        sets.null.set(x, here.0, steps);
+        sets.ended.set(x, here.1, steps);
     }
-}
-
-/// Whether the node takes the byte that comes.
-fn takes_next(node: &Node, next: Option<u8>) -> bool
-    ensures { result ≡ takes_next next node.now }
-{
-    match node {
-        Node::Set(set) => takes_byte(set, next),
-        _ => false,
-    }
-}
-
-/// Whether a node that takes the byte that comes begins here: this one, or one seen before.
-fn opens(more: bool, here: bool, node: &Node, next: Option<u8>) -> bool
-    ensures { result ≡ (more || (here && takes_next next node.now)) }
-{
-    more || (here && takes_next(node, next))
 }
 
 /// From `root` down: which nodes begin here in a match of it, and whether one of them takes the byte that comes.
@@ -222,12 +212,13 @@ fn descend(
     sets.entered.set(root, first, steps);
     let mut more = false;
     for x in (0..root + 1).rev() {
-        let node = expr.look(expr.id(x), steps);
         let here = sets.entered.get(x, steps);
-        more = opens(more, here, &node, next);
-        mark_parts(
+        let node = expr.look(expr.id(x), steps);
+        more = mark_parts(
             &node,
             here,
+            more,
+            next,
             &sets.null,
             &sets.ended,
             &mut sets.entered,
@@ -311,11 +302,15 @@ pub fn advance(
     ensures cost { steps.new ≤ steps.old + 15 * length expr.now.nodes + 5 }
 {
     let _count = expr.nodes();
-    let byte = byte_before(text, place, steps);
-    ascend(expr, root, text, place, byte, sets, steps);
+    // A count of its own is kept in registers, and added once.
+    let mut own = Steps::new();
+    let byte = byte_before(text, place, &mut own);
+    ascend(expr, root, text, place, byte, sets, &mut own);
     let first = starts.has(place);
-    let next = byte_after(text, place, steps);
-    let more = descend(expr, root, first, next, sets, steps);
-    let matched = ends_here(root, first, &sets.null, &sets.ended, steps);
+    let next = byte_after(text, place, &mut own);
+    let more = descend(expr, root, first, next, sets, &mut own);
+    let matched = ends_here(root, first, &sets.null, &sets.ended, &mut own);
+    let count = own.count();
+    steps.add(count as usize);
     Here { matched, more }
 }

@@ -90,6 +90,13 @@ impl Script {
         &self.exprs[k]
     }
 
+    /// How many regular expressions it has.
+    pub fn expressions(&self) -> usize
+        ensures { result ≡ length self.now.expressions }
+    {
+        self.exprs.len()
+    }
+
     /// The text of a number, counted from 0, without its last newline.
     pub fn text(&self, k: usize) -> &[u8]
         requires { k < length self.now.texts }

@@ -6,18 +6,13 @@ use Rattle.std.proofs.Common.{length-set}
 use Rattle.sedmatch.proofs.PassLemmas.{parts_below, ascend_null, ascend_ended}
 use Rattle.sedmatch.proofs.passes.ascend.Goals as goal
 
-pub null_here-empty-requires-clause-inside : goal.null_here-empty-requires-clause-inside
-null_here-empty-requires-clause-inside c =
+pub marks_here-here-requires-clause-null_inside : goal.marks_here-here-requires-clause-null_inside
+marks_here-here-requires-clause-null_inside c =
     let is : slice_get c.args.expr.now.nodes c.loop-x.x ≡ Some c.look-node.result = cc in
     parts_below _ c.nodes-count.ensures.arena _ _ is _ (omega arith)
 
-pub end_here-here-requires-clause-null_inside : goal.end_here-here-requires-clause-null_inside
-end_here-here-requires-clause-null_inside c =
-    let is : slice_get c.args.expr.now.nodes c.loop-x.x ≡ Some c.look-node.result = cc in
-    parts_below _ c.nodes-count.ensures.arena _ _ is _ (rw c.set.ensures.marks (simp length-set (omega arith)))
-
-pub end_here-here-requires-clause-ended_inside : goal.end_here-here-requires-clause-ended_inside
-end_here-here-requires-clause-ended_inside c =
+pub marks_here-here-requires-clause-ended_inside : goal.marks_here-here-requires-clause-ended_inside
+marks_here-here-requires-clause-ended_inside c =
     let is : slice_get c.args.expr.now.nodes c.loop-x.x ≡ Some c.look-node.result = cc in
     parts_below _ c.nodes-count.ensures.arena _ _ is _ (omega arith)
 
@@ -31,11 +26,11 @@ loop-x-preserved c =
     let ended_len : length c.set-in-loop-x.new.self ≡ length c.loop-x.sets.ended = rw c.set-in-loop-x.ensures.marks (simp length-set) in
     let nulls : Marked c.set.new.self (Below (x + 1)) (λ n. At nodes c.args.text.now n c.args.place c.args.place) =
     ascend_null nodes c.args.text.now arena c.args.place x c.look-node.result is c.len.result c.len.ensures
-    c.loop-x.sets.null c.set.new.self c.null_here-empty.result (omega arith) c.null_here-empty.ensures.value c.set.ensures.marks c.loop-x.invariant.null in
+    c.loop-x.sets.null c.set.new.self c.marks_here-here.result.0 (omega arith) c.marks_here-here.ensures.null c.set.ensures.marks c.loop-x.invariant.null in
     let mark : c.get-before.result ≡ slice_index_or c.args.sets.now.entered x false =
     c.get-before.ensures.mark ∙ ap (λ l. slice_index_or l x false) c.loop-x.invariant.kept in
-    let value : c.end_here-here.result ≡ end_of (slice_index_or c.args.sets.now.entered x false) c.args.byte (λ n. slice_index_or c.set.new.self n false) (λ n. slice_index_or c.loop-x.sets.ended n false) c.look-node.result =
-    rw (← mark) c.end_here-here.ensures.value in
+    let value : c.marks_here-here.result.1 ≡ end_of (slice_index_or c.args.sets.now.entered x false) c.args.byte (λ n. slice_index_or c.loop-x.sets.null n false) (λ n. slice_index_or c.loop-x.sets.ended n false) c.look-node.result =
+    rw (← mark) c.marks_here-here.ensures.ended in
     record {
       marks = (omega arith, omega arith, omega arith);
       kept = c.loop-x.invariant.kept;
@@ -43,8 +38,8 @@ loop-x-preserved c =
       cost = omega arith;
       null = nulls;
       ended = λ s enters. ascend_ended nodes c.args.text.now arena c.args.place x c.look-node.result is c.args.root s (omega arith)
-          c.args.sets.now.entered c.set.new.self c.loop-x.sets.ended c.set-in-loop-x.new.self c.args.byte c.end_here-here.result
-          (omega arith) c.requires.byte value c.set-in-loop-x.ensures.marks nulls enters (c.loop-x.invariant.ended s enters);
+          c.args.sets.now.entered c.loop-x.sets.null c.loop-x.sets.ended c.set-in-loop-x.new.self c.args.byte c.marks_here-here.result.1
+          (omega arith) c.requires.byte value c.set-in-loop-x.ensures.marks c.loop-x.invariant.null enters (c.loop-x.invariant.ended s enters);
     }
 
 pub returns-clause-ended : goal.returns-clause-ended

@@ -20,18 +20,18 @@ loop-x-init c =
       opens = λ w s place nulls ends begins before. sets_above c.args.expr.now.nodes w c.args.root s c.nodes-count.ensures.arena c.requires.root place (c.args.root + 1) c.args.next (omega arith);
     }
 
-pub mark_parts-requires-clause-null_inside : goal.mark_parts-requires-clause-null_inside
-mark_parts-requires-clause-null_inside c =
+pub mark_parts-more-requires-clause-null_inside : goal.mark_parts-more-requires-clause-null_inside
+mark_parts-more-requires-clause-null_inside c =
     let is : slice_get c.args.expr.now.nodes (c.loop-x.x - 1) ≡ Some c.look-node.result = cc in
     parts_below _ c.nodes-count.ensures.arena _ _ is _ (omega arith)
 
-pub mark_parts-requires-clause-ended_inside : goal.mark_parts-requires-clause-ended_inside
-mark_parts-requires-clause-ended_inside c =
+pub mark_parts-more-requires-clause-ended_inside : goal.mark_parts-more-requires-clause-ended_inside
+mark_parts-more-requires-clause-ended_inside c =
     let is : slice_get c.args.expr.now.nodes (c.loop-x.x - 1) ≡ Some c.look-node.result = cc in
     parts_below _ c.nodes-count.ensures.arena _ _ is _ (omega arith)
 
-pub mark_parts-requires-clause-entered_inside : goal.mark_parts-requires-clause-entered_inside
-mark_parts-requires-clause-entered_inside c =
+pub mark_parts-more-requires-clause-entered_inside : goal.mark_parts-more-requires-clause-entered_inside
+mark_parts-more-requires-clause-entered_inside c =
     let set_len : length c.set.new.self ≡ length c.args.sets.now.entered = rw c.set.ensures.marks (simp length-set) in
     let is : slice_get c.args.expr.now.nodes (c.loop-x.x - 1) ≡ Some c.look-node.result = cc in
     parts_below _ c.nodes-count.ensures.arena _ _ is _ (omega arith)
@@ -45,10 +45,10 @@ loop-x-preserved c =
     let node = c.look-node.result in
     let is : slice_get nodes x ≡ Some node = cc in
     let set_len : length c.set.new.self ≡ length c.args.sets.now.entered = rw c.set.ensures.marks (simp length-set) in
-    let value : c.mark_parts.new.entered ≡ enter_parts (slice_index_or c.loop-x.sets.entered x false) (λ n. slice_index_or null n false) (λ n. slice_index_or ended n false) node c.loop-x.sets.entered =
-    rw (← c.get-here.ensures.mark, ← c.loop-x.invariant.kept_null, ← c.loop-x.invariant.kept_ended) c.mark_parts.ensures.value in
-    let kept : length c.mark_parts.new.entered ≡ length c.loop-x.sets.entered =
-    ap length c.mark_parts.ensures.value ∙ length-enter_parts _ _ _ node c.loop-x.sets.entered in
+    let value : c.mark_parts-more.new.entered ≡ enter_parts (slice_index_or c.loop-x.sets.entered x false) (λ n. slice_index_or null n false) (λ n. slice_index_or ended n false) node c.loop-x.sets.entered =
+    rw (← c.get-here.ensures.mark, ← c.loop-x.invariant.kept_null, ← c.loop-x.invariant.kept_ended) c.mark_parts-more.ensures.value in
+    let kept : length c.mark_parts-more.new.entered ≡ length c.loop-x.sets.entered =
+    ap length c.mark_parts-more.ensures.value ∙ length-enter_parts _ _ _ node c.loop-x.sets.entered in
     let above : c.loop-x.x ≡ x + 1 = omega arith in
     record {
       marks = (omega arith, omega arith, omega arith);
@@ -57,12 +57,12 @@ loop-x-preserved c =
       grows = omega arith;
       cost = omega arith;
       entered = λ w s place nulls ends begins before. descend_step nodes c.args.root c.nodes-count.ensures.arena w s place x c.loop-x.x node above (omega arith) c.requires.root is
-          null ended c.loop-x.sets.entered c.mark_parts.new.entered (omega arith) value nulls ends (c.loop-x.invariant.entered w s place nulls ends begins before);
+          null ended c.loop-x.sets.entered c.mark_parts-more.new.entered (omega arith) value nulls ends (c.loop-x.invariant.entered w s place nulls ends begins before);
       opens = λ w s place nulls ends begins before.
           let le : x ≤ c.args.root = omega arith in
           let told : Told nodes c.args.root c.loop-x.x x = subst (λ n. Told nodes c.args.root n x) (sym above) (Told-self nodes c.args.root c.nodes-count.ensures.arena c.requires.root x le) in
           let mark = c.loop-x.invariant.entered w s place nulls ends begins before x (le, told) in
-          sets_step nodes w c.args.root s place x c.loop-x.x c.args.next node above is c.loop-x.more c.opens-more.result c.get-here.result c.opens-more.ensures
+          sets_step nodes w c.args.root s place x c.loop-x.x c.args.next node above is c.loop-x.more c.mark_parts-more.result c.get-here.result c.mark_parts-more.ensures.opens
           (λ h. mark.0 (sym c.get-here.ensures.mark ∙ h), λ h. c.get-here.ensures.mark ∙ mark.1 h)
           (c.loop-x.invariant.opens w s place nulls ends begins before);
     }
