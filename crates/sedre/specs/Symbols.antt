@@ -26,7 +26,7 @@ alone Extended b =
     else if b == 124 then Parting  -- |
     else if b == 42 then Star  -- *
     else if b == 43 then Plus  -- +
-    else if b == 63 then Question  -- ?
+    else if b == 63 then Question  -- a question mark
     else if b == 123 then Interval  -- {
     else if b == 46 then AnyByte  -- .
     else if b == 91 then BracketOpening  -- [
@@ -51,7 +51,7 @@ escaped Basic b =
     else if b == 41 then Closing  -- )
     else if b == 124 then Parting  -- |
     else if b == 43 then Plus  -- +
-    else if b == 63 then Question  -- ?
+    else if b == 63 then Question  -- a question mark
     else if b == 123 then Interval  -- {
     else if b == 125 then IntervalEnd  -- }
     else escaped_literal b
