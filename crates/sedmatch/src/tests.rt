@@ -78,42 +78,79 @@ fn groups(rt: HostRuntime) -> Result<(), Fail> {
     Ok(())
 }
 
-/// An expression, how many times `a` stands in the text, whether a `b` follows, whether there is a match, and how
-/// many steps are allowed.
-type Cost = (&'static str, usize, bool, bool, u128);
+/// An expression, how many times `a` stands in the text, the match (a `b` follows the `a` where there is one), how many
+/// groups report all of the `a`, and how many steps are allowed.
+type Cost = (&'static str, usize, Option<(usize, usize)>, usize, u128);
 
 // 64 times nodes times the square of the places, and as many times the nodes again where groups are reported.
 const COSTS: [Cost; 5] = [
-    ("(a*)*b", 40, false, false, 645_504),
-    ("(a*)*b", 40, true, true, 4_064_256),
-    ("((a*)*)*b", 30, false, false, 492_032),
-    ("((a*)*)*b", 30, true, true, 4_194_304),
-    ("b", 1000, true, true, 64_128),
+    ("(a*)*b", 40, None, 0, 645_504),
+    ("(a*)*b", 40, Some((0, 41)), 1, 4_064_256),
+    ("((a*)*)*b", 30, None, 0, 492_032),
+    ("((a*)*)*b", 30, Some((0, 31)), 2, 4_194_304),
+    ("b", 1000, Some((1000, 1001)), 0, 64_128),
 ];
 
 #[test]
 fn steps(rt: HostRuntime) -> Result<(), Fail> {
     let alloc = rt.alloc();
-    for (pattern, count, closed, wanted, most) in &COSTS {
+    for (pattern, count, wanted, groups, most) in &COSTS {
         let mut bytes = Vec::new(alloc);
         for _ in 0..*count {
             bytes.push(b'a')?;
         }
-        if *closed {
+        if wanted.is_some() {
             bytes.push(b'b')?;
         }
         match read(alloc, Kind::Extended, pattern.as_bytes(), None, 1000) {
             Ok(expr) => {
-                assert!(rt; bytes.len() <= 1001);
+                assert!(rt; bytes.len() <= 1001 && *groups <= 9);
                 let text = Text::new(&bytes);
                 let mut scratch = Scratch::new(alloc, 1001, 1000)?;
                 let mut steps = Steps::new();
                 let found = find(&expr, &text, 0, &mut scratch, &mut steps);
-                assert_eq!(rt; found.is_some(), *wanted, "{pattern}");
                 assert!(rt; steps.count() <= *most, "{pattern}");
+                match found {
+                    Some(found) => {
+                        assert!(rt; *wanted == Some((found.start, found.end)), "{pattern}");
+                        for k in 1..*groups + 1 {
+                            assert!(rt; found.groups[k] == Some((0, *count)), "{pattern}");
+                        }
+                    }
+                    None => assert!(rt; wanted.is_none(), "{pattern}"),
+                }
             }
             Err(_) => assert!(rt; false, "{pattern} is not read"),
         }
+    }
+    Ok(())
+}
+
+// 600 groups in one another, each of which reports the byte that they hold.
+#[test]
+fn nested_groups(rt: HostRuntime) -> Result<(), Fail> {
+    let alloc = rt.alloc();
+    let mut pattern = vec![in alloc; b'('; 600]?;
+    pattern.push(b'a')?;
+    for _ in 0..600 {
+        pattern.push(b')')?;
+    }
+    match read(alloc, Kind::Extended, &pattern, None, 1000) {
+        Ok(expr) => {
+            assert_eq!(rt; expr.nodes(), 601);
+            let text = Text::new(b"a");
+            let mut scratch = Scratch::new(alloc, 1, 1000)?;
+            let mut steps = Steps::new();
+            match find(&expr, &text, 0, &mut scratch, &mut steps) {
+                Some(found) => {
+                    for k in 0..10 {
+                        assert!(rt; found.groups[k] == Some((0, 1)));
+                    }
+                }
+                None => assert!(rt; false, "no match"),
+            }
+        }
+        Err(_) => assert!(rt; false, "not read"),
     }
     Ok(())
 }
