@@ -16,19 +16,22 @@ use Rattle.sedengine.specs.Calls.{Puts}
 use Rattle.sedengine.specs.Run.{Run, at_lines, setting, size_of, starts_cycle}
 use Rattle.sedengine.specs.Choose.{Judges, as_choice, come_with, current}
 use Rattle.sedengine.specs.Steps.{Moves, Performs, Steps, TakesLines}
-use Rattle.sedengine.specs.Inside.{run_of, tasks_of, IsRun}
+use Rattle.sedengine.specs.Inside.{run_of, IsRun}
 use Rattle.sedengine.specs.declared.engine.Engine.TheInside.{Inside}
-use Rattle.sedengine.specs.declared.place.Place.{Place}
 use Rattle.sedengine.specs.declared.select.Chosen.{Chosen}
 use Rattle.sedengine.specs.declared.ends.Ended.{Ended}
 use Rattle.sedengine.specs.declared.ends.Ended.TheVariants.{Done, PatternFull, TurnsSpent, NoPrevious, InputBroken, OutputBroken}
 use Rattle.sedengine.proofs.Streams.{TakesAtMost-more}
 use Rattle.sedengine.proofs.Moves.{move_at, ran_once, ran_quietly, stopped_writing, moves_writing, Moves-then}
-use Rattle.sedengine.proofs.Tasks.{fits_at, fits_of, halts_here, comes_spent, steps_by_moves}
+use Rattle.sedengine.proofs.Tasks.{fits_of, halts_here, comes_spent, steps_by_moves}
 
 -- the engine whose pattern space is deleted, and which has these tasks
 abbrev pub deleted : Run → List Task → Run
 deleted e ts = record e { state = record e.state { pattern = []; tasks = ts } }
+
+-- the engine that goes on with these tasks
+abbrev pub going : Run → List Task → Run
+going e ts = record e { state = record e.state { tasks = ts } }
 
 deletes : (l : Limits) (g : Setting) (s m now : State) (old new : ℕ → Option (List ℕ)) (out : List (ℕ × ℕ)) (r : Result Unit Ended) → Fits l s → move g s ≡ writing out m → m.tasks ≡ flush ∷ begin ∷ [] → move g m ≡ quietly now →
     Fits l m → Fits l now → SameLengths m now → s.lines ≡ now.lines → Puts (Gained old new) out r → Moves l g s now (Gained old new) r
@@ -50,11 +53,11 @@ module _ (a : Inside) (e : Run) (seen : run_of a ≡ e) (i : IsRun a) (ls : List
   acts_nothing is = λ s f lines first. ran_quietly e.limits g s (at_lines e ls) old f (first ∙ is) fits
 
   -- one that goes on elsewhere
-  pub acts_going : (ts : List Task) (place : Place) → tasks_of place ≡ ts → o ≡ quietly (then_do ts (at_lines e ls)) → Performs e.limits g o ls (at_lines (run_of (record a { place = place })) ls) (Gained old old) (Ok tt)
-  acts_going ts place to is =
-      let now : Inside = record a { place = place } in
-      let Q : Run → Type 0 = λ e. o ≡ quietly (then_do ts (at_lines e ls)) → Performs e.limits g o ls (at_lines (run_of now) ls) (Gained old old) (Ok tt) in
-      subst Q seen (λ is s f lines first. ran_quietly a.limits g s (at_lines (run_of now) ls) old f (first ∙ rw to is) (fits_at now ls i.pattern i.hold i.turns)) is
+  pub acts_going : (ts : List Task) (e' : Run) → e' ≡ going e ts → o ≡ quietly (then_do ts (at_lines e ls)) → Performs e.limits g o ls (at_lines e' ls) (Gained old old) (Ok tt)
+  acts_going ts e' same is =
+      let Q : Run → Type 0 = λ e'. Performs e.limits g o ls (at_lines e' ls) (Gained old old) (Ok tt) in
+      let there : Fits e.limits (at_lines (going e ts) ls) = record { pattern = fits.pattern; hold = fits.hold; queue = fits.queue; turns = fits.turns } in
+      subst Q (sym same) (λ s f lines first. ran_quietly e.limits g s (at_lines (going e ts) ls) old f (first ∙ is) there)
 
   -- one that deletes the pattern space
   pub acts_deleting : (out : List (ℕ × ℕ)) (r : Result Unit Ended) (e' : Run) → e' ≡ deleted e (begin ∷ []) → o ≡ writing out (at_lines (deleted e (flush ∷ begin ∷ [])) ls) → Puts (Gained old new) out r →

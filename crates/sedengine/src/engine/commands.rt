@@ -3,7 +3,7 @@ ghost use Rattle.std.specs.Prelude.{◌≡◌, ◌<◌, ◌≤◌, ◌+◌, [], 
 ghost use Rattle.std.specs.Option.{ForSome};
 ghost use Rattle.sedscript.specs.Ranges.{ActionWithin};
 ghost use Rattle.sedspace.specs.Stream.{lines_left};
-ghost use Rattle.sedengine.specs.State.{do_at, begin};
+ghost use Rattle.sedengine.specs.State.{do_at, begin, print_pattern, flush};
 ghost use Rattle.sedengine.specs.Move.{acts, passes, line_to, tells_at, text_of};
 ghost use Rattle.sedengine.specs.Devices.{Gained};
 ghost use Rattle.sedengine.specs.Calls.{Puts, Reads, Writes};
@@ -81,7 +81,7 @@ impl Engine {
         match action {
             Action::Block(_) => Ok(()),
             Action::Branch(target) => {
-                self.place = Place::Do(target);
+                self.act_branch(target);
                 Ok(())
             }
             Action::Change(text) => self.act_change(text, tells, outputs),
@@ -93,7 +93,7 @@ impl Engine {
             Action::LineNumber => self.act_line_number(outputs),
             Action::Print => self.act_print(outputs),
             Action::Quit => {
-                self.place = Place::Quit;
+                self.act_quit();
                 Ok(())
             }
         }
@@ -110,6 +110,13 @@ impl Engine {
         if let Action::Block(behind) = action {
             self.place = Place::Do(behind);
         }
+    }
+
+    /// The command `b`: goes on at its target.
+    fn act_branch(&mut self, target: usize)
+        ensures { self.new ≡ record self.old { state = record self.old.state { tasks = do_at target ∷ [] } } }
+    {
+        self.place = Place::Do(target);
     }
 
     /// The command `c`: deletes the pattern space, writes its text where it tells, writes the queue, which is empty, and
@@ -177,5 +184,14 @@ impl Engine {
         ensures output { Writes O.failures O.count outputs.old outputs.new result }
     {
         write_all(outputs, 0, self.pattern.line())
+    }
+
+    /// The command `q`: the pattern space and the queue, which is empty, are written for the last time.
+    fn act_quit(&mut self)
+        ensures { self.new ≡ record self.old {
+          state = record self.old.state { tasks = print_pattern ∷ flush ∷ [] };
+        } }
+    {
+        self.place = Place::Quit;
     }
 }

@@ -2,7 +2,6 @@ use Rattle.std.proofs.Common.{[], ◌∷◌, Ok, refl, ap}
 use Rattle.sedengine.specs.State.{do_at, print_pattern, flush}
 use Rattle.sedengine.specs.Move.{acts}
 use Rattle.sedengine.specs.Run.{at_lines, setting}
-use Rattle.sedengine.specs.declared.place.Place.TheVariants as p
 use Rattle.sedengine.proofs.Gains.{Gained-none}
 use Rattle.sedengine.proofs.Acts.{acts_writing, acts_nothing, acts_going, acts_deleting}
 use Rattle.sedengine.proofs.engine.Engine.act.Goals as goal
@@ -15,7 +14,7 @@ returns-in-Block-clause-acts g c = λ files ls.
 pub returns-in-Branch-clause-acts : goal.returns-in-Branch-clause-acts
 returns-in-Branch-clause-acts g c = λ files ls.
     acts_going c.self.inside c.args.self.now c.self.view_is c.self.invariant ls (setting c.args.self.now files) (g.O.Outputs.contents c.args.outputs.now) (g.O.Outputs.contents c.args.outputs.now) _
-    (do_at c.in-Branch.target ∷ []) (p.Do c.in-Branch.target) refl (ap (acts (setting c.args.self.now files) (at_lines c.args.self.now ls) c.args.tells) c.in-Branch.is)
+    (do_at c.in-Branch.target ∷ []) c.act_branch.new.self c.act_branch.ensures (ap (acts (setting c.args.self.now files) (at_lines c.args.self.now ls) c.args.tells) c.in-Branch.is)
 
 pub returns-in-Change-clause-acts : goal.returns-in-Change-clause-acts
 returns-in-Change-clause-acts g c = λ files ls.
@@ -45,4 +44,4 @@ returns-in-Print-clause-acts g c = λ files ls.
 pub returns-in-Quit-clause-acts : goal.returns-in-Quit-clause-acts
 returns-in-Quit-clause-acts g c = λ files ls.
     acts_going c.self.inside c.args.self.now c.self.view_is c.self.invariant ls (setting c.args.self.now files) (g.O.Outputs.contents c.args.outputs.now) (g.O.Outputs.contents c.args.outputs.now) _
-    (print_pattern ∷ flush ∷ []) p.Quit refl (ap (acts (setting c.args.self.now files) (at_lines c.args.self.now ls) c.args.tells) c.in-Quit.is)
+    (print_pattern ∷ flush ∷ []) c.act_quit.new.self c.act_quit.ensures (ap (acts (setting c.args.self.now files) (at_lines c.args.self.now ls) c.args.tells) c.in-Quit.is)

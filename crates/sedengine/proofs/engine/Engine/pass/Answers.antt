@@ -2,14 +2,13 @@ use Rattle.std.proofs.Common.{[], ◌∷◌, refl, ap, arith}
 use Rattle.sedengine.specs.State.{do_at}
 use Rattle.sedengine.specs.Move.{passes}
 use Rattle.sedengine.specs.Run.{at_lines, setting}
-use Rattle.sedengine.specs.declared.place.Place.TheVariants as p
-use Rattle.sedengine.proofs.Acts.{acts_nothing, acts_going, passes_other}
+use Rattle.sedengine.proofs.Acts.{going, acts_nothing, acts_going, passes_other}
 use Rattle.sedengine.proofs.engine.Engine.pass.Goals as goal
 
 pub returns-in-Block-clause-passes : goal.returns-in-Block-clause-passes
 returns-in-Block-clause-passes c = λ files sinks ls.
     acts_going c.self.inside c.args.self.now c.self.view_is c.self.invariant ls (setting c.args.self.now files) sinks sinks _
-    (do_at c.in-Block.behind ∷ []) (p.Do c.in-Block.behind) refl (ap (passes (at_lines c.args.self.now ls)) c.in-Block.is)
+    (do_at c.in-Block.behind ∷ []) _ (ap (λ e. going e (do_at c.in-Block.behind ∷ [])) c.self.view_is) (ap (passes (at_lines c.args.self.now ls)) c.in-Block.is)
 
 pub returns-in_default : goal.returns-in_default
 returns-in_default c = record {
