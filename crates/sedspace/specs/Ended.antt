@@ -1,10 +1,10 @@
--- A list that a newline ends: how a space holds its bytes.
-use Rattle.std.specs.Prelude.{◌≡◌, ℕ, ◌-◌, List, [], ◌∷◌, ◌++◌, length, take}
+-- How a space holds its bytes: in a list that may be longer, with a newline behind them.
+use Rattle.std.specs.Prelude.{◌≡◌, ℕ, List, Option, Some, take, drop, slice_get}
 
--- what stands before the newline
-abbrev pub contents : List ℕ → List ℕ
-contents held = take (length held - 1) held
+-- the bytes from the front to the end
+abbrev pub between : ℕ → ℕ → List ℕ → List ℕ
+between front end held = drop front (take end held)
 
--- a newline ends the list
-abbrev pub IsEnded : List ℕ → Type 0
-IsEnded held = held ≡ contents held ++ 10 ∷ []
+-- a newline stands at the end
+abbrev pub EndsAt : ℕ → List ℕ → Type 0
+EndsAt end held = slice_get held end ≡ Some 10

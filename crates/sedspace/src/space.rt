@@ -2,13 +2,13 @@
 //!
 //! The pattern space and the hold space of XCU sed are spaces. The contents stand from a front on, so that a line is
 //! cut off without moving what stands behind it, and a newline is kept behind them, so that they can be written with
-//! their newline at once.
-ghost use Rattle.std.specs.Prelude.{◌≡◌, ◌==◌, ◌+◌, ◌-◌, ◌<◌, ◌≤◌, [], ◌∷◌, ◌++◌, length, IfOk, OnOk, OnErr, IfSome, IsTrue, Contains, ℕ, false, take, drop, vec_len, vec_capacity};
+//! their newline at once. What stands behind that newline is left from longer contents, and is written over.
+ghost use Rattle.std.specs.Prelude.{◌≡◌, ◌==◌, ◌+◌, ◌-◌, ◌<◌, ◌≤◌, [], ◌∷◌, ◌++◌, length, IfOk, OnOk, OnErr, IfSome, IsTrue, Contains, ℕ, false, take, vec_len, vec_capacity};
 ghost use Rattle.std.specs.List.{after_first};
 ghost use Rattle.std.specs.Io.KnownBytes.{Keeps};
 ghost use Rattle.sedspace.specs.Lines.{is_newline, HasNoNewline};
 ghost use Rattle.sedspace.specs.Reading.{ReadsAt};
-ghost use Rattle.sedspace.specs.Ended.{contents, IsEnded};
+ghost use Rattle.sedspace.specs.Ended.{EndsAt, between};
 
 use super::lines::newline_in;
 use super::{Full, Texts};
@@ -20,20 +20,22 @@ use std::marker::Model;
 pub struct Space {
     held: Vec<u8>,
     front: usize,
+    // Where the newline stands.
+    end: usize,
     most: usize,
 }
 
 impl Model for Space {
-    ghost use Rattle.std.specs.Prelude.{◌+◌, ◌<◌, ◌≤◌, drop, vec_len, vec_capacity};
+    ghost use Rattle.std.specs.Prelude.{◌+◌, ◌<◌, ◌≤◌, vec_len, vec_capacity};
     ghost use Rattle.sedspace.specs.Spaces.{Contents};
-    ghost use Rattle.sedspace.specs.Ended.{contents, IsEnded};
+    ghost use Rattle.sedspace.specs.Ended.{EndsAt, between};
 
     ghost Value = { Contents };
 
-    ghost view = { λ s. record { bytes = drop s.front (contents s.held.items); limit = s.most } };
+    ghost view = { λ s. record { bytes = between s.front s.end s.held.items; limit = s.most } };
 
-    ghost invariant = { λ s. (s.front < vec_len s.held) × (vec_len s.held ≤ s.most + 1)
-        × (s.most < vec_capacity s.held) × IsEnded s.held.items };
+    ghost invariant = { λ s. (s.front ≤ s.end) × (s.end < vec_len s.held) × (vec_len s.held ≤ s.most + 1)
+        × (s.most < vec_capacity s.held) × EndsAt s.end s.held.items };
 }
 
 impl Space {
@@ -44,10 +46,12 @@ impl Space {
         ensures { IfOk result (λ s. s ≡ record { bytes = []; limit = limit }) }
     {
         let mut held = Vec::with_capacity(alloc, limit.saturating_add(1))?;
-        end_line(&mut held);
+        grow(&mut held, 1);
+        end_line(&mut held, 0);
         Ok(Space {
             held,
             front: 0,
+            end: 0,
             most: limit,
         })
     }
@@ -64,7 +68,7 @@ impl Space {
         ensures value { result ≡ length self.now.bytes }
         ensures bound { result ≤ self.now.limit }
     {
-        self.held.len() - 1 - self.front
+        self.end - self.front
     }
 
     /// Whether it holds no byte.
@@ -79,7 +83,7 @@ impl Space {
         ensures value { result.now ≡ self.now.bytes }
         ensures bound { length self.now.bytes ≤ self.now.limit }
     {
-        &self.held[self.front..self.held.len() - 1]
+        &self.held[self.front..self.end]
     }
 
     /// The bytes that it holds and a newline, as a line is written.
@@ -87,16 +91,16 @@ impl Space {
         ensures value { result.now ≡ self.now.bytes ++ 10 ∷ [] }
         ensures bound { length self.now.bytes ≤ self.now.limit }
     {
-        &self.held[self.front..]
+        &self.held[self.front..self.end + 1]
     }
 
     /// Lets all bytes go.
     pub fn clear(&mut self)
         ensures { self.new ≡ record self.old { bytes = [] } }
     {
-        self.held.clear();
-        end_line(&mut self.held);
         self.front = 0;
+        self.end = 0;
+        end_line(&mut self.held, 0);
     }
 
     /// Keeps the first `count` bytes, or all where there are fewer.
@@ -104,8 +108,8 @@ impl Space {
         ensures { self.new ≡ record self.old { bytes = take count self.old.bytes } }
     {
         if count < self.len() {
-            self.held.truncate(self.front + count);
-            end_line(&mut self.held);
+            self.end = self.front + count;
+            end_line(&mut self.held, self.end);
         }
     }
 
@@ -119,9 +123,10 @@ impl Space {
         if self.most - self.len() < bytes.len() {
             return Err(Full);
         }
-        self.front = make_room(&mut self.held, self.front, self.most, bytes.len());
-        self.held.truncate(self.held.len() - 1);
-        hold(&mut self.held, bytes);
+        let count = bytes.len();
+        let (front, end) = make_room(&mut self.held, self.front, self.end, self.most, count);
+        self.front = front;
+        self.end = put(&mut self.held, end, bytes);
         Ok(())
     }
 
@@ -152,9 +157,9 @@ impl Space {
         if self.most < bytes.len() {
             return Err(Full);
         }
-        self.held.clear();
-        hold(&mut self.held, bytes);
+        grow(&mut self.held, bytes.len() + 1);
         self.front = 0;
+        self.end = put(&mut self.held, 0, bytes);
         Ok(())
     }
 
@@ -192,15 +197,11 @@ impl Space {
         ensures limit { self.new.limit ≡ self.old.limit }
         ensures kept { (j : ℕ) → Keeps (T.text texts.old j) (T.text texts.new j) }
     {
-        self.held.clear();
+        grow(&mut self.held, most + 1);
+        let count = read_in(texts, number, offset, &mut self.held, most);
         self.front = 0;
-        match self.held.resize(most, 0) {
-            Ok(()) => {}
-            Err(_) => unreachable!(),
-        }
-        let count = texts.read_at(number, offset, self.held.as_mut_slice());
-        self.held.truncate(count);
-        end_line(&mut self.held);
+        self.end = count;
+        end_line(&mut self.held, count);
         count
     }
 
@@ -214,51 +215,116 @@ impl Space {
     }
 }
 
-// Puts the newline behind what is held.
-fn end_line(held: &mut Vec<u8>)
-    requires room { vec_len held.old < vec_capacity held.old }
-    ensures bytes { contents held.new.items ≡ held.old.items }
-    ensures ended { IsEnded held.new.items }
-    ensures len { vec_len held.new ≡ vec_len held.old + 1 }
+// Puts the newline at the end.
+fn end_line(held: &mut Vec<u8>, end: usize)
+    requires inside { end < vec_len held.old }
+    ensures bytes { take end held.new.items ≡ take end held.old.items }
+    ensures ended { EndsAt end held.new.items }
+    ensures len { vec_len held.new ≡ vec_len held.old }
     ensures capacity { vec_capacity held.old ≤ vec_capacity held.new }
 {
-    match held.push(b'\n') {
-        Ok(()) => {}
-        Err(_) => unreachable!(),
+    held[end] = b'\n';
+}
+
+// Puts the bytes behind the first `end`, and the newline behind them. Says where that stands.
+fn put(held: &mut Vec<u8>, end: usize, bytes: &[u8]) -> usize
+    requires room { end + length bytes.now < vec_len held.old }
+    ensures bytes { take result held.new.items ≡ take end held.old.items ++ bytes.now }
+    ensures ended { EndsAt result held.new.items }
+    ensures place { result ≡ end + length bytes.now }
+    ensures len { vec_len held.new ≡ vec_len held.old }
+    ensures capacity { vec_capacity held.old ≤ vec_capacity held.new }
+{
+    copy_in(held, end, bytes);
+    let behind = end + bytes.len();
+    end_line(held, behind);
+    behind
+}
+
+// Puts the bytes behind the first `end`.
+fn copy_in(held: &mut [u8], end: usize, bytes: &[u8])
+    requires room { end + length bytes.now ≤ length held.old }
+    ensures bytes { take (end + length bytes.now) held.new ≡ take end held.old ++ bytes.now }
+    ensures len { length held.new ≡ length held.old }
+{
+    held[end..end + bytes.len()].copy_from_slice(bytes);
+}
+
+// Sees that the list has at least this length.
+fn grow(held: &mut Vec<u8>, len: usize)
+    requires room { len ≤ vec_capacity held.old }
+    ensures kept { take (vec_len held.old) held.new.items ≡ held.old.items }
+    ensures longer { vec_len held.old ≤ vec_len held.new }
+    ensures long { len ≤ vec_len held.new }
+    ensures within { vec_len held.new ≤ len + (vec_len held.old - len) }
+    ensures capacity { vec_capacity held.old ≤ vec_capacity held.new }
+{
+    if held.len() < len {
+        match held.resize(len, 0) {
+            Ok(()) => {}
+            Err(_) => unreachable!(),
+        }
     }
 }
 
-// Puts the bytes and then the newline behind what is held.
-fn hold(held: &mut Vec<u8>, bytes: &[u8])
-    requires room { vec_len held.old + length bytes.now < vec_capacity held.old }
-    ensures bytes { contents held.new.items ≡ held.old.items ++ bytes.now }
-    ensures ended { IsEnded held.new.items }
-    ensures len { vec_len held.new ≡ vec_len held.old + length bytes.now + 1 }
-    ensures capacity { vec_capacity held.old ≤ vec_capacity held.new }
-{
-    match held.extend_from_slice(bytes) {
-        Ok(()) => end_line(held),
-        Err(_) => unreachable!(),
-    }
-}
-
-// Sees that `count` bytes fit behind what is held from the front on, and answers the new front. The bytes are moved to
-// the beginning only where the room behind them is too small.
-fn make_room(held: &mut Vec<u8>, front: usize, most: usize, count: usize) -> usize
-    requires front_within { front < vec_len held.old }
+// Sees that `count` bytes and the newline fit behind the contents, and says where these then begin and end. They are
+// moved to the beginning only where the room behind them is too small.
+fn make_room(
+    held: &mut Vec<u8>,
+    front: usize,
+    end: usize,
+    most: usize,
+    count: usize,
+) -> (usize, usize)
+    requires order { front ≤ end }
+    requires inside { end < vec_len held.old }
     requires held_within { vec_len held.old ≤ most + 1 }
-    requires fits { vec_len held.old - 1 - front + count ≤ most }
-    requires ended { IsEnded held.old.items }
-    ensures kept { drop result (contents held.new.items) ≡ drop front (contents held.old.items) }
-    ensures within { result < vec_len held.new }
-    ensures room { vec_len held.new + count ≤ most + 1 }
+    requires reserved { most < vec_capacity held.old }
+    requires fits { end - front + count ≤ most }
+    ensures kept { between result.0 result.1 held.new.items ≡ between front end held.old.items }
+    ensures order { result.0 ≤ result.1 }
+    ensures room { result.1 + count < vec_len held.new }
+    ensures within { vec_len held.new ≤ most + 1 }
     ensures capacity { vec_capacity held.old ≤ vec_capacity held.new }
 {
-    if count <= most - (held.len() - 1) {
-        return front;
+    if count < held.len() - end {
+        return (front, end);
     }
-    let left = held.len() - front;
-    held.copy_within(front.., 0);
-    held.truncate(left);
-    0
+    if count <= most - end {
+        grow(held, end + count + 1);
+        return (front, end);
+    }
+    move_down(held, front, end);
+    grow(held, end - front + count + 1);
+    (0, end - front)
+}
+
+// Moves the contents to the beginning.
+fn move_down(held: &mut Vec<u8>, front: usize, end: usize)
+    requires order { front ≤ end }
+    requires inside { end < vec_len held.old }
+    ensures moved { take (end - front) held.new.items ≡ between front end held.old.items }
+    ensures len { vec_len held.new ≡ vec_len held.old }
+    ensures capacity { vec_capacity held.old ≤ vec_capacity held.new }
+{
+    held.copy_within(front..end, 0);
+}
+
+// Reads a text once into the first `most` bytes. Says how many bytes that gave.
+fn read_in<T: Texts>(
+    texts: &mut T,
+    number: usize,
+    offset: u64,
+    held: &mut [u8],
+    most: usize,
+) -> usize
+    requires positive { 0 < most }
+    requires fits { most ≤ length held.old }
+    ensures bytes { ReadsAt (T.text texts.old number) offset result (take result held.new) }
+    ensures bound { result ≤ most }
+    ensures progress { IfSome (T.text texts.old number) (λ xs. result ≡ 0 → length xs ≤ offset) }
+    ensures len { length held.new ≡ length held.old }
+    ensures kept { (j : ℕ) → Keeps (T.text texts.old j) (T.text texts.new j) }
+{
+    texts.read_at(number, offset, &mut held[..most])
 }

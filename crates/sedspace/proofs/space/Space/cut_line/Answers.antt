@@ -1,7 +1,6 @@
-use Rattle.std.proofs.Common.{◌≡◌, ◌+◌, Some, None, ap, sym, ◌∙◌, rules, drop, position}
+use Rattle.std.proofs.Common.{◌≡◌, ◌+◌, Some, None, ap, sym, ◌∙◌, rules, take, drop, position}
 use Rattle.std.specs.List.{after_first}
 use Rattle.std.proofs.lemmas.List.{drop-drop}
-use Rattle.sedspace.specs.Ended.{contents}
 use Rattle.sedspace.specs.Lines.{is_newline}
 use Rattle.sedspace.proofs.LineLemmas.{newline_at, newline_none, contains_newline}
 use Rattle.sedspace.proofs.space.Space.cut_line.Goals as goal
@@ -10,7 +9,7 @@ pub returns-in-Some-clause-cut : goal.returns-in-Some-clause-cut
 returns-in-Some-clause-cut c = λ _.
     let s = c.self.inside in
     let i = c.in-Some.at in
-    let held = contents s.held.items in
+    let held = take s.end s.held.items in
     let bytes = drop s.front held in
     let found : Some i ≡ position is_newline bytes = rw (c.bytes.ensures.value, ← c.self.view_is) at c.in-Some.ensures in
     let n = newline_at bytes i found in

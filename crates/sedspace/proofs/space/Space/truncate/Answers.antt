@@ -1,6 +1,5 @@
-use Rattle.std.proofs.Common.{◌≤◌, ◌+◌, ◌-◌, ap, sym, ◌∙◌, arith, drop, length, length-take, length-drop}
+use Rattle.std.proofs.Common.{◌≤◌, ◌+◌, ◌-◌, ap, sym, ◌∙◌, arith, take, drop, length, length-take, length-drop}
 use Rattle.std.proofs.lemmas.List.{drop-take, take-take}
-use Rattle.sedspace.specs.Ended.{contents}
 use Rattle.sedspace.proofs.space.Space.truncate.Goals as goal
 
 pub returns-then-count-len : goal.returns-then-count-len
@@ -9,6 +8,6 @@ returns-then-count-len c =
     let held = s.held.items in
     let count = c.args.count in
     let size = ap (λ z. length z.bytes) c.self.view_is in
-    let low : s.front + count ≤ length held - 1 = omega (arith, c.len.ensures.value, c.if-count-len.true, size, length-drop s.front (contents held), length-take (length held - 1) held) in
-    let kept = ap (λ z. drop s.front z) (c.end_line.ensures.bytes ∙ c.truncate.ensures.items ∙ sym (take-take (s.front + count) (length held - 1) held low)) ∙ drop-take s.front count (contents held) in
+    let low : s.front + count ≤ s.end = omega (arith, c.len.ensures.value, c.if-count-len.true, size, length-drop s.front (take s.end held), length-take s.end held) in
+    let kept = ap (λ z. drop s.front z) (c.end_line.ensures.bytes ∙ sym (take-take (s.front + count) s.end held low)) ∙ drop-take s.front count (take s.end held) in
     rw (← c.self.view_is) (ap (λ z. record { bytes = z; limit = s.most }) kept)
