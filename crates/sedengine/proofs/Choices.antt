@@ -10,7 +10,7 @@ use Rattle.sedscript.specs.declared.types.Address.{Address}
 use Rattle.sedscript.specs.declared.types.Address.TheVariants.{Line, Last, Match}
 use Rattle.sedscript.specs.declared.types.Command.{Command}
 use Rattle.sedengine.specs.Select.{Current, Answer, Choice, answer, on_idle, on_active, of_addresses, negated, selects, ends_at_once}
-use Rattle.sedengine.specs.Choose.{deciding, deciding_in, decides, chosen, chosen_idle, chosen_active, as_choice, is_over, turned, Answers, Judges}
+use Rattle.sedengine.specs.Choose.{deciding, deciding_in, decides, chosen, chosen_idle, chosen_active, as_choice, is_over, turned, yes_by_number, Answers, Judges}
 use Rattle.sedengine.specs.Ends.{is_dollar}
 use Rattle.sedengine.specs.declared.ends.Ended.{Ended}
 use Rattle.sedengine.specs.declared.ends.Ended.TheVariants.{Done, PatternFull, TurnsSpent, NoPrevious, InputBroken, OutputBroken}
@@ -143,7 +143,20 @@ judges_ok c a active command matched number used used' choice same_active same_n
 pub answers_at : (c : Current) (a b : Address) (used : Option ℕ) (r : Result Bool Ended) → a ≡ b → Answers c (answer c b) used (is_dollar (Some b)) r → Answers c (answer c a) used (is_dollar (Some a)) r
 answers_at c a b used r same h = let P : Address → Type 0 = λ x. Answers c (answer c x) used (is_dollar (Some x)) r in subst P (sym same) h
 
--- no address decides where there is none
-pub decides_always : (c : Current) (first second : Option Address) (active : Bool) (number : ℕ) → is_some first ≡ false → decides c (deciding first second active number) ≡ Some (record { yes = true; used = c.used })
-decides_always c None second active number h = refl
-decides_always c (Some first) second active number h = cc
+some_of : (a b : Bool) → Some a ≡ Some b → a ≡ b
+some_of a b h = cc
+
+straight : (c : Current) (active : Bool) (first second : Option Address) (negate applies : Bool) → yes_by_number first second negate c.number ≡ Some applies →
+    option_and_then (λ choice. Some (negated negate choice)) (of_addresses c active first second) ≡ Some (as_choice (record { yes = applies; end = false; active = active }) c.used)
+straight c active None second negate applies h = ap (λ b. Some (as_choice (record { yes = b; end = false; active = active }) c.used)) (some_of _ _ h)
+straight c active (Some (Line n)) None negate applies h = ap (λ b. Some (as_choice (record { yes = b; end = false; active = active }) c.used)) (some_of _ _ h)
+straight c active (Some (Line n)) (Some second) negate applies h = cc
+straight c active (Some Last) second negate applies h = cc
+straight c active (Some (Match e)) second negate applies h = cc
+
+-- what the line number alone tells
+pub selects_by_number : (c : Current) (a active : Bool) (command : Command) (applies : Bool) (number : ℕ) (used : Option ℕ) → a ≡ active → number ≡ c.number → used ≡ c.used →
+    Some applies ≡ yes_by_number command.first command.second command.negate number → selects c active command ≡ Some (as_choice (record { yes = applies; end = false; active = a }) used)
+unfolding selects
+selects_by_number c a active command applies number used same_active same_number same_used h =
+    rw (same_used, ← same_active) (straight c a command.first command.second command.negate applies (sym (rw same_number at h)))

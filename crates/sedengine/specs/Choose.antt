@@ -53,6 +53,14 @@ chosen (Some first) (Some second) active number matched = chosen_in second activ
 abbrev pub turned : Bool → Chosen → Chosen
 turned negate c = record c { yes = if negate then not c.yes else c.yes }
 
+-- The yes of a command that has no address, or that has one and it is a line number: the line number alone tells it.
+abbrev pub yes_by_number : Option Address → Option Address → Bool → ℕ → Option Bool
+yes_by_number None second negate number = Some (if negate then false else true)
+yes_by_number (Some (Line n)) None negate number = Some (if negate then not (nat_eq n number) else nat_eq n number)
+yes_by_number (Some (Line n)) (Some second) negate number = None
+yes_by_number (Some Last) second negate number = None
+yes_by_number (Some (Match e)) second negate number = None
+
 -- where no address decides, the answer is yes
 abbrev pub decides : Current → Option Address → Option Answer
 decides c None = Some (record { yes = true; used = c.used })

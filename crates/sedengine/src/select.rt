@@ -3,7 +3,7 @@
 //! At a line one address decides at most: the first of an idle range, the second of an active one. Only that one is
 //! judged, and the choice follows from whether it matches.
 ghost use Rattle.std.specs.Prelude.{◌≡◌, ◌<◌, ◌≤◌, length};
-ghost use Rattle.sedengine.specs.Choose.{chosen, chosen_active, chosen_idle, deciding, is_over, turned};
+ghost use Rattle.sedengine.specs.Choose.{chosen, chosen_active, chosen_idle, deciding, is_over, turned, yes_by_number};
 ghost use Rattle.sedengine.specs.Run.{finds_in};
 
 use sedmatch::{Scratch, Text, found_law, is_match};
@@ -32,6 +32,18 @@ pub(crate) fn deciding(command: &Command, active: bool, number: u64) -> Option<A
         Some(second) if active => Some(second),
         _ => Some(first),
     }
+}
+
+/// Whether a command applies that has no address, or that has one and it is a line number. None for others.
+pub(crate) fn yes_by_number(command: &Command, number: u64) -> Option<bool>
+    ensures { result ≡ yes_by_number command.now.first command.now.second command.now.negate number }
+{
+    let matched = match (command.first, command.second) {
+        (None, _) => true,
+        (Some(Address::Line(line)), None) => line == number,
+        _ => return None,
+    };
+    Some(if command.negate { !matched } else { matched })
 }
 
 /// The choice, by whether the deciding address matches. `!` turns the yes alone.

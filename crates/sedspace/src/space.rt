@@ -124,9 +124,12 @@ impl Space {
             return Err(Full);
         }
         let count = bytes.len();
-        let (front, end) = make_room(&mut self.held, self.front, self.end, self.most, count);
-        self.front = front;
-        self.end = put(&mut self.held, end, bytes);
+        if self.held.len() - self.end <= count {
+            let (front, end) = make_room(&mut self.held, self.front, self.end, self.most, count);
+            self.front = front;
+            self.end = end;
+        }
+        self.end = put(&mut self.held, self.end, bytes);
         Ok(())
     }
 
@@ -268,7 +271,8 @@ fn grow(held: &mut Vec<u8>, len: usize)
 }
 
 // Sees that `count` bytes and the newline fit behind the contents, and says where these then begin and end. They are
-// moved to the beginning only where the room behind them is too small.
+// moved to the beginning only where the room behind them is too small. Few lines need this call.
+#[inline(never)]
 fn make_room(
     held: &mut Vec<u8>,
     front: usize,
@@ -287,9 +291,6 @@ fn make_room(
     ensures within { vec_len held.new ≤ most + 1 }
     ensures capacity { vec_capacity held.old ≤ vec_capacity held.new }
 {
-    if count < held.len() - end {
-        return (front, end);
-    }
     if count <= most - end {
         grow(held, end + count + 1);
         return (front, end);

@@ -17,7 +17,7 @@ ghost use Rattle.sedengine.specs.Choose.{Answers, Comes, Judges, TellsLine, come
 use super::Engine;
 use crate::ends::Ended;
 use crate::place::Place;
-use crate::select::{Chosen, choose, deciding, finds};
+use crate::select::{Chosen, choose, deciding, finds, yes_by_number};
 use sedscript::{Address, Command};
 use sedspace::{ByteSource, Lines};
 
@@ -161,9 +161,13 @@ impl Engine {
         ensures comes { Comes self.old self.new k result }
     {
         let active = self.is_active(k);
-        if command.first.is_none() {
+        if let Some(yes) = yes_by_number(command, self.number) {
             self.come(k);
-            return Ok(choose(command, active, self.number, true));
+            return Ok(Chosen {
+                yes,
+                end: false,
+                active,
+            });
         }
         match self.decide(command, active, lines) {
             Ok(matched) => {

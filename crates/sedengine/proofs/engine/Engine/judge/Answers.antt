@@ -1,16 +1,15 @@
-use Rattle.std.proofs.Common.{◌≡◌, true, not, refl, ap, ◌∙◌}
+use Rattle.std.proofs.Common.{◌≡◌, refl, ap, ◌∙◌}
 use Rattle.sedengine.specs.Run.{Run}
 use Rattle.sedengine.specs.Move.{none_left}
 use Rattle.sedengine.specs.Choose.{current}
-use Rattle.sedengine.proofs.Choices.{decides_always, judges_ok, judges_err}
+use Rattle.sedengine.proofs.Choices.{judges_ok, judges_err, selects_by_number}
 use Rattle.sedengine.proofs.engine.Engine.judge.Goals as goal
 
-pub returns-then-is_none-clause-judges : goal.returns-then-is_none-clause-judges
-returns-then-is_none-clause-judges g c = λ sound ls known.
-    let number : c.self.inside.number ≡ c.args.self.now.state.number = ap (λ (e : Run). e.state.number) (c.self.view_is ∙ c.come.ensures) in
+pub returns-in-Some-clause-judges : goal.returns-in-Some-clause-judges
+returns-in-Some-clause-judges g c = λ sound ls known.
+    let number : c.self.inside.number ≡ c.args.self.now.state.number = ap (λ (e : Run). e.state.number) c.self.view_is in
     let used : c.come.new.self.state.used ≡ c.args.self.now.state.used = ap (λ (e : Run). e.state.used) c.come.ensures in
-    judges_ok (current c.args.self.now (none_left ls)) c.is_active-active.result _ c.args.command.now true c.self.inside.number _ _ c.choose.result c.is_active-active.ensures number used c.choose.ensures
-    (decides_always (current c.args.self.now (none_left ls)) c.args.command.now.first c.args.command.now.second _ _ (c.is_none.ensures ∙ ap not c.if-is_none.true))
+    selects_by_number (current c.args.self.now (none_left ls)) c.is_active-active.result _ c.args.command.now c.in-Some.yes c.self.inside.number _ c.is_active-active.ensures number used c.in-Some.ensures
 
 pub returns-in-Ok-clause-judges : goal.returns-in-Ok-clause-judges
 returns-in-Ok-clause-judges g c = λ sound ls known.
