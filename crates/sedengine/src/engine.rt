@@ -40,8 +40,8 @@ pub struct Engine {
     // The number of the regular expression last used.
     used: Option<usize>,
     number: u64,
-    turns: u64,
     place: Place,
+    turns: u64,
     ended: Option<Ended>,
 }
 
