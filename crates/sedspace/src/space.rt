@@ -14,6 +14,10 @@ use super::lines::newline_in;
 use super::{Full, Texts};
 use std::alloc::{AllocError, Global};
 use std::marker::Model;
+use std::simd::prelude::*;
+
+// How many bytes are copied at once where there is room for them: most lines are shorter.
+const SHORT: usize = 128;
 
 /// Bytes, at most as many as the limit. After `new` no call asks for memory.
 #[derive(Drop)]
@@ -46,7 +50,7 @@ impl Space {
         ensures { IfOk result (λ s. s ≡ record { bytes = []; limit = limit }) }
     {
         let mut held = Vec::with_capacity(alloc, limit.saturating_add(1))?;
-        grow(&mut held, 1);
+        grow(&mut held, limit.min(SHORT) + 1);
         end_line(&mut held, 0);
         Ok(Space {
             held,
@@ -120,16 +124,26 @@ impl Space {
         ensures full { OnErr result (self.old.limit < length self.old.bytes + length bytes.now) }
         ensures err { OnErr result (self.new ≡ self.old) }
     {
-        if self.most - self.len() < bytes.len() {
+        self.append_first(bytes, bytes.len())
+    }
+
+    /// Appends the first `count` bytes of the text. What the text holds behind them makes a short copy faster.
+    pub(crate) fn append_first(&mut self, text: &[u8], count: usize) -> Result<(), Full>
+        requires { count ≤ length text.now }
+        ensures ok { OnOk result (self.new ≡ record self.old { bytes = self.old.bytes ++ take count text.now }) }
+        ensures fits { OnOk result (length self.old.bytes + count ≤ self.old.limit) }
+        ensures full { OnErr result (self.old.limit < length self.old.bytes + count) }
+        ensures err { OnErr result (self.new ≡ self.old) }
+    {
+        if self.most - self.len() < count {
             return Err(Full);
         }
-        let count = bytes.len();
         if self.held.len() - self.end <= count {
             let (front, end) = make_room(&mut self.held, self.front, self.end, self.most, count);
             self.front = front;
             self.end = end;
         }
-        self.end = put(&mut self.held, self.end, bytes);
+        self.end = put(&mut self.held, self.end, text, count);
         Ok(())
     }
 
@@ -162,7 +176,7 @@ impl Space {
         }
         grow(&mut self.held, bytes.len() + 1);
         self.front = 0;
-        self.end = put(&mut self.held, 0, bytes);
+        self.end = put(&mut self.held, 0, bytes, bytes.len());
         Ok(())
     }
 
@@ -229,23 +243,60 @@ fn end_line(held: &mut Vec<u8>, end: usize)
     held[end] = b'\n';
 }
 
-// Puts the bytes behind the first `end`, and the newline behind them. Says where that stands.
-fn put(held: &mut Vec<u8>, end: usize, bytes: &[u8]) -> usize
-    requires room { end + length bytes.now < vec_len held.old }
-    ensures bytes { take result held.new.items ≡ take end held.old.items ++ bytes.now }
+// Puts the first `count` bytes of the text behind the first `end`, and the newline behind them. Says where that stands.
+fn put(held: &mut Vec<u8>, end: usize, text: &[u8], count: usize) -> usize
+    requires inside { count ≤ length text.now }
+    requires room { end + count < vec_len held.old }
+    ensures bytes { take result held.new.items ≡ take end held.old.items ++ take count text.now }
     ensures ended { EndsAt result held.new.items }
-    ensures place { result ≡ end + length bytes.now }
+    ensures place { result ≡ end + count }
     ensures len { vec_len held.new ≡ vec_len held.old }
     ensures capacity { vec_capacity held.old ≤ vec_capacity held.new }
 {
-    copy_in(held, end, bytes);
-    let behind = end + bytes.len();
+    copy_in(held, end, text, count);
+    let behind = end + count;
     end_line(held, behind);
     behind
 }
 
+// Puts the first `count` bytes of the text behind the first `end`. Where there is room for more, few bytes are copied
+// with the ones behind them, which takes no branch on how many they are.
+fn copy_in(held: &mut [u8], end: usize, text: &[u8], count: usize)
+    requires inside { count ≤ length text.now }
+    requires room { end + count ≤ length held.old }
+    ensures bytes { take (end + count) held.new ≡ take end held.old ++ take count text.now }
+    ensures len { length held.new ≡ length held.old }
+{
+    if count <= SHORT && SHORT <= text.len() && SHORT <= held.len() - end {
+        copy_short(held, end, text);
+    } else {
+        copy_exactly(held, end, &text[..count]);
+    }
+}
+
+// Puts the first 128 bytes of the text behind the first `end`.
+fn copy_short(held: &mut [u8], end: usize, text: &[u8])
+    requires inside { 128 ≤ length text.now }
+    requires room { end + 128 ≤ length held.old }
+    ensures bytes { take (end + 128) held.new ≡ take end held.old ++ take 128 text.now }
+    ensures len { length held.new ≡ length held.old }
+{
+    copy_block(held, end, text);
+    copy_block(held, end + 64, &text[64..]);
+}
+
+// Puts the first 64 bytes of the text behind the first `end`.
+fn copy_block(held: &mut [u8], end: usize, text: &[u8])
+    requires inside { 64 ≤ length text.now }
+    requires room { end + 64 ≤ length held.old }
+    ensures bytes { take (end + 64) held.new ≡ take end held.old ++ take 64 text.now }
+    ensures len { length held.new ≡ length held.old }
+{
+    Simd::<u8, 64>::from_slice(text).copy_to_slice(&mut held[end..]);
+}
+
 // Puts the bytes behind the first `end`.
-fn copy_in(held: &mut [u8], end: usize, bytes: &[u8])
+fn copy_exactly(held: &mut [u8], end: usize, bytes: &[u8])
     requires room { end + length bytes.now ≤ length held.old }
     ensures bytes { take (end + length bytes.now) held.new ≡ take end held.old ++ bytes.now }
     ensures len { length held.new ≡ length held.old }

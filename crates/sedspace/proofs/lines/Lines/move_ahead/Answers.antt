@@ -4,8 +4,8 @@ use Rattle.sedspace.specs.Lines.{is_newline}
 use Rattle.sedspace.proofs.LineLemmas.{newline_none, newline_at}
 use Rattle.sedspace.proofs.lines.Lines.move_ahead.Goals as goal
 
-pub returns-in_ok-append-in-Some-clause-line : goal.returns-in_ok-append-in-Some-clause-line
-returns-in_ok-append-in-Some-clause-line g c = λ _.
+pub returns-in_ok-append_first-in-Some-clause-line : goal.returns-in_ok-append_first-in-Some-clause-line
+returns-in_ok-append_first-in-Some-clause-line g c = λ _.
     let ahead = c.args.self.now.ahead in
     let s = c.self.inside in
     let found : Some c.in-Some.at ≡ position is_newline ahead = rw c.ahead-ahead.ensures.value at c.in-Some.ensures in
