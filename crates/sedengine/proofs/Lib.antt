@@ -6,3 +6,4 @@ pub mod Runs
 pub mod Tasks
 pub mod Choices
 pub mod Acts
+pub mod Examples

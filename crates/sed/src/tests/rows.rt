@@ -56,7 +56,7 @@ const LAST_USED: [Row; 5] = [
 ];
 
 /// `{`, `b`, `:`, `=`, `q`, `i`, `c` and `#` (XCU sed, "Editing Commands in sed").
-const COMMANDS: [Row; 23] = [
+const COMMANDS: [Row; 25] = [
     ("", b"2q", b"1\n2\n3\n", b"1\n2\n"),
     ("-n", b"2q", b"1\n2\n3\n", b""),
     ("", b"1{p;be;p};:e", b"a\nb\n", b"a\na\nb\n"),
@@ -78,6 +78,9 @@ const COMMANDS: [Row; 23] = [
     ("", b"i\\ ", b"a\n", b" \na\n"),
     ("", b"i\\\n\n", b"a\n", b"\na\n"),
     ("", b"i\\\na\\\\b\\c\np", b"a\n", b"a\\bc\na\na\n"),
+    // `}` may stand directly behind a command.
+    ("-n", b"1{=}\n2{p}", b"a\nb\n", b"1\nb\n"),
+    ("", b"1{{d}}\n2{q}\np", b"a\nb\nc\n", b"b\n"),
     // A label goes up to a newline, a blank, `;` or `}`, and not to `#`.
     ("-n", b"1{b x};p;:x", b"a\nb\n", b"b\n"),
     ("-n", b"b a#;p;:a#", b"a\n", b""),
