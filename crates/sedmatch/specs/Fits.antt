@@ -1,5 +1,5 @@
 -- Private to this crate: what fits into the room for a search.
-use Rattle.std.specs.Prelude.{◌≡◌, ℕ, ◌*◌, ◌^◌, ◌<◌, ◌≤◌, [], length, vec_len, vec_capacity}
+use Rattle.std.specs.Prelude.{◌≡◌, ℕ, ◌+◌, ◌*◌, ◌^◌, ◌<◌, ◌≤◌, [], length, vec_len, vec_capacity}
 use Rattle.sedmatch.specs.declared.scratch.Sets.{Sets}
 use Rattle.sedmatch.specs.declared.scratch.Notes.{Notes}
 use Rattle.sedmatch.specs.declared.scratch.Plan.{Plan}
@@ -16,9 +16,17 @@ SameMarks old new = (length new.null ≡ length old.null) × (length new.entered
 abbrev pub FitsPlaces : ℕ → Notes → Type 0
 FitsPlaces n s = (n ≤ length s.places) × (n ≤ vec_len s.next)
 
--- there are as many notes as before
+-- there is room for notes for n places
+abbrev pub HasPlaces : ℕ → Notes → Type 0
+HasPlaces n s = (n ≤ length s.places) × (n ≤ vec_capacity s.next)
+
+-- there is as much room for notes as before
+abbrev pub KeepsPlaces : Notes → Notes → Type 0
+KeepsPlaces old new = (length new.places ≡ length old.places) × (vec_capacity old.next ≤ vec_capacity new.next)
+
+-- there are as many notes as before, and as much room for them
 abbrev pub SameNotes : Notes → Notes → Type 0
-SameNotes old new = (length new.places ≡ length old.places) × (vec_len new.next ≡ vec_len old.next)
+SameNotes old new = (length new.places ≡ length old.places) × (vec_len new.next ≡ vec_len old.next) × (vec_capacity old.next ≤ vec_capacity new.next)
 
 -- nothing is left to do, and there is room for all that an expression of n nodes can give to do
 abbrev pub FitsWork : ℕ → Plan → Type 0
@@ -33,6 +41,5 @@ pub record HasRoom (text nodes : ℕ) (sets : Sets) (notes : Notes) (plan : Plan
   pub short : text ≤ 2 ^ 30
   pub few : nodes ≤ 65536
   pub fits_nodes : FitsNodes nodes sets
-  pub fits_places : text < length notes.places
-  pub fits_next : text < vec_len notes.next
+  pub has_places : HasPlaces (text + 1) notes
   pub fits_work : FitsWork nodes plan

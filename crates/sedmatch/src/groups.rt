@@ -7,7 +7,7 @@ ghost use Rattle.sedre.specs.Tree.{size};
 ghost use Rattle.sedre.specs.Arena.{tree_at, tree};
 ghost use Rattle.sedmatch.specs.Spans.{Spans};
 ghost use Rattle.sedmatch.specs.Caps.{Caps, Groups, forget, IsReport};
-ghost use Rattle.sedmatch.specs.Fits.{FitsNodes, SameMarks, FitsPlaces, SameNotes, FitsWork, AllDone};
+ghost use Rattle.sedmatch.specs.Fits.{FitsNodes, SameMarks, FitsPlaces, HasPlaces, KeepsPlaces, SameNotes, FitsWork, AllDone};
 ghost use Rattle.sedmatch.specs.Reach.{At};
 ghost use Rattle.sedmatch.specs.Work.{IsStep, Run, IsReady, weights, inners, wholes, node_cost, forget_if};
 ghost use Rattle.sedmatch.specs.Work.{tasks_of, forgets_of, forget_all, sizes, InRange, parts_of, forget_node};
@@ -387,12 +387,12 @@ pub fn report(
     requires stop { stop ≤ length text.now }
     requires spans { Spans (tree expr.now) text.now start stop }
     requires fits { FitsNodes (length expr.now.nodes) sets.old }
-    requires notes_fit { FitsPlaces (length text.now + 1) notes.old }
+    requires notes_room { HasPlaces (length text.now + 1) notes.old }
     requires work_fits { FitsWork (length expr.now.nodes) plan.old }
     requires room { let m = length expr.now.nodes in let n = length text.now in
         steps.old + (23 * m * (n + 1) * (n + 2) + 1 + m) * m + 3 * m < 2 ^ 114 }
     ensures marks { SameMarks sets.old sets.new }
-    ensures notes { SameNotes notes.old notes.new }
+    ensures notes { KeepsPlaces notes.old notes.new }
     ensures done { AllDone plan.old plan.new }
     ensures report { IsReport (tree expr.now) text.now start stop result }
     ensures grows { steps.old ≤ steps.new }
@@ -403,6 +403,7 @@ pub fn report(
     let root = expr.root().index();
     let mut groups = [None; 10];
     if expr.groups() > 0 {
+        notes.grow(text.len() + 1);
         decide(
             expr,
             root,

@@ -1,7 +1,7 @@
 //! The room that a search works in, made once: marks and numbers alone.
 ghost use Rattle.std.specs.Prelude.{◌≡◌, ℕ, ◌*◌, ◌+◌, ◌^◌, ◌<◌, ◌≤◌, IfOk, [], vec_len, vec_capacity, length};
 ghost use Rattle.std.specs.Prelude.{slice_index};
-ghost use Rattle.sedmatch.specs.Fits.{FitsNodes, FitsPlaces, FitsWork};
+ghost use Rattle.sedmatch.specs.Fits.{FitsNodes, FitsPlaces, FitsWork, HasPlaces, KeepsPlaces};
 
 use crate::counted::Marks;
 use std::alloc::{AllocError, Global};
@@ -23,11 +23,25 @@ pub struct Sets {
 pub struct Notes {
     /// A part can end there, or the rest can begin there.
     pub places: Marks,
-    /// Where the copy that begins there ends.
+    /// Where the copy that begins there ends. It grows with the texts whose groups are asked for.
     pub next: Vec<usize>,
 }
 
 impl Notes {
+    /// Sees that there are notes for so many places.
+    pub fn grow(&mut self, places: usize)
+        requires { HasPlaces places self.old }
+        ensures fits { FitsPlaces places self.new }
+        ensures kept { KeepsPlaces self.old self.new }
+    {
+        if self.next.len() < places {
+            match self.next.resize(places, 0) {
+                Ok(()) => {}
+                Err(_) => unreachable!(),
+            }
+        }
+    }
+
     /// Where the copy that begins at the place ends.
     pub fn copy_end(&self, place: usize) -> usize
         requires { place < vec_len self.now.next }
@@ -110,13 +124,13 @@ fn new_sets(alloc: Global, nodes: usize) -> Result<Sets, AllocError>
     })
 }
 
-/// Notes for so many places.
+/// Room for notes for so many places.
 fn new_notes(alloc: Global, places: usize) -> Result<Notes, AllocError>
-    ensures { IfOk result (λ n. FitsPlaces places n) }
+    ensures { IfOk result (λ n. HasPlaces places n) }
 {
     Ok(Notes {
         places: Marks::new(alloc, places)?,
-        next: vec![in alloc; 0; places]?,
+        next: Vec::with_capacity(alloc, places)?,
     })
 }
 

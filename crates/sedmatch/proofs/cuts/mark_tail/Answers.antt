@@ -8,7 +8,7 @@ use Rattle.sedmatch.proofs.cuts.mark_tail.Goals as goal
 pub loop-k-init : goal.loop-k-init
 loop-k-init c = record {
   marks = (refl, refl, refl);
-  notes = (refl, refl);
+  notes = (refl, refl, omega arith);
   grows = omega arith;
   cost = omega arith;
   tail = TailFrom-end (At c.args.expr.now.nodes c.args.text.now c.args.root) c.args.stop c.args.notes.now.places c.set.new.self (omega arith) c.set.ensures.marks;
@@ -29,7 +29,7 @@ loop-k-preserved c =
     let noted : NextFrom R c.args.stop c.loop-k.notes.next.items (k + 1) = λ l low high. c.loop-k.invariant.next l (omega arith) high in
     record {
       marks = (omega arith, omega arith, omega arith);
-      notes = (omega arith, omega arith);
+      notes = (omega arith, omega arith, omega arith);
       grows = omega arith;
       cost = down_step (length c.args.expr.now.nodes) (length c.args.text.now) k c.loop-k.k c.loop-k.steps c.set-in-loop-k.new.steps
           (c.set.new.steps + 23 * length c.args.expr.now.nodes * (length c.args.text.now + 1) * c.args.stop) (omega arith) (omega arith) (omega arith) (omega arith);
