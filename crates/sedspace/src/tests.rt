@@ -70,6 +70,40 @@ fn lines_in_any_pieces(rt: HostRuntime) -> Result<(), Fail> {
     Ok(())
 }
 
+// Lengths of lines round those that are copied by whole blocks.
+const LENGTHS: [usize; 11] = [0, 1, 63, 64, 65, 127, 128, 129, 200, 255, 300];
+
+// A line of so many bytes, with its newline.
+fn line_of(alloc: Global, length: usize) -> Result<Vec<u8>, Fail> {
+    let mut line = Vec::new(alloc);
+    for place in 0..length {
+        line.push(b'a' + (place % 26) as u8)?;
+    }
+    line.push(b'\n')?;
+    Ok(line)
+}
+
+#[test]
+fn lines_of_many_lengths(rt: HostRuntime) -> Result<(), Fail> {
+    let alloc = rt.alloc();
+    let mut text = Vec::new(alloc);
+    for length in LENGTHS {
+        text.extend_from_slice(line_of(alloc, length)?.as_slice())?;
+    }
+    for limit in [300, 500] {
+        let source = MemorySource::new(text.to_vec(alloc)?, Vec::new(alloc));
+        let mut lines = Lines::new(alloc, source, 700)?;
+        let mut space = Space::new(alloc, limit)?;
+        for length in LENGTHS {
+            space.clear();
+            assert!(rt; lines.next_into(&mut space)? == Got::Line);
+            same(&rt, space.line(), line_of(alloc, length)?.as_slice());
+        }
+        assert!(rt; lines.is_last()?);
+    }
+    Ok(())
+}
+
 #[test]
 fn lines_cut_at_places(rt: HostRuntime) -> Result<(), Fail> {
     let alloc = rt.alloc();
