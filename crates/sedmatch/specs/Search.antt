@@ -9,6 +9,11 @@ use Rattle.sedmatch.specs.declared.search.Swept.TheVariants.{Hit, Miss}
 abbrev pub NoneIn : Tree → List ℕ → ℕ → ℕ → Type 0
 NoneIn e w p q = (i k : ℕ) → p ≤ i → i < q → Spans e w i k → ⊥
 
+-- what a search from the place p on tells for a place at which a match can begin
+abbrev pub Sought : Tree → List ℕ → ℕ → Option ℕ → Type 0
+Sought e w p None = NotFound e w p
+Sought e w p (Some q) = (p ≤ q) × (q ≤ length w) × NoneIn e w p q
+
 -- what a pass from the place p on tells
 abbrev pub IsSwept : Tree → List ℕ → ℕ → Swept → Type 0
 IsSwept e w p Hit = SomeFound e w p

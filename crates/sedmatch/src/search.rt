@@ -7,9 +7,10 @@ ghost use Rattle.sedmatch.specs.Spans.{Spans, Found as IsFound, NotFound};
 ghost use Rattle.sedmatch.specs.Reach.{Longest, LongestBelow, Marked, Below, At, one_start, Entered, Enters, Ends};
 ghost use Rattle.sedmatch.specs.Reach.{TellEntered, TellBegun};
 ghost use Rattle.sedmatch.specs.Reach.{OpenFrom};
-ghost use Rattle.sedmatch.specs.Search.{IsSwept, swept_to, Scanned};
-ghost use Rattle.sedmatch.specs.Skip.{AllBegin};
+ghost use Rattle.sedmatch.specs.Search.{IsSwept, swept_to, Sought, Scanned};
+ghost use Rattle.sedmatch.specs.Skip.{AllBegin, skip_cost};
 
+use crate::ahead::can_begin;
 use crate::counted::Text;
 use crate::passes::{Here, Starts, advance};
 use crate::scratch::Sets;
@@ -122,6 +123,38 @@ fn sweep(expr: &Expr, text: &Text, start: usize, sets: &mut Sets, steps: &mut St
     Swept::Miss(text.len())
 }
 
+/// The first place from `from` on at which a match can begin, by its first byte and then by what comes first in it.
+fn next_place(
+    expr: &Expr,
+    begins: &Begins,
+    text: &Text,
+    from: usize,
+    steps: &mut Steps,
+) -> Option<usize>
+    requires few { length expr.now.nodes ≤ 65536 }
+    requires short { length text.now ≤ 2 ^ 30 }
+    requires from { from ≤ length text.now }
+    requires begins { AllBegin (tree expr.now) begins.now }
+    requires room { steps.old < 2 ^ 116 }
+    ensures sought { Sought (tree expr.now) text.now from result }
+    ensures grows { steps.old ≤ steps.new }
+    ensures cost { let m = length expr.now.nodes in
+        steps.new + 4 * m * from ≤ steps.old + 4 * m * skip_cost (length text.now) result }
+{
+    let _count = expr.nodes();
+    let mut at = from;
+    while let Some(start) = next_start(begins, text, at, steps) {
+        if can_begin(expr, text, start, steps) {
+            return Some(start);
+        }
+        if start >= text.len() {
+            return None;
+        }
+        at = start + 1;
+    }
+    None
+}
+
 /// A place from `from` on before which no match begins, and from which on one does.
 /// Each byte is passed once, whatever the expression.
 pub fn scan(
@@ -142,11 +175,11 @@ pub fn scan(
     ensures scanned { Scanned (tree expr.now) text.now from result }
     ensures grows { steps.old ≤ steps.new }
     ensures cost { let m = length expr.now.nodes in let n = length text.now in
-        steps.new + 22 * m * from ≤ steps.old + 22 * m * (n + 1) }
+        steps.new + 25 * m * from ≤ steps.old + 25 * m * (n + 1) }
 {
     let _count = expr.nodes();
     let mut at = from;
-    while let Some(start) = next_start(begins, text, at, steps) {
+    while let Some(start) = next_place(expr, begins, text, at, steps) {
         match sweep(expr, text, start, sets, steps) {
             Swept::Hit => return Some(start),
             Swept::Miss(stop) => {
@@ -181,11 +214,11 @@ fn first_span(
     ensures lies { IfSome result (λ f. (f.0 ≤ f.1) × (f.1 ≤ length text.now)) }
     ensures grows { steps.old ≤ steps.new }
     ensures cost { let m = length expr.now.nodes in let n = length text.now in
-        steps.new + 22 * m * (n + 1) * from ≤ steps.old + 22 * m * (n + 1) * (n + 1) }
+        steps.new + 25 * m * (n + 1) * from ≤ steps.old + 25 * m * (n + 1) * (n + 1) }
 {
     let _count = expr.nodes();
     let mut at = from;
-    while let Some(start) = next_start(begins, text, at, steps) {
+    while let Some(start) = next_place(expr, begins, text, at, steps) {
         if let Some(end) = longest_at(expr, text, start, sets, steps) {
             return Some((start, end));
         }
@@ -222,11 +255,11 @@ pub fn leftmost(
     ensures cost { let m = length expr.now.nodes in let n = length text.now in
         steps.new ≤ steps.old + 45 * m * (n + 1) * (n + 1) }
     ensures none_cost { let m = length expr.now.nodes in let n = length text.now in
-        IfNone result (steps.new ≤ steps.old + 45 * m * (n + 1)) }
+        IfNone result (steps.new ≤ steps.old + 46 * m * (n + 1)) }
 {
     let _count = expr.nodes();
     let begins = how_begins(expr, steps);
-    let Some(start) = next_start(&begins, text, from, steps) else {
+    let Some(start) = next_place(expr, &begins, text, from, steps) else {
         return None;
     };
     if let Some(end) = longest_at(expr, text, start, sets, steps) {
