@@ -1,5 +1,8 @@
-//! Whether a match can begin at a place, by the nodes that come first in it.
-ghost use Rattle.std.specs.Prelude.{◌≡◌, ℕ, ◌+◌, ◌*◌, ◌^◌, ◌<◌, ◌≤◌, length, IsTrue};
+//! What the nodes that come first in a match tell of the matches that begin at a place.
+//!
+//! A concatenation is followed from part to part as long as each is a set, an anchor or the null string: so far a match
+//! goes one way only. Most places at which none begins are told by one or two of these parts.
+ghost use Rattle.std.specs.Prelude.{◌≡◌, ℕ, ◌+◌, ◌*◌, ◌^◌, ◌<◌, ◌≤◌, length};
 ghost use Rattle.sedre.specs.Arena.{tree, tree_of};
 ghost use Rattle.sedre.specs.Tree.{Tree, set as a_set};
 ghost use Rattle.sedmatch.specs.Spans.{Spans};
@@ -9,15 +12,15 @@ ghost use Rattle.sedmatch.specs.Ahead.{LeadsTo, anchor_lead, GoesOn, IsBelow};
 use crate::counted::Text;
 use sedre::{ByteSet, Expr, Node, Steps};
 
-/// Where the spans of a node end that begin at one place.
+/// Where the spans end that begin at a place.
 #[derive(Clone, Copy)]
 pub enum Lead {
     /// There are none.
     Nowhere,
-    /// Each of them ends at this place.
+    /// There is one, which ends at this place.
     To(usize),
-    /// That depends on the node's parts.
-    Anywhere,
+    /// That isn't known.
+    Unknown,
 }
 
 /// Where the spans of a set end that begin at the place.
@@ -35,7 +38,7 @@ fn set_lead(set: &ByteSet, text: &Text, place: usize, steps: &mut Steps) -> Lead
     }
 }
 
-/// The place where the spans of an anchor end that begin there, if it holds there.
+/// Where the spans of an anchor end that begin at the place, given whether it holds there.
 fn anchor_lead(holds: bool, place: usize) -> Lead
     ensures { result ≡ anchor_lead holds place }
 {
@@ -55,27 +58,25 @@ fn node_lead(node: &Node, text: &Text, place: usize, steps: &mut Steps) -> Lead
         Node::Set(set) => set_lead(set, text, place, steps),
         Node::Begin => anchor_lead(place == 0, place),
         Node::End => anchor_lead(place == text.len(), place),
-        _ => Lead::Anywhere,
+        _ => Lead::Unknown,
     }
 }
 
-/// What is left of a match when what comes first in it has been looked at.
+/// What is left of the spans of a node that begin at a place.
 #[derive(Clone, Copy)]
 pub enum Rest {
-    /// Nothing: no match begins so.
-    Nothing,
-    /// The rest is a span of this node from this place on.
+    /// They go on as the spans of this node from this place on.
     Part(usize, usize),
-    /// That isn't known.
-    Unknown,
+    /// They end there.
+    End(Lead),
 }
 
-/// What is left of a span of the node from the place on, behind its first part.
+/// What is left of the spans of the node that begin at the place, behind its first part.
 fn rest_behind(expr: &Expr, index: usize, text: &Text, place: usize, steps: &mut Steps) -> Rest
     requires inside { index < length expr.now.nodes }
     requires place { place ≤ length text.now }
     requires room { steps.old < 2 ^ 118 }
-    ensures goes { (j : ℕ) → At expr.now.nodes text.now index place j → GoesOn expr.now.nodes text.now j result }
+    ensures goes { GoesOn expr.now.nodes text.now (At expr.now.nodes text.now index place) result }
     ensures below { IsBelow index (length text.now) result }
     ensures grows { steps.old ≤ steps.new }
     ensures cost { steps.new ≤ steps.old + 3 }
@@ -86,25 +87,22 @@ fn rest_behind(expr: &Expr, index: usize, text: &Text, place: usize, steps: &mut
         Node::Seq(a, b) => {
             let first = expr.look(a, steps);
             match node_lead(&first, text, place, steps) {
-                Lead::Nowhere => Rest::Nothing,
+                Lead::Nowhere => Rest::End(Lead::Nowhere),
                 Lead::To(end) => Rest::Part(b.index(), end),
-                Lead::Anywhere => Rest::Unknown,
+                Lead::Unknown => Rest::End(Lead::Unknown),
             }
         }
         Node::Group(_, a) => Rest::Part(a.index(), place),
-        _ => match node_lead(&node, text, place, steps) {
-            Lead::Nowhere => Rest::Nothing,
-            _ => Rest::Unknown,
-        },
+        _ => Rest::End(node_lead(&node, text, place, steps)),
     }
 }
 
-/// Whether a match can begin at the place: false only where none does.
-pub fn can_begin(expr: &Expr, text: &Text, place: usize, steps: &mut Steps) -> bool
+/// Where the matches end that begin at the place, as far as what comes first in them tells.
+pub fn look_ahead(expr: &Expr, text: &Text, place: usize, steps: &mut Steps) -> Lead
     requires place { place ≤ length text.now }
     requires few { length expr.now.nodes ≤ 65536 }
     requires room { steps.old < 2 ^ 117 }
-    ensures begins { (j : ℕ) → Spans (tree expr.now) text.now place j → IsTrue result }
+    ensures leads { LeadsTo (length text.now) (Spans (tree expr.now) text.now place) result }
     ensures grows { steps.old ≤ steps.new }
     ensures cost { steps.new ≤ steps.old + 3 * length expr.now.nodes }
 {
@@ -113,12 +111,11 @@ pub fn can_begin(expr: &Expr, text: &Text, place: usize, steps: &mut Steps) -> b
     let mut at = place;
     loop {
         match rest_behind(expr, index, text, at, steps) {
-            Rest::Nothing => return false,
-            Rest::Unknown => return true,
             Rest::Part(part, from) => {
                 index = part;
                 at = from;
             }
+            Rest::End(lead) => return lead,
         }
     }
 }

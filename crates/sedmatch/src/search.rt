@@ -7,10 +7,11 @@ ghost use Rattle.sedmatch.specs.Spans.{Spans, Found as IsFound, NotFound};
 ghost use Rattle.sedmatch.specs.Reach.{Longest, LongestBelow, Marked, Below, At, one_start, Entered, Enters, Ends};
 ghost use Rattle.sedmatch.specs.Reach.{TellEntered, TellBegun};
 ghost use Rattle.sedmatch.specs.Reach.{OpenFrom};
-ghost use Rattle.sedmatch.specs.Search.{IsSwept, swept_to, Sought, Scanned};
-ghost use Rattle.sedmatch.specs.Skip.{AllBegin, skip_cost};
+ghost use Rattle.sedmatch.specs.Search.{IsSwept, swept_to, Sought, sought_to, Scanned};
+ghost use Rattle.sedmatch.specs.Ahead.{LeadsTo};
+ghost use Rattle.sedmatch.specs.Skip.{AllBegin};
 
-use crate::ahead::can_begin;
+use crate::ahead::{Lead, look_ahead};
 use crate::counted::Text;
 use crate::passes::{Here, Starts, advance};
 use crate::scratch::Sets;
@@ -82,6 +83,33 @@ fn longest_at(
     best
 }
 
+/// The end of the longest match that begins at `start`, where a look ahead may have told it.
+fn longest_from(
+    expr: &Expr,
+    text: &Text,
+    start: usize,
+    lead: Lead,
+    sets: &mut Sets,
+    steps: &mut Steps,
+) -> Option<usize>
+    requires few { length expr.now.nodes ≤ 65536 }
+    requires short { length text.now ≤ 2 ^ 30 }
+    requires start { start ≤ length text.now }
+    requires leads { LeadsTo (length text.now) (Spans (tree expr.now) text.now start) lead }
+    requires fits { FitsNodes (length expr.now.nodes) sets.old }
+    requires room { steps.old < 2 ^ 116 }
+    ensures marks { SameMarks sets.old sets.new }
+    ensures longest { Longest (tree expr.now) text.now start result }
+    ensures lies { IfSome result (λ end. (start ≤ end) × (end ≤ length text.now)) }
+    ensures grows { steps.old ≤ steps.new }
+    ensures cost { steps.new ≤ steps.old + 21 * length expr.now.nodes * (length text.now + 1) }
+{
+    match lead {
+        Lead::To(end) => Some(end),
+        _ => longest_at(expr, text, start, sets, steps),
+    }
+}
+
 /// How a pass in which every start is entered as it is come to ends.
 #[derive(Clone, Copy)]
 pub enum Swept {
@@ -123,14 +151,42 @@ fn sweep(expr: &Expr, text: &Text, start: usize, sets: &mut Sets, steps: &mut St
     Swept::Miss(text.len())
 }
 
-/// The first place from `from` on at which a match can begin, by its first byte and then by what comes first in it.
+/// The same, where a look ahead may have told that a match begins at `start`.
+fn sweep_from(
+    expr: &Expr,
+    text: &Text,
+    start: usize,
+    lead: Lead,
+    sets: &mut Sets,
+    steps: &mut Steps,
+) -> Swept
+    requires few { length expr.now.nodes ≤ 65536 }
+    requires short { length text.now ≤ 2 ^ 30 }
+    requires start { start ≤ length text.now }
+    requires leads { LeadsTo (length text.now) (Spans (tree expr.now) text.now start) lead }
+    requires fits { FitsNodes (length expr.now.nodes) sets.old }
+    requires room { steps.old < 2 ^ 116 }
+    ensures marks { SameMarks sets.old sets.new }
+    ensures swept { IsSwept (tree expr.now) text.now start result }
+    ensures grows { steps.old ≤ steps.new }
+    ensures cost { let m = length expr.now.nodes in let n = length text.now in
+        steps.new + 20 * m * start ≤ steps.old + m + 20 * m * (swept_to n result + 1) }
+{
+    match lead {
+        Lead::To(_) => Swept::Hit,
+        _ => sweep(expr, text, start, sets, steps),
+    }
+}
+
+/// The first place from `from` on at which a match can begin, by its first byte and by what comes first in it, and
+/// where the matches end that begin there.
 fn next_place(
     expr: &Expr,
     begins: &Begins,
     text: &Text,
     from: usize,
     steps: &mut Steps,
-) -> Option<usize>
+) -> Option<(usize, Lead)>
     requires few { length expr.now.nodes ≤ 65536 }
     requires short { length text.now ≤ 2 ^ 30 }
     requires from { from ≤ length text.now }
@@ -139,18 +195,20 @@ fn next_place(
     ensures sought { Sought (tree expr.now) text.now from result }
     ensures grows { steps.old ≤ steps.new }
     ensures cost { let m = length expr.now.nodes in
-        steps.new + 4 * m * from ≤ steps.old + 4 * m * skip_cost (length text.now) result }
+        steps.new + 4 * m * from ≤ steps.old + 4 * m * (sought_to (length text.now) result + 1) }
 {
     let _count = expr.nodes();
     let mut at = from;
     while let Some(start) = next_start(begins, text, at, steps) {
-        if can_begin(expr, text, start, steps) {
-            return Some(start);
+        match look_ahead(expr, text, start, steps) {
+            Lead::Nowhere => {
+                if start >= text.len() {
+                    return None;
+                }
+                at = start + 1;
+            }
+            lead => return Some((start, lead)),
         }
-        if start >= text.len() {
-            return None;
-        }
-        at = start + 1;
     }
     None
 }
@@ -179,8 +237,8 @@ pub fn scan(
 {
     let _count = expr.nodes();
     let mut at = from;
-    while let Some(start) = next_place(expr, begins, text, at, steps) {
-        match sweep(expr, text, start, sets, steps) {
+    while let Some((start, lead)) = next_place(expr, begins, text, at, steps) {
+        match sweep_from(expr, text, start, lead, sets, steps) {
             Swept::Hit => return Some(start),
             Swept::Miss(stop) => {
                 if stop >= text.len() {
@@ -218,8 +276,8 @@ fn first_span(
 {
     let _count = expr.nodes();
     let mut at = from;
-    while let Some(start) = next_place(expr, begins, text, at, steps) {
-        if let Some(end) = longest_at(expr, text, start, sets, steps) {
+    while let Some((start, lead)) = next_place(expr, begins, text, at, steps) {
+        if let Some(end) = longest_from(expr, text, start, lead, sets, steps) {
             return Some((start, end));
         }
         if start >= text.len() {
@@ -259,10 +317,10 @@ pub fn leftmost(
 {
     let _count = expr.nodes();
     let begins = how_begins(expr, steps);
-    let Some(start) = next_place(expr, &begins, text, from, steps) else {
+    let Some((start, lead)) = next_place(expr, &begins, text, from, steps) else {
         return None;
     };
-    if let Some(end) = longest_at(expr, text, start, sets, steps) {
+    if let Some(end) = longest_from(expr, text, start, lead, sets, steps) {
         return Some((start, end));
     }
     if start >= text.len() {

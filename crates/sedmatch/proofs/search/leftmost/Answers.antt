@@ -13,7 +13,7 @@ returns-clause-found c =
     let w = c.args.text.now in
     let next = c.in-Some.ensures.sought in
     let scanned = c.in-Some-scan.ensures.scanned in
-    let missed : Longest e w c.in-Some.start None = c.in_default-longest_at.ensures.longest in
+    let missed : Longest e w c.in-Some.start None = c.in_default-longest_from.ensures.longest in
     let here : NoneIn e w c.args.from (c.in-Some.start + 1) =
     none_join e w c.args.from c.in-Some.start (c.in-Some.start + 1) next.2 (none_at e w c.in-Some.start missed) in
     let none : NoneIn e w c.args.from c.in-Some-scan.at = none_join e w c.args.from (c.in-Some.start + 1) c.in-Some-scan.at here scanned.2 in
@@ -22,5 +22,5 @@ returns-clause-found c =
 pub returns-clause-cost : goal.returns-clause-cost
 returns-clause-cost c =
     whole_cost (length c.args.expr.now.nodes) (length c.args.text.now) c.args.from c.in-Some.start c.in-Some-scan.at c.args.steps.now c.how_begins-begins.new.steps
-    c.next_place.new.steps c.longest_at.new.steps c.scan.new.steps c.first_span.new.steps (omega (arith, c.in-Some-scan.ensures.scanned.0))
-    c.how_begins-begins.ensures.cost c.in-Some.ensures.cost c.longest_at.ensures.cost c.scan.ensures.cost c.first_span.ensures.cost
+    c.next_place.new.steps c.longest_from.new.steps c.scan.new.steps c.first_span.new.steps (omega (arith, c.in-Some-scan.ensures.scanned.0))
+    c.how_begins-begins.ensures.cost c.in-Some.ensures.cost c.longest_from.ensures.cost c.scan.ensures.cost c.first_span.ensures.cost

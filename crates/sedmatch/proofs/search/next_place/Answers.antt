@@ -4,16 +4,16 @@ use Rattle.sedmatch.proofs.CostLemmas.{place_step, place_last, place_end}
 use Rattle.sedmatch.proofs.SweepLemmas.{none_step, none_there}
 use Rattle.sedmatch.proofs.search.next_place.Goals as goal
 
-pub returns-then-can_begin-clause-cost : goal.returns-then-can_begin-clause-cost
-returns-then-can_begin-clause-cost c =
-    place_step (length c.args.expr.now.nodes) c.args.from c.loop-start.at c.in-Some.start c.args.steps.now c.loop-start.steps c.next_start.new.steps c.can_begin.new.steps
-    (omega arith) c.in-Some.ensures.next.0 c.loop-start.invariant.cost c.in-Some.ensures.cost c.can_begin.ensures.cost
+pub returns-in_default-look_ahead-clause-cost : goal.returns-in_default-look_ahead-clause-cost
+returns-in_default-look_ahead-clause-cost c =
+    place_step (length c.args.expr.now.nodes) c.args.from c.loop-start.at c.in-Some.start c.args.steps.now c.loop-start.steps c.next_start.new.steps c.look_ahead.new.steps
+    (omega arith) c.in-Some.ensures.next.0 c.loop-start.invariant.cost c.in-Some.ensures.cost c.look_ahead.ensures.cost
 
 pub returns-then-start-len-clause-cost : goal.returns-then-start-len-clause-cost
 returns-then-start-len-clause-cost c =
-    place_last (length c.args.expr.now.nodes) (length c.args.text.now) c.args.from c.in-Some.start c.args.steps.now c.can_begin.new.steps c.in-Some.ensures.next.1
-    (place_step (length c.args.expr.now.nodes) c.args.from c.loop-start.at c.in-Some.start c.args.steps.now c.loop-start.steps c.next_start.new.steps c.can_begin.new.steps
-    (omega arith) c.in-Some.ensures.next.0 c.loop-start.invariant.cost c.in-Some.ensures.cost c.can_begin.ensures.cost)
+    place_last (length c.args.expr.now.nodes) (length c.args.text.now) c.args.from c.in-Some.start c.args.steps.now c.look_ahead.new.steps c.in-Some.ensures.next.1
+    (place_step (length c.args.expr.now.nodes) c.args.from c.loop-start.at c.in-Some.start c.args.steps.now c.loop-start.steps c.next_start.new.steps c.look_ahead.new.steps
+    (omega arith) c.in-Some.ensures.next.0 c.loop-start.invariant.cost c.in-Some.ensures.cost c.look_ahead.ensures.cost)
 
 pub loop-start-preserved : goal.loop-start-preserved
 loop-start-preserved c =
@@ -24,10 +24,10 @@ loop-start-preserved c =
       grows = omega arith;
       after = omega (arith, next.0);
       within = omega arith;
-      cost = place_step (length c.args.expr.now.nodes) c.args.from c.loop-start.at c.in-Some.start c.args.steps.now c.loop-start.steps c.next_start.new.steps c.can_begin.new.steps
-          (omega arith) next.0 c.loop-start.invariant.cost c.in-Some.ensures.cost c.can_begin.ensures.cost;
+      cost = place_step (length c.args.expr.now.nodes) c.args.from c.loop-start.at c.in-Some.start c.args.steps.now c.loop-start.steps c.next_start.new.steps c.look_ahead.new.steps
+          (omega arith) next.0 c.loop-start.invariant.cost c.in-Some.ensures.cost c.look_ahead.ensures.cost;
       missed = none_step e w c.args.from c.loop-start.at c.in-Some.start (c.in-Some.start + 1) c.args.begins.now c.requires.begins next.2 c.loop-start.invariant.missed
-          (none_there e w c.in-Some.start c.can_begin.result c.if-can_begin.false c.can_begin.ensures.begins);
+          (none_there e w c.in-Some.start c.in-Nowhere.ensures.leads);
     }
 
 pub returns-clause-cost : goal.returns-clause-cost

@@ -7,15 +7,15 @@ use Rattle.sedmatch.proofs.search.scan.Goals as goal
 pub returns-in-Hit-clause-cost : goal.returns-in-Hit-clause-cost
 returns-in-Hit-clause-cost c =
     let next = c.in-Some.ensures.sought in
-    sweep_step (length c.args.expr.now.nodes) c.args.from c.loop-start.at c.in-Some.start (length c.args.text.now) c.args.steps.now c.loop-start.steps c.next_place.new.steps c.sweep.new.steps
+    sweep_step (length c.args.expr.now.nodes) c.args.from c.loop-start.at c.in-Some.start (length c.args.text.now) c.args.steps.now c.loop-start.steps c.next_place.new.steps c.sweep_from.new.steps
     next.0 next.1 c.loop-start.invariant.cost c.in-Some.ensures.cost c.in-Hit.ensures.cost
 
 pub returns-then-stop-len-clause-cost : goal.returns-then-stop-len-clause-cost
 returns-then-stop-len-clause-cost c =
     let next = c.in-Some.ensures.sought in
     let swept = c.in-Miss.ensures.swept in
-    sweep_last (length c.args.expr.now.nodes) (length c.args.text.now) c.args.from c.in-Miss.stop c.args.steps.now c.sweep.new.steps swept.1
-    (sweep_step (length c.args.expr.now.nodes) c.args.from c.loop-start.at c.in-Some.start c.in-Miss.stop c.args.steps.now c.loop-start.steps c.next_place.new.steps c.sweep.new.steps
+    sweep_last (length c.args.expr.now.nodes) (length c.args.text.now) c.args.from c.in-Miss.stop c.args.steps.now c.sweep_from.new.steps swept.1
+    (sweep_step (length c.args.expr.now.nodes) c.args.from c.loop-start.at c.in-Some.start c.in-Miss.stop c.args.steps.now c.loop-start.steps c.next_place.new.steps c.sweep_from.new.steps
     next.0 swept.0 c.loop-start.invariant.cost c.in-Some.ensures.cost c.in-Miss.ensures.cost)
 
 pub loop-start-preserved : goal.loop-start-preserved
@@ -29,7 +29,7 @@ loop-start-preserved c =
       grows = omega arith;
       after = omega (arith, next.0, swept.0);
       within = omega arith;
-      cost = sweep_step (length c.args.expr.now.nodes) c.args.from c.loop-start.at c.in-Some.start c.in-Miss.stop c.args.steps.now c.loop-start.steps c.next_place.new.steps c.sweep.new.steps
+      cost = sweep_step (length c.args.expr.now.nodes) c.args.from c.loop-start.at c.in-Some.start c.in-Miss.stop c.args.steps.now c.loop-start.steps c.next_place.new.steps c.sweep_from.new.steps
           next.0 swept.0 c.loop-start.invariant.cost c.in-Some.ensures.cost c.in-Miss.ensures.cost;
       missed = none_join e w c.args.from c.loop-start.at (c.in-Miss.stop + 1) c.loop-start.invariant.missed
           (none_join e w c.loop-start.at c.in-Some.start (c.in-Miss.stop + 1) next.2 swept.2);

@@ -1,6 +1,6 @@
-use Rattle.std.proofs.Common.{ℕ, ◌+◌, ◌*◌, ◌<◌, ◌≤◌, length}
+use Rattle.std.proofs.Common.{ℕ, ◌+◌, ◌*◌, ◌<◌, ◌≤◌, ◌↔◌, length}
 use Rattle.sedmatch.specs.Reach.{At}
-use Rattle.sedmatch.proofs.ahead.can_begin.Given as goal
+use Rattle.sedmatch.proofs.ahead.look_ahead.Given as goal
 
 abbrev pub invariant-loop-part : goal.invariant-loop-part
 invariant-loop-part l = record {
@@ -8,7 +8,7 @@ invariant-loop-part l = record {
   within : l.at ≤ length l.text;
   grows : l.initial.steps ≤ l.steps;
   cost : l.steps + 3 * l.index ≤ l.initial.steps + 3 * l.root;
-  rest : (j : ℕ) → At l.expr.nodes l.text l.root l.place j → At l.expr.nodes l.text l.index l.at j;
+  rest : (j : ℕ) → At l.expr.nodes l.text l.root l.place j ↔ At l.expr.nodes l.text l.index l.at j;
 }
 
 abbrev pub decreases-loop-part : goal.decreases-loop-part
