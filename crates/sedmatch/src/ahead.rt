@@ -42,7 +42,11 @@ fn set_lead(set: &ByteSet, text: &Text, place: usize, steps: &mut Steps) -> Lead
 fn anchor_lead(holds: bool, place: usize) -> Lead
     ensures { result ≡ anchor_lead holds place }
 {
-    if holds { Lead::To(place) } else { Lead::Nowhere }
+    if holds {
+        Lead::To(place)
+    } else {
+        Lead::Nowhere
+    }
 }
 
 /// Where the spans of a node end that begin at the place.

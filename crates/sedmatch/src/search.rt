@@ -198,14 +198,14 @@ fn next_place(
         steps.new + 4 * m * from ≤ steps.old + 4 * m * (sought_to (length text.now) result + 1) }
 {
     let _count = expr.nodes();
-    let mut at = from;
-    while let Some(start) = next_start(begins, text, at, steps) {
+    let mut place = from;
+    while let Some(start) = next_start(begins, text, place, steps) {
         match look_ahead(expr, text, start, steps) {
             Lead::Nowhere => {
                 if start >= text.len() {
                     return None;
                 }
-                at = start + 1;
+                place = start + 1;
             }
             lead => return Some((start, lead)),
         }

@@ -24,7 +24,7 @@ returns-in-To-clause-goes c =
     let w = c.args.text.now in
     let is : slice_get nodes c.args.index ≡ Some (Seq c.in-Seq.a c.in-Seq.b) = cc in
     let goes = first_to nodes c.nodes-count.ensures.arena w c.args.index c.args.place c.in-Seq.a c.in-Seq.b c.look-first.result c.in-To.end is
-        c.look-first.ensures.node c.in-To.ensures.leads in
+    c.look-first.ensures.node c.in-To.ensures.leads in
     subst (λ x. (j : ℕ) → At nodes w c.args.index c.args.place j ↔ At nodes w x c.in-To.end j) (sym c.index.ensures) goes
 
 pub returns-in-To-clause-below : goal.returns-in-To-clause-below

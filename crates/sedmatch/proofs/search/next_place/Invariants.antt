@@ -6,11 +6,11 @@ use Rattle.sedmatch.proofs.search.next_place.Given as goal
 abbrev pub invariant-loop-start : goal.invariant-loop-start
 invariant-loop-start l = record {
   grows : l.initial.steps ≤ l.steps;
-  after : l.from ≤ l.at;
-  within : l.at ≤ length l.text;
-  cost : l.steps + 4 * length l.expr.nodes * l.from ≤ l.initial.steps + 4 * length l.expr.nodes * l.at;
-  missed : NoneIn (tree l.expr) l.text l.from l.at;
+  after : l.from ≤ l.place;
+  within : l.place ≤ length l.text;
+  cost : l.steps + 4 * length l.expr.nodes * l.from ≤ l.initial.steps + 4 * length l.expr.nodes * l.place;
+  missed : NoneIn (tree l.expr) l.text l.from l.place;
 }
 
 abbrev pub decreases-loop-start : goal.decreases-loop-start
-decreases-loop-start l = length l.text + 1 - l.at
+decreases-loop-start l = length l.text + 1 - l.place
