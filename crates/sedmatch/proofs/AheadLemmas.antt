@@ -1,11 +1,11 @@
 -- What comes first in a span of a node, and what is left behind it.
-use Rattle.std.proofs.Common.{◌≡◌, ℕ, ◌<◌, ◌≤◌, ◌↔◌, List, length, Some, refl, sym, subst, inl, inr, arith}
+use Rattle.std.proofs.Common.{◌≡◌, ℕ, ◌<◌, ◌≤◌, ◌↔◌, List, length, Some, refl, sym, subst, inl, inr, ⊎_elim, arith}
 use Rattle.std.specs.Prelude.{slice_get}
 use Rattle.sedre.specs.Tree.{Tree}
 use Rattle.sedre.specs.Arena.{IsArena, tree_at, tree_of}
 use Rattle.sedre.specs.declared.types.Node.{Node}
 use Rattle.sedre.specs.declared.types.NodeId.{NodeId}
-use Rattle.sedre.specs.declared.types.Node.TheVariants.{Seq, Group}
+use Rattle.sedre.specs.declared.types.Node.TheVariants.{Seq, Alt, Group}
 use Rattle.sedmatch.specs.Spans.{Spans}
 use Rattle.sedmatch.specs.Reach.{At}
 use Rattle.sedmatch.specs.Ahead.{LeadsTo}
@@ -52,6 +52,13 @@ module _ (nodes : List Node) (arena : IsArena nodes) (w : List ℕ) (x i : ℕ) 
   pub group_opens : (g : ℕ) (a : NodeId) → slice_get nodes x ≡ Some (Group g a) → (j : ℕ) → At nodes w x i j ↔ At nodes w a.index i j
   group_opens g a is j = (open_at nodes w x (Group g a) arena is i j, close_at nodes w x (Group g a) arena is i j)
 
+  -- where one alternative has no span, the node is spanned where the other is
+  pub second_left : (a b : NodeId) → slice_get nodes x ≡ Some (Alt a b) → ((j : ℕ) → At nodes w a.index i j → ⊥) → (j : ℕ) → At nodes w x i j ↔ At nodes w b.index i j
+  second_left a b is none j = (
+    λ at. ⊎_elim (λ (h : At nodes w a.index i j). absurd (none j h)) (λ (h : At nodes w b.index i j). h) (open_at nodes w x (Alt a b) arena is i j at),
+    λ h. close_at nodes w x (Alt a b) arena is i j (inr h),
+  )
+
   -- the parts stand before the node
   pub first_before : (a b : NodeId) → slice_get nodes x ≡ Some (Seq a b) → a.index < x
   first_before a b is = arena.below x a.index (Seq a b) is (inl refl)
@@ -61,3 +68,6 @@ module _ (nodes : List Node) (arena : IsArena nodes) (w : List ℕ) (x i : ℕ) 
 
   pub inner_before : (g : ℕ) (a : NodeId) → slice_get nodes x ≡ Some (Group g a) → a.index < x
   inner_before g a is = arena.below x a.index (Group g a) is refl
+
+  pub alternatives_before : (a b : NodeId) → slice_get nodes x ≡ Some (Alt a b) → (a.index < x) × (b.index < x)
+  alternatives_before a b is = (arena.below x a.index (Alt a b) is (inl refl), arena.below x b.index (Alt a b) is (inr refl))

@@ -195,7 +195,7 @@ fn next_place(
     ensures sought { Sought (tree expr.now) text.now from result }
     ensures grows { steps.old ≤ steps.new }
     ensures cost { let m = length expr.now.nodes in
-        steps.new + 4 * m * from ≤ steps.old + 4 * m * (sought_to (length text.now) result + 1) }
+        steps.new + 8 * m * from ≤ steps.old + 8 * m * (sought_to (length text.now) result + 1) }
 {
     let _count = expr.nodes();
     let mut place = from;
@@ -233,7 +233,7 @@ pub fn scan(
     ensures scanned { Scanned (tree expr.now) text.now from result }
     ensures grows { steps.old ≤ steps.new }
     ensures cost { let m = length expr.now.nodes in let n = length text.now in
-        steps.new + 25 * m * from ≤ steps.old + 25 * m * (n + 1) }
+        steps.new + 29 * m * from ≤ steps.old + 29 * m * (n + 1) }
 {
     let _count = expr.nodes();
     let mut at = from;
@@ -272,7 +272,7 @@ fn first_span(
     ensures lies { IfSome result (λ f. (f.0 ≤ f.1) × (f.1 ≤ length text.now)) }
     ensures grows { steps.old ≤ steps.new }
     ensures cost { let m = length expr.now.nodes in let n = length text.now in
-        steps.new + 25 * m * (n + 1) * from ≤ steps.old + 25 * m * (n + 1) * (n + 1) }
+        steps.new + 29 * m * (n + 1) * from ≤ steps.old + 29 * m * (n + 1) * (n + 1) }
 {
     let _count = expr.nodes();
     let mut at = from;
@@ -313,7 +313,7 @@ pub fn leftmost(
     ensures cost { let m = length expr.now.nodes in let n = length text.now in
         steps.new ≤ steps.old + 45 * m * (n + 1) * (n + 1) }
     ensures none_cost { let m = length expr.now.nodes in let n = length text.now in
-        IfNone result (steps.new ≤ steps.old + 46 * m * (n + 1)) }
+        IfNone result (steps.new ≤ steps.old + 50 * m * (n + 1)) }
 {
     let _count = expr.nodes();
     let begins = how_begins(expr, steps);

@@ -7,7 +7,7 @@ invariant-loop-part l = record {
   inside : l.index < length l.expr.nodes;
   within : l.at ≤ length l.text;
   grows : l.initial.steps ≤ l.steps;
-  cost : l.steps + 3 * l.index ≤ l.initial.steps + 3 * l.root;
+  cost : l.steps + 7 * l.index ≤ l.initial.steps + 7 * l.root;
   rest : (j : ℕ) → At l.expr.nodes l.text l.root l.place j ↔ At l.expr.nodes l.text l.index l.at j;
 }
 

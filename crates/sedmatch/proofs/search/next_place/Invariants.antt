@@ -8,7 +8,7 @@ invariant-loop-start l = record {
   grows : l.initial.steps ≤ l.steps;
   after : l.from ≤ l.place;
   within : l.place ≤ length l.text;
-  cost : l.steps + 4 * length l.expr.nodes * l.from ≤ l.initial.steps + 4 * length l.expr.nodes * l.place;
+  cost : l.steps + 8 * length l.expr.nodes * l.from ≤ l.initial.steps + 8 * length l.expr.nodes * l.place;
   missed : NoneIn (tree l.expr) l.text l.from l.place;
 }
 
