@@ -76,6 +76,7 @@ pub enum Rest {
 }
 
 /// What is left of the spans of the node, which stands at the index, behind its first part.
+#[inline(always)]
 fn rest_of_node(
     expr: &Expr,
     index: usize,
