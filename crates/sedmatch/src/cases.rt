@@ -90,7 +90,7 @@ pub const LEFTMOST: [Case; 13] = [
 ];
 
 // What comes first in a match: XBD 9.1, 9.3.6, 9.3.8 and 9.4.6.
-pub const AHEAD: [Case; 21] = [
+pub const AHEAD: [Case; 26] = [
     ("aab", b"aaab", 0, "(1,4)", "a place within one that fails"),
     (
         "abab",
@@ -130,6 +130,23 @@ pub const AHEAD: [Case; 21] = [
     ("^$", b"a", 0, "", "the place is the beginning or the end"),
     ("[0-9][0-9]x", b"1234x", 0, "(2,5)", "sets of more bytes"),
     ("a{2}b", b"aaab", 0, "(1,4)", "copies first"),
+    (
+        "cat|car|dog",
+        b"cadocar",
+        0,
+        "(4,7)",
+        "c a and d o are no match",
+    ),
+    ("cat|c|car", b"xcar", 0, "(1,4)", "the longest of them"),
+    (
+        "a(bc|bd|e)",
+        b"abeabd",
+        0,
+        "(3,6)(4,6)",
+        "a b e is no match",
+    ),
+    ("a(b*|c)d", b"acad", 0, "(2,4)(3,3)", "b* takes no byte too"),
+    ("(ab|ac)d", b"abacd", 0, "(2,5)(2,4)", "a b a is no match"),
 ];
 
 // How long: XBD 9.1, 9.3.4, 9.3.5, 9.4.6 and 9.4.7.
