@@ -1,4 +1,4 @@
-use Rattle.std.proofs.Common.{◌≡◌, ◌+◌, length, None, arith}
+use Rattle.std.proofs.Common.{◌+◌, length, None, arith}
 use Rattle.sedre.specs.Arena.{tree}
 use Rattle.sedmatch.specs.Reach.{Longest}
 use Rattle.sedmatch.proofs.CostLemmas.{start_step, start_last, start_end}
