@@ -1,10 +1,33 @@
 -- The steps of a search, with m nodes and n bytes.
 use Rattle.std.proofs.Common.{◌≡◌, ℕ, ◌+◌, ◌-◌, ◌*◌, ◌<◌, ◌≤◌, ap, arith, mul-le-mul_left}
 
--- starts from one to the next: the bytes passed over, and one pass
+-- places that are looked at: the bytes passed over, and what comes first in a match
+pub place_step : (m from at start s0 s s1 s2 : ℕ) → 0 < m → at ≤ start →
+    s + 8 * m * from ≤ s0 + 8 * m * at → s1 + at ≤ s + (start + 1) → s2 ≤ s1 + 7 * m → s2 + 8 * m * from ≤ s0 + 8 * m * (start + 1)
+place_step m from at start s0 s s1 s2 some low before skip look =
+    let d = start + 1 - at in
+    let e : start + 1 ≡ at + d = omega arith in
+    let one : 1 ≤ d = omega arith in
+    let most = mul-le-mul_left d some in
+    let grown = mul-le-mul_left m one in
+    let all : 8 * m * (start + 1) ≡ 8 * m * (at + d) = ap (λ v. 8 * m * v) e in
+    omega (arith, most, grown, all)
+
+-- up to the end of the text
+pub place_end : (m n from at s0 s s1 : ℕ) → 0 < m → at ≤ n →
+    s + 8 * m * from ≤ s0 + 8 * m * at → s1 + at ≤ s + (n + 1) → s1 + 8 * m * from ≤ s0 + 8 * m * (n + 1)
+place_end m n from at s0 s s1 some low before skip = place_step m from at n s0 s s1 s1 some low before skip (omega arith)
+
+pub place_last : (m n from start s0 s : ℕ) → start ≤ n → s + 8 * m * from ≤ s0 + 8 * m * (start + 1) → s + 8 * m * from ≤ s0 + 8 * m * (n + 1)
+place_last m n from start s0 s low cost =
+    let up : start + 1 ≤ n + 1 = omega arith in
+    let all = mul-le-mul_left (8 * m) up in
+    omega (arith, all)
+
+-- starts from one to the next: the places looked at, and one pass
 pub start_step : (m n from at start s0 s s1 s2 : ℕ) → 0 < m → at ≤ start →
-    s + 22 * m * (n + 1) * from ≤ s0 + 22 * m * (n + 1) * at → s1 + at ≤ s + (start + 1) → s2 ≤ s1 + 21 * m * (n + 1) →
-    s2 + 22 * m * (n + 1) * from ≤ s0 + 22 * m * (n + 1) * (start + 1)
+    s + 29 * m * (n + 1) * from ≤ s0 + 29 * m * (n + 1) * at → s1 + 8 * m * at ≤ s + 8 * m * (start + 1) → s2 ≤ s1 + 21 * m * (n + 1) →
+    s2 + 29 * m * (n + 1) * from ≤ s0 + 29 * m * (n + 1) * (start + 1)
 start_step m n from at start s0 s s1 s2 some low before skip pass =
     let d = start + 1 - at in
     let e : start + 1 ≡ at + d = omega arith in
@@ -12,52 +35,58 @@ start_step m n from at start s0 s s1 s2 some low before skip pass =
     let q = m * (n + 1) in
     let grown = mul-le-mul_left q one in
     let m_n : m * 1 ≤ m * (n + 1) = mul-le-mul_left m (let h : 1 ≤ n + 1 = omega arith in h) in
-    let q_pos : 1 ≤ q = omega arith in
-    let most = mul-le-mul_left d q_pos in
-    let all : 22 * m * (n + 1) * (start + 1) ≡ 22 * m * (n + 1) * (at + d) = ap (λ v. 22 * m * (n + 1) * v) e in
-    omega (arith, grown, most, all)
+    let most = mul-le-mul_left d m_n in
+    let looks : 8 * m * (start + 1) ≡ 8 * m * (at + d) = ap (λ v. 8 * m * v) e in
+    let all : 29 * m * (n + 1) * (start + 1) ≡ 29 * m * (n + 1) * (at + d) = ap (λ v. 29 * m * (n + 1) * v) e in
+    omega (arith, grown, most, looks, all)
 
 -- up to the end of the text
 pub start_end : (m n from at s0 s s1 : ℕ) → 0 < m → at ≤ n →
-    s + 22 * m * (n + 1) * from ≤ s0 + 22 * m * (n + 1) * at → s1 + at ≤ s + (n + 1) →
-    s1 + 22 * m * (n + 1) * from ≤ s0 + 22 * m * (n + 1) * (n + 1)
+    s + 29 * m * (n + 1) * from ≤ s0 + 29 * m * (n + 1) * at → s1 + 8 * m * at ≤ s + 8 * m * (n + 1) →
+    s1 + 29 * m * (n + 1) * from ≤ s0 + 29 * m * (n + 1) * (n + 1)
 start_end m n from at s0 s s1 some low before skip = start_step m n from at n s0 s s1 s1 some low before skip (omega arith)
 
-pub start_last : (m n from start s0 s : ℕ) → start ≤ n → s + 22 * m * (n + 1) * from ≤ s0 + 22 * m * (n + 1) * (start + 1) →
-    s + 22 * m * (n + 1) * from ≤ s0 + 22 * m * (n + 1) * (n + 1)
+pub start_last : (m n from start s0 s : ℕ) → start ≤ n → s + 29 * m * (n + 1) * from ≤ s0 + 29 * m * (n + 1) * (start + 1) →
+    s + 29 * m * (n + 1) * from ≤ s0 + 29 * m * (n + 1) * (n + 1)
 start_last m n from start s0 s low cost =
     let up : start + 1 ≤ n + 1 = omega arith in
-    let all = mul-le-mul_left (22 * m * (n + 1)) up in
+    let all = mul-le-mul_left (29 * m * (n + 1)) up in
     omega (arith, all)
 
--- a pass that enters every start: the bytes passed over, and the places of the pass
-pub sweep_step : (m from at start stop s0 s s1 s2 : ℕ) → 0 < m → at ≤ start → start ≤ stop →
-    s + 22 * m * from ≤ s0 + 22 * m * at → s1 + at ≤ s + (start + 1) → s2 + 20 * m * start ≤ s1 + m + 20 * m * (stop + 1) →
-    s2 + 22 * m * from ≤ s0 + 22 * m * (stop + 1)
-sweep_step m from at start stop s0 s s1 s2 some low high before skip pass =
+-- a pass that enters every start: the places looked at before it, and its own
+pub sweep_step : (m from at start stop s0 s s1 s2 : ℕ) → at ≤ start → start ≤ stop →
+    s + 29 * m * from ≤ s0 + 29 * m * at → s1 + 8 * m * at ≤ s + 8 * m * (start + 1) → s2 + 20 * m * start ≤ s1 + m + 20 * m * (stop + 1) →
+    s2 + 29 * m * from ≤ s0 + 29 * m * (stop + 1)
+sweep_step m from at start stop s0 s s1 s2 low high before skip pass =
     let d = start - at in
     let f = stop - start in
     let start_is : start ≡ at + d = omega arith in
     let stop_is : stop ≡ at + d + f = omega arith in
-    let most = mul-le-mul_left d some in
     let e1 = ap (λ v. 20 * m * v) start_is in
     let e2 = ap (λ v. 20 * m * (v + 1)) stop_is in
-    let e3 = ap (λ v. 22 * m * (v + 1)) stop_is in
-    omega (arith, most, e1, e2, e3)
+    let e3 = ap (λ v. 29 * m * (v + 1)) stop_is in
+    let e4 = ap (λ v. 8 * m * (v + 1)) start_is in
+    omega (arith, e1, e2, e3, e4)
 
-pub sweep_end : (m n from at s0 s s1 : ℕ) → 0 < m → at ≤ n →
-    s + 22 * m * from ≤ s0 + 22 * m * at → s1 + at ≤ s + (n + 1) → s1 + 22 * m * from ≤ s0 + 22 * m * (n + 1)
-sweep_end m n from at s0 s s1 some low before skip =
-    let d = n + 1 - at in
-    let e : n + 1 ≡ at + d = omega arith in
-    let most = mul-le-mul_left d some in
-    let all : 22 * m * (n + 1) ≡ 22 * m * (at + d) = ap (λ v. 22 * m * v) e in
-    omega (arith, most, all)
+pub sweep_end : (m n from at s0 s s1 : ℕ) → at ≤ n →
+    s + 29 * m * from ≤ s0 + 29 * m * at → s1 + 8 * m * at ≤ s + 8 * m * (n + 1) → s1 + 29 * m * from ≤ s0 + 29 * m * (n + 1)
+sweep_end m n from at s0 s s1 low before skip =
+    let up : at ≤ n + 1 = omega arith in
+    let all = mul-le-mul_left (21 * m) up in
+    omega (arith, all)
 
-pub sweep_last : (m n from stop s0 s : ℕ) → stop ≤ n → s + 22 * m * from ≤ s0 + 22 * m * (stop + 1) → s + 22 * m * from ≤ s0 + 22 * m * (n + 1)
+pub sweep_last : (m n from stop s0 s : ℕ) → stop ≤ n → s + 29 * m * from ≤ s0 + 29 * m * (stop + 1) → s + 29 * m * from ≤ s0 + 29 * m * (n + 1)
 sweep_last m n from stop s0 s low cost =
     let up : stop + 1 ≤ n + 1 = omega arith in
-    let all = mul-le-mul_left (22 * m) up in
+    let all = mul-le-mul_left (29 * m) up in
+    omega (arith, all)
+
+-- a whole search: one place, a start, a scan, and starts one after another
+pub whole_cost : (m n from start at s0 s1 s2 s3 s4 s5 : ℕ) → 1 ≤ at → s1 ≤ s0 + 9 * m → s2 + 8 * m * from ≤ s1 + 8 * m * (start + 1) →
+    s3 ≤ s2 + 21 * m * (n + 1) → s4 + 29 * m * (start + 1) ≤ s3 + 29 * m * (n + 1) →
+    s5 + 29 * m * (n + 1) * at ≤ s4 + 29 * m * (n + 1) * (n + 1) → s5 ≤ s0 + 45 * m * (n + 1) * (n + 1)
+whole_cost m n from start at s0 s1 s2 s3 s4 s5 one begins place pass scan rest =
+    let all = mul-le-mul_left (29 * m * (n + 1)) one in
     omega (arith, all)
 
 -- the looks at one alternative more, of at most four

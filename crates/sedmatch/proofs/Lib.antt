@@ -5,6 +5,7 @@ pub mod GroupLemmas
 pub mod MatchingLemmas
 pub mod WorkLemmas
 pub mod TailLemmas
+pub mod AheadLemmas
 pub mod CostLemmas
 pub mod SweepLemmas
 pub mod SkipLemmas

@@ -6,6 +6,8 @@ use Rattle.sedre.specs.Tree.{Tree}
 use Rattle.sedre.specs.Arena.{tree_at}
 use Rattle.sedre.specs.declared.types.Node.{Node}
 use Rattle.sedmatch.specs.Spans.{Spans, Found, SomeFound}
+use Rattle.sedmatch.specs.Ahead.{LeadsTo}
+use Rattle.sedmatch.specs.declared.ahead.Lead.TheVariants.{Nowhere}
 use Rattle.sedmatch.specs.Skip.{AllBegin, CanBegin}
 use Rattle.sedmatch.specs.declared.skip.Begins.{Begins}
 use Rattle.sedmatch.specs.Reach.{At, SomeSpan, OpenAt, Longest}
@@ -90,11 +92,9 @@ none_at e w start none i k low high s = let same : i ≡ start = omega arith in 
 pub none_join : (e : Tree) (w : List ℕ) (p q r : ℕ) → NoneIn e w p q → NoneIn e w q r → NoneIn e w p r
 none_join e w p q r one two i k low high s = ⊎_elim (λ (lt : i < q). one i k low lt s) (λ (ge : q ≤ i). two i k ge high s) (cases_lt i q)
 
--- no match begins where none can, nor from there up to q
-pub none_before : (e : Tree) (w : List ℕ) (p start : ℕ) (begins : Begins) → AllBegin e begins →
-    ((i : ℕ) → p ≤ i → i < start → CanBegin begins w i → ⊥) → NoneIn e w start (start + 1) → NoneIn e w p (start + 1)
-none_before e w p start begins all passed after =
-    none_step e w p p start (start + 1) begins all passed (λ i k low high s. absurd (omega arith)) after
+-- where a look ahead tells that none does
+pub none_there : (e : Tree) (w : List ℕ) (start : ℕ) → LeadsTo (length w) (Spans e w start) Nowhere → NoneIn e w start (start + 1)
+none_there e w start none i k low high s = let same : i ≡ start = omega arith in none k (subst (λ v. Spans e w v k) same s)
 
 -- what the passes tell
 pub scan_tells : (e : Tree) (w : List ℕ) (p : ℕ) (r : Option ℕ) → Scanned e w p r → IsTrue (is_some r) ↔ SomeFound e w p

@@ -10,6 +10,7 @@ pub mod Fits
 pub mod Local
 pub mod Reach
 pub mod Skip
+pub mod Ahead
 pub mod Search
 pub mod Cuts
 pub mod Work

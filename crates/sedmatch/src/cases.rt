@@ -89,6 +89,66 @@ pub const LEFTMOST: [Case; 13] = [
     ),
 ];
 
+// What comes first in a match: XBD 9.1, 9.3.6, 9.3.8 and 9.4.6.
+pub const AHEAD: [Case; 26] = [
+    ("aab", b"aaab", 0, "(1,4)", "a place within one that fails"),
+    (
+        "abab",
+        b"abaabab",
+        0,
+        "(3,7)",
+        "the places 0 and 2 fail late",
+    ),
+    ("abab", b"abaabab", 4, "", "from 4 on there is one b a b"),
+    ("abc", b"xxab", 0, "", "the text ends within it"),
+    ("abc", b"abxabc", 0, "(3,6)", "the first place fails"),
+    ("ab*c", b"xac", 0, "(1,3)", "b* takes no byte too"),
+    ("ab*c", b"abbbc", 0, "(0,5)", "b* takes three bytes"),
+    ("ab*", b"xa", 0, "(1,2)", "b* takes no byte too"),
+    ("ab?c", b"ababc", 0, "(2,5)", "a b a is no match"),
+    ("(ab)c", b"ababc", 0, "(2,5)(2,4)", "a group first"),
+    (
+        "((ab)c)",
+        b"abxabc",
+        0,
+        "(3,6)(3,6)(3,5)",
+        "groups about it",
+    ),
+    ("c(ab)", b"cacab", 0, "(2,5)(3,5)", "a group last"),
+    (
+        "ab|cd",
+        b"acbcd",
+        0,
+        "(3,5)",
+        "neither of them begins at 0 or 1",
+    ),
+    ("a(b|cd)e", b"abacde", 0, "(2,6)(3,5)", "a b a is no match"),
+    ("^ab", b"cab", 0, "", "an anchor first"),
+    ("^ab", b"abab", 0, "(0,2)", "an anchor first"),
+    ("ab$", b"abab", 0, "(2,4)", "an anchor last"),
+    ("^$", b"", 0, "(0,0)", "both anchors hold"),
+    ("^$", b"a", 0, "", "the place is the beginning or the end"),
+    ("[0-9][0-9]x", b"1234x", 0, "(2,5)", "sets of more bytes"),
+    ("a{2}b", b"aaab", 0, "(1,4)", "copies first"),
+    (
+        "cat|car|dog",
+        b"cadocar",
+        0,
+        "(4,7)",
+        "c a and d o are no match",
+    ),
+    ("cat|c|car", b"xcar", 0, "(1,4)", "the longest of them"),
+    (
+        "a(bc|bd|e)",
+        b"abeabd",
+        0,
+        "(3,6)(4,6)",
+        "a b e is no match",
+    ),
+    ("a(b*|c)d", b"acad", 0, "(2,4)(3,3)", "b* takes no byte too"),
+    ("(ab|ac)d", b"abacd", 0, "(2,5)(2,4)", "a b a is no match"),
+];
+
 // How long: XBD 9.1, 9.3.4, 9.3.5, 9.4.6 and 9.4.7.
 pub const LONGEST: [Case; 17] = [
     (

@@ -7,6 +7,7 @@
 //! or a mark. They work in the room of a [`Scratch`] and take no memory.
 #![tactic(auto)]
 
+mod ahead;
 mod counted;
 mod cuts;
 mod groups;

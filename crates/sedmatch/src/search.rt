@@ -7,9 +7,11 @@ ghost use Rattle.sedmatch.specs.Spans.{Spans, Found as IsFound, NotFound};
 ghost use Rattle.sedmatch.specs.Reach.{Longest, LongestBelow, Marked, Below, At, one_start, Entered, Enters, Ends};
 ghost use Rattle.sedmatch.specs.Reach.{TellEntered, TellBegun};
 ghost use Rattle.sedmatch.specs.Reach.{OpenFrom};
-ghost use Rattle.sedmatch.specs.Search.{IsSwept, swept_to, Scanned};
+ghost use Rattle.sedmatch.specs.Search.{IsSwept, swept_to, Sought, sought_to, Scanned};
+ghost use Rattle.sedmatch.specs.Ahead.{LeadsTo};
 ghost use Rattle.sedmatch.specs.Skip.{AllBegin};
 
+use crate::ahead::{Lead, look_ahead};
 use crate::counted::Text;
 use crate::passes::{Here, Starts, advance};
 use crate::scratch::Sets;
@@ -81,6 +83,33 @@ fn longest_at(
     best
 }
 
+/// The end of the longest match that begins at `start`, where a look ahead may have told it.
+fn longest_from(
+    expr: &Expr,
+    text: &Text,
+    start: usize,
+    lead: Lead,
+    sets: &mut Sets,
+    steps: &mut Steps,
+) -> Option<usize>
+    requires few { length expr.now.nodes ≤ 65536 }
+    requires short { length text.now ≤ 2 ^ 30 }
+    requires start { start ≤ length text.now }
+    requires leads { LeadsTo (length text.now) (Spans (tree expr.now) text.now start) lead }
+    requires fits { FitsNodes (length expr.now.nodes) sets.old }
+    requires room { steps.old < 2 ^ 116 }
+    ensures marks { SameMarks sets.old sets.new }
+    ensures longest { Longest (tree expr.now) text.now start result }
+    ensures lies { IfSome result (λ end. (start ≤ end) × (end ≤ length text.now)) }
+    ensures grows { steps.old ≤ steps.new }
+    ensures cost { steps.new ≤ steps.old + 21 * length expr.now.nodes * (length text.now + 1) }
+{
+    match lead {
+        Lead::To(end) => Some(end),
+        _ => longest_at(expr, text, start, sets, steps),
+    }
+}
+
 /// How a pass in which every start is entered as it is come to ends.
 #[derive(Clone, Copy)]
 pub enum Swept {
@@ -122,6 +151,68 @@ fn sweep(expr: &Expr, text: &Text, start: usize, sets: &mut Sets, steps: &mut St
     Swept::Miss(text.len())
 }
 
+/// The same, where a look ahead may have told that a match begins at `start`.
+fn sweep_from(
+    expr: &Expr,
+    text: &Text,
+    start: usize,
+    lead: Lead,
+    sets: &mut Sets,
+    steps: &mut Steps,
+) -> Swept
+    requires few { length expr.now.nodes ≤ 65536 }
+    requires short { length text.now ≤ 2 ^ 30 }
+    requires start { start ≤ length text.now }
+    requires leads { LeadsTo (length text.now) (Spans (tree expr.now) text.now start) lead }
+    requires fits { FitsNodes (length expr.now.nodes) sets.old }
+    requires room { steps.old < 2 ^ 116 }
+    ensures marks { SameMarks sets.old sets.new }
+    ensures swept { IsSwept (tree expr.now) text.now start result }
+    ensures grows { steps.old ≤ steps.new }
+    ensures cost { let m = length expr.now.nodes in let n = length text.now in
+        steps.new + 20 * m * start ≤ steps.old + m + 20 * m * (swept_to n result + 1) }
+{
+    match lead {
+        Lead::To(_) => Swept::Hit,
+        _ => sweep(expr, text, start, sets, steps),
+    }
+}
+
+/// The first place from `from` on at which a match can begin, by its first byte and by what comes first in it, and
+/// where the matches end that begin there.
+fn next_place(
+    expr: &Expr,
+    begins: &Begins,
+    text: &Text,
+    from: usize,
+    steps: &mut Steps,
+) -> Option<(usize, Lead)>
+    requires few { length expr.now.nodes ≤ 65536 }
+    requires short { length text.now ≤ 2 ^ 30 }
+    requires from { from ≤ length text.now }
+    requires begins { AllBegin (tree expr.now) begins.now }
+    requires room { steps.old < 2 ^ 116 }
+    ensures sought { Sought (tree expr.now) text.now from result }
+    ensures grows { steps.old ≤ steps.new }
+    ensures cost { let m = length expr.now.nodes in
+        steps.new + 8 * m * from ≤ steps.old + 8 * m * (sought_to (length text.now) result + 1) }
+{
+    let _count = expr.nodes();
+    let mut place = from;
+    while let Some(start) = next_start(begins, text, place, steps) {
+        match look_ahead(expr, text, start, steps) {
+            Lead::Nowhere => {
+                if start >= text.len() {
+                    return None;
+                }
+                place = start + 1;
+            }
+            lead => return Some((start, lead)),
+        }
+    }
+    None
+}
+
 /// A place from `from` on before which no match begins, and from which on one does.
 /// Each byte is passed once, whatever the expression.
 pub fn scan(
@@ -142,12 +233,12 @@ pub fn scan(
     ensures scanned { Scanned (tree expr.now) text.now from result }
     ensures grows { steps.old ≤ steps.new }
     ensures cost { let m = length expr.now.nodes in let n = length text.now in
-        steps.new + 22 * m * from ≤ steps.old + 22 * m * (n + 1) }
+        steps.new + 29 * m * from ≤ steps.old + 29 * m * (n + 1) }
 {
     let _count = expr.nodes();
     let mut at = from;
-    while let Some(start) = next_start(begins, text, at, steps) {
-        match sweep(expr, text, start, sets, steps) {
+    while let Some((start, lead)) = next_place(expr, begins, text, at, steps) {
+        match sweep_from(expr, text, start, lead, sets, steps) {
             Swept::Hit => return Some(start),
             Swept::Miss(stop) => {
                 if stop >= text.len() {
@@ -181,12 +272,12 @@ fn first_span(
     ensures lies { IfSome result (λ f. (f.0 ≤ f.1) × (f.1 ≤ length text.now)) }
     ensures grows { steps.old ≤ steps.new }
     ensures cost { let m = length expr.now.nodes in let n = length text.now in
-        steps.new + 22 * m * (n + 1) * from ≤ steps.old + 22 * m * (n + 1) * (n + 1) }
+        steps.new + 29 * m * (n + 1) * from ≤ steps.old + 29 * m * (n + 1) * (n + 1) }
 {
     let _count = expr.nodes();
     let mut at = from;
-    while let Some(start) = next_start(begins, text, at, steps) {
-        if let Some(end) = longest_at(expr, text, start, sets, steps) {
+    while let Some((start, lead)) = next_place(expr, begins, text, at, steps) {
+        if let Some(end) = longest_from(expr, text, start, lead, sets, steps) {
             return Some((start, end));
         }
         if start >= text.len() {
@@ -222,14 +313,14 @@ pub fn leftmost(
     ensures cost { let m = length expr.now.nodes in let n = length text.now in
         steps.new ≤ steps.old + 45 * m * (n + 1) * (n + 1) }
     ensures none_cost { let m = length expr.now.nodes in let n = length text.now in
-        IfNone result (steps.new ≤ steps.old + 45 * m * (n + 1)) }
+        IfNone result (steps.new ≤ steps.old + 50 * m * (n + 1)) }
 {
     let _count = expr.nodes();
     let begins = how_begins(expr, steps);
-    let Some(start) = next_start(&begins, text, from, steps) else {
+    let Some((start, lead)) = next_place(expr, &begins, text, from, steps) else {
         return None;
     };
-    if let Some(end) = longest_at(expr, text, start, sets, steps) {
+    if let Some(end) = longest_from(expr, text, start, lead, sets, steps) {
         return Some((start, end));
     }
     if start >= text.len() {

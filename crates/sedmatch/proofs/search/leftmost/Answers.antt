@@ -1,19 +1,26 @@
-use Rattle.std.proofs.Common.{◌+◌, None, arith}
+use Rattle.std.proofs.Common.{◌+◌, None, length, arith}
 use Rattle.std.proofs.lemmas.Option.{IfSome_then}
 use Rattle.sedre.specs.Arena.{tree}
 use Rattle.sedmatch.specs.Search.{NoneIn}
 use Rattle.sedmatch.specs.Reach.{Longest}
-use Rattle.sedmatch.proofs.SweepLemmas.{none_at, none_join, none_before, found_later}
+use Rattle.sedmatch.proofs.CostLemmas.{whole_cost}
+use Rattle.sedmatch.proofs.SweepLemmas.{none_at, none_join, found_later}
 use Rattle.sedmatch.proofs.search.leftmost.Goals as goal
 
 pub returns-clause-found : goal.returns-clause-found
 returns-clause-found c =
     let e = tree c.args.expr.now in
     let w = c.args.text.now in
-    let next = c.in-Some.ensures.next in
+    let next = c.in-Some.ensures.sought in
     let scanned = c.in-Some-scan.ensures.scanned in
-    let missed : Longest e w c.in-Some.start None = c.in_default-longest_at.ensures.longest in
+    let missed : Longest e w c.in-Some.start None = c.in_default-longest_from.ensures.longest in
     let here : NoneIn e w c.args.from (c.in-Some.start + 1) =
-    none_before e w c.args.from c.in-Some.start c.how_begins-begins.result c.how_begins-begins.ensures.begins next.2 (none_at e w c.in-Some.start missed) in
+    none_join e w c.args.from c.in-Some.start (c.in-Some.start + 1) next.2 (none_at e w c.in-Some.start missed) in
     let none : NoneIn e w c.args.from c.in-Some-scan.at = none_join e w c.args.from (c.in-Some.start + 1) c.in-Some-scan.at here scanned.2 in
     IfSome_then c.first_span.result c.first_span.ensures.found (λ f. found_later e w c.args.from c.in-Some-scan.at f.0 f.1 (omega (arith, next.0, scanned.0)) none)
+
+pub returns-clause-cost : goal.returns-clause-cost
+returns-clause-cost c =
+    whole_cost (length c.args.expr.now.nodes) (length c.args.text.now) c.args.from c.in-Some.start c.in-Some-scan.at c.args.steps.now c.how_begins-begins.new.steps
+    c.next_place.new.steps c.longest_from.new.steps c.scan.new.steps c.first_span.new.steps (omega (arith, c.in-Some-scan.ensures.scanned.0))
+    c.how_begins-begins.ensures.cost c.in-Some.ensures.cost c.longest_from.ensures.cost c.scan.ensures.cost c.first_span.ensures.cost

@@ -1,38 +1,41 @@
 use Rattle.std.proofs.Common.{◌+◌, length, arith}
 use Rattle.sedre.specs.Arena.{tree}
 use Rattle.sedmatch.proofs.CostLemmas.{sweep_step, sweep_last, sweep_end}
-use Rattle.sedmatch.proofs.SweepLemmas.{none_step}
+use Rattle.sedmatch.proofs.SweepLemmas.{none_join}
 use Rattle.sedmatch.proofs.search.scan.Goals as goal
 
 pub returns-in-Hit-clause-cost : goal.returns-in-Hit-clause-cost
 returns-in-Hit-clause-cost c =
-    let next = c.in-Some.ensures.next in
-    sweep_step (length c.args.expr.now.nodes) c.args.from c.loop-start.at c.in-Some.start (length c.args.text.now) c.args.steps.now c.loop-start.steps c.next_start.new.steps c.sweep.new.steps
-    (omega arith) next.0 next.1 c.loop-start.invariant.cost c.in-Some.ensures.cost c.in-Hit.ensures.cost
+    let next = c.in-Some.ensures.sought in
+    sweep_step (length c.args.expr.now.nodes) c.args.from c.loop-start.at c.in-Some.start (length c.args.text.now) c.args.steps.now c.loop-start.steps c.next_place.new.steps c.sweep_from.new.steps
+    next.0 next.1 c.loop-start.invariant.cost c.in-Some.ensures.cost c.in-Hit.ensures.cost
 
 pub returns-then-stop-len-clause-cost : goal.returns-then-stop-len-clause-cost
 returns-then-stop-len-clause-cost c =
-    let next = c.in-Some.ensures.next in
+    let next = c.in-Some.ensures.sought in
     let swept = c.in-Miss.ensures.swept in
-    sweep_last (length c.args.expr.now.nodes) (length c.args.text.now) c.args.from c.in-Miss.stop c.args.steps.now c.sweep.new.steps swept.1
-    (sweep_step (length c.args.expr.now.nodes) c.args.from c.loop-start.at c.in-Some.start c.in-Miss.stop c.args.steps.now c.loop-start.steps c.next_start.new.steps c.sweep.new.steps
-    (omega arith) next.0 swept.0 c.loop-start.invariant.cost c.in-Some.ensures.cost c.in-Miss.ensures.cost)
+    sweep_last (length c.args.expr.now.nodes) (length c.args.text.now) c.args.from c.in-Miss.stop c.args.steps.now c.sweep_from.new.steps swept.1
+    (sweep_step (length c.args.expr.now.nodes) c.args.from c.loop-start.at c.in-Some.start c.in-Miss.stop c.args.steps.now c.loop-start.steps c.next_place.new.steps c.sweep_from.new.steps
+    next.0 swept.0 c.loop-start.invariant.cost c.in-Some.ensures.cost c.in-Miss.ensures.cost)
 
 pub loop-start-preserved : goal.loop-start-preserved
 loop-start-preserved c =
-    let next = c.in-Some.ensures.next in
+    let next = c.in-Some.ensures.sought in
     let swept = c.in-Miss.ensures.swept in
+    let e = tree c.args.expr.now in
+    let w = c.args.text.now in
     record {
       marks = (omega arith, omega arith, omega arith);
       grows = omega arith;
       after = omega (arith, next.0, swept.0);
       within = omega arith;
-      cost = sweep_step (length c.args.expr.now.nodes) c.args.from c.loop-start.at c.in-Some.start c.in-Miss.stop c.args.steps.now c.loop-start.steps c.next_start.new.steps c.sweep.new.steps
-          (omega arith) next.0 swept.0 c.loop-start.invariant.cost c.in-Some.ensures.cost c.in-Miss.ensures.cost;
-      missed = none_step (tree c.args.expr.now) c.args.text.now c.args.from c.loop-start.at c.in-Some.start (c.in-Miss.stop + 1) c.args.begins.now c.requires.begins next.2 c.loop-start.invariant.missed swept.2;
+      cost = sweep_step (length c.args.expr.now.nodes) c.args.from c.loop-start.at c.in-Some.start c.in-Miss.stop c.args.steps.now c.loop-start.steps c.next_place.new.steps c.sweep_from.new.steps
+          next.0 swept.0 c.loop-start.invariant.cost c.in-Some.ensures.cost c.in-Miss.ensures.cost;
+      missed = none_join e w c.args.from c.loop-start.at (c.in-Miss.stop + 1) c.loop-start.invariant.missed
+          (none_join e w c.loop-start.at c.in-Some.start (c.in-Miss.stop + 1) next.2 swept.2);
     }
 
 pub returns-clause-cost : goal.returns-clause-cost
 returns-clause-cost c =
-    sweep_end (length c.args.expr.now.nodes) (length c.args.text.now) c.args.from c.loop-start.at c.args.steps.now c.loop-start.steps c.next_start.new.steps
-    (omega arith) c.loop-start.invariant.within c.loop-start.invariant.cost c.in_default.ensures.cost
+    sweep_end (length c.args.expr.now.nodes) (length c.args.text.now) c.args.from c.loop-start.at c.args.steps.now c.loop-start.steps c.next_place.new.steps
+    c.loop-start.invariant.within c.loop-start.invariant.cost c.in_default.ensures.cost

@@ -10,7 +10,7 @@ invariant-loop-start l = record {
   grows : l.initial.steps ≤ l.steps;
   after : l.from ≤ l.at;
   within : l.at ≤ length l.text;
-  cost : l.steps + 22 * length l.expr.nodes * l.from ≤ l.initial.steps + 22 * length l.expr.nodes * l.at;
+  cost : l.steps + 29 * length l.expr.nodes * l.from ≤ l.initial.steps + 29 * length l.expr.nodes * l.at;
   missed : NoneIn (tree l.expr) l.text l.from l.at;
 }
 

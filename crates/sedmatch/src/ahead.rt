@@ -1,0 +1,181 @@
+//! What the nodes that come first in a match tell of the matches that begin at a place.
+//!
+//! A concatenation is followed from part to part as long as each is a set, an anchor or the null string: so far a match
+//! goes one way only. Most places at which none begins are told by one or two of these parts.
+ghost use Rattle.std.specs.Prelude.{◌≡◌, ℕ, ◌+◌, ◌*◌, ◌^◌, ◌<◌, ◌≤◌, length, slice_get, Some, IsTrue};
+ghost use Rattle.sedre.specs.Arena.{tree, tree_of};
+ghost use Rattle.sedre.specs.Tree.{Tree, set as a_set};
+ghost use Rattle.sedmatch.specs.Spans.{Spans};
+ghost use Rattle.sedmatch.specs.Reach.{At};
+ghost use Rattle.sedmatch.specs.Ahead.{LeadsTo, anchor_lead, GoesOn, IsBelow};
+
+use crate::counted::Text;
+use sedre::{ByteSet, Expr, Node, Steps};
+
+/// Where the spans end that begin at a place.
+#[derive(Clone, Copy)]
+pub enum Lead {
+    /// There are none.
+    Nowhere,
+    /// There is one, which ends at this place.
+    To(usize),
+    /// That isn't known.
+    Unknown,
+}
+
+/// Where the spans of a set end that begin at the place.
+fn set_lead(set: &ByteSet, text: &Text, place: usize, steps: &mut Steps) -> Lead
+    requires place { place ≤ length text.now }
+    requires room { steps.old < 2 ^ 120 }
+    ensures leads { LeadsTo (length text.now) (Spans (a_set set.now) text.now place) result }
+    ensures grows { steps.old ≤ steps.new }
+    ensures cost { steps.new ≤ steps.old + 1 }
+{
+    if place < text.len() && set.has(text.byte(place, steps)) {
+        Lead::To(place + 1)
+    } else {
+        Lead::Nowhere
+    }
+}
+
+/// Where the spans of an anchor end that begin at the place, given whether it holds there.
+fn anchor_lead(holds: bool, place: usize) -> Lead
+    ensures { result ≡ anchor_lead holds place }
+{
+    if holds {
+        Lead::To(place)
+    } else {
+        Lead::Nowhere
+    }
+}
+
+/// Where the spans of a node end that begin at the place.
+fn node_lead(node: &Node, text: &Text, place: usize, steps: &mut Steps) -> Lead
+    requires place { place ≤ length text.now }
+    requires room { steps.old < 2 ^ 120 }
+    ensures leads { (part : ℕ → Tree) → LeadsTo (length text.now) (Spans (tree_of part node.now) text.now place) result }
+    ensures grows { steps.old ≤ steps.new }
+    ensures cost { steps.new ≤ steps.old + 1 }
+{
+    match node {
+        Node::Empty => Lead::To(place),
+        Node::Set(set) => set_lead(set, text, place, steps),
+        Node::Begin => anchor_lead(place == 0, place),
+        Node::End => anchor_lead(place == text.len(), place),
+        _ => Lead::Unknown,
+    }
+}
+
+/// What is left of the spans of a node that begin at a place.
+#[derive(Clone, Copy)]
+pub enum Rest {
+    /// They go on as the spans of this node from this place on.
+    Part(usize, usize),
+    /// They end there.
+    End(Lead),
+}
+
+/// What is left of the spans of the node, which stands at the index, behind its first part.
+#[inline(always)]
+fn rest_of_node(
+    expr: &Expr,
+    index: usize,
+    node: &Node,
+    text: &Text,
+    place: usize,
+    steps: &mut Steps,
+) -> Rest
+    requires node { slice_get expr.now.nodes index ≡ Some node.now }
+    requires inside { index < length expr.now.nodes }
+    requires place { place ≤ length text.now }
+    requires room { steps.old < 2 ^ 119 }
+    ensures goes { GoesOn expr.now.nodes text.now (At expr.now.nodes text.now index place) result }
+    ensures below { IsBelow index (length text.now) result }
+    ensures grows { steps.old ≤ steps.new }
+    ensures cost { steps.new ≤ steps.old + 2 }
+{
+    let _count = expr.nodes();
+    match node {
+        Node::Seq(a, b) => {
+            let first = expr.look(*a, steps);
+            match node_lead(&first, text, place, steps) {
+                Lead::Nowhere => Rest::End(Lead::Nowhere),
+                Lead::To(end) => Rest::Part(b.index(), end),
+                Lead::Unknown => Rest::End(Lead::Unknown),
+            }
+        }
+        Node::Group(_, a) => Rest::Part(a.index(), place),
+        _ => Rest::End(node_lead(node, text, place, steps)),
+    }
+}
+
+/// Whether the first part of a node tells that no span of it begins at the place, or what is left behind that part.
+fn fails_early(expr: &Expr, index: usize, text: &Text, place: usize, steps: &mut Steps) -> bool
+    requires inside { index < length expr.now.nodes }
+    requires place { place ≤ length text.now }
+    requires room { steps.old ≤ 2 ^ 118 }
+    ensures fails { IsTrue result → (j : ℕ) → At expr.now.nodes text.now index place j → ⊥ }
+    ensures grows { steps.old ≤ steps.new }
+    ensures cost { steps.new ≤ steps.old + 6 }
+{
+    let node = expr.look(expr.id(index), steps);
+    match rest_of_node(expr, index, &node, text, place, steps) {
+        Rest::End(Lead::Nowhere) => true,
+        Rest::End(_) => false,
+        Rest::Part(part, from) => {
+            let next = expr.look(expr.id(part), steps);
+            match rest_of_node(expr, part, &next, text, from, steps) {
+                Rest::End(Lead::Nowhere) => true,
+                _ => false,
+            }
+        }
+    }
+}
+
+/// What is left of the spans of the node at the index that begin at the place, behind its first part. An alternative
+/// that fails early is left out.
+fn rest_behind(expr: &Expr, index: usize, text: &Text, place: usize, steps: &mut Steps) -> Rest
+    requires inside { index < length expr.now.nodes }
+    requires place { place ≤ length text.now }
+    requires room { steps.old < 2 ^ 118 }
+    ensures goes { GoesOn expr.now.nodes text.now (At expr.now.nodes text.now index place) result }
+    ensures below { IsBelow index (length text.now) result }
+    ensures grows { steps.old ≤ steps.new }
+    ensures cost { steps.new ≤ steps.old + 7 }
+{
+    let _count = expr.nodes();
+    let node = expr.look(expr.id(index), steps);
+    match node {
+        Node::Alt(a, b) => {
+            if fails_early(expr, a.index(), text, place, steps) {
+                Rest::Part(b.index(), place)
+            } else {
+                Rest::End(Lead::Unknown)
+            }
+        }
+        _ => rest_of_node(expr, index, &node, text, place, steps),
+    }
+}
+
+/// Where the matches end that begin at the place, as far as what comes first in them tells.
+pub fn look_ahead(expr: &Expr, text: &Text, place: usize, steps: &mut Steps) -> Lead
+    requires place { place ≤ length text.now }
+    requires few { length expr.now.nodes ≤ 65536 }
+    requires room { steps.old < 2 ^ 117 }
+    ensures leads { LeadsTo (length text.now) (Spans (tree expr.now) text.now place) result }
+    ensures grows { steps.old ≤ steps.new }
+    ensures cost { steps.new ≤ steps.old + 7 * length expr.now.nodes }
+{
+    let root = expr.root().index();
+    let mut index = root;
+    let mut at = place;
+    loop {
+        match rest_behind(expr, index, text, at, steps) {
+            Rest::Part(part, from) => {
+                index = part;
+                at = from;
+            }
+            Rest::End(lead) => return lead,
+        }
+    }
+}
