@@ -1,6 +1,9 @@
 //! The program, over devices that its caller gives.
-ghost use Rattle.std.specs.Prelude.{◌≡◌, ◌<◌, ◌≤◌, ◌⊎◌, IfOk, map};
+ghost use Rattle.std.specs.Prelude.{◌≡◌, ◌<◌, ◌≤◌, ◌⊎◌, IfErr, IfOk, map};
+ghost use Rattle.sedscript.specs.Script.{Faulty};
+ghost use Rattle.sedengine.specs.Calls.{Puts, Writes};
 ghost use Rattle.sedengine.specs.Devices.{Gained};
+ghost use Rattle.sedengine.specs.Move.{to_sink};
 ghost use Rattle.sed.specs.Program.{GivesScript, IsCommandLine, WritesAll, WritesBeginning, quiet_of, script_of};
 
 use crate::asked::{Line, Refused};
@@ -8,7 +11,7 @@ use crate::command_line::line;
 use crate::editing::{edit, script};
 use crate::messages::{say_end, say_fault, say_no_memory};
 use sedengine::{Ended, Limits};
-use sedscript::{Kind, Script, ScriptFault};
+use sedscript::{Kind, NO_MEMORY, Script, ScriptFault};
 use sedspace::{Broken, ByteSource, MemoryTexts, Outputs};
 use std::alloc::Global;
 use std::convert::AsStr;
@@ -98,18 +101,22 @@ fn answer_words<O: Outputs, E: Write>(
     };
     match write_all(outputs, help.as_bytes()) {
         Ok(()) => SUCCESS,
-        Err(Broken) => stopped(Ended::OutputBroken(0), errors),
+        Err(end) => stopped(end, errors),
     }
 }
 
 /// Writes the bytes to sink 0, however short the writes are.
-fn write_all<O: Outputs>(outputs: &mut O, bytes: &[u8]) -> Result<(), Broken>
+fn write_all<O: Outputs>(outputs: &mut O, bytes: &[u8]) -> Result<(), Ended>
     requires { 0 < O.count outputs.old }
-    ensures { O.count outputs.new ≡ O.count outputs.old }
+    ensures puts { Puts (Gained (O.contents outputs.old) (O.contents outputs.new)) (to_sink 0 bytes.now) result }
+    ensures devices { Writes O.failures O.count outputs.old outputs.new result }
 {
-    let mut at = 0;
-    'writing: while at < bytes.len() {
-        at += outputs.write(0, &bytes[at..])?;
+    let mut done = 0;
+    while done < bytes.len() {
+        match outputs.write(0, &bytes[done..]) {
+            Ok(count) => done += count,
+            Err(Broken) => return Err(Ended::OutputBroken(0)),
+        }
     }
     Ok(())
 }
@@ -117,7 +124,8 @@ fn write_all<O: Outputs>(outputs: &mut O, bytes: &[u8]) -> Result<(), Broken>
 /// The script that a command line gives, with its -n.
 fn read_script(alloc: Global, line: Line<'_>, nodes: usize) -> Result<Script, ScriptFault>
     requires { (1 ≤ nodes) × (nodes ≤ 65536) }
-    ensures { IfOk result (GivesScript line.entry.script.now line.entry.quiet nodes) }
+    ensures gives { IfOk result (GivesScript line.entry.script.now line.entry.quiet nodes) }
+    ensures fault { IfErr result (λ f. Faulty line.entry.script.now Kind.Basic nodes f ⊎ (f ≡ NO_MEMORY)) }
 {
     let mut program = script(alloc, line.script.as_bytes(), Kind::Basic, nodes)?;
     if line.quiet {

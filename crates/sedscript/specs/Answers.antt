@@ -1,5 +1,6 @@
 -- What the reader's functions answer, against the definitions. Private machinery of the reader.
-use Rattle.std.specs.Prelude.{◌≡◌, ◌<◌, ◌≤◌, ◌⊎◌, ℕ, List, ◌++◌, length, Bool, true, false, if◌then◌else◌, Option, Result, Ok, Err}
+use Rattle.std.specs.Prelude.{◌≡◌, ◌<◌, ◌≤◌, ◌⊎◌, ℕ, List, ◌++◌, length, Bool, true, false, if◌then◌else◌, Option}
+use Rattle.std.specs.Prelude.{Result, Ok, Err}
 use Rattle.sedre.specs.declared.types.Kind.{Kind}
 use Rattle.sedre.specs.declared.types.Reason.{Reason as ExprReason}
 use Rattle.sedre.specs.declared.types.Reason.TheVariants.{NoMemory}

@@ -1,7 +1,10 @@
 -- The numbers of the reasons (this project's own).
 use Rattle.std.specs.Prelude.{ℕ}
 use Rattle.sedscript.specs.declared.types.Reason.{Reason}
-use Rattle.sedscript.specs.declared.types.Reason.TheVariants.{UnknownCommand, TooManyAddresses, BadAddress, MissingText, OpenDelimiter, BadDelimiter, UnknownLabel, RepeatedLabel, MissingLabel, OpenBlock, StrayClose, TrailingBytes, Expression, NoMemory}
+use Rattle.sedscript.specs.declared.types.Reason.TheVariants.{UnknownCommand, TooManyAddresses, BadAddress, MissingText}
+use Rattle.sedscript.specs.declared.types.Reason.TheVariants.{OpenDelimiter, BadDelimiter, UnknownLabel, RepeatedLabel}
+use Rattle.sedscript.specs.declared.types.Reason.TheVariants.{MissingLabel, OpenBlock, StrayClose, TrailingBytes}
+use Rattle.sedscript.specs.declared.types.Reason.TheVariants.{Expression, NoMemory}
 
 abbrev pub number_of : Reason → ℕ
 number_of UnknownCommand = 1

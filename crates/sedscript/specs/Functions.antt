@@ -1,9 +1,11 @@
 -- The functions of commands and what follows them (XCU sed, "Editing Commands in sed").
-use Rattle.std.specs.Prelude.{ℕ, ◌+◌, List, [], ◌∷◌, suc, drop, Bool, true, false, ◌&&◌, ◌||◌, Option, Some, None, if◌then◌else◌, nat_lt, ◌==◌, slice_get, Result, Ok, Err, option_map}
+use Rattle.std.specs.Prelude.{ℕ, ◌+◌, List, [], ◌∷◌, suc, drop, Bool, true, false, ◌&&◌, ◌||◌, Option, Some, None}
+use Rattle.std.specs.Prelude.{if◌then◌else◌, nat_lt, ◌==◌, slice_get, Result, Ok, Err, option_map}
 use Rattle.sedscript.specs.declared.bytes.Sort.TheVariants.{Blank, Name, Line}
 use Rattle.sedscript.specs.declared.types.ScriptFault.{ScriptFault}
 use Rattle.sedscript.specs.declared.types.Reason.{Reason}
-use Rattle.sedscript.specs.declared.types.Reason.TheVariants.{UnknownCommand, TooManyAddresses, MissingText, MissingLabel, TrailingBytes}
+use Rattle.sedscript.specs.declared.types.Reason.TheVariants.{UnknownCommand, TooManyAddresses, MissingText}
+use Rattle.sedscript.specs.declared.types.Reason.TheVariants.{MissingLabel, TrailingBytes}
 use Rattle.sedscript.specs.declared.items.Simple.TheVariants.{Delete, LineNumber, Print, Quit}
 use Rattle.sedscript.specs.declared.items.TextUse.{TextUse}
 use Rattle.sedscript.specs.declared.items.TextUse.TheVariants.{Insert, Change}

@@ -4,7 +4,8 @@ use Rattle.sedre.specs.Arena.{Written}
 use Rattle.sedscript.specs.declared.types.Address.{Address}
 use Rattle.sedscript.specs.declared.types.Address.TheVariants.{Line, Last, Match}
 use Rattle.sedscript.specs.declared.types.Action.{Action}
-use Rattle.sedscript.specs.declared.types.Action.TheVariants.{Block, Branch, Change, Delete, Insert, Print, Quit, LineNumber}
+use Rattle.sedscript.specs.declared.types.Action.TheVariants.{Block, Branch, Change, Delete, Insert, Print, Quit}
+use Rattle.sedscript.specs.declared.types.Action.TheVariants.{LineNumber}
 use Rattle.sedscript.specs.declared.types.Command.{Command}
 
 -- an address names one of so many expressions

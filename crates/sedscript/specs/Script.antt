@@ -1,11 +1,15 @@
 -- What a script means, and its first fault (XCU sed, "Extended Description").
-use Rattle.std.specs.Prelude.{◌≡◌, ℕ, suc, ◌+◌, List, [], ◌∷◌, ◌++◌, length, Bool, true, false, not, ◌&&◌, Option, Some, None, if◌then◌else◌, ◌==◌, slice_get, Ok, unwrap_or}
+use Rattle.std.specs.Prelude.{◌≡◌, ℕ, suc, ◌+◌, List, [], ◌∷◌, ◌++◌, length, Bool, true, false, not, ◌&&◌, Option, Some}
+use Rattle.std.specs.Prelude.{None, if◌then◌else◌, ◌==◌, slice_get, Ok, unwrap_or}
 use Rattle.sedre.specs.declared.types.Kind.{Kind}
 use Rattle.sedre.specs.Arena.{Written}
 use Rattle.sedscript.specs.declared.bytes.Sort.TheVariants.{Separator}
 use Rattle.sedscript.specs.declared.types.ScriptFault.{ScriptFault}
 use Rattle.sedscript.specs.declared.types.Action.{Action}
-use Rattle.sedscript.specs.declared.types.Action.TheVariants.{Block, Branch as BranchTo, Change as ChangeText, Delete as DeleteSpace, Insert as InsertText, LineNumber as WriteNumber, Print as PrintSpace, Quit as QuitHere}
+use Rattle.sedscript.specs.declared.types.Action.TheVariants.{Block, Branch as BranchTo, Change as ChangeText}
+use Rattle.sedscript.specs.declared.types.Action.TheVariants.{Delete as DeleteSpace, Insert as InsertText}
+use Rattle.sedscript.specs.declared.types.Action.TheVariants.{LineNumber as WriteNumber, Print as PrintSpace}
+use Rattle.sedscript.specs.declared.types.Action.TheVariants.{Quit as QuitHere}
 use Rattle.sedscript.specs.declared.types.Command.{Command}
 use Rattle.sedscript.specs.declared.items.Simple.{Simple}
 use Rattle.sedscript.specs.declared.items.Simple.TheVariants.{Delete, LineNumber, Print, Quit}

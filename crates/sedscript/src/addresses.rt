@@ -3,8 +3,11 @@
 ghost use Rattle.std.specs.Prelude.{◌≡◌, ◌≢◌, ◌≤◌, ◌<◌, ◌+◌, ℕ, List, Option, Some, length, slice_get, IfOk, IfSome};
 ghost use Rattle.sedscript.specs.declared.types.Address.{Address};
 ghost use Rattle.sedscript.specs.Bytes.{part, with_digits};
-ghost use Rattle.sedscript.specs.Addresses.{match_at, own_match, own_delimiter, address_at, behind_first, second_at, with_second, function_behind, addresses_at, with_bang, addresses_of, item_at, line_of};
-ghost use Rattle.sedscript.specs.Answers.{as_addressed, as_headed, as_here, ComesFrom, Agrees, IsBehind, IsHere, is_no_memory, fault_of};
+ghost use Rattle.sedscript.specs.Addresses.{match_at, own_match, own_delimiter, address_at, behind_first, second_at};
+ghost use Rattle.sedscript.specs.Addresses.{with_second, function_behind, addresses_at, with_bang, addresses_of};
+ghost use Rattle.sedscript.specs.Addresses.{item_at, line_of};
+ghost use Rattle.sedscript.specs.Answers.{as_addressed, as_headed, as_here, ComesFrom, Agrees, IsBehind, IsHere};
+ghost use Rattle.sedscript.specs.Answers.{is_no_memory, fault_of};
 
 use crate::bytes::{Sort, byte_at, is_byte, is_digit, number_of, past};
 use crate::functions::function_at;
