@@ -8,7 +8,8 @@ use Rattle.sedengine.specs.Run.{setting_of}
 use Rattle.sed.specs.CommandLine.{quiet_in, script_in, sed_command}
 use Rattle.sed.specs.Editing.{GainsAll, GainsBeginning, start_over}
 
--- The text means the script p, but that -n suppresses default output too, as a first line `#n` does (XCU sed, "Options").
+-- The text means the script p, but that -n suppresses default output too, as a first line `#n` does
+-- (XCU sed, "Options").
 abbrev pub GivesScript : List ℕ → Bool → ℕ → Program → Type 0
 GivesScript text quiet nodes p = (q : Program) × Means text Basic nodes q × (p ≡ record q { quiet = quiet || q.quiet })
 

@@ -33,7 +33,8 @@ pub record CommandWithin (commands expressions texts : ℕ) (c : Command) : Type
   pub action : ActionWithin commands texts c.action
 
 -- each command is in range, and no expression has more nodes than allowed
-pub record InRange (commands : List Command) (expressions : List Written) (texts : List (List ℕ)) (max_nodes : ℕ) : Type 0 where
+pub record InRange (commands : List Command) (expressions : List Written) (texts : List (List ℕ))
+    (max_nodes : ℕ) : Type 0 where
   pub each : (i : ℕ) (c : Command) → slice_get commands i ≡ Some c →
       CommandWithin (length commands) (length expressions) (length texts) c
   pub nodes : (k : ℕ) (e : Written) → slice_get expressions k ≡ Some e → length e.nodes ≤ max_nodes

@@ -65,7 +65,8 @@ EndsFrom items from ends = (k : ℕ) (i : Item) →
     slice_get ends k ≡ Some (close_in 0 (commands_in (take (k + 1) items)) (drop (k + 1) items))
 
 -- the tables of all items
-pub record TargetsAre (text : List ℕ) (items : List Item) (labels : BTreeMap (Bor (List ℕ)) FirstLabel) (ends : List (Option ℕ)) (commands : ℕ) : Type 0 where
+pub record TargetsAre (text : List ℕ) (items : List Item) (labels : BTreeMap (Bor (List ℕ)) FirstLabel)
+    (ends : List (Option ℕ)) (commands : ℕ) : Type 0 where
   pub labels_are : LabelsAre text items labels
   pub ends_are : EndsFrom items 0 ends
   pub length_is : length ends ≡ length items

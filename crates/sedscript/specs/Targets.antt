@@ -1,4 +1,5 @@
--- Where labels and blocks lead, and what is wrong with them (XCU sed, "Editing Commands in sed": `{`, `}`, `b` and `:`).
+-- Where labels and blocks lead, and what is wrong with them
+-- (XCU sed, "Editing Commands in sed": `{`, `}`, `b` and `:`).
 use Rattle.std.specs.Prelude.{ℕ, suc, ◌-◌, List, [], ◌∷◌, ◌++◌, Bool, true, false, not, ◌&&◌, Option, Some, None}
 use Rattle.std.specs.Prelude.{is_none, is_some, if◌then◌else◌, ◌==◌}
 use Rattle.std.specs.Bool.{then_some}
@@ -83,7 +84,8 @@ block_end before after = close_in 0 (suc (commands_in before)) after
 abbrev pub fault_if : Bool → Reason → ℕ → Option ScriptFault
 fault_if wrong reason place = then_some wrong (record { place = place; reason = reason })
 
--- what is wrong with a function at a place among all items: those before it with so many open blocks, and those behind it
+-- what is wrong with a function at a place among all items: those before it with so many open blocks, and those
+-- behind it
 abbrev pub late_at : List ℕ → List Item → List Item → ℕ → List Item → ℕ → Function → Option ScriptFault
 late_at text all before depth after place Open = fault_if (is_none (block_end before after)) OpenBlock place
 late_at text all before depth after place Close = fault_if (depth == 0) StrayClose place

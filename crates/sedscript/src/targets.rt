@@ -236,7 +236,8 @@ impl<'a> Targets<'a> {
         is_earlier(k, self.first_label(name))
     }
 
-    /// The number of the command behind the end of the block that the item of an index opens, none where it isn't closed.
+    /// The number of the command behind the end of the block that the item of an index opens, none where it isn't
+    /// closed.
     pub fn block_end(&self, k: usize) -> Option<usize>
         requires { k < length self.now.ends.items }
         ensures { (text : List ℕ) (items : List Item) (i : Item) →
