@@ -1,11 +1,16 @@
 -- From the end of an edit to the status of the program.
-use Rattle.std.proofs.Common.{◌≡◌, ℕ, List, [], Some, refl}
+use Rattle.std.proofs.Common.{◌≡◌, ℕ, List, [], Option, Some, Err, take, refl, sym}
 use Rattle.std.specs.Prelude.{Vec}
 use Rattle.sedspace.specs.Memory.{text_bytes}
 use Rattle.sedscript.specs.Script.{Program}
+use Rattle.sedengine.specs.Calls.{Puts}
+use Rattle.sedengine.specs.Devices.{Gained}
+use Rattle.sedengine.specs.Move.{to_sink}
 use Rattle.sedengine.specs.Run.{files_in, setting_of}
+use Rattle.sedengine.specs.declared.ends.Ended.{Ended}
+use Rattle.sedengine.proofs.Gains.{take-to_sink}
 use Rattle.sed.specs.Editing.{GainsAll, GainsBeginning, start_over}
-use Rattle.sed.specs.Program.{no_files}
+use Rattle.sed.specs.Program.{WritesHelp, no_files}
 
 -- a list of no texts gives no files
 pub files_in-nil : {A : Type 0} (texts : List (Vec ℕ A)) → texts ≡ [] → files_in (λ k. Some (text_bytes texts k)) ≡ no_files
@@ -18,3 +23,9 @@ Gains-all-files p files bytes gained is h = rw is at h
 pub Gains-beginning-files : (p : Program) (files : ℕ → List ℕ) (bytes : List ℕ) (gained : List (ℕ × ℕ) → Type 0) → files ≡ no_files →
     GainsBeginning (setting_of p files) (start_over p bytes) gained → GainsBeginning (setting_of p no_files) (start_over p bytes) gained
 Gains-beginning-files p files bytes gained is h = rw is at h
+
+-- what was written of a text before its sink failed is a text too
+pub WritesHelp-cut : (old new : ℕ → Option (List ℕ)) (text : List ℕ) (end : Ended) →
+    Puts (Gained old new) (to_sink 0 text) (Err end) → WritesHelp (Gained old new)
+WritesHelp-cut old new text end (k, b, byte, is, due, gained) =
+    (take b text, rw (sym (take-to_sink 0 b text)) gained)

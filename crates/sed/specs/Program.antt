@@ -1,10 +1,12 @@
 -- What the program does with the words of its command line.
-use Rattle.std.specs.Prelude.{◌≡◌, ◌||◌, ℕ, Bool, true, List, [], Option}
+use Rattle.std.specs.Prelude.{◌≡◌, ◌||◌, ℕ, Bool, false, List, [], Option}
 use Rattle.std.specs.Option.{ForSome}
-use Rattle.clap.specs.Words.{Text, matches_of, takes}
+use Rattle.clap.specs.Words.{IsAmong, Text, fault_of, matches_of, takes}
+use Rattle.clap.specs.declared.error.kind.ErrorKind.TheVariants.{DisplayHelp}
 use Rattle.sedscript.specs.Script.{Means, Program}
 use Rattle.sedscript.specs.declared.types.Kind.TheVariants.{Basic}
 use Rattle.sedengine.specs.Run.{setting_of}
+use Rattle.sedengine.specs.Move.{to_sink}
 use Rattle.sed.specs.CommandLine.{quiet_in, script_in, sed_command}
 use Rattle.sed.specs.Editing.{GainsAll, GainsBeginning, start_over}
 
@@ -30,9 +32,13 @@ WritesBeginning text quiet nodes input gained =
     (p : Program) × GivesScript text quiet nodes p
     × ForSome input (λ bytes. GainsBeginning (setting_of p no_files) (start_over p bytes) gained)
 
--- whether the words are a command line
-abbrev pub IsCommandLine : List Text → Type 0
-IsCommandLine words = takes sed_command words ≡ true
+-- clap doesn't take the words, since they ask for help
+abbrev pub AsksHelp : List Text → Type 0
+AsksHelp words = (takes sed_command words ≡ false) × IsAmong DisplayHelp (fault_of sed_command words)
+
+-- the sinks have gained a text, all of it for sink 0. Which text help is, clap alone says
+abbrev pub WritesHelp : (List (ℕ × ℕ) → Type 0) → Type 0
+WritesHelp gained = (text : List ℕ) × gained (to_sink 0 text)
 
 -- the script's text that they give, and whether they have -n
 abbrev pub script_of : List Text → List ℕ

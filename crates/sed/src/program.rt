@@ -1,15 +1,19 @@
 //! The program, over devices that its caller gives.
-ghost use Rattle.std.specs.Prelude.{◌≡◌, ◌<◌, ◌≤◌, ◌⊎◌, IfErr, IfOk, map};
+ghost use Rattle.std.specs.Prelude.{◌≡◌, ◌≢◌, ◌<◌, ◌≤◌, ◌⊎◌, IfErr, IfOk, map};
 ghost use Rattle.sedscript.specs.Script.{Faulty};
 ghost use Rattle.sedengine.specs.Calls.{Puts, Writes};
 ghost use Rattle.sedengine.specs.Devices.{Gained};
 ghost use Rattle.sedengine.specs.Move.{to_sink};
-ghost use Rattle.sed.specs.Program.{GivesScript, IsCommandLine, WritesAll, WritesBeginning, quiet_of, script_of};
+ghost use Rattle.clap.specs.Words.{kind_of};
+ghost use Rattle.sed.specs.CommandLine.{IsCommandLine};
+ghost use Rattle.sed.specs.Program.{AsksHelp, GivesScript, WritesAll, WritesBeginning, WritesHelp};
+ghost use Rattle.sed.specs.Program.{quiet_of, script_of};
 
 use crate::asked::{Line, Refused};
 use crate::command_line::line;
 use crate::editing::{edit, script};
 use crate::messages::{say_end, say_fault, say_no_memory};
+use clap::error::ErrorKind;
 use sedengine::{Ended, Limits};
 use sedscript::{Kind, NO_MEMORY, Script, ScriptFault};
 use sedspace::{Broken, ByteSource, MemoryTexts, Outputs};
@@ -47,13 +51,18 @@ pub fn stream<S: AsStr, R: ByteSource + Drop, O: Outputs, E: Write>(
 ) -> u8
     requires { 0 < O.count outputs.old }
     ensures status { (result ≡ SUCCESS) ⊎ (result ≡ REFUSED) ⊎ (result ≡ STOPPED) }
-    // Status 0 says that all was written that the script writes, and a run that stopped has written a beginning.
-    ensures whole { result ≡ SUCCESS → IsCommandLine (map S.text words.now) →
-        WritesAll (script_of (map S.text words.now)) (quiet_of (map S.text words.now)) limits.nodes
-        (R.remaining source) (Gained (O.contents outputs.old) (O.contents outputs.new)) }
-    ensures stopped { result ≡ STOPPED → IsCommandLine (map S.text words.now) →
-        WritesBeginning (script_of (map S.text words.now)) (quiet_of (map S.text words.now)) limits.nodes
-        (R.remaining source) (Gained (O.contents outputs.old) (O.contents outputs.new)) }
+    // Status 0 says that all was written that the script writes, or that help was asked for and written.
+    ensures whole { result ≡ SUCCESS →
+        (IsCommandLine (map S.text words.now)
+        × WritesAll (script_of (map S.text words.now)) (quiet_of (map S.text words.now)) limits.nodes
+        (R.remaining source) (Gained (O.contents outputs.old) (O.contents outputs.new)))
+        ⊎ (AsksHelp (map S.text words.now) × WritesHelp (Gained (O.contents outputs.old) (O.contents outputs.new))) }
+    // A run that stopped has written a beginning, and where help was asked for nothing else.
+    ensures stopped { result ≡ STOPPED →
+        (IsCommandLine (map S.text words.now)
+        × WritesBeginning (script_of (map S.text words.now)) (quiet_of (map S.text words.now)) limits.nodes
+        (R.remaining source) (Gained (O.contents outputs.old) (O.contents outputs.new)))
+        ⊎ (AsksHelp (map S.text words.now) × WritesHelp (Gained (O.contents outputs.old) (O.contents outputs.new))) }
     ensures refused { result ≡ REFUSED → outputs.new ≡ outputs.old }
     ensures sinks { O.count outputs.new ≡ O.count outputs.old }
 {
@@ -89,13 +98,15 @@ fn answer_words<O: Outputs, E: Write>(
 ) -> u8
     requires { 0 < O.count outputs.old }
     ensures status { (result ≡ SUCCESS) ⊎ (result ≡ REFUSED) ⊎ (result ≡ STOPPED) }
+    ensures asked { result ≢ REFUSED → kind_of error.now ≡ ErrorKind.DisplayHelp }
+    ensures help { result ≢ REFUSED → WritesHelp (Gained (O.contents outputs.old) (O.contents outputs.new)) }
     ensures refused { result ≡ REFUSED → outputs.new ≡ outputs.old }
     ensures sinks { O.count outputs.new ≡ O.count outputs.old }
 {
-    if error.use_stderr() {
+    let ErrorKind::DisplayHelp = error.kind() else {
         let _ = write!(errors, "{error}");
         return REFUSED;
-    }
+    };
     let Ok(help) = error.to_string(alloc) else {
         return out_of_memory(errors);
     };
