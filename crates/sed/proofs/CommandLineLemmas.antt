@@ -1,11 +1,12 @@
 -- The command line that `clap` is given.
-use Rattle.std.proofs.Common.{◌≡◌, ◌≢◌, ◌∙◌, inl, inr, List, Option, Result, Ok, Err, IfOk, IfErr, true, refl, ap, codes, unwrap_or}
+use Rattle.std.proofs.Common.{◌≡◌, ◌≢◌, ◌∙◌, inl, inr, List, [], ◌∷◌, Option, Result, Ok, Err, IfOk, IfErr, true, refl, ap, codes, unwrap_or}
 use Rattle.clap.specs.Words.{App, Text, first_of, first_value, found_of, is_simple, is_simple_and_free, kind_of, fault_of, matches_of, rows_of, takes, FailsBy, HasKind, HasMatchesOf}
 use Rattle.clap.specs.declared.error.Error.{Error}
-use Rattle.clap.specs.declared.error.kind.ErrorKind.TheVariants.{OutOfMemory}
+use Rattle.clap.specs.declared.error.kind.ErrorKind.TheVariants.{OutOfMemory, MissingRequiredArgument, DisplayHelp}
 use Rattle.clap.specs.declared.parser.matches.ArgMatches.{ArgMatches}
+use Rattle.clap.proofs.OnLiterals.{clap_on_literals}
 use Rattle.clap.proofs.WalkLemmas.{first_value-rows}
-use Rattle.sed.specs.CommandLine.{IsRefusal, script_in, sed_command}
+use Rattle.sed.specs.CommandLine.{IsCommandLine, IsRefusal, script_in, sed_command}
 use Rattle.sed.specs.declared.asked.Refused.{Refused}
 use Rattle.sed.specs.declared.asked.Refused.TheVariants.{NoMemory, Words}
 
@@ -50,3 +51,16 @@ pub script_in-matches : (words : List Text) (m : ArgMatches) (given : Option Tex
     script ≡ unwrap_or given (codes "") → script ≡ script_in (matches_of sed_command words)
 script_in-matches words m given script rows is same =
     same ∙ ap (λ t. unwrap_or t (codes "")) (is ∙ first_value-rows (found_of m) (codes "script") ∙ ap (first_of (codes "script")) rows)
+
+-- some words that are a command line, and some that aren't
+two_are : IsCommandLine (codes "-n" ∷ codes "p" ∷ [])
+unfolding clap_on_literals sed_command
+two_are = refl
+
+none_are : fault_of sed_command [] ≡ MissingRequiredArgument ∷ []
+unfolding clap_on_literals sed_command
+none_are = refl
+
+help_asks : fault_of sed_command (codes "-h" ∷ []) ≡ DisplayHelp ∷ []
+unfolding clap_on_literals sed_command
+help_asks = refl
