@@ -24,11 +24,11 @@ number-bits zero w bit small same = omega arith
 number-bits (suc n) w bit small same =
     let half : w / 2 < 2 ^ n = omega (arith, pow-suc 2 n) in
     let rest : number (λ k. bit (suc k)) n ≡ w / 2 =
-      number-bits n (w / 2) (λ k. bit (suc k)) half
-      (λ k lt. same (suc k) (omega arith) ∙ ap (λ x. eqb x 1) (bit_at-suc w k)) in
+    number-bits n (w / 2) (λ k. bit (suc k)) half
+    (λ k lt. same (suc k) (omega arith) ∙ ap (λ x. eqb x 1) (bit_at-suc w k)) in
     let low : (if bit 0 then 1 else 0) ≡ w % 2 =
-      ap (λ (b : Bool). if b then 1 else 0) (same 0 (omega arith)) ∙ one_or_none (bit_at w 0) (bit_at-lt w 0)
-      ∙ bit_at_lowest w in
+    ap (λ (b : Bool). if b then 1 else 0) (same 0 (omega arith)) ∙ one_or_none (bit_at w 0) (bit_at-lt w 0)
+    ∙ bit_at_lowest w in
     omega arith
 
 -- the bit of the byte from + k, where from is 64 times the word's place
