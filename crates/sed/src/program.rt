@@ -6,7 +6,7 @@ ghost use Rattle.sedengine.specs.Devices.{Gained};
 ghost use Rattle.sedengine.specs.Move.{to_sink};
 ghost use Rattle.clap.specs.Words.{kind_of};
 ghost use Rattle.sed.specs.CommandLine.{IsCommandLine};
-ghost use Rattle.sed.specs.Program.{AsksHelp, GivesScript, WritesAll, WritesBeginning, WritesHelp};
+ghost use Rattle.sed.specs.Program.{AsksHelp, GivesScript, StopsEarly, WritesAll, WritesBeginning, WritesHelp};
 ghost use Rattle.sed.specs.Program.{quiet_of, script_of};
 
 use crate::asked::{Line, Refused};
@@ -57,12 +57,16 @@ pub fn stream<S: AsStr, R: ByteSource + Drop, O: Outputs, E: Write>(
         × WritesAll (script_of (map S.text words.now)) (quiet_of (map S.text words.now)) limits.nodes
         (R.remaining source) (Gained (O.contents outputs.old) (O.contents outputs.new)))
         ⊎ (AsksHelp (map S.text words.now) × WritesHelp (Gained (O.contents outputs.old) (O.contents outputs.new))) }
-    // A run that stopped has written a beginning, and where help was asked for nothing else.
+    // A run that stopped has written a beginning, of the help too.
     ensures stopped { result ≡ STOPPED →
         (IsCommandLine (map S.text words.now)
         × WritesBeginning (script_of (map S.text words.now)) (quiet_of (map S.text words.now)) limits.nodes
         (R.remaining source) (Gained (O.contents outputs.old) (O.contents outputs.new)))
         ⊎ (AsksHelp (map S.text words.now) × WritesHelp (Gained (O.contents outputs.old) (O.contents outputs.new))) }
+    // It stopped for a cause.
+    ensures cause { result ≡ STOPPED →
+        StopsEarly limits (script_of (map S.text words.now)) (quiet_of (map S.text words.now)) (R.remaining source)
+        (Gained (O.contents outputs.old) (O.contents outputs.new)) ⊎ AsksHelp (map S.text words.now) }
     ensures refused { result ≡ REFUSED → outputs.new ≡ outputs.old }
     ensures sinks { O.count outputs.new ≡ O.count outputs.old }
 {
@@ -159,6 +163,8 @@ fn run_line<R: ByteSource + Drop, O: Outputs, E: Write>(
     ensures whole { result ≡ SUCCESS → WritesAll line.entry.script.now line.entry.quiet limits.nodes
         (R.remaining source) (Gained (O.contents outputs.old) (O.contents outputs.new)) }
     ensures stopped { result ≡ STOPPED → WritesBeginning line.entry.script.now line.entry.quiet limits.nodes
+        (R.remaining source) (Gained (O.contents outputs.old) (O.contents outputs.new)) }
+    ensures cause { result ≡ STOPPED → StopsEarly limits line.entry.script.now line.entry.quiet
         (R.remaining source) (Gained (O.contents outputs.old) (O.contents outputs.new)) }
     ensures refused { result ≡ REFUSED → outputs.new ≡ outputs.old }
     ensures sinks { O.count outputs.new ≡ O.count outputs.old }

@@ -1,6 +1,9 @@
 //! The standard streams of the process as the program's devices (XCU sed, "Stdin", "Stdout", "Stderr").
-ghost use Rattle.std.specs.Prelude.{◌≡◌, ◌-◌, ◌^◌, ◌⊎◌};
+ghost use Rattle.std.specs.Prelude.{◌≡◌, ◌-◌, ◌^◌, ◌⊎◌, map};
+ghost use Rattle.std.specs.String.{string_bytes};
 ghost use Rattle.sedengine.specs.Limits.{limits_of};
+ghost use Rattle.sed.specs.CommandLine.{IsCommandLine};
+ghost use Rattle.sed.specs.Program.{AsksHelp};
 
 use crate::messages::{say_end, say_no_memory};
 use crate::program::{REFUSED, STOPPED, SUCCESS, stream};
@@ -53,7 +56,9 @@ fn words(rt: &HostRuntime) -> io::Result<Vec<String>> {
 }
 
 fn run_words<E: Write>(rt: &HostRuntime, words: &[String], errors: &mut E) -> u8
-    ensures { (result ≡ SUCCESS) ⊎ (result ≡ REFUSED) ⊎ (result ≡ STOPPED) }
+    ensures status { (result ≡ SUCCESS) ⊎ (result ≡ REFUSED) ⊎ (result ≡ STOPPED) }
+    ensures asked { result ≡ SUCCESS →
+        IsCommandLine (map string_bytes words.now) ⊎ AsksHelp (map string_bytes words.now) }
 {
     let alloc = rt.alloc();
     let Ok(mut output) = BufWriter::with_capacity(alloc, OUTPUT_ROOM, rt.stdout()) else {
