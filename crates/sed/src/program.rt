@@ -57,7 +57,7 @@ pub fn stream<S: AsStr, R: ByteSource + Drop, O: Outputs, E: Write>(
         × WritesAll (script_of (map S.text words.now)) (quiet_of (map S.text words.now)) limits.nodes
         (R.remaining source) (Gained (O.contents outputs.old) (O.contents outputs.new)))
         ⊎ (AsksHelp (map S.text words.now) × WritesHelp (Gained (O.contents outputs.old) (O.contents outputs.new))) }
-    // A run that stopped has written a beginning, of the help too.
+    // A run that stopped has written a beginning; where help was asked for, a text.
     ensures stopped { result ≡ STOPPED →
         (IsCommandLine (map S.text words.now)
         × WritesBeginning (script_of (map S.text words.now)) (quiet_of (map S.text words.now)) limits.nodes
