@@ -1,14 +1,21 @@
 -- What the program does with the words of its command line.
-use Rattle.std.specs.Prelude.{◌≡◌, ◌||◌, ℕ, Bool, true, List, [], Option}
+use Rattle.std.specs.Prelude.{◌≡◌, ◌≢◌, ◌||◌, ℕ, Bool, false, List, [], Option}
 use Rattle.std.specs.Option.{ForSome}
-use Rattle.clap.specs.Words.{Text, matches_of, takes}
+use Rattle.clap.specs.Words.{IsAmong, Text, fault_of, matches_of, takes}
+use Rattle.clap.specs.declared.error.kind.ErrorKind.TheVariants.{DisplayHelp}
 use Rattle.sedscript.specs.Script.{Means, Program}
 use Rattle.sedscript.specs.declared.types.Kind.TheVariants.{Basic}
+use Rattle.sedengine.specs.Ends.{Cause}
+use Rattle.sedengine.specs.Limits.{Limits}
+use Rattle.sedengine.specs.Move.{to_sink}
 use Rattle.sedengine.specs.Run.{setting_of}
+use Rattle.sedengine.specs.declared.ends.Ended.{Ended}
+use Rattle.sedengine.specs.declared.ends.Ended.TheVariants.{Done}
 use Rattle.sed.specs.CommandLine.{quiet_in, script_in, sed_command}
 use Rattle.sed.specs.Editing.{GainsAll, GainsBeginning, start_over}
 
--- The text means the script p, but that -n suppresses default output too, as a first line `#n` does (XCU sed, "Options").
+-- The text means the script p, but that -n suppresses default output too, as a first line `#n` does
+-- (XCU sed, "Options").
 abbrev pub GivesScript : List ℕ → Bool → ℕ → Program → Type 0
 GivesScript text quiet nodes p = (q : Program) × Means text Basic nodes q × (p ≡ record q { quiet = quiet || q.quiet })
 
@@ -29,9 +36,20 @@ WritesBeginning text quiet nodes input gained =
     (p : Program) × GivesScript text quiet nodes p
     × ForSome input (λ bytes. GainsBeginning (setting_of p no_files) (start_over p bytes) gained)
 
--- whether the words are a command line
-abbrev pub IsCommandLine : List Text → Type 0
-IsCommandLine words = takes sed_command words ≡ true
+-- The text of a script means a script, whose run came to another end than the ordinary one; and where the bytes of the
+-- input are known, that end has its cause, after some moves.
+abbrev pub StopsEarly : Limits → List ℕ → Bool → Option (List ℕ) → (List (ℕ × ℕ) → Type 0) → Type 0
+StopsEarly limits text quiet input gained =
+    (p : Program) × (end : Ended) × GivesScript text quiet limits.nodes p × (end ≢ Done)
+    × ForSome input (λ bytes. (t : ℕ) × Cause limits (setting_of p no_files) (start_over p bytes) gained end t)
+
+-- clap doesn't take the words, since they ask for help
+abbrev pub AsksHelp : List Text → Type 0
+AsksHelp words = (takes sed_command words ≡ false) × IsAmong DisplayHelp (fault_of sed_command words)
+
+-- the sinks have gained a text, all of it for sink 0. Which text help is, clap alone says
+abbrev pub WritesHelp : (List (ℕ × ℕ) → Type 0) → Type 0
+WritesHelp gained = (text : List ℕ) × gained (to_sink 0 text)
 
 -- the script's text that they give, and whether they have -n
 abbrev pub script_of : List Text → List ℕ

@@ -1,9 +1,9 @@
 //! The command line, `sed [-n] script`, read with `clap` (XCU sed, "Synopsis").
 //!
 //! -n may be given more than once, before the script or behind it; `--` ends the options; -h and --help ask for help.
-ghost use Rattle.std.specs.Prelude.{◌≡◌, true, codes, map, option_map, unwrap_or, IfOk, IfErr};
-ghost use Rattle.clap.specs.Words.{app_of, found_of, kind_of, matches_of, rows_of, takes};
-ghost use Rattle.sed.specs.CommandLine.{sed_command, quiet_in, script_in};
+ghost use Rattle.std.specs.Prelude.{◌≡◌, true, codes, map, option_map, unwrap_or, IfOk, IfErr, OnOk};
+ghost use Rattle.clap.specs.Words.{FailsBy, app_of, fault_of, found_of, kind_of, matches_of, rows_of, takes};
+ghost use Rattle.sed.specs.CommandLine.{IsCommandLine, IsRefusal, sed_command, quiet_in, script_in};
 
 use crate::asked::{Line, Refused};
 use clap::error::ErrorKind;
@@ -18,6 +18,9 @@ use std::convert::AsStr;
 pub fn line<'a, S: AsStr>(alloc: Global, words: &'a [S]) -> Result<Line<'a>, Refused>
     ensures quiet { IfOk result (λ l. l.quiet ≡ quiet_in (matches_of sed_command (map S.text words.entry.now))) }
     ensures script { IfOk result (λ l. l.script.now ≡ script_in (matches_of sed_command (map S.text words.entry.now))) }
+    // Words are answered only where `clap` finds no fault in them, and refused for one that it finds.
+    ensures sound { OnOk result (IsCommandLine (map S.text words.entry.now)) }
+    ensures refused { IfErr result (IsRefusal (map S.text words.entry.now)) }
     // Words that `clap` takes are refused only where memory is wanting.
     ensures taken { IfErr result (λ r. takes sed_command (map S.text words.entry.now) ≡ true → r ≡ Refused.NoMemory) }
 {
@@ -42,6 +45,7 @@ fn read<'a, S: AsStr>(alloc: Global, words: &'a [S]) -> Result<ArgMatches<'a>, c
     ensures rows { IfOk result (λ m. rows_of (found_of m) ≡ matches_of sed_command (map S.text words.entry.now)) }
     ensures taken { IfErr result (λ e. takes sed_command (map S.text words.entry.now) ≡ true
         → kind_of e ≡ ErrorKind.OutOfMemory) }
+    ensures kinds { FailsBy (fault_of sed_command (map S.text words.entry.now)) result }
 {
     command(alloc)?.try_get_matches_from(words)
 }

@@ -52,7 +52,8 @@ pub fn edit<R: ByteSource, O: Outputs, T: Texts>(
     // Each end has its cause, in whatever pieces the bytes came.
     ensures ending { IfOk result (λ end. ForSome (R.remaining source.old) (λ bytes.
         Edits limits (setting_of script (files_in (T.text texts.old))) (start_over script bytes)
-        (Gained (O.contents outputs.old) (O.contents outputs.new)) (R.remaining source.old) (R.remaining source.new) end)) }
+        (Gained (O.contents outputs.old) (O.contents outputs.new))
+        (R.remaining source.old) (R.remaining source.new) end)) }
     // What was written is a beginning of what the script writes, and at the ordinary end the whole.
     ensures output { OnOk result (ForSome (R.remaining source.old) (λ bytes.
         GainsBeginning (setting_of script (files_in (T.text texts.old))) (start_over script bytes)

@@ -1,14 +1,21 @@
 //! The program, over devices that its caller gives.
-ghost use Rattle.std.specs.Prelude.{◌≡◌, ◌<◌, ◌≤◌, ◌⊎◌, IfOk, map};
+ghost use Rattle.std.specs.Prelude.{◌≡◌, ◌≢◌, ◌<◌, ◌≤◌, ◌⊎◌, IfErr, IfOk, map};
+ghost use Rattle.sedscript.specs.Script.{Faulty};
+ghost use Rattle.sedengine.specs.Calls.{Puts, Writes};
 ghost use Rattle.sedengine.specs.Devices.{Gained};
-ghost use Rattle.sed.specs.Program.{GivesScript, IsCommandLine, WritesAll, WritesBeginning, quiet_of, script_of};
+ghost use Rattle.sedengine.specs.Move.{to_sink};
+ghost use Rattle.clap.specs.Words.{kind_of};
+ghost use Rattle.sed.specs.CommandLine.{IsCommandLine};
+ghost use Rattle.sed.specs.Program.{AsksHelp, GivesScript, StopsEarly, WritesAll, WritesBeginning, WritesHelp};
+ghost use Rattle.sed.specs.Program.{quiet_of, script_of};
 
 use crate::asked::{Line, Refused};
 use crate::command_line::line;
 use crate::editing::{edit, script};
 use crate::messages::{say_end, say_fault, say_no_memory};
+use clap::error::ErrorKind;
 use sedengine::{Ended, Limits};
-use sedscript::{Kind, Script, ScriptFault};
+use sedscript::{Kind, NO_MEMORY, Script, ScriptFault};
 use sedspace::{Broken, ByteSource, MemoryTexts, Outputs};
 use std::alloc::Global;
 use std::convert::AsStr;
@@ -44,13 +51,22 @@ pub fn stream<S: AsStr, R: ByteSource + Drop, O: Outputs, E: Write>(
 ) -> u8
     requires { 0 < O.count outputs.old }
     ensures status { (result ≡ SUCCESS) ⊎ (result ≡ REFUSED) ⊎ (result ≡ STOPPED) }
-    // Status 0 says that all was written that the script writes, and a run that stopped has written a beginning.
-    ensures whole { result ≡ SUCCESS → IsCommandLine (map S.text words.now) →
-        WritesAll (script_of (map S.text words.now)) (quiet_of (map S.text words.now)) limits.nodes
-        (R.remaining source) (Gained (O.contents outputs.old) (O.contents outputs.new)) }
-    ensures stopped { result ≡ STOPPED → IsCommandLine (map S.text words.now) →
-        WritesBeginning (script_of (map S.text words.now)) (quiet_of (map S.text words.now)) limits.nodes
-        (R.remaining source) (Gained (O.contents outputs.old) (O.contents outputs.new)) }
+    // Status 0 says that all was written that the script writes, or that help was asked for and written.
+    ensures whole { result ≡ SUCCESS →
+        (IsCommandLine (map S.text words.now)
+        × WritesAll (script_of (map S.text words.now)) (quiet_of (map S.text words.now)) limits.nodes
+        (R.remaining source) (Gained (O.contents outputs.old) (O.contents outputs.new)))
+        ⊎ (AsksHelp (map S.text words.now) × WritesHelp (Gained (O.contents outputs.old) (O.contents outputs.new))) }
+    // A run that stopped has written a beginning; where help was asked for, a text.
+    ensures stopped { result ≡ STOPPED →
+        (IsCommandLine (map S.text words.now)
+        × WritesBeginning (script_of (map S.text words.now)) (quiet_of (map S.text words.now)) limits.nodes
+        (R.remaining source) (Gained (O.contents outputs.old) (O.contents outputs.new)))
+        ⊎ (AsksHelp (map S.text words.now) × WritesHelp (Gained (O.contents outputs.old) (O.contents outputs.new))) }
+    // It stopped for a cause.
+    ensures cause { result ≡ STOPPED →
+        StopsEarly limits (script_of (map S.text words.now)) (quiet_of (map S.text words.now)) (R.remaining source)
+        (Gained (O.contents outputs.old) (O.contents outputs.new)) ⊎ AsksHelp (map S.text words.now) }
     ensures refused { result ≡ REFUSED → outputs.new ≡ outputs.old }
     ensures sinks { O.count outputs.new ≡ O.count outputs.old }
 {
@@ -86,30 +102,36 @@ fn answer_words<O: Outputs, E: Write>(
 ) -> u8
     requires { 0 < O.count outputs.old }
     ensures status { (result ≡ SUCCESS) ⊎ (result ≡ REFUSED) ⊎ (result ≡ STOPPED) }
+    ensures asked { result ≢ REFUSED → kind_of error.now ≡ ErrorKind.DisplayHelp }
+    ensures help { result ≢ REFUSED → WritesHelp (Gained (O.contents outputs.old) (O.contents outputs.new)) }
     ensures refused { result ≡ REFUSED → outputs.new ≡ outputs.old }
     ensures sinks { O.count outputs.new ≡ O.count outputs.old }
 {
-    if error.use_stderr() {
+    let ErrorKind::DisplayHelp = error.kind() else {
         let _ = write!(errors, "{error}");
         return REFUSED;
-    }
+    };
     let Ok(help) = error.to_string(alloc) else {
         return out_of_memory(errors);
     };
     match write_all(outputs, help.as_bytes()) {
         Ok(()) => SUCCESS,
-        Err(Broken) => stopped(Ended::OutputBroken(0), errors),
+        Err(end) => stopped(end, errors),
     }
 }
 
 /// Writes the bytes to sink 0, however short the writes are.
-fn write_all<O: Outputs>(outputs: &mut O, bytes: &[u8]) -> Result<(), Broken>
+fn write_all<O: Outputs>(outputs: &mut O, bytes: &[u8]) -> Result<(), Ended>
     requires { 0 < O.count outputs.old }
-    ensures { O.count outputs.new ≡ O.count outputs.old }
+    ensures puts { Puts (Gained (O.contents outputs.old) (O.contents outputs.new)) (to_sink 0 bytes.now) result }
+    ensures devices { Writes O.failures O.count outputs.old outputs.new result }
 {
-    let mut at = 0;
-    'writing: while at < bytes.len() {
-        at += outputs.write(0, &bytes[at..])?;
+    let mut done = 0;
+    while done < bytes.len() {
+        match outputs.write(0, &bytes[done..]) {
+            Ok(count) => done += count,
+            Err(Broken) => return Err(Ended::OutputBroken(0)),
+        }
     }
     Ok(())
 }
@@ -117,7 +139,8 @@ fn write_all<O: Outputs>(outputs: &mut O, bytes: &[u8]) -> Result<(), Broken>
 /// The script that a command line gives, with its -n.
 fn read_script(alloc: Global, line: Line<'_>, nodes: usize) -> Result<Script, ScriptFault>
     requires { (1 ≤ nodes) × (nodes ≤ 65536) }
-    ensures { IfOk result (GivesScript line.entry.script.now line.entry.quiet nodes) }
+    ensures gives { IfOk result (GivesScript line.entry.script.now line.entry.quiet nodes) }
+    ensures fault { IfErr result (λ f. Faulty line.entry.script.now Kind.Basic nodes f ⊎ (f ≡ NO_MEMORY)) }
 {
     let mut program = script(alloc, line.script.as_bytes(), Kind::Basic, nodes)?;
     if line.quiet {
@@ -140,6 +163,8 @@ fn run_line<R: ByteSource + Drop, O: Outputs, E: Write>(
     ensures whole { result ≡ SUCCESS → WritesAll line.entry.script.now line.entry.quiet limits.nodes
         (R.remaining source) (Gained (O.contents outputs.old) (O.contents outputs.new)) }
     ensures stopped { result ≡ STOPPED → WritesBeginning line.entry.script.now line.entry.quiet limits.nodes
+        (R.remaining source) (Gained (O.contents outputs.old) (O.contents outputs.new)) }
+    ensures cause { result ≡ STOPPED → StopsEarly limits line.entry.script.now line.entry.quiet
         (R.remaining source) (Gained (O.contents outputs.old) (O.contents outputs.new)) }
     ensures refused { result ≡ REFUSED → outputs.new ≡ outputs.old }
     ensures sinks { O.count outputs.new ≡ O.count outputs.old }

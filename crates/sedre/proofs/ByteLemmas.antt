@@ -226,6 +226,10 @@ same_is these those s o same is_s is_o ok_s ok_o is =
       (λ e. (decides.1 (sym (words_of-set_of_words these ok_s) ∙ ap words_of (is_s ∙ e ∙ sym is_o) ∙ words_of-set_of_words those ok_o))),
     )
 
+-- the words of a set
+pub words_are : (words : List ℕ) (s : List Bool) → set_of_words words ≡ s → AreWords words → words ≡ words_of s
+words_are words s is ok = sym (words_of-set_of_words words ok) ∙ ap words_of is
+
 -- a byte with its bit set is a member
 pub member_is : (words : List ℕ) (s : List Bool) (b : ℕ) → set_of_words words ≡ s → b < 256 → bit_at (slice_index_or words (b / 64) 0) (b % 64) ≡ 1 → has s b ≡ true
 member_is words s b is_s small bit = ap (λ l. has l b) (sym is_s) ∙ has-set_of_words words b small ∙ ap (λ x. eqb x 1) bit

@@ -1,6 +1,7 @@
 -- Bracket expressions (XBD 9.3.5): the items of a list, and the set that they list or the first fault.
 -- Which fault a list has, and where, is this project's own.
-use Rattle.std.specs.Prelude.{ℕ, zero, suc, ◌+◌, ◌-◌, List, [], ◌∷◌, length, take, drop, Bool, true, false, not, ◌&&◌, ◌||◌, Option, Some, None, Result, Ok, Err, if◌then◌else◌, nat_le, ◌==◌, option_map}
+use Rattle.std.specs.Prelude.{ℕ, zero, suc, ◌+◌, ◌-◌, List, [], ◌∷◌, length, take, drop, Bool, true, false, not, ◌&&◌}
+use Rattle.std.specs.Prelude.{◌||◌, Option, Some, None, Result, Ok, Err, if◌then◌else◌, nat_le, ◌==◌, option_map}
 use Rattle.sedre.specs.Sets.{set_of, no_byte, only, between, union, complement}
 use Rattle.sedre.specs.Classes.{in_class, class_named}
 use Rattle.sedre.specs.declared.class.Class.{Class}
@@ -8,7 +9,8 @@ use Rattle.sedre.specs.declared.types.Reason.{Reason}
 use Rattle.sedre.specs.declared.types.Reason.TheVariants.{OpenBracket, UnknownClass, LongCollating, BadRange}
 use Rattle.sedre.specs.declared.types.ExprFault.{ExprFault}
 use Rattle.sedre.specs.declared.elements.Element.{Element}
-use Rattle.sedre.specs.declared.elements.Element.TheVariants.{Plain, Delimiter, OfClass, Equivalent, Collating, Wrong, Unclosed}
+use Rattle.sedre.specs.declared.elements.Element.TheVariants.{Plain, Delimiter, OfClass, Equivalent, Collating, Wrong}
+use Rattle.sedre.specs.declared.elements.Element.TheVariants.{Unclosed}
 use Rattle.sedre.specs.declared.byte_set.ByteSet.{ByteSet}
 
 -- whether a byte is the delimiter

@@ -3,7 +3,8 @@ use Rattle.std.specs.Prelude.{ℕ, List, Option, Some, None, Bool, not, ◌==◌
 use Rattle.std.specs.Cmp.Lexicographic.{pointwise}
 use Rattle.sedre.specs.Sets.{between}
 use Rattle.sedre.specs.declared.class.Class.{Class}
-use Rattle.sedre.specs.declared.class.Class.TheVariants.{Alnum, Alpha, Blank, Cntrl, Digit, Graph, Lower, Print, Punct, Space, Upper, Xdigit}
+use Rattle.sedre.specs.declared.class.Class.TheVariants.{Alnum, Alpha, Blank, Cntrl, Digit, Graph, Lower, Print, Punct}
+use Rattle.sedre.specs.declared.class.Class.TheVariants.{Space, Upper, Xdigit}
 
 abbrev pub is_upper : ℕ → Bool
 is_upper c = between 65 90 c

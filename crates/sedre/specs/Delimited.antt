@@ -1,5 +1,6 @@
 -- Where an expression ends that stands between delimiters (XCU sed, "Regular Expressions in sed").
-use Rattle.std.specs.Prelude.{ℕ, zero, suc, ◌+◌, ◌-◌, List, [], ◌∷◌, drop, Option, Some, None, if◌then◌else◌, ◌==◌, option_and_then}
+use Rattle.std.specs.Prelude.{ℕ, zero, suc, ◌+◌, ◌-◌, List, [], ◌∷◌, drop, Option, Some, None, if◌then◌else◌, ◌==◌}
+use Rattle.std.specs.Prelude.{option_and_then}
 use Rattle.sedre.specs.Brackets.{list_end}
 
 -- a backslash at a place and its next byte

@@ -1,5 +1,5 @@
--- The grammar of expressions over items (XBD 9.5.2, 9.5.3): a text is alternatives, an alternative is pieces, a piece is
--- an atom with its repetitions; and the first fault of a text that is none.
+-- The grammar of expressions over items (XBD 9.5.2, 9.5.3): a text is alternatives, an alternative is pieces, a piece
+-- is an atom with its repetitions; and the first fault of a text that is none.
 use Rattle.std.specs.Prelude.{◌≡◌, ℕ, zero, suc, List, [], ◌∷◌, ◌++◌, length, ◌<◌, ◌≤◌, Bool, Option, Some, None}
 use Rattle.sedre.specs.declared.syntax.Item.{Item}
 use Rattle.sedre.specs.declared.syntax.Item.TheVariants.{Byte, Open, Close, Bar, Repeat, AtBegin, AtEnd}
@@ -19,7 +19,8 @@ mutual
     first : {g h : ℕ} {is : List Item} {ts : List Tree} →
         ArePieces g is ts h → AreAlternatives g is (concatenation ts ∷ []) h
     another : {g h k : ℕ} {is js : List Item} {bs ts : List Tree} →
-        AreAlternatives g is bs h → ArePieces h js ts k → AreAlternatives g (is ++ Bar ∷ js) (bs ++ concatenation ts ∷ []) k
+        AreAlternatives g is bs h → ArePieces h js ts k →
+        AreAlternatives g (is ++ Bar ∷ js) (bs ++ concatenation ts ∷ []) k
 
   -- these items are these pieces
   pub data ArePieces : ℕ → List Item → List Tree → ℕ → Type 0 where
@@ -97,9 +98,10 @@ pub data Row (kind : Kind) (delimiter : Option ℕ) (text : List ℕ) (max_nodes
       depth (alternation bs) ≤ 600 → max_nodes < size (alternation bs) →
       Row kind delimiter text max_nodes is 0 to (length text) TooManyNodes
 
--- the first fault of the text has this place and reason: what stands before it is cut into items, and each closing there
--- has its opening
-pub record ExprFaulty (kind : Kind) (delimiter : Option ℕ) (text : List ℕ) (max_nodes place : ℕ) (reason : Reason) : Type 0 where
+-- the first fault of the text has this place and reason: what stands before it is cut into items, and each closing
+-- there has its opening
+pub record ExprFaulty (kind : Kind) (delimiter : Option ℕ) (text : List ℕ) (max_nodes place : ℕ)
+    (reason : Reason) : Type 0 where
   pub items : List Item
   pub to : ℕ
   pub cut : Cut kind delimiter text None 0 items to

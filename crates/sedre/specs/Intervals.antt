@@ -1,5 +1,6 @@
 -- Interval expressions (XBD 9.3.6, 9.4.6).
-use Rattle.std.specs.Prelude.{ℕ, ◌+◌, ◌*◌, ◌-◌, List, [], ◌∷◌, drop, take, Bool, false, not, ◌&&◌, ◌||◌, Option, Some, None, if◌then◌else◌, nat_lt, nat_le, ◌==◌}
+use Rattle.std.specs.Prelude.{ℕ, ◌+◌, ◌*◌, ◌-◌, List, [], ◌∷◌, drop, take, Bool, false, not, ◌&&◌, ◌||◌, Option, Some}
+use Rattle.std.specs.Prelude.{None, if◌then◌else◌, nat_lt, nat_le, ◌==◌}
 use Rattle.std.specs.List.{prefix_len}
 use Rattle.sedre.specs.Sets.{between}
 use Rattle.sedre.specs.Brackets.{is_delimiter}
@@ -45,8 +46,8 @@ abbrev pub limit : Kind → Option ℕ → (least digits : ℕ) → List ℕ →
 limit kind delimiter least digits front None =
     if closes kind delimiter front then bounds least None (digits + 1 + closing_width kind) else None
 limit kind delimiter least digits front (Some (most, more)) =
-    if closes kind delimiter (drop more front) && nat_le least most then bounds least (Some most) (digits + 1 + more + closing_width kind)
-    else None
+    if closes kind delimiter (drop more front) && nat_le least most
+    then bounds least (Some most) (digits + 1 + more + closing_width kind) else None
 
 -- behind the first number
 abbrev pub behind_least : Kind → Option ℕ → List ℕ → Option (ℕ × ℕ) → Option Interval

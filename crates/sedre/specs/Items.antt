@@ -1,5 +1,6 @@
 -- The items of a text: bytes and sets of bytes, anchors, groups, alternations and repetitions (XBD 9.3, 9.4).
-use Rattle.std.specs.Prelude.{ℕ, ◌+◌, ◌<◌, ◌≤◌, List, drop, Bool, true, false, not, ◌&&◌, Option, Some, None, Result, Ok, Err}
+use Rattle.std.specs.Prelude.{ℕ, ◌+◌, ◌<◌, ◌≤◌, List, drop, Bool, true, false, not, ◌&&◌, Option, Some, None, Result}
+use Rattle.std.specs.Prelude.{Ok, Err}
 use Rattle.sedre.specs.Sets.{only, any_byte}
 use Rattle.sedre.specs.Brackets.{list_at}
 use Rattle.sedre.specs.Symbols.{symbol}
@@ -12,7 +13,9 @@ use Rattle.sedre.specs.declared.types.ExprFault.{ExprFault}
 use Rattle.sedre.specs.declared.byte_set.ByteSet.{ByteSet}
 use Rattle.sedre.specs.declared.intervals.Interval.{Interval as Bounds}
 use Rattle.sedre.specs.declared.syntax.Symbol.{Symbol}
-use Rattle.sedre.specs.declared.syntax.Symbol.TheVariants.{Literal, AnyByte, Opening, Closing, Parting, Star, Plus, Question, Interval, IntervalEnd, BracketOpening, Caret, Dollar, Unknown}
+use Rattle.sedre.specs.declared.syntax.Symbol.TheVariants.{Literal, AnyByte, Opening, Closing, Parting, Star, Plus}
+use Rattle.sedre.specs.declared.syntax.Symbol.TheVariants.{Question, Interval, IntervalEnd, BracketOpening, Caret}
+use Rattle.sedre.specs.declared.syntax.Symbol.TheVariants.{Dollar, Unknown}
 use Rattle.sedre.specs.declared.syntax.Item.{Item}
 use Rattle.sedre.specs.declared.syntax.Item.TheVariants.{Byte, Open, Close, Bar, Repeat, AtBegin, AtEnd}
 use Rattle.sedre.specs.declared.syntax.Here.{Here}
@@ -117,7 +120,8 @@ item_for kind delimiter text before at (Some (Opening, n)) = Is Open (at + n)
 item_for kind delimiter text before at (Some (Closing, n)) = Is Close (at + n)
 item_for kind delimiter text before at (Some (Parting, n)) = Is Bar (at + n)
 item_for kind delimiter text before at (Some (Star, n)) = star_item kind (is_repeatable before) at (at + n)
-item_for kind delimiter text before at (Some (Plus, n)) = repeats (is_repeatable before) at (Is (Repeat 1 None) (at + n))
+item_for kind delimiter text before at (Some (Plus, n)) =
+    repeats (is_repeatable before) at (Is (Repeat 1 None) (at + n))
 item_for kind delimiter text before at (Some (Question, n)) =
     question_item kind (is_repeatable before) (is_repeat before) at (at + n)
 item_for kind delimiter text before at (Some (Interval, n)) =

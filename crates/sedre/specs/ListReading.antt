@@ -1,5 +1,6 @@
 -- What the reader of bracket expressions sees of what is left of a text. Private to it.
-use Rattle.std.specs.Prelude.{ℕ, ◌+◌, List, [], ◌∷◌, drop, Bool, false, not, slice_index_or, ◌&&◌, ◌==◌, Option, Result, Ok, Err, if◌then◌else◌}
+use Rattle.std.specs.Prelude.{ℕ, ◌+◌, List, [], ◌∷◌, drop, Bool, false, not, slice_index_or, ◌&&◌, ◌==◌, Option, Result}
+use Rattle.std.specs.Prelude.{Ok, Err, if◌then◌else◌}
 use Rattle.sedre.specs.Brackets.{item, single, range, Listing, is_negated}
 use Rattle.sedre.specs.declared.types.ExprFault.{ExprFault}
 use Rattle.sedre.specs.declared.byte_set.ByteSet.{ByteSet}

@@ -1,5 +1,10 @@
 -- Nodes as numbers: what the table keeps of each, and the node that this stands for.
-use Rattle.std.specs.Prelude.{◌≡◌, ◌<◌, ◌≤◌, ℕ, ◌+◌, ◌-◌, List, [], ◌∷◌, ◌++◌, Bool, true, false, length, slice_get, slice_index_or, Some}
+use Rattle.std.specs.Prelude.{◌≡◌, ◌<◌, ◌≤◌, ℕ, ◌+◌, ◌-◌, List, [], ◌∷◌, ◌++◌, Bool, true, false, length, slice_get}
+use Rattle.std.specs.Prelude.{slice_index_or, Option, Some}
+use Rattle.std.specs.BTreeMap.{BTreeMap, get_by}
+use Rattle.std.specs.Cmp.Lexicographic.{slice_cmp}
+use Rattle.std.specs.Ordering.{nat_cmp}
+use Rattle.sedre.specs.Words.{words_of}
 use Rattle.sedre.specs.declared.types.NodeId.{NodeId}
 use Rattle.sedre.specs.declared.types.Node.{Node}
 use Rattle.sedre.specs.declared.types.Node.TheVariants as node
@@ -75,6 +80,10 @@ entry_of x number (node.Alt a b) = entry shape.Alt (x - a.index) (x - b.index)
 entry_of x number (node.Group k a) = entry shape.Group k (x - a.index)
 entry_of x number (node.Star a first) = entry (star_shape first) 0 (x - a.index)
 entry_of x number (node.Opt a first) = entry (opt_shape first) 0 (x - a.index)
+
+-- the number that the map has by the words of a set
+abbrev pub numbered : BTreeMap (List ℕ) ℕ → List Bool → Option ℕ
+numbered numbers set = get_by (slice_cmp nat_cmp (words_of set)) numbers
 
 -- the number is that of the node's set
 abbrev pub HasNumber : List (List Bool) → ℕ → Node → Type 0

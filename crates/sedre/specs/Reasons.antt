@@ -1,7 +1,9 @@
--- The numbers of the faults (this project's own).
-use Rattle.std.specs.Prelude.{ℕ}
+-- The numbers and the names of the faults (this project's own).
+use Rattle.std.specs.Prelude.{ℕ, List, codes}
 use Rattle.sedre.specs.declared.types.Reason.{Reason}
-use Rattle.sedre.specs.declared.types.Reason.TheVariants.{OpenBracket, UnknownClass, LongCollating, BadRange, OpenGroup, StrayClose, BadInterval, NothingToRepeat, LastBackslash, UnknownEscape, BackReference, TooManyNodes, TooDeep, NoMemory}
+use Rattle.sedre.specs.declared.types.Reason.TheVariants.{OpenBracket, UnknownClass, LongCollating, BadRange, OpenGroup}
+use Rattle.sedre.specs.declared.types.Reason.TheVariants.{StrayClose, BadInterval, NothingToRepeat, LastBackslash}
+use Rattle.sedre.specs.declared.types.Reason.TheVariants.{UnknownEscape, BackReference, TooManyNodes, TooDeep, NoMemory}
 
 abbrev pub number : Reason → ℕ
 number OpenBracket = 1
@@ -18,3 +20,19 @@ number BackReference = 11
 number TooManyNodes = 12
 number TooDeep = 13
 number NoMemory = 14
+
+abbrev pub name : Reason → List ℕ
+name OpenBracket = codes "OpenBracket"
+name UnknownClass = codes "UnknownClass"
+name LongCollating = codes "LongCollating"
+name BadRange = codes "BadRange"
+name OpenGroup = codes "OpenGroup"
+name StrayClose = codes "StrayClose"
+name BadInterval = codes "BadInterval"
+name NothingToRepeat = codes "NothingToRepeat"
+name LastBackslash = codes "LastBackslash"
+name UnknownEscape = codes "UnknownEscape"
+name BackReference = codes "BackReference"
+name TooManyNodes = codes "TooManyNodes"
+name TooDeep = codes "TooDeep"
+name NoMemory = codes "NoMemory"

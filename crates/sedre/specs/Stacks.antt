@@ -1,5 +1,6 @@
 -- What the reader holds while it reads: no caller sees it.
-use Rattle.std.specs.Prelude.{◌≡◌, ◌≢◌, ℕ, suc, ◌+◌, ◌-◌, ◌<◌, ◌≤◌, min, take, length, List, [], ◌∷◌, ◌++◌, Bool, true, false, nat_lt, if◌then◌else◌}
+use Rattle.std.specs.Prelude.{◌≡◌, ◌≢◌, ℕ, suc, ◌+◌, ◌-◌, ◌<◌, ◌≤◌, min, take, length, List, [], ◌∷◌, ◌++◌, Bool, true}
+use Rattle.std.specs.Prelude.{false, nat_lt, if◌then◌else◌}
 use Rattle.sedre.specs.declared.types.Node.{Node}
 use Rattle.sedre.specs.declared.types.Node.TheVariants as node
 use Rattle.sedre.specs.declared.syntax.Item.{Item}
@@ -119,7 +120,8 @@ parts_of limit base (t ∷ ts) = part_of limit (base + size t) t ∷ parts_of li
 
 -- the node stands for the tree, which has no parts
 abbrev pub IsLeaf : Node → Tree → Type 0
-IsLeaf n t = ((base : ℕ) → postorder base t ≡ n ∷ []) × (size t ≡ 1) × (depth t ≡ 0) × (alternatives_depth t ≡ 0) × ((k : ℕ) → PartsBelow k n)
+IsLeaf n t = ((base : ℕ) → postorder base t ≡ n ∷ []) × (size t ≡ 1) × (depth t ≡ 0) × (alternatives_depth t ≡ 0)
+    × ((k : ℕ) → PartsBelow k n)
 
 -- where the nodes of the last tree end
 abbrev pub last_end : List Part → ℕ
@@ -141,7 +143,8 @@ LastBecomes f old new =
 -- the trees from one on became one
 abbrev pub Joins : ℕ → (List Tree → Tree) → Stack → Stack → Type 0
 Joins from f old new =
-    (limit : ℕ) (ts ps : List Tree) → length ts ≡ from → Stored limit old (ts ++ ps) → Stored limit new (ts ++ f ps ∷ [])
+    (limit : ℕ) (ts ps : List Tree) → length ts ≡ from → Stored limit old (ts ++ ps) →
+    Stored limit new (ts ++ f ps ∷ [])
 
 -- a tree came on the stack, whose root is this node and whose parts' nodes end there
 pub record Puts (limit : ℕ) (ns : List Node) (ps : List Part) (new : Stack) (n : Node) (ends d i : ℕ) : Type 0 where
@@ -157,7 +160,11 @@ trees_in (l ∷ ls) = trees_in ls ++ (l.alternatives ++ l.pieces)
 
 -- where the alternatives and the pieces of a level begin among all trees
 abbrev pub mark_of : Level → List Level → Mark
-mark_of l ls = record { number = l.number; alternatives = length (trees_in ls); pieces = length (trees_in ls) + length l.alternatives }
+mark_of l ls = record {
+  number = l.number;
+  alternatives = length (trees_in ls);
+  pieces = length (trees_in ls) + length l.alternatives;
+}
 
 abbrev pub marks_of : List Level → List Mark
 marks_of [] = []
@@ -198,4 +205,5 @@ CanTake AtEnd s = Unit {0}
 
 -- one item more was read
 abbrev pub Takes : Item → Builder → Builder → Type 0
-Takes item old new = (limit : ℕ) (s : State) → Represents limit old s → CanTake item s → Represents limit new (step item s)
+Takes item old new =
+    (limit : ℕ) (s : State) → Represents limit old s → CanTake item s → Represents limit new (step item s)

@@ -6,7 +6,9 @@ use Rattle.sedre.specs.declared.types.Kind.{Kind}
 use Rattle.sedre.specs.declared.types.Kind.TheVariants.{Basic, Extended}
 use Rattle.sedre.specs.declared.types.Reason.TheVariants.{LastBackslash, UnknownEscape, BackReference}
 use Rattle.sedre.specs.declared.syntax.Symbol.{Symbol}
-use Rattle.sedre.specs.declared.syntax.Symbol.TheVariants.{Literal, AnyByte, Opening, Closing, Parting, Star, Plus, Question, Interval, IntervalEnd, BracketOpening, Caret, Dollar, Unknown}
+use Rattle.sedre.specs.declared.syntax.Symbol.TheVariants.{Literal, AnyByte, Opening, Closing, Parting, Star, Plus}
+use Rattle.sedre.specs.declared.syntax.Symbol.TheVariants.{Question, Interval, IntervalEnd, BracketOpening, Caret}
+use Rattle.sedre.specs.declared.syntax.Symbol.TheVariants.{Dollar, Unknown}
 
 abbrev pub is_letter : ℕ → Bool
 is_letter c = between 65 90 c || between 97 122 c

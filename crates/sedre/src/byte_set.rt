@@ -1,8 +1,10 @@
 //! Sets of bytes, as a node of an expression holds them.
-ghost use Rattle.std.specs.Prelude.{◌≡◌, ◌≢◌, ℕ, ◌<◌, ◌-◌, ◌+◌, ◌*◌, ◌/◌, ◌%◌, ◌↔◌, eqb, max, false, slice_get, slice_index_or, IfSome, MatchOption, IsTrue};
+ghost use Rattle.std.specs.Prelude.{◌≡◌, ◌≢◌, ℕ, ◌<◌, ◌-◌, ◌+◌, ◌*◌, ◌/◌, ◌%◌, ◌↔◌, eqb, max, false, slice_get};
+ghost use Rattle.std.specs.Prelude.{slice_index_or, IfSome, MatchOption, IsTrue};
 ghost use Rattle.std.specs.Int.{bit_at};
 ghost use Rattle.sedre.specs.Sets.{set_of, has, only, any_byte, no_byte, between, union, complement};
 ghost use Rattle.sedre.specs.Classes.{in_class};
+ghost use Rattle.sedre.specs.Words.{words_of};
 
 use crate::class::Class;
 use std::marker::Model;
@@ -110,7 +112,9 @@ impl ByteSet {
     }
 
     /// The words, by which sets can be put in an order.
-    pub(crate) fn words(&self) -> [u64; 4] {
+    pub(crate) fn words(&self) -> [u64; 4]
+        ensures { result ≡ words_of self.now }
+    {
         self.words
     }
 

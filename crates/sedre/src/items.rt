@@ -4,7 +4,9 @@ ghost use Rattle.std.specs.Option.{ForSome};
 ghost use Rattle.sedre.specs.Sets.{only};
 ghost use Rattle.sedre.specs.Symbols.{symbol};
 ghost use Rattle.sedre.specs.Intervals.{interval};
-ghost use Rattle.sedre.specs.Items.{is_first, is_repeatable, is_repeat, ends_alternative, fault, repeats, interval_item, list_item, star_item, question_item, caret_item, dollar_item, item_at, IsBehind};
+ghost use Rattle.sedre.specs.Items.{is_first, is_repeatable, is_repeat, ends_alternative, fault, repeats};
+ghost use Rattle.sedre.specs.Items.{interval_item, list_item, star_item, question_item, caret_item, dollar_item};
+ghost use Rattle.sedre.specs.Items.{item_at, IsBehind};
 
 use crate::brackets::list_at;
 use crate::byte_set::ByteSet;

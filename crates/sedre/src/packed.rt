@@ -1,6 +1,8 @@
 //! The nodes of an expression as a table: a shape and two numbers for each node, and each set once.
-ghost use Rattle.std.specs.Prelude.{◌≡◌, ◌≢◌, ◌≤◌, ◌<◌, ◌+◌, ◌-◌, ◌++◌, ◌∷◌, [], List, Bool, Some, IfOk, IfSome, OnOk, length, map, take, drop, slice_get, vec_len};
-ghost use Rattle.sedre.specs.Packed.{node_at, nodes_from, Fits, FitFrom, star_shape, opt_shape, entry_of, HasNumber, Grows, PartsBelow, shifted};
+ghost use Rattle.std.specs.Prelude.{◌≡◌, ◌≢◌, ◌≤◌, ◌<◌, ◌+◌, ◌-◌, ◌++◌, ◌∷◌, [], List, Bool, Some, IfOk, IfSome, OnOk};
+ghost use Rattle.std.specs.Prelude.{ℕ, length, map, take, drop, slice_get, vec_len};
+ghost use Rattle.sedre.specs.Packed.{node_at, nodes_from, Fits, FitFrom, star_shape, opt_shape, entry_of, HasNumber};
+ghost use Rattle.sedre.specs.Packed.{Grows, PartsBelow, numbered, shifted};
 
 use crate::byte_set::ByteSet;
 use crate::types::{Node, NodeId};
@@ -103,7 +105,9 @@ fn number_among(
     numbers: &BTreeMap<[u64; 4], usize>,
     set: &ByteSet,
 ) -> Option<usize>
-    ensures { IfSome result (λ k. slice_get sets.now k ≡ Some set.now) }
+    ensures number { IfSome result (λ k. slice_get sets.now k ≡ Some set.now) }
+    ensures found { (k : ℕ) → numbered numbers.now set.now ≡ Some k → slice_get sets.now k ≡ Some set.now →
+        result ≡ Some k }
 {
     let number = *numbers.get(&set.words())?;
     let found = sets.get(number)?;
@@ -118,6 +122,9 @@ fn number_of(
 ) -> Result<usize, AllocError>
     ensures grows { Grows sets.old.items sets.new.items }
     ensures number { IfOk result (λ k. slice_get sets.new.items k ≡ Some set) }
+    // A set whose number is known isn't added again.
+    ensures kept { (k : ℕ) → numbered numbers.old set ≡ Some k → slice_get sets.old.items k ≡ Some set →
+        sets.new ≡ sets.old }
 {
     if let Some(number) = number_among(sets, numbers, &set) {
         return Ok(number);

@@ -1,5 +1,6 @@
 //! Repetitions, written out on the stack.
-ghost use Rattle.std.specs.Prelude.{◌≡◌, ◌≤◌, ◌<◌, ◌+◌, ◌^◌, ◌++◌, ◌∷◌, ◌&&◌, [], ℕ, List, None, Some, OnOk, nat_eq, vec_len};
+ghost use Rattle.std.specs.Prelude.{◌≡◌, ◌≤◌, ◌<◌, ◌+◌, ◌^◌, ◌++◌, ◌∷◌, ◌&&◌, [], ℕ, List, None, Some, OnOk, nat_eq};
+ghost use Rattle.std.specs.Prelude.{vec_len};
 
 use crate::parts::Cover;
 use crate::stack::Stack;

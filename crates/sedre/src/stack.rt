@@ -2,7 +2,8 @@
 //!
 //! A tree is kept as its nodes only where the nodes up to it stay below a limit. Of a tree that is too large, and of
 //! all behind it, only the depths are kept: what stands there reads on, and may still go away under `{0}`.
-ghost use Rattle.std.specs.Prelude.{◌≡◌, ◌≤◌, ◌<◌, ◌+◌, ◌-◌, ◌++◌, ◌∷◌, [], ℕ, List, min, max, take, drop, map, length, OnOk, vec_len, false};
+ghost use Rattle.std.specs.Prelude.{◌≡◌, ◌≤◌, ◌<◌, ◌+◌, ◌-◌, ◌++◌, ◌∷◌, [], ℕ, List, min, max, take, drop, map, length};
+ghost use Rattle.std.specs.Prelude.{OnOk, vec_len, false};
 ghost use Rattle.sedre.specs.Covers.{cover_node};
 
 use crate::packed::Packed;
@@ -115,8 +116,8 @@ impl Stack {
 
     /// Puts a tree without parts on the stack.
     pub fn leaf(&mut self, node: Node) -> Result<(), AllocError>
-        ensures trees { OnOk result ((limit : ℕ) (ts : List Tree) (t : Tree) → IsLeaf node t → Stored limit self.old ts →
-            Stored limit self.new (ts ++ t ∷ [])) }
+        ensures trees { OnOk result ((limit : ℕ) (ts : List Tree) (t : Tree) →
+            IsLeaf node t → Stored limit self.old ts → Stored limit self.new (ts ++ t ∷ [])) }
         ensures count { OnOk result (vec_len self.new.parts ≡ vec_len self.old.parts + 1) }
     {
         let end = self.end();
@@ -126,8 +127,8 @@ impl Stack {
     /// Makes an alternation or a concatenation of the last two trees.
     pub fn join(&mut self, alternatives: bool) -> Result<(), AllocError>
         requires { 2 ≤ vec_len self.old.parts }
-        ensures trees { OnOk result ((limit : ℕ) (ts : List Tree) (a b : Tree) → Stored limit self.old (ts ++ a ∷ b ∷ []) →
-            Stored limit self.new (ts ++ pair alternatives a b ∷ [])) }
+        ensures trees { OnOk result ((limit : ℕ) (ts : List Tree) (a b : Tree) →
+            Stored limit self.old (ts ++ a ∷ b ∷ []) → Stored limit self.new (ts ++ pair alternatives a b ∷ [])) }
         ensures count { OnOk result (vec_len self.new.parts + 1 ≡ vec_len self.old.parts) }
     {
         let right = self.parts.pop().unwrap();
@@ -158,7 +159,8 @@ impl Stack {
         ensures limit { self.new.limit ≡ self.old.limit }
         ensures parts { self.new.parts ≡ self.old.parts }
         ensures kept { OnOk result (end < self.old.limit → count ≤ length self.old.nodes →
-            self.new.nodes ≡ self.old.nodes ++ map (shifted count) (drop (length self.old.nodes - count) self.old.nodes)) }
+            self.new.nodes ≡
+            self.old.nodes ++ map (shifted count) (drop (length self.old.nodes - count) self.old.nodes)) }
         ensures over { OnOk result (self.old.limit ≤ end → self.new.nodes ≡ self.old.nodes) }
     {
         if end < self.limit {

@@ -21,7 +21,8 @@ fn reads(
 }
 
 /// The nodes in their order, each behind its parts: a byte for itself, `.` other sets, `0` the null string, `B` and
-/// `E` the anchors, `;` and `|`, `G` and its number a group, `*` and `?` the first of a repetition, `s` and `o` its rest.
+/// `E` the anchors, `;` and `|`, `G` and its number a group, `*` and `?` the first of a repetition, `s` and `o` its
+/// rest.
 fn postfix(rt: &impl Abort, alloc: Global, expr: &Expr) -> Result<Vec<u8>, AllocError> {
     let mut out = Vec::new(alloc);
     for i in 0..expr.nodes() {

@@ -1,6 +1,6 @@
 //! Kinds, faults and nodes of expressions.
 ghost use Rattle.std.specs.Prelude.{◌≡◌, ◌≤◌};
-ghost use Rattle.sedre.specs.Reasons.{number};
+ghost use Rattle.sedre.specs.Reasons.{name, number};
 
 use crate::byte_set::ByteSet;
 
@@ -71,7 +71,9 @@ impl Reason {
     }
 
     /// Its name, as `OpenBracket`.
-    pub fn name(self) -> &'static str {
+    pub fn name(self) -> &'static str
+        ensures { result.now ≡ name self }
+    {
         match self {
             Reason::OpenBracket => "OpenBracket",
             Reason::UnknownClass => "UnknownClass",

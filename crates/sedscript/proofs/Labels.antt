@@ -3,6 +3,7 @@ use Rattle.std.proofs.Common.{◌≡◌, ℕ, zero, suc, ◌+◌, ◌<◌, ◌�
 use Rattle.std.specs.Str.{bytes_eq}
 use Rattle.std.specs.BTreeMap.{BTreeMap, get_by, UpdatesBy}
 use Rattle.std.specs.Cmp.Lexicographic.{slice_cmp}
+use Rattle.std.specs.Option.{option_or}
 use Rattle.std.specs.Ordering.{nat_cmp}
 use Rattle.std.proofs.lemmas.Map.Text.{btree_map_updates_str}
 use Rattle.std.proofs.lemmas.List.{take_more}
@@ -13,7 +14,7 @@ use Rattle.sedscript.specs.declared.items.Item.{Item}
 use Rattle.sedscript.specs.declared.items.Function.{Function}
 use Rattle.sedscript.specs.declared.items.Function.TheVariants.{Label}
 use Rattle.sedscript.specs.Bytes.{part}
-use Rattle.sedscript.specs.Targets.{is_label, counted, commands_in, label_in, leaves, or_else, is_missing}
+use Rattle.sedscript.specs.Targets.{is_label, counted, commands_in, label_in, leaves}
 use Rattle.sedscript.specs.Tables.{first_label, LabelsAre, is_earlier, number}
 
 abbrev Labels : Type 0
@@ -69,9 +70,9 @@ counted_in n i is = by_leaf (leaves i.function)
     by_leaf true = omega arith
     by_leaf false = refl
 
-or_else_if : {A : Type 0} (b : Bool) (p : A) (x y z : Option A) → x ≡ or_else y z → (if b then Some p else x) ≡ or_else (if b then Some p else y) z
-or_else_if true p x y z e = refl
-or_else_if false p x y z e = e
+option_or_if : {A : Type 0} (b : Bool) (p : A) (x y z : Option A) → x ≡ option_or y z → (if b then Some p else x) ≡ option_or (if b then Some p else y) z
+option_or_if true p x y z e = refl
+option_or_if false p x y z e = e
 
 some_pair : (l : Bool) (k n a b : ℕ) → a ≡ k → b ≡ n → ◌≡◌ {A = Option FirstLabel} (if l then Some (record { item = k; number = n }) else None) (if l then Some (record { item = a; number = b }) else None)
 some_pair false k n a b e f = refl
@@ -79,21 +80,21 @@ some_pair true k n a b e f = rw e (rw f refl)
 
 -- the first label of a name is that of the items before, or else that of one more item
 pub first_label_snoc : (text name : List ℕ) (k n a b : ℕ) (is : List Item) (i : Item) → a ≡ k + length is → b ≡ n + commands_in is →
-    first_label text name k n (is ++ i ∷ []) ≡ or_else (first_label text name k n is) (if is_label text name i.function then Some (record { item = a; number = b }) else None)
+    first_label text name k n (is ++ i ∷ []) ≡ option_or (first_label text name k n is) (if is_label text name i.function then Some (record { item = a; number = b }) else None)
 first_label_snoc text name k n a b [] i e f = some_pair (is_label text name i.function) k n a b (e ∙ omega arith) (f ∙ omega arith)
 first_label_snoc text name k n a b (j ∷ is) i e f =
-    or_else_if (is_label text name j.function) (record { item = k; number = n }) (first_label text name (suc k) (counted n j) (is ++ i ∷ [])) (first_label text name (suc k) (counted n j) is)
+    option_or_if (is_label text name j.function) (record { item = k; number = n }) (first_label text name (suc k) (counted n j) (is ++ i ∷ [])) (first_label text name (suc k) (counted n j) is)
     (if is_label text name i.function then Some (record { item = a; number = b }) else None)
     (first_label_snoc text name (suc k) (counted n j) a b is i (e ∙ omega arith) (f ∙ sym (counted_in n j is)))
 
 pub labels_step : (text : List ℕ) (items : List Item) (k n : ℕ) (d : Item) (old new : Labels) → k < length items → n ≡ commands_in (take k items) → LabelsAre text (take k items) old →
-    ((name : List ℕ) → label_of new name ≡ or_else (label_of old name) (if is_label text name (get_or items k d).function then Some (record { item = k; number = n }) else None)) →
+    ((name : List ℕ) → label_of new name ≡ option_or (label_of old name) (if is_label text name (get_or items k d).function then Some (record { item = k; number = n }) else None)) →
     LabelsAre text (take (k + 1) items) new
 labels_step text items k n d old new h e are added = λ name.
     let i : Item = get_or items k d in
     let last : Option FirstLabel = if is_label text name i.function then Some (record { item = k; number = n }) else None in
     let long : length (take k items) ≡ k = length-take-le k items (omega (arith, h)) in
-    added name ∙ (ap (λ (o : Option FirstLabel). or_else o last) (are name)
+    added name ∙ (ap (λ (o : Option FirstLabel). option_or o last) (are name)
     ∙ (sym (first_label_snoc text name 0 0 k n (take k items) i (sym long ∙ omega arith) (e ∙ omega arith))
     ∙ ap (first_label text name 0 0) (sym (take_more items k d h))))
 
@@ -113,7 +114,7 @@ eq_more j k = elim (eqb_tells j (j + suc k)) [ inl h ↦ absurd (omega (arith, h
 
 -- whether an earlier item has the label is told by the index of the first that has it
 pub earlier_label : (text name : List ℕ) (k j n m t : ℕ) (is : List Item) (i : Item) → slice_get is k ≡ Some i → is_label text name i.function ≡ true → t ≡ j + k →
-    is_earlier t (first_label text name j m is) ≡ not (is_missing (label_in text name n (take k is)))
+    is_earlier t (first_label text name j m is) ≡ is_some (label_in text name n (take k is))
 earlier_label text name k j n m t [] i e l f = let g : ◌≡◌ {A = Option Item} None (Some i) = e in cc
 earlier_label text name zero j n m t (x ∷ is) i e l f =
     let same : x ≡ i = cc in
@@ -124,22 +125,22 @@ earlier_label text name (suc k) j n m t (x ∷ is) i e l f =
     by_label (is_label text name x.function) (first_label text name (suc j) (counted m x) is) (label_in text name (counted n x) (take k is))
     (earlier_label text name k (suc j) (counted n x) (counted m x) t is i e l (f ∙ omega arith))
   where
-    by_label : (b : Bool) (y : Option FirstLabel) (z : Option ℕ) → is_earlier t y ≡ not (is_missing z) →
-        is_earlier t (if b then Some (record { item = j; number = m }) else y) ≡ not (is_missing (if b then Some n else z))
+    by_label : (b : Bool) (y : Option FirstLabel) (z : Option ℕ) → is_earlier t y ≡ is_some z →
+        is_earlier t (if b then Some (record { item = j; number = m }) else y) ≡ is_some (if b then Some n else z)
     by_label true y z h = ap not (ap (λ (u : ℕ). j == u) f ∙ eq_more j k)
     by_label false y z h = h
 
-right_none : (o : Option FirstLabel) → o ≡ or_else o None
+right_none : (o : Option FirstLabel) → o ≡ option_or o None
 right_none None = refl
 right_none (Some x) = refl
 
 -- a label is added where none has its name
 pub label_added : (bs : List ℕ) (v : FirstLabel) (old new : Labels) → UpdatesBy (λ x y. slice_cmp nat_cmp x.now y.now) (λ x. slice_cmp nat_cmp bs x.now) old new (Some v) → label_of old bs ≡ None →
-    (name : List ℕ) → label_of new name ≡ or_else (label_of old name) (if bytes_eq bs name then Some v else None)
+    (name : List ℕ) → label_of new name ≡ option_or (label_of old name) (if bytes_eq bs name then Some v else None)
 label_added bs v old new u none name =
     btree_map_updates_str bs old new (Some v) u name ∙ by_name (bytes_eq bs name) refl
   where
-    by_name : (b : Bool) → bytes_eq bs name ≡ b → cond b (Some v) (label_of old name) ≡ or_else (label_of old name) (if b then Some v else None)
+    by_name : (b : Bool) → bytes_eq bs name ≡ b → cond b (Some v) (label_of old name) ≡ option_or (label_of old name) (if b then Some v else None)
     by_name true e = let same : bs ≡ name = (bytes_eq-Decides bs name).0 e in
         rw (sym (ap (label_of old) same) ∙ none) refl
     by_name false e = right_none (label_of old name)
@@ -150,10 +151,10 @@ none_of (Some x) b e f = let g : true ≡ false = sym e ∙ f in cc
 
 pub label_inserted : (text bs : List ℕ) (from to k n : ℕ) (f : Function) (b : Bool) (old new : Labels) → f ≡ Label from to → bs ≡ part text from to →
     UpdatesBy (λ x y. slice_cmp nat_cmp x.now y.now) (λ x. slice_cmp nat_cmp bs x.now) old new (Some (record { item = k; number = n })) → b ≡ is_some (label_of old bs) → b ≡ false →
-    (name : List ℕ) → label_of new name ≡ or_else (label_of old name) (if is_label text name f then Some (record { item = k; number = n }) else None)
+    (name : List ℕ) → label_of new name ≡ option_or (label_of old name) (if is_label text name f then Some (record { item = k; number = n }) else None)
 label_inserted text bs from to k n f b old new is name_is u found absent = λ name.
     label_added bs (record { item = k; number = n }) old new u (none_of (label_of old bs) b found absent) name
-    ∙ ap (λ (c : Bool). or_else (label_of old name) (if c then Some (record { item = k; number = n }) else None))
+    ∙ ap (λ (c : Bool). option_or (label_of old name) (if c then Some (record { item = k; number = n }) else None))
     (ap (λ (z : List ℕ). bytes_eq z name) name_is ∙ sym (ap (is_label text name) is))
 
 -- what the table says of a name
@@ -161,7 +162,7 @@ pub label_found : (text name : List ℕ) (items : List Item) (m : Labels) (o : O
 label_found text name items m o are is = ap number (is ∙ are name) ∙ sym (label_of_first text name 0 0 items)
 
 pub label_repeated : (text name : List ℕ) (items : List Item) (m : Labels) (o : Option FirstLabel) (k : ℕ) (i : Item) → LabelsAre text items m → o ≡ label_of m name →
-    slice_get items k ≡ Some i → is_label text name i.function ≡ true → is_earlier k o ≡ not (is_missing (label_in text name 0 (take k items)))
+    slice_get items k ≡ Some i → is_label text name i.function ≡ true → is_earlier k o ≡ is_some (label_in text name 0 (take k items))
 label_repeated text name items m o k i are is e l = ap (is_earlier k) (is ∙ are name) ∙ earlier_label text name k 0 0 0 k items i e l (omega arith)
 
 -- a label has its own name

@@ -1,6 +1,7 @@
 -- Addresses and what stands before a function (XCU sed, "Addresses in sed").
 -- Regular expressions are told as the places between which they stand.
-use Rattle.std.specs.Prelude.{ℕ, zero, suc, ◌+◌, List, [], ◌∷◌, ◌++◌, true, false, ◌||◌, Option, Some, None, if◌then◌else◌, ◌==◌, slice_get, Result, Ok, Err}
+use Rattle.std.specs.Prelude.{ℕ, zero, suc, ◌+◌, List, [], ◌∷◌, ◌++◌, true, false, ◌||◌, Option, Some, None}
+use Rattle.std.specs.Prelude.{if◌then◌else◌, ◌==◌, slice_get, Result, Ok, Err}
 use Rattle.sedscript.specs.declared.bytes.Sort.TheVariants.{Blank, Separator, Bang, Digit}
 use Rattle.sedscript.specs.declared.types.ScriptFault.{ScriptFault}
 use Rattle.sedscript.specs.declared.types.Reason.TheVariants.{BadAddress, OpenDelimiter, BadDelimiter}
@@ -46,7 +47,8 @@ pub record Addressed : Type 0 where
 abbrev pub found : Option Address → ℕ → ℕ → Result Addressed ScriptFault
 found address at count = Ok (record { address = address; at = at; count = count })
 
--- the line of a number whose digits stand between two places. The number 0 and numbers from 2 ^ 64 on are refused (this project's own)
+-- the line of a number whose digits stand between two places. The number 0 and numbers from 2 ^ 64 on are refused
+-- (this project's own)
 abbrev pub line_of : ℕ → ℕ → ℕ → Option ℕ → Result Addressed ScriptFault
 line_of count from to None = fault BadAddress from
 line_of count from to (Some zero) = fault BadAddress from

@@ -1,5 +1,6 @@
 -- What the reader's functions answer, against the definitions. Private machinery of the reader.
-use Rattle.std.specs.Prelude.{◌≡◌, ◌<◌, ◌≤◌, ◌⊎◌, ℕ, List, ◌++◌, length, Bool, true, false, if◌then◌else◌, Option, Result, Ok, Err}
+use Rattle.std.specs.Prelude.{◌≡◌, ◌<◌, ◌≤◌, ◌⊎◌, ℕ, List, ◌++◌, length, Bool, true, false, if◌then◌else◌, Option}
+use Rattle.std.specs.Prelude.{Result, Ok, Err}
 use Rattle.sedre.specs.declared.types.Kind.{Kind}
 use Rattle.sedre.specs.declared.types.Reason.{Reason as ExprReason}
 use Rattle.sedre.specs.declared.types.Reason.TheVariants.{NoMemory}
@@ -19,13 +20,16 @@ use Rattle.sedscript.specs.Script.{IsEnd, Judged}
 
 -- what a function answered is what reading gives, and the expressions grew by those that were read,
 -- unless memory was wanting
-abbrev pub Comes : {X A : Type 0} → List ℕ → Kind → ℕ → List Written → List Written → (X → ℕ → A) → Result X ScriptFault → Reading A → Type 0
+abbrev pub Comes : {X A : Type 0} → List ℕ → Kind → ℕ → List Written → List Written → (X → ℕ → A) →
+    Result X ScriptFault → Reading A → Type 0
 Comes text kind max_nodes old new view (Ok x) r =
-    (r.end ≡ Ok (view x (length new))) × (es : List Written) × AreRead text kind max_nodes r.patterns es × (new ≡ old ++ es)
+    (r.end ≡ Ok (view x (length new)))
+    × (es : List Written) × AreRead text kind max_nodes r.patterns es × (new ≡ old ++ es)
 Comes text kind max_nodes old new view (Err f) r = Fails text kind max_nodes r f ⊎ (f ≡ NO_MEMORY)
 
 -- the same of a script that is read
-abbrev pub ComesFrom : {X A : Type 0} → Source → List Written → List Written → (X → ℕ → A) → Result X ScriptFault → Reading A → Type 0
+abbrev pub ComesFrom : {X A : Type 0} → Source → List Written → List Written → (X → ℕ → A) →
+    Result X ScriptFault → Reading A → Type 0
 ComesFrom source old new view result r = Comes source.text.now source.kind source.max_nodes old new view result r
 
 -- what a function answered is what this is, with a count of expressions
@@ -62,6 +66,7 @@ abbrev pub fault_of : ℕ → ExprFault → ScriptFault
 fault_of from f = if is_no_memory f.reason then NO_MEMORY else in_script from f
 
 -- the text is cut to its end into these items and expressions, and no label or block is wrong
-pub record IsJudged (text : List ℕ) (kind : Kind) (max_nodes : ℕ) (items : List Item) (expressions : List Written) : Type 0 where
+pub record IsJudged (text : List ℕ) (kind : Kind) (max_nodes : ℕ) (items : List Item)
+    (expressions : List Written) : Type 0 where
   pub to : ℕ
   pub judged : Judged text kind max_nodes items expressions to

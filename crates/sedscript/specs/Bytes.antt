@@ -1,5 +1,6 @@
 -- Places of a text, counted from 0.
-use Rattle.std.specs.Prelude.{ℕ, suc, ◌+◌, ◌*◌, ◌-◌, ◌^◌, List, [], ◌∷◌, drop, take, Bool, false, not, ◌&&◌, ◌||◌, Option, Some, None, if◌then◌else◌, nat_lt, nat_le, ◌==◌}
+use Rattle.std.specs.Prelude.{ℕ, suc, ◌+◌, ◌*◌, ◌-◌, ◌^◌, List, [], ◌∷◌, drop, take, Bool, false, not, ◌&&◌, ◌||◌}
+use Rattle.std.specs.Prelude.{Option, Some, None, if◌then◌else◌, nat_lt, nat_le, ◌==◌}
 use Rattle.sedscript.specs.declared.bytes.Sort.{Sort}
 use Rattle.sedscript.specs.declared.bytes.Sort.TheVariants.{Blank, Separator, Bang, Digit, Name, Line}
 
@@ -11,8 +12,9 @@ is_blank b = b == 32 || b == 9
 abbrev pub is_digit : ℕ → Bool
 is_digit b = nat_le 48 b && nat_le b 57
 
--- whether a byte is of the sort. Blanks, newlines and semicolons stand between commands (XCU sed, "Extended Description").
--- A label ends at a newline or a semicolon, and at a blank or a closing brace too (this project's own)
+-- whether a byte is of the sort. Blanks, newlines and semicolons stand between commands
+-- (XCU sed, "Extended Description"). A label ends at a newline or a semicolon, and at a blank or a closing brace too
+-- (this project's own)
 abbrev pub belongs : Sort → ℕ → Bool
 belongs Blank b = is_blank b
 belongs Separator b = is_blank b || b == 10 || b == 59

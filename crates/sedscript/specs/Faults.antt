@@ -1,7 +1,10 @@
--- The numbers of the reasons (this project's own).
-use Rattle.std.specs.Prelude.{ℕ}
+-- The numbers and the names of the reasons (this project's own).
+use Rattle.std.specs.Prelude.{ℕ, List, codes}
 use Rattle.sedscript.specs.declared.types.Reason.{Reason}
-use Rattle.sedscript.specs.declared.types.Reason.TheVariants.{UnknownCommand, TooManyAddresses, BadAddress, MissingText, OpenDelimiter, BadDelimiter, UnknownLabel, RepeatedLabel, MissingLabel, OpenBlock, StrayClose, TrailingBytes, Expression, NoMemory}
+use Rattle.sedscript.specs.declared.types.Reason.TheVariants.{UnknownCommand, TooManyAddresses, BadAddress, MissingText}
+use Rattle.sedscript.specs.declared.types.Reason.TheVariants.{OpenDelimiter, BadDelimiter, UnknownLabel, RepeatedLabel}
+use Rattle.sedscript.specs.declared.types.Reason.TheVariants.{MissingLabel, OpenBlock, StrayClose, TrailingBytes}
+use Rattle.sedscript.specs.declared.types.Reason.TheVariants.{Expression, NoMemory}
 
 abbrev pub number_of : Reason → ℕ
 number_of UnknownCommand = 1
@@ -18,3 +21,19 @@ number_of StrayClose = 14
 number_of TrailingBytes = 15
 number_of (Expression f) = 21
 number_of NoMemory = 22
+
+abbrev pub name_of : Reason → List ℕ
+name_of UnknownCommand = codes "UnknownCommand"
+name_of TooManyAddresses = codes "TooManyAddresses"
+name_of BadAddress = codes "BadAddress"
+name_of MissingText = codes "MissingText"
+name_of OpenDelimiter = codes "OpenDelimiter"
+name_of BadDelimiter = codes "BadDelimiter"
+name_of UnknownLabel = codes "UnknownLabel"
+name_of RepeatedLabel = codes "RepeatedLabel"
+name_of MissingLabel = codes "MissingLabel"
+name_of OpenBlock = codes "OpenBlock"
+name_of StrayClose = codes "StrayClose"
+name_of TrailingBytes = codes "TrailingBytes"
+name_of (Expression f) = codes "Expression"
+name_of NoMemory = codes "NoMemory"

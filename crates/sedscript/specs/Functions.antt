@@ -1,9 +1,11 @@
 -- The functions of commands and what follows them (XCU sed, "Editing Commands in sed").
-use Rattle.std.specs.Prelude.{ℕ, ◌+◌, List, [], ◌∷◌, suc, drop, Bool, true, false, ◌&&◌, ◌||◌, Option, Some, None, if◌then◌else◌, nat_lt, ◌==◌, slice_get, Result, Ok, Err, option_map}
+use Rattle.std.specs.Prelude.{ℕ, ◌+◌, List, [], ◌∷◌, suc, drop, Bool, true, false, ◌&&◌, ◌||◌, Option, Some, None}
+use Rattle.std.specs.Prelude.{if◌then◌else◌, nat_lt, ◌==◌, slice_get, Result, Ok, Err, option_map}
 use Rattle.sedscript.specs.declared.bytes.Sort.TheVariants.{Blank, Name, Line}
 use Rattle.sedscript.specs.declared.types.ScriptFault.{ScriptFault}
 use Rattle.sedscript.specs.declared.types.Reason.{Reason}
-use Rattle.sedscript.specs.declared.types.Reason.TheVariants.{UnknownCommand, TooManyAddresses, MissingText, MissingLabel, TrailingBytes}
+use Rattle.sedscript.specs.declared.types.Reason.TheVariants.{UnknownCommand, TooManyAddresses, MissingText}
+use Rattle.sedscript.specs.declared.types.Reason.TheVariants.{MissingLabel, TrailingBytes}
 use Rattle.sedscript.specs.declared.items.Simple.TheVariants.{Delete, LineNumber, Print, Quit}
 use Rattle.sedscript.specs.declared.items.TextUse.{TextUse}
 use Rattle.sedscript.specs.declared.items.TextUse.TheVariants.{Insert, Change}
@@ -43,7 +45,8 @@ stops Escape b = false
 stops InLine b = b == 10
 stops Due b = b == 10
 
--- how far a text is read behind this byte: within a line, behind a backslash in force, or where a further line must stand
+-- how far a text is read behind this byte: within a line, behind a backslash in force, or where a further line
+-- must stand
 abbrev pub behind : Inside → ℕ → Inside
 behind Escape b = if b == 10 then Due else InLine
 behind InLine b = if b == 92 then Escape else InLine
@@ -74,7 +77,8 @@ abbrev pub text_of : TextUse → ℕ → Option (ℕ × ℕ) → Result (Functio
 text_of t place None = fault MissingText place
 text_of t place (Some span) = Ok (Text t span.0 span.1, span.1)
 
--- a label's name, from where it begins: up to a newline, a semicolon, a blank or a closing brace. The `:` stands at a place
+-- a label's name, from where it begins: up to a newline, a semicolon, a blank or a closing brace. The `:` stands at
+-- a place
 abbrev pub label_of : List ℕ → ℕ → ℕ → Result (Function × ℕ) ScriptFault
 label_of text place from =
     if past Name text from == from then fault MissingLabel place
@@ -110,8 +114,8 @@ most_addresses letter =
     -- `:` `}` `#`, then `q`, then `=` `b` `c` `d` `i` `p` `{`
     if letter == 58 || letter == 125 || letter == 35 then Some 0
     else if letter == 113 then Some 1
-    else if letter == 61 || letter == 98 || letter == 99 || letter == 100 || letter == 105 || letter == 112 || letter == 123
-    then Some 2
+    else if letter == 61 || letter == 98 || letter == 99 || letter == 100 || letter == 105 || letter == 112
+    || letter == 123 then Some 2
     else None
 
 abbrev pub given : {A : Type 0} → Option A → ℕ

@@ -4,7 +4,8 @@ use Rattle.sedre.specs.Arena.{Written}
 use Rattle.sedscript.specs.declared.types.Address.{Address}
 use Rattle.sedscript.specs.declared.types.Address.TheVariants.{Line, Last, Match}
 use Rattle.sedscript.specs.declared.types.Action.{Action}
-use Rattle.sedscript.specs.declared.types.Action.TheVariants.{Block, Branch, Change, Delete, Insert, Print, Quit, LineNumber}
+use Rattle.sedscript.specs.declared.types.Action.TheVariants.{Block, Branch, Change, Delete, Insert, Print, Quit}
+use Rattle.sedscript.specs.declared.types.Action.TheVariants.{LineNumber}
 use Rattle.sedscript.specs.declared.types.Command.{Command}
 
 -- an address names one of so many expressions
@@ -32,7 +33,8 @@ pub record CommandWithin (commands expressions texts : ℕ) (c : Command) : Type
   pub action : ActionWithin commands texts c.action
 
 -- each command is in range, and no expression has more nodes than allowed
-pub record InRange (commands : List Command) (expressions : List Written) (texts : List (List ℕ)) (max_nodes : ℕ) : Type 0 where
+pub record InRange (commands : List Command) (expressions : List Written) (texts : List (List ℕ))
+    (max_nodes : ℕ) : Type 0 where
   pub each : (i : ℕ) (c : Command) → slice_get commands i ≡ Some c →
       CommandWithin (length commands) (length expressions) (length texts) c
   pub nodes : (k : ℕ) (e : Written) → slice_get expressions k ≡ Some e → length e.nodes ≤ max_nodes

@@ -1,11 +1,15 @@
 -- What a script means, and its first fault (XCU sed, "Extended Description").
-use Rattle.std.specs.Prelude.{◌≡◌, ℕ, suc, ◌+◌, List, [], ◌∷◌, ◌++◌, length, Bool, true, false, not, ◌&&◌, Option, Some, None, if◌then◌else◌, ◌==◌, slice_get, Ok, unwrap_or}
+use Rattle.std.specs.Prelude.{◌≡◌, ℕ, suc, ◌+◌, List, [], ◌∷◌, ◌++◌, length, Bool, true, false, not, ◌&&◌, Option, Some}
+use Rattle.std.specs.Prelude.{None, if◌then◌else◌, ◌==◌, slice_get, Ok, unwrap_or}
 use Rattle.sedre.specs.declared.types.Kind.{Kind}
 use Rattle.sedre.specs.Arena.{Written}
 use Rattle.sedscript.specs.declared.bytes.Sort.TheVariants.{Separator}
 use Rattle.sedscript.specs.declared.types.ScriptFault.{ScriptFault}
 use Rattle.sedscript.specs.declared.types.Action.{Action}
-use Rattle.sedscript.specs.declared.types.Action.TheVariants.{Block, Branch as BranchTo, Change as ChangeText, Delete as DeleteSpace, Insert as InsertText, LineNumber as WriteNumber, Print as PrintSpace, Quit as QuitHere}
+use Rattle.sedscript.specs.declared.types.Action.TheVariants.{Block, Branch as BranchTo, Change as ChangeText}
+use Rattle.sedscript.specs.declared.types.Action.TheVariants.{Delete as DeleteSpace, Insert as InsertText}
+use Rattle.sedscript.specs.declared.types.Action.TheVariants.{LineNumber as WriteNumber, Print as PrintSpace}
+use Rattle.sedscript.specs.declared.types.Action.TheVariants.{Quit as QuitHere}
 use Rattle.sedscript.specs.declared.types.Command.{Command}
 use Rattle.sedscript.specs.declared.items.Simple.{Simple}
 use Rattle.sedscript.specs.declared.items.Simple.TheVariants.{Delete, LineNumber, Print, Quit}
@@ -34,7 +38,8 @@ pub data Cut (text : List ℕ) (kind : Kind) (max_nodes : ℕ) : ℕ → ℕ →
   done : {count at : ℕ} → Cut text kind max_nodes count at [] [] at
   item : {count at next to : ℕ} {i : Item} {is : List Item} (es fs : List Written) →
       (item_at text count at).end ≡ Ok (Is i next) → AreRead text kind max_nodes (item_at text count at).patterns es →
-      Cut text kind max_nodes (count + length es) next is fs to → Cut text kind max_nodes count at (i ∷ is) (es ++ fs) to
+      Cut text kind max_nodes (count + length es) next is fs to →
+      Cut text kind max_nodes count at (i ∷ is) (es ++ fs) to
 
 -- nothing but separators follows a place
 abbrev pub IsEnd : List ℕ → ℕ → Type 0
@@ -112,7 +117,8 @@ is_quiet (a ∷ b ∷ []) = a == 35 && b == 110
 is_quiet (a ∷ b ∷ c ∷ bs) = a == 35 && b == 110 && c == 10
 
 -- the text is cut to its end into these items and expressions, and no label or block is wrong
-pub record Judged (text : List ℕ) (kind : Kind) (max_nodes : ℕ) (items : List Item) (expressions : List Written) (to : ℕ) : Type 0 where
+pub record Judged (text : List ℕ) (kind : Kind) (max_nodes : ℕ) (items : List Item) (expressions : List Written)
+    (to : ℕ) : Type 0 where
   pub cut : Cut text kind max_nodes 0 0 items expressions to
   pub ends : IsEnd text to
   pub settled : late text items ≡ None

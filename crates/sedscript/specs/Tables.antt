@@ -1,5 +1,6 @@
 -- The tables by which labels and blocks are found without searching anew. Private machinery of the reader.
-use Rattle.std.specs.Prelude.{◌≡◌, ◌≤◌, ℕ, suc, ◌+◌, List, [], ◌∷◌, ◌++◌, length, Bool, true, false, not, ◌==◌, Option, Some, None, if◌then◌else◌, take, drop, slice_get}
+use Rattle.std.specs.Prelude.{◌≡◌, ◌≤◌, ℕ, suc, ◌+◌, List, [], ◌∷◌, ◌++◌, length, Bool, true, false, not, ◌==◌, Option}
+use Rattle.std.specs.Prelude.{Some, None, if◌then◌else◌, take, drop, slice_get}
 use Rattle.std.specs.Borrow.{Bor}
 use Rattle.std.specs.BTreeMap.{BTreeMap, get_by}
 use Rattle.std.specs.Cmp.Lexicographic.{slice_cmp}
@@ -64,7 +65,8 @@ EndsFrom items from ends = (k : ℕ) (i : Item) →
     slice_get ends k ≡ Some (close_in 0 (commands_in (take (k + 1) items)) (drop (k + 1) items))
 
 -- the tables of all items
-pub record TargetsAre (text : List ℕ) (items : List Item) (labels : BTreeMap (Bor (List ℕ)) FirstLabel) (ends : List (Option ℕ)) (commands : ℕ) : Type 0 where
+pub record TargetsAre (text : List ℕ) (items : List Item) (labels : BTreeMap (Bor (List ℕ)) FirstLabel)
+    (ends : List (Option ℕ)) (commands : ℕ) : Type 0 where
   pub labels_are : LabelsAre text items labels
   pub ends_are : EndsFrom items 0 ends
   pub length_is : length ends ≡ length items

@@ -1,5 +1,9 @@
--- Where labels and blocks lead, and what is wrong with them (XCU sed, "Editing Commands in sed": `{`, `}`, `b` and `:`).
-use Rattle.std.specs.Prelude.{ℕ, suc, ◌-◌, List, [], ◌∷◌, ◌++◌, Bool, true, false, not, ◌&&◌, Option, Some, None, if◌then◌else◌, ◌==◌}
+-- Where labels and blocks lead, and what is wrong with them
+-- (XCU sed, "Editing Commands in sed": `{`, `}`, `b` and `:`).
+use Rattle.std.specs.Prelude.{ℕ, suc, ◌-◌, List, [], ◌∷◌, ◌++◌, Bool, true, false, not, ◌&&◌, Option, Some, None}
+use Rattle.std.specs.Prelude.{is_none, is_some, if◌then◌else◌, ◌==◌}
+use Rattle.std.specs.Bool.{then_some}
+use Rattle.std.specs.Option.{option_or}
 use Rattle.std.specs.Str.{bytes_eq}
 use Rattle.sedscript.specs.declared.types.ScriptFault.{ScriptFault}
 use Rattle.sedscript.specs.declared.types.Reason.{Reason}
@@ -78,33 +82,25 @@ abbrev pub block_end : List Item → List Item → Option ℕ
 block_end before after = close_in 0 (suc (commands_in before)) after
 
 abbrev pub fault_if : Bool → Reason → ℕ → Option ScriptFault
-fault_if false reason place = None
-fault_if true reason place = Some (record { place = place; reason = reason })
+fault_if wrong reason place = then_some wrong (record { place = place; reason = reason })
 
-abbrev pub is_missing : {A : Type 0} → Option A → Bool
-is_missing None = true
-is_missing (Some a) = false
-
--- what is wrong with a function at a place among all items: those before it with so many open blocks, and those behind it
+-- what is wrong with a function at a place among all items: those before it with so many open blocks, and those
+-- behind it
 abbrev pub late_at : List ℕ → List Item → List Item → ℕ → List Item → ℕ → Function → Option ScriptFault
-late_at text all before depth after place Open = fault_if (is_missing (block_end before after)) OpenBlock place
+late_at text all before depth after place Open = fault_if (is_none (block_end before after)) OpenBlock place
 late_at text all before depth after place Close = fault_if (depth == 0) StrayClose place
 late_at text all before depth after place (Label from to) =
-    fault_if (not (is_missing (label_in text (part text from to) 0 before))) RepeatedLabel place
+    fault_if (is_some (label_in text (part text from to) 0 before)) RepeatedLabel place
 late_at text all before depth after place (Branch from to) =
-    fault_if (not (from == to) && is_missing (label_in text (part text from to) 0 all)) UnknownLabel place
+    fault_if (not (from == to) && is_none (label_in text (part text from to) 0 all)) UnknownLabel place
 late_at text all before depth after place (Plain a) = None
 late_at text all before depth after place (Text t from to) = None
 late_at text all before depth after place Comment = None
 
-abbrev pub or_else : {A : Type 0} → Option A → Option A → Option A
-or_else None o = o
-or_else (Some a) o = Some a
-
 abbrev pub late_in : List ℕ → List Item → List Item → ℕ → List Item → Option ScriptFault
 late_in text all before depth [] = None
 late_in text all before depth (i ∷ is) =
-    or_else (late_at text all before depth is i.place i.function)
+    option_or (late_at text all before depth is i.place i.function)
     (late_in text all (before ++ i ∷ []) (depth_behind depth i.function) is)
 
 -- the fault of labels and blocks with the least place, judged once the whole text is cut (this project's own)

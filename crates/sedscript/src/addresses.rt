@@ -3,8 +3,11 @@
 ghost use Rattle.std.specs.Prelude.{◌≡◌, ◌≢◌, ◌≤◌, ◌<◌, ◌+◌, ℕ, List, Option, Some, length, slice_get, IfOk, IfSome};
 ghost use Rattle.sedscript.specs.declared.types.Address.{Address};
 ghost use Rattle.sedscript.specs.Bytes.{part, with_digits};
-ghost use Rattle.sedscript.specs.Addresses.{match_at, own_match, own_delimiter, address_at, behind_first, second_at, with_second, function_behind, addresses_at, with_bang, addresses_of, item_at, line_of};
-ghost use Rattle.sedscript.specs.Answers.{as_addressed, as_headed, as_here, ComesFrom, Agrees, IsBehind, IsHere, is_no_memory, fault_of};
+ghost use Rattle.sedscript.specs.Addresses.{match_at, own_match, own_delimiter, address_at, behind_first, second_at};
+ghost use Rattle.sedscript.specs.Addresses.{with_second, function_behind, addresses_at, with_bang, addresses_of};
+ghost use Rattle.sedscript.specs.Addresses.{item_at, line_of};
+ghost use Rattle.sedscript.specs.Answers.{as_addressed, as_headed, as_here, ComesFrom, Agrees, IsBehind, IsHere};
+ghost use Rattle.sedscript.specs.Answers.{is_no_memory, fault_of};
 
 use crate::bytes::{Sort, byte_at, is_byte, is_digit, number_of, past};
 use crate::functions::function_at;
@@ -15,7 +18,8 @@ use sedre::{Expr, delimited};
 /// The line's address whose digits stand between two places.
 fn line_at(text: &[u8], from: usize, to: usize) -> Result<(Option<Address>, usize), ScriptFault>
     requires { (from ≤ to) × (to ≤ length text.now) }
-    ensures is { (count : ℕ) → Agrees as_addressed count result (line_of count from to (with_digits (Some 0) (part text.now from to))) }
+    ensures is { (count : ℕ) → Agrees as_addressed count result
+        (line_of count from to (with_digits (Some 0) (part text.now from to))) }
     ensures to { IfOk result (λ found. found.1 ≡ to) }
 {
     match number_of(&text[from..to]) {
@@ -98,7 +102,8 @@ fn own_match(
 ) -> Result<(Option<Address>, usize), ScriptFault>
     requires place { place ≤ length source.now.text.now }
     ensures comes { ComesFrom source.now exprs.old.items exprs.new.items as_addressed result
-        (own_match source.now.text.now (length exprs.old.items) place (own_delimiter (slice_get source.now.text.now place))) }
+        (own_match source.now.text.now (length exprs.old.items) place
+        (own_delimiter (slice_get source.now.text.now place))) }
     ensures within { IfOk result (λ found. (place ≤ found.1) × (found.1 ≤ length source.now.text.now)) }
 {
     match own_delimiter(byte_at(source.text, place)) {

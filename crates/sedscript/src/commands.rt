@@ -1,9 +1,11 @@
 //! The commands and texts that the items leave.
 
-ghost use Rattle.std.specs.Prelude.{◌≡◌, ◌<◌, ◌≤◌, ◌+◌, ◌++◌, [], Some, false, map, length, drop, take, slice_get, IfOk, OnOk};
+ghost use Rattle.std.specs.Prelude.{◌≡◌, ◌<◌, ◌≤◌, ◌+◌, ◌++◌, [], Some, false, map, length, drop, take, slice_get};
+ghost use Rattle.std.specs.Prelude.{IfOk, OnOk};
 ghost use Rattle.sedscript.specs.Bytes.{part};
 ghost use Rattle.sedscript.specs.Tables.{TargetsAre};
-ghost use Rattle.sedscript.specs.Script.{has_text, texts_with, simple_action, text_action, action_of, with_action, commands_of, texts_of, unescaped_from, is_quiet};
+ghost use Rattle.sedscript.specs.Script.{has_text, texts_with, simple_action, text_action, action_of, with_action};
+ghost use Rattle.sedscript.specs.Script.{commands_of, texts_of, unescaped_from, is_quiet};
 
 use crate::bytes::part;
 use crate::items::{Addresses, Function, Item, Simple, TextUse};

@@ -16,7 +16,8 @@ pub fn cut(
 ) -> Result<usize, ScriptFault>
     requires empty { (items.old.items ≡ []) × (exprs.old.items ≡ []) }
     ensures cut { IfOk result (λ to.
-        Cut source.now.text.now source.now.kind source.now.max_nodes 0 0 items.new.items exprs.new.items to × IsEnd source.now.text.now to) }
+        Cut source.now.text.now source.now.kind source.now.max_nodes 0 0 items.new.items exprs.new.items to
+        × IsEnd source.now.text.now to) }
     ensures fault { IfErr result (λ f.
         Faulty source.now.text.now source.now.kind source.now.max_nodes f ⊎ (f ≡ NO_MEMORY)) }
 {

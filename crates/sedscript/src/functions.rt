@@ -2,7 +2,8 @@
 
 ghost use Rattle.std.specs.Prelude.{◌≡◌, ◌≤◌, ◌<◌, ◌+◌, length, slice_get, Some, IfOk};
 ghost use Rattle.sedscript.specs.Bytes.{past};
-ghost use Rattle.sedscript.specs.Functions.{may_end, ended, most_addresses, label_of, branch_of, function_of, text_of, text_from, given, allowed, function_at};
+ghost use Rattle.sedscript.specs.Functions.{may_end, ended, most_addresses, label_of, branch_of, function_of, text_of};
+ghost use Rattle.sedscript.specs.Functions.{text_from, given, allowed, function_at};
 ghost use Rattle.sedscript.specs.Answers.{IsBehind};
 
 use crate::bytes::{Sort, byte_at, past};

@@ -12,11 +12,7 @@ use crate::types::{Reason, ScriptFault};
 fn fault_if(wrong: bool, reason: Reason, place: usize) -> Option<ScriptFault>
     ensures { result ≡ fault_if wrong reason place }
 {
-    if wrong {
-        Some(ScriptFault { place, reason })
-    } else {
-        None
-    }
+    wrong.then_some(ScriptFault { place, reason })
 }
 
 /// What is wrong with the item of an index, before which so many blocks are open.

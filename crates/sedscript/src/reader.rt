@@ -25,7 +25,8 @@ fn judge<'a>(
     requires empty { (items.old.items ≡ []) × (exprs.old.items ≡ []) }
     ensures judged { OnOk result
         (IsJudged source.now.text.now source.now.kind source.now.max_nodes items.new.items exprs.new.items) }
-    ensures targets { IfOk result (λ t. TargetsAre source.now.text.now items.new.items t.labels t.ends.items t.commands) }
+    ensures targets { IfOk result (λ t.
+        TargetsAre source.now.text.now items.new.items t.labels t.ends.items t.commands) }
     ensures fault { IfErr result (λ f.
         Faulty source.now.text.now source.now.kind source.now.max_nodes f ⊎ (f ≡ NO_MEMORY)) }
 {

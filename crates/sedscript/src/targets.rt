@@ -1,10 +1,13 @@
 //! Where labels and blocks lead: tables that are made once, so that nothing is searched anew.
 
-ghost use Rattle.std.specs.Prelude.{◌≡◌, ◌<◌, ◌≤◌, ◌+◌, ℕ, List, [], Some, None, true, not, length, drop, take, slice_get, if◌then◌else◌, IfOk, OnOk};
-ghost use Rattle.sedscript.specs.Targets.{counted, commands_in, is_label, label_in, or_else, block_end, is_missing};
+ghost use Rattle.std.specs.Prelude.{◌≡◌, ◌<◌, ◌≤◌, ◌+◌, ℕ, List, [], Some, None, true, is_some, length, drop, take};
+ghost use Rattle.std.specs.Prelude.{slice_get, if◌then◌else◌, IfOk, OnOk};
+ghost use Rattle.std.specs.Option.{option_or};
+ghost use Rattle.sedscript.specs.Targets.{counted, commands_in, is_label, label_in, block_end};
 ghost use Rattle.sedscript.specs.declared.items.Item.{Item};
 ghost use Rattle.sedscript.specs.declared.items.Function.TheVariants.{Open};
-ghost use Rattle.sedscript.specs.Tables.{LabelsAre, EndsFrom, TargetsAre, unopened, unopened_by, reversed, first, number, is_earlier, labelled};
+ghost use Rattle.sedscript.specs.Tables.{LabelsAre, EndsFrom, TargetsAre, unopened, unopened_by, reversed, first};
+ghost use Rattle.sedscript.specs.Tables.{number, is_earlier, labelled};
 
 use crate::bytes::part;
 use crate::items::{Function, Item};
@@ -123,7 +126,8 @@ fn add_label<'a>(
     n: usize,
 ) -> Result<(), AllocError>
     ensures { OnOk result ((name : List ℕ) → labelled labels.new name ≡
-        or_else (labelled labels.old name) (if is_label text.now name function then Some (record { item = k; number = n }) else None)) }
+        option_or (labelled labels.old name)
+        (if is_label text.now name function then Some (record { item = k; number = n }) else None)) }
 {
     let Function::Label(from, to) = function else {
         return Ok(());
@@ -227,12 +231,13 @@ impl<'a> Targets<'a> {
         ensures { (text : List ℕ) (items : List Item) (i : Item) →
             TargetsAre text items self.now.labels self.now.ends.items self.now.commands →
             slice_get items k ≡ Some i → is_label text name.now i.function ≡ true →
-            result ≡ not (is_missing (label_in text name.now 0 (take k items))) }
+            result ≡ is_some (label_in text name.now 0 (take k items)) }
     {
         is_earlier(k, self.first_label(name))
     }
 
-    /// The number of the command behind the end of the block that the item of an index opens, none where it isn't closed.
+    /// The number of the command behind the end of the block that the item of an index opens, none where it isn't
+    /// closed.
     pub fn block_end(&self, k: usize) -> Option<usize>
         requires { k < length self.now.ends.items }
         ensures { (text : List ℕ) (items : List Item) (i : Item) →

@@ -1,7 +1,7 @@
 //! What scripts are made of, and why a text is none.
 
 ghost use Rattle.std.specs.Prelude.{◌≡◌};
-ghost use Rattle.sedscript.specs.Faults.{number_of};
+ghost use Rattle.sedscript.specs.Faults.{name_of, number_of};
 
 pub use sedre::{ExprFault, Kind};
 
@@ -108,7 +108,9 @@ impl Reason {
     }
 
     /// The reason's name, for messages.
-    pub fn name(self) -> &'static str {
+    pub fn name(self) -> &'static str
+        ensures { result.now ≡ name_of self }
+    {
         match self {
             Reason::UnknownCommand => "UnknownCommand",
             Reason::TooManyAddresses => "TooManyAddresses",

@@ -1,8 +1,15 @@
-use Rattle.std.proofs.Common.{◌≡◌, ◌≤◌, ◌-◌, length}
+use Rattle.std.proofs.Common.{◌-◌, ◌≤◌, length, take, Ok}
+use Rattle.sedengine.specs.Move.{to_sink}
+use Rattle.sedengine.specs.Devices.{Gained}
+use Rattle.sedengine.specs.Calls.{Writes}
 use Rattle.sed.proofs.program.write_all.Given as goal
 
-abbrev pub invariant-writing : goal.invariant-writing
-invariant-writing g l = (l.at ≤ length l.bytes) × (g.O.Outputs.count l.outputs ≡ g.O.Outputs.count l.initial.outputs)
+abbrev pub invariant-loop-done : goal.invariant-loop-done
+invariant-loop-done g l = record {
+  within : l.done ≤ length l.bytes;
+  gained : Gained (g.O.Outputs.contents l.fn.outputs) (g.O.Outputs.contents l.outputs) (to_sink 0 (take l.done l.bytes));
+  devices : Writes g.O.Outputs.failures g.O.Outputs.count l.fn.outputs l.outputs (Ok tt);
+}
 
-abbrev pub decreases-writing : goal.decreases-writing
-decreases-writing g l = length l.bytes - l.at
+abbrev pub decreases-loop-done : goal.decreases-loop-done
+decreases-loop-done g l = length l.bytes - l.done
