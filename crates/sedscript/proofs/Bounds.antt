@@ -25,7 +25,8 @@ use Rattle.sedscript.specs.Addresses.{Pattern, Reading, Addressed, Headed, plain
 use Rattle.sedscript.specs.Expressions.{AreRead}
 use Rattle.sedscript.specs.Targets.{leaves, counted, commands_in, label_in, is_label, close_in, is_close, depth_behind, block_end}
 use Rattle.sedscript.specs.Script.{Cut, done, item, with_text, texts_of, has_text, texts_with, action_of, simple_action, text_action, with_action, commands_of, Judged, Means, Program}
-use Rattle.sedscript.specs.Ranges.{AddressWithin, ActionWithin, CommandWithin, InRange}
+use Rattle.sedscript.specs.declared.substitution.Substitution.{Substitution}
+use Rattle.sedscript.specs.Ranges.{Sizes, sizes_of, AddressWithin, ActionWithin, CommandWithin, SubstitutionWithin, InRange}
 use Rattle.sedscript.proofs.Labels.{commands_snoc, counted_in}
 use Rattle.sedscript.proofs.Exclusive.{are_read_length}
 
@@ -57,38 +58,38 @@ label_bound text name n (i ∷ is) =
 
 -- actions
 
-abbrev MayAct : ℕ → ℕ → Option Action → Type 0
-MayAct commands texts None = Unit {0}
-MayAct commands texts (Some a) = ActionWithin commands texts a
+abbrev MayAct : Sizes → Option Action → Type 0
+MayAct n None = Unit {0}
+MayAct n (Some a) = ActionWithin n a
 
-simple_within : (n t : ℕ) (s : Simple) → ActionWithin n t (simple_action s)
-simple_within n t Delete = tt
-simple_within n t LineNumber = tt
-simple_within n t Print = tt
-simple_within n t Quit = tt
+simple_within : (n : Sizes) (s : Simple) → ActionWithin n (simple_action s)
+simple_within n Delete = tt
+simple_within n LineNumber = tt
+simple_within n Print = tt
+simple_within n Quit = tt
 
-text_within : (n t k : ℕ) (u : TextUse) → k < t → ActionWithin n t (text_action u k)
-text_within n t k Insert h = h
-text_within n t k Change h = h
+text_within : (n : Sizes) (k : ℕ) (u : TextUse) → k < n.texts → ActionWithin n (text_action u k)
+text_within n k Insert h = h
+text_within n k Change h = h
 
 branch_bound : (n : ℕ) (same : Bool) (m : ℕ) (o : Option ℕ) → m ≤ n → AtMost n o → (if same then m else unwrap_or o 0) ≤ n
 branch_bound n true m o h g = h
 branch_bound n false m o h g = at_most_or n o g
 
-may_act : (text : List ℕ) (all before after : List Item) (texts n t : ℕ) (f : Function) → commands_in all ≡ n →
-    commands_in before + (if leaves f then suc (commands_in after) else commands_in after) ≡ n → texts + length (with_text text f (texts_of text after)) ≡ t →
-    MayAct n t (action_of text all before texts after f)
-may_act text all before after texts n t (Plain s) whole count long = simple_within n t s
-may_act text all before after texts n t Open whole count long =
-    at_most_or n (block_end before after)
-    (subst (λ (m : ℕ). AtMost m (block_end before after)) (let e : suc (commands_in before) + commands_in after ≡ n = omega (arith, count) in e) (close_bound 0 (suc (commands_in before)) after))
-may_act text all before after texts n t (Branch from to) whole count long =
-    branch_bound n (from == to) (commands_in all) (label_in text (part text from to) 0 all) (omega (arith, whole))
-    (subst (λ (m : ℕ). AtMost m (label_in text (part text from to) 0 all)) (let e : 0 + commands_in all ≡ n = omega (arith, whole) in e) (label_bound text (part text from to) 0 all))
-may_act text all before after texts n t (Text u from to) whole count long = text_within n t texts u (omega (arith, long))
-may_act text all before after texts n t Close whole count long = tt
-may_act text all before after texts n t (Label from to) whole count long = tt
-may_act text all before after texts n t Comment whole count long = tt
+may_act : (text : List ℕ) (all before after : List Item) (texts : ℕ) (n : Sizes) (f : Function) → commands_in all ≡ n.commands →
+    commands_in before + (if leaves f then suc (commands_in after) else commands_in after) ≡ n.commands → texts + length (with_text text f (texts_of text after)) ≡ n.texts →
+    MayAct n (action_of text all before texts after f)
+may_act text all before after texts n (Plain s) whole count long = simple_within n s
+may_act text all before after texts n Open whole count long =
+    at_most_or n.commands (block_end before after)
+    (subst (λ (m : ℕ). AtMost m (block_end before after)) (let e : suc (commands_in before) + commands_in after ≡ n.commands = omega (arith, count) in e) (close_bound 0 (suc (commands_in before)) after))
+may_act text all before after texts n (Branch from to) whole count long =
+    branch_bound n.commands (from == to) (commands_in all) (label_in text (part text from to) 0 all) (omega (arith, whole))
+    (subst (λ (m : ℕ). AtMost m (label_in text (part text from to) 0 all)) (let e : 0 + commands_in all ≡ n.commands = omega (arith, whole) in e) (label_bound text (part text from to) 0 all))
+may_act text all before after texts n (Text u from to) whole count long = text_within n texts u (omega (arith, long))
+may_act text all before after texts n Close whole count long = tt
+may_act text all before after texts n (Label from to) whole count long = tt
+may_act text all before after texts n Comment whole count long = tt
 
 -- addresses
 
@@ -244,18 +245,18 @@ cut_within text kind m count at to n _ _ (item {next = next} {i = i} {is = is} e
 
 -- commands
 
-abbrev AllWithin : ℕ → ℕ → ℕ → List Command → Type 0
-AllWithin n e t [] = Unit {0}
-AllWithin n e t (c ∷ cs) = CommandWithin n e t c × AllWithin n e t cs
+abbrev AllWithin : Sizes → List Command → Type 0
+AllWithin n [] = Unit {0}
+AllWithin n (c ∷ cs) = CommandWithin n c × AllWithin n cs
 
-all_at : (n e t : ℕ) (cs : List Command) (k : ℕ) (c : Command) → AllWithin n e t cs → slice_get cs k ≡ Some c → CommandWithin n e t c
-all_at n e t [] k c h g = let bad : ◌≡◌ {A = Option Command} None (Some c) = g in cc
-all_at n e t (d ∷ cs) zero c h g = let same : d ≡ c = cc in subst (CommandWithin n e t) same h.0
-all_at n e t (d ∷ cs) (suc k) c h g = all_at n e t cs k c h.1 g
+all_at : (n : Sizes) (cs : List Command) (k : ℕ) (c : Command) → AllWithin n cs → slice_get cs k ≡ Some c → CommandWithin n c
+all_at n [] k c h g = let bad : ◌≡◌ {A = Option Command} None (Some c) = g in cc
+all_at n (d ∷ cs) zero c h g = let same : d ≡ c = cc in subst (CommandWithin n) same h.0
+all_at n (d ∷ cs) (suc k) c h g = all_at n cs k c h.1 g
 
-with_within : (n e t : ℕ) (a : Addresses) (o : Option Action) (cs : List Command) → AddressesWithin e a → MayAct n t o → AllWithin n e t cs → AllWithin n e t (with_action a o cs)
-with_within n e t a None cs h g k = k
-with_within n e t a (Some x) cs h g k = (record { first = h.0; second = h.1; action = g }, k)
+with_within : (n : Sizes) (a : Addresses) (o : Option Action) (cs : List Command) → AddressesWithin n.expressions a → MayAct n o → AllWithin n cs → AllWithin n (with_action a o cs)
+with_within n a None cs h g k = k
+with_within n a (Some x) cs h g k = (record { first = h.0; second = h.1; action = g }, k)
 
 texts_step : (text : List ℕ) (f : Function) (texts t : ℕ) (ts : List (List ℕ)) → texts + length (with_text text f ts) ≡ t → (if has_text f then suc texts else texts) + length ts ≡ t
 texts_step text (Text u from to) texts t ts h = omega (arith, h)
@@ -266,15 +267,15 @@ texts_step text (Label from to) texts t ts h = h
 texts_step text (Branch from to) texts t ts h = h
 texts_step text Comment texts t ts h = h
 
-commands_within : (text : List ℕ) (all before is : List Item) (texts n e t : ℕ) → commands_in all ≡ n → commands_in before + commands_in is ≡ n → texts + length (texts_of text is) ≡ t → ItemsWithin e is →
-    AllWithin n e t (commands_of text all before texts is)
-commands_within text all before [] texts n e t whole count long h = tt
-commands_within text all before (i ∷ is) texts n e t whole count long h =
-    with_within n e t i.addresses (action_of text all before texts is i.function) (commands_of text all (before ++ i ∷ []) (texts_with texts i) is) h.0
-    (may_act text all before is texts n t i.function whole count long)
-    (commands_within text all (before ++ i ∷ []) is (texts_with texts i) n e t whole
+commands_within : (text : List ℕ) (all before is : List Item) (texts : ℕ) (n : Sizes) → commands_in all ≡ n.commands → commands_in before + commands_in is ≡ n.commands → texts + length (texts_of text is) ≡ n.texts →
+    ItemsWithin n.expressions is → AllWithin n (commands_of text all before texts is)
+commands_within text all before [] texts n whole count long h = tt
+commands_within text all before (i ∷ is) texts n whole count long h =
+    with_within n i.addresses (action_of text all before texts is i.function) (commands_of text all (before ++ i ∷ []) (texts_with texts i) is) h.0
+    (may_act text all before is texts n i.function whole count long)
+    (commands_within text all (before ++ i ∷ []) is (texts_with texts i) n whole
     (ap (λ (m : ℕ). m + commands_in is) (commands_snoc before i) ∙ (counted_in (commands_in before) i is ∙ count))
-    (texts_step text i.function texts t (texts_of text is) long) h.1)
+    (texts_step text i.function texts n.texts (texts_of text is) long) h.1)
 
 leaf_length : (text : List ℕ) (all before after : List Item) (texts n : ℕ) (a : Addresses) (f : Function) (cs : List Command) → length cs ≡ n →
     length (with_action a (action_of text all before texts after f) cs) ≡ (if leaves f then suc n else n)
@@ -316,19 +317,26 @@ fit_at m [] k e h g = let bad : ◌≡◌ {A = Option Written} None (Some e) = g
 fit_at m (f ∷ es) zero e h g = let same : f ≡ e = cc in subst (λ (x : Written). length x.nodes ≤ m) same h.0
 fit_at m (f ∷ es) (suc k) e h g = fit_at m es k e h.1 g
 
--- what a text means is in range
-pub judged_in_range : (text : List ℕ) (kind : Kind) (m to : ℕ) (is : List Item) (es : List Written) (cs : List Command) (ts : List (List ℕ)) → Judged text kind m is es to →
-    cs ≡ commands_of text is [] 0 is → ts ≡ texts_of text is → InRange cs es ts m
-judged_in_range text kind m to is es cs ts j c t =
-    let long : length cs ≡ commands_in is = ap (λ (xs : List Command). length xs) c ∙ commands_length text is [] is 0 in
-    let all : AllWithin (length cs) (length es) (length ts) cs =
-    subst (AllWithin (length cs) (length es) (length ts)) (sym c)
-    (commands_within text is [] is 0 (length cs) (length es) (length ts) (sym long) (omega (arith, long)) (let e : length ts ≡ length (texts_of text is) = ap (λ (xs : List (List ℕ)). length xs) t in omega (arith, e))
-    (cut_within text kind m 0 0 to (length es) is es j.cut (omega arith))) in
-    record {
-      each = λ i x g. all_at (length cs) (length es) (length ts) cs i x all g;
-      nodes = λ k e g. fit_at m es k e (cut_fit text kind m 0 0 to is es j.cut) g;
-    }
+no_substitution : (es : ℕ) (ss : List Substitution) (k : ℕ) (s : Substitution) → ss ≡ [] → slice_get ss k ≡ Some s → SubstitutionWithin es s
+no_substitution es [] k s h g = let bad : ◌≡◌ {A = Option Substitution} None (Some s) = g in cc
+no_substitution es (x ∷ ss) k s h g = cc
 
-pub means_in_range : (text : List ℕ) (kind : Kind) (m : ℕ) (s : Program) → Means text kind m s → InRange s.commands s.expressions s.texts m
-means_in_range text kind m s h = judged_in_range text kind m h.to h.items s.expressions s.commands s.texts h.judged h.commands h.texts
+no_table : (ts : List (List ℕ)) (k : ℕ) (t : List ℕ) → ts ≡ [] → slice_get ts k ≡ Some t → length t ≡ 256
+no_table [] k t h g = let bad : ◌≡◌ {A = Option (List ℕ)} None (Some t) = g in cc
+no_table (x ∷ ts) k t h g = cc
+
+-- what a text means is in range
+pub means_in_range : (text : List ℕ) (kind : Kind) (m : ℕ) (s : Program) → Means text kind m s → InRange s
+means_in_range text kind m s h =
+    let is = h.items in
+    let long : length s.commands ≡ commands_in is = ap (λ (xs : List Command). length xs) h.commands ∙ commands_length text is [] is 0 in
+    let all : AllWithin (sizes_of s) s.commands =
+    subst (AllWithin (sizes_of s)) (sym h.commands)
+    (commands_within text is [] is 0 (sizes_of s) (sym long) (omega (arith, long)) (let e : length s.texts ≡ length (texts_of text is) = ap (λ (xs : List (List ℕ)). length xs) h.texts in omega (arith, e))
+    (cut_within text kind m 0 0 h.to (length s.expressions) is s.expressions h.judged.cut (omega arith))) in
+    record {
+      each = λ i x g. all_at (sizes_of s) s.commands i x all g;
+      nodes = λ k e g. subst (λ (n : ℕ). length e.nodes ≤ n) (sym h.nodes) (fit_at m s.expressions k e (cut_fit text kind m 0 0 h.to is s.expressions h.judged.cut) g);
+      substitutions = λ k t g. no_substitution (length s.expressions) s.substitutions k t h.substitutions g;
+      tables = λ k t g. no_table s.tables k t h.tables g;
+    }

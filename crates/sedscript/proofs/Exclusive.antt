@@ -91,11 +91,13 @@ pub means_no_fault : (text : List ℕ) (kind : Kind) (m : ℕ) (s : Program) (f 
 means_no_fault text kind m s f h bad = judged_no_fault text kind m h.items s.expressions h.to f h.judged bad
 
 pub one_meaning : (text : List ℕ) (kind : Kind) (m : ℕ) (s t : Program) → Means text kind m s → Means text kind m t →
-    (s.commands ≡ t.commands) × (s.texts ≡ t.texts) × (s.quiet ≡ t.quiet) × (s.max_nodes ≡ t.max_nodes)
+    (s.commands ≡ t.commands) × (s.texts ≡ t.texts) × (s.substitutions ≡ t.substitutions) × (s.tables ≡ t.tables) × (s.quiet ≡ t.quiet) × (s.max_nodes ≡ t.max_nodes)
 one_meaning text kind m s t h k =
     let same : h.items ≡ k.items = cut_same text kind m 0 0 h.to k.to h.items k.items s.expressions t.expressions h.judged.cut h.judged.ends k.judged.cut k.judged.ends in (
       h.commands ∙ (ap (λ (is : List Item). commands_of text is [] 0 is) same ∙ sym k.commands),
       h.texts ∙ (ap (texts_of text) same ∙ sym k.texts),
+      h.substitutions ∙ sym k.substitutions,
+      h.tables ∙ sym k.tables,
       h.quiet ∙ sym k.quiet,
       h.nodes ∙ sym k.nodes,
     )

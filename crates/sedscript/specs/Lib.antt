@@ -1,10 +1,12 @@
 pub mod Bytes
 pub mod Faults
 pub mod Functions
+pub mod Replacement
 pub mod Addresses
 pub mod Expressions
 pub mod Targets
 pub mod Script
 pub mod Ranges
+pub mod Parts
 pub mod Answers
 pub mod Tables

@@ -5,36 +5,69 @@ use Rattle.sedscript.specs.declared.types.Address.{Address}
 use Rattle.sedscript.specs.declared.types.Address.TheVariants.{Line, Last, Match}
 use Rattle.sedscript.specs.declared.types.Action.{Action}
 use Rattle.sedscript.specs.declared.types.Action.TheVariants.{Block, Branch, Change, Delete, Insert, Print, Quit}
-use Rattle.sedscript.specs.declared.types.Action.TheVariants.{LineNumber}
+use Rattle.sedscript.specs.declared.types.Action.TheVariants.{LineNumber, Substitute, Test, Transliterate}
 use Rattle.sedscript.specs.declared.types.Command.{Command}
+use Rattle.sedscript.specs.declared.substitution.Substitution.{Substitution}
+use Rattle.sedscript.specs.Script.{Program}
+
+-- how many of each a script has
+pub record Sizes : Type 0 where
+  pub commands : ℕ
+  pub expressions : ℕ
+  pub texts : ℕ
+  pub substitutions : ℕ
+  pub tables : ℕ
+
+abbrev pub sizes_of : Program → Sizes
+sizes_of p = record {
+  commands = length p.commands;
+  expressions = length p.expressions;
+  texts = length p.texts;
+  substitutions = length p.substitutions;
+  tables = length p.tables;
+}
+
+-- the empty expression, or one of so many
+abbrev pub IsOneOf : ℕ → Option ℕ → Type 0
+IsOneOf expressions None = Unit {0}
+IsOneOf expressions (Some k) = k < expressions
 
 -- an address names one of so many expressions
 abbrev pub AddressWithin : ℕ → Option Address → Type 0
 AddressWithin expressions None = Unit {0}
 AddressWithin expressions (Some (Line n)) = 1 ≤ n
 AddressWithin expressions (Some Last) = Unit {0}
-AddressWithin expressions (Some (Match None)) = Unit {0}
-AddressWithin expressions (Some (Match (Some k))) = k < expressions
+AddressWithin expressions (Some (Match e)) = IsOneOf expressions e
 
--- an action leads to a command or the end, and has one of so many texts
-abbrev pub ActionWithin : ℕ → ℕ → Action → Type 0
-ActionWithin commands texts (Block to) = to ≤ commands
-ActionWithin commands texts (Branch to) = to ≤ commands
-ActionWithin commands texts (Change k) = k < texts
-ActionWithin commands texts (Insert k) = k < texts
-ActionWithin commands texts Delete = Unit {0}
-ActionWithin commands texts Print = Unit {0}
-ActionWithin commands texts Quit = Unit {0}
-ActionWithin commands texts LineNumber = Unit {0}
+-- an action leads to a command or the end, and has one of the texts, substitutions or tables
+abbrev pub ActionWithin : Sizes → Action → Type 0
+ActionWithin n (Block to) = to ≤ n.commands
+ActionWithin n (Branch to) = to ≤ n.commands
+ActionWithin n (Test to) = to ≤ n.commands
+ActionWithin n (Change k) = k < n.texts
+ActionWithin n (Insert k) = k < n.texts
+ActionWithin n (Substitute k) = k < n.substitutions
+ActionWithin n (Transliterate k) = k < n.tables
+ActionWithin n Delete = Unit {0}
+ActionWithin n Print = Unit {0}
+ActionWithin n Quit = Unit {0}
+ActionWithin n LineNumber = Unit {0}
 
-pub record CommandWithin (commands expressions texts : ℕ) (c : Command) : Type 0 where
-  pub first : AddressWithin expressions c.first
-  pub second : AddressWithin expressions c.second
-  pub action : ActionWithin commands texts c.action
+pub record CommandWithin (n : Sizes) (c : Command) : Type 0 where
+  pub first : AddressWithin n.expressions c.first
+  pub second : AddressWithin n.expressions c.second
+  pub action : ActionWithin n c.action
 
--- each command is in range, and no expression has more nodes than allowed
-pub record InRange (commands : List Command) (expressions : List Written) (texts : List (List ℕ))
-    (max_nodes : ℕ) : Type 0 where
-  pub each : (i : ℕ) (c : Command) → slice_get commands i ≡ Some c →
-      CommandWithin (length commands) (length expressions) (length texts) c
-  pub nodes : (k : ℕ) (e : Written) → slice_get expressions k ≡ Some e → length e.nodes ≤ max_nodes
+-- a substitution has one of so many expressions, and replaces from the first occurrence on or a later one
+pub record SubstitutionWithin (expressions : ℕ) (s : Substitution) : Type 0 where
+  pub expression : IsOneOf expressions s.expression
+  pub number : 1 ≤ s.number
+
+-- each command and each substitution is in range, no expression has more nodes than allowed, and each table has
+-- all bytes
+pub record InRange (p : Program) : Type 0 where
+  pub each : (i : ℕ) (c : Command) → slice_get p.commands i ≡ Some c → CommandWithin (sizes_of p) c
+  pub nodes : (k : ℕ) (e : Written) → slice_get p.expressions k ≡ Some e → length e.nodes ≤ p.max_nodes
+  pub substitutions : (k : ℕ) (s : Substitution) → slice_get p.substitutions k ≡ Some s →
+      SubstitutionWithin (length p.expressions) s
+  pub tables : (k : ℕ) (t : List ℕ) → slice_get p.tables k ≡ Some t → length t ≡ 256

@@ -11,6 +11,7 @@ use Rattle.sedscript.specs.declared.types.Action.TheVariants.{Delete as DeleteSp
 use Rattle.sedscript.specs.declared.types.Action.TheVariants.{LineNumber as WriteNumber, Print as PrintSpace}
 use Rattle.sedscript.specs.declared.types.Action.TheVariants.{Quit as QuitHere}
 use Rattle.sedscript.specs.declared.types.Command.{Command}
+use Rattle.sedscript.specs.declared.substitution.Substitution.{Substitution}
 use Rattle.sedscript.specs.declared.items.Simple.{Simple}
 use Rattle.sedscript.specs.declared.items.Simple.TheVariants.{Delete, LineNumber, Print, Quit}
 use Rattle.sedscript.specs.declared.items.TextUse.{TextUse}
@@ -30,6 +31,8 @@ pub record Program : Type 0 where
   pub commands : List Command
   pub expressions : List Written
   pub texts : List (List ℕ)
+  pub substitutions : List Substitution
+  pub tables : List (List ℕ)
   pub quiet : Bool
   pub max_nodes : ℕ
 
@@ -130,6 +133,8 @@ pub record Means (text : List ℕ) (kind : Kind) (max_nodes : ℕ) (s : Program)
   pub judged : Judged text kind max_nodes items s.expressions to
   pub commands : s.commands ≡ commands_of text items [] 0 items
   pub texts : s.texts ≡ texts_of text items
+  pub substitutions : s.substitutions ≡ []
+  pub tables : s.tables ≡ []
   pub quiet : s.quiet ≡ is_quiet text
   pub nodes : s.max_nodes ≡ max_nodes
 

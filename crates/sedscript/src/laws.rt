@@ -16,11 +16,12 @@ pub fn no_fault()
 pub fn one_meaning()
     ensures { (text : List ℕ) (kind : Kind) (max_nodes : ℕ) (s t : Program) →
         Means text kind max_nodes s → Means text kind max_nodes t →
-        (s.commands ≡ t.commands) × (s.texts ≡ t.texts) × (s.quiet ≡ t.quiet) × (s.max_nodes ≡ t.max_nodes) }
+        (s.commands ≡ t.commands) × (s.texts ≡ t.texts) × (s.substitutions ≡ t.substitutions) × (s.tables ≡ t.tables)
+        × (s.quiet ≡ t.quiet) × (s.max_nodes ≡ t.max_nodes) }
 {}
 
 /// The numbers in a script that a text means are in range.
 pub fn in_range()
     ensures { (text : List ℕ) (kind : Kind) (max_nodes : ℕ) (s : Program) →
-        Means text kind max_nodes s → InRange s.commands s.expressions s.texts max_nodes }
+        Means text kind max_nodes s → InRange s }
 {}

@@ -11,6 +11,7 @@ mod late;
 pub mod laws;
 pub mod reader;
 pub mod script;
+pub mod substitution;
 mod targets;
 #[cfg(test)]
 mod tests;
@@ -19,4 +20,5 @@ pub mod types;
 
 pub use reader::read;
 pub use script::Script;
+pub use substitution::{Part, Replacement, Substitution};
 pub use types::{Action, Address, Command, ExprFault, Kind, NO_MEMORY, Reason, ScriptFault};

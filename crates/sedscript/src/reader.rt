@@ -10,7 +10,7 @@ use crate::commands::{commands_of, is_quiet, texts_of};
 use crate::cut::cut;
 use crate::items::{Item, Source};
 use crate::late::late;
-use crate::script::Script;
+use crate::script::{Named, Script};
 use crate::targets::{Targets, targets_of};
 use crate::types::{Kind, NO_MEMORY, ScriptFault};
 use sedre::Expr;
@@ -72,7 +72,15 @@ pub fn read(alloc: Global, text: &[u8], kind: Kind, max_nodes: usize) -> Result<
             Err(_) => Err(NO_MEMORY),
             Ok(commands) => match texts_of(alloc, text, &items) {
                 Err(_) => Err(NO_MEMORY),
-                Ok(texts) => Ok(Script::of(commands, exprs, texts, is_quiet(text), max_nodes)),
+                Ok(texts) => {
+                    let named = Named {
+                        exprs,
+                        texts,
+                        substitutions: Vec::new(alloc),
+                        tables: Vec::new(alloc),
+                    };
+                    Ok(Script::of(commands, named, is_quiet(text), max_nodes))
+                }
             },
         },
     }

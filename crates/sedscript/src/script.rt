@@ -2,63 +2,57 @@
 
 ghost use Rattle.std.specs.Prelude.{◌≡◌, ◌≤◌, ◌<◌, Some, true, false, map, length, slice_get};
 
+use crate::substitution::Substitution;
 use crate::types::Command;
 use sedre::Expr;
 use std::marker::Model;
 
-/// A script: its commands in order, and the regular expressions and texts that they name by numbers.
+/// What the commands of a script name by numbers.
+#[derive(Drop)]
+pub(crate) struct Named {
+    pub exprs: Vec<Expr>,
+    /// The texts of `i` and `c`.
+    pub texts: Vec<Vec<u8>>,
+    /// The substitutions of `s`.
+    pub substitutions: Vec<Substitution>,
+    /// The tables of `y`.
+    pub tables: Vec<Vec<u8>>,
+}
+
+/// A script: its commands in order, and what they name by numbers.
 #[derive(Drop)]
 pub struct Script {
     commands: Vec<Command>,
-    exprs: Vec<Expr>,
-    texts: Vec<Vec<u8>>,
+    named: Named,
     quiet: bool,
     max_nodes: usize,
 }
 
 impl Model for Script {
-    ghost use Rattle.std.specs.Prelude.{map};
     ghost use Rattle.sedscript.specs.Script.{Program};
     ghost use Rattle.sedscript.specs.Ranges.{InRange};
+    ghost use Rattle.sedscript.specs.Parts.{program_of};
 
     ghost Value = { Program };
 
-    ghost view = { λ s. record {
-      commands = s.commands.items;
-      expressions = s.exprs.items;
-      texts = map (λ t. t.items) s.texts.items;
-      quiet = s.quiet;
-      max_nodes = s.max_nodes;
-    } };
+    ghost view = { λ s. program_of s.commands.items s.named s.quiet s.max_nodes };
 
-    ghost invariant = { λ s. InRange s.commands.items s.exprs.items (map (λ t. t.items) s.texts.items) s.max_nodes };
+    ghost invariant = { λ s. InRange (program_of s.commands.items s.named s.quiet s.max_nodes) };
 }
 
 impl Script {
     ghost use Rattle.sedscript.specs.Script.{Program};
-    ghost use Rattle.sedscript.specs.Ranges.{InRange, CommandWithin};
+    ghost use Rattle.sedscript.specs.Ranges.{InRange, CommandWithin, SubstitutionWithin, sizes_of};
+    ghost use Rattle.sedscript.specs.Parts.{program_of};
 
     /// A script of these parts.
-    pub(crate) fn of(
-        commands: Vec<Command>,
-        exprs: Vec<Expr>,
-        texts: Vec<Vec<u8>>,
-        quiet: bool,
-        max_nodes: usize,
-    ) -> Script
-        requires { InRange commands.items exprs.items (map (λ t. t.items) texts.items) max_nodes }
-        ensures { result ≡ record {
-          commands = commands.items;
-          expressions = exprs.items;
-          texts = map (λ t. t.items) texts.items;
-          quiet = quiet;
-          max_nodes = max_nodes;
-        } }
+    pub(crate) fn of(commands: Vec<Command>, named: Named, quiet: bool, max_nodes: usize) -> Script
+        requires { InRange (program_of commands.items named quiet max_nodes) }
+        ensures { result ≡ program_of commands.items named quiet max_nodes }
     {
         Script {
             commands,
-            exprs,
-            texts,
+            named,
             quiet,
             max_nodes,
         }
@@ -75,8 +69,7 @@ impl Script {
     pub fn command(&self, i: usize) -> &Command
         requires { i < length self.now.commands }
         ensures is { slice_get self.now.commands i ≡ Some result.now }
-        ensures within { CommandWithin (length self.now.commands) (length self.now.expressions) (length self.now.texts)
-            result.now }
+        ensures within { CommandWithin (sizes_of self.now) result.now }
     {
         &self.commands[i]
     }
@@ -87,14 +80,14 @@ impl Script {
         ensures is { slice_get self.now.expressions k ≡ Some result.now }
         ensures nodes { length result.now.nodes ≤ self.now.max_nodes }
     {
-        &self.exprs[k]
+        &self.named.exprs[k]
     }
 
     /// How many regular expressions it has.
     pub fn expressions(&self) -> usize
         ensures { result ≡ length self.now.expressions }
     {
-        self.exprs.len()
+        self.named.exprs.len()
     }
 
     /// The text of a number, counted from 0, without its last newline.
@@ -102,7 +95,25 @@ impl Script {
         requires { k < length self.now.texts }
         ensures { slice_get self.now.texts k ≡ Some result.now }
     {
-        &self.texts[k]
+        &self.named.texts[k]
+    }
+
+    /// The substitution of a number, counted from 0.
+    pub fn substitution(&self, k: usize) -> &Substitution
+        requires { k < length self.now.substitutions }
+        ensures is { slice_get self.now.substitutions k ≡ Some result.now }
+        ensures within { SubstitutionWithin (length self.now.expressions) result.now }
+    {
+        &self.named.substitutions[k]
+    }
+
+    /// The table of a number, counted from 0: for each byte the one that stands for it.
+    pub fn table(&self, k: usize) -> &[u8]
+        requires { k < length self.now.tables }
+        ensures is { slice_get self.now.tables k ≡ Some result.now }
+        ensures whole { length result.now ≡ 256 }
+    {
+        &self.named.tables[k]
     }
 
     /// Whether the default output is suppressed.

@@ -36,6 +36,13 @@ pub enum Action {
     Print,
     /// `q`: goes to the end of the script and quits.
     Quit,
+    /// `s`: makes the script's substitution of this number, counted from 0.
+    Substitute(usize),
+    /// `t`: goes to the command of this number if a substitution was made. The number of commands is the end of the
+    /// script.
+    Test(usize),
+    /// `y`: replaces bytes by the script's table of this number, counted from 0.
+    Transliterate(usize),
 }
 
 /// A command of a script.

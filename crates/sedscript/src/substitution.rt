@@ -1,0 +1,69 @@
+//! Substitutions: what the command `s` replaces, and by what (XCU sed, "Editing Commands in sed").
+
+ghost use Rattle.std.specs.Prelude.{◌≡◌};
+ghost use Rattle.sedscript.specs.Replacement.{pieces_in, GroupsWithin};
+
+use std::marker::Model;
+
+/// A part of a replacement.
+#[derive(Drop)]
+pub enum Part {
+    /// These bytes.
+    Literal(Vec<u8>),
+    /// `&` (or `\0`): the matched text.
+    Whole,
+    /// `\1` to `\9`: what this group of the match has.
+    Group(usize),
+}
+
+/// What stands for an occurrence that is replaced. Contracts see its pieces: bytes, and groups of the match.
+#[derive(Drop)]
+pub struct Replacement {
+    parts: Vec<Part>,
+}
+
+impl Model for Replacement {
+    ghost use Rattle.std.specs.Prelude.{List};
+    ghost use Rattle.sedscript.specs.Replacement.{Piece, pieces_in, GroupsWithin};
+
+    ghost Value = { List Piece };
+
+    ghost view = { λ r. pieces_in r.parts.items };
+
+    ghost invariant = { λ r. GroupsWithin 9 (pieces_in r.parts.items) };
+}
+
+impl Replacement {
+    ghost use Rattle.sedscript.specs.Replacement.{pieces_in, GroupsWithin};
+
+    /// A replacement of these parts.
+    pub(crate) fn of(parts: Vec<Part>) -> Replacement
+        requires { GroupsWithin 9 (pieces_in parts.items) }
+        ensures { result ≡ pieces_in parts.items }
+    {
+        Replacement { parts }
+    }
+
+    /// Its parts, in order. Their groups are 1 to 9.
+    pub fn parts(&self) -> &[Part]
+        ensures pieces { pieces_in result.now ≡ self.now }
+        ensures within { GroupsWithin 9 self.now }
+    {
+        &self.parts
+    }
+}
+
+/// What a command `s` does.
+#[derive(Drop)]
+pub struct Substitution {
+    /// The script's regular expression of this number, counted from 0. None stands for the empty RE, the one last used.
+    pub expression: Option<usize>,
+    /// What stands for an occurrence.
+    pub replacement: Replacement,
+    /// The first occurrence that is replaced, counted from 1.
+    pub number: u64,
+    /// `g`: all later ones are replaced too.
+    pub global: bool,
+    /// `p`: the pattern space is written if a replacement was made.
+    pub print: bool,
+}
