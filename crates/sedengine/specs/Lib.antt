@@ -10,3 +10,4 @@ pub mod Run
 pub mod Select
 pub mod State
 pub mod Steps
+pub mod Substitute

@@ -1,9 +1,12 @@
 -- How the editor moves from one state to the next (XCU sed, Extended Description). Nothing is limited here.
-use Rattle.std.specs.Prelude.{ℕ, suc, zero, ◌+◌, Bool, true, false, ◌||◌, Option, Some, None, List, [], ◌∷◌, ◌++◌, map, decimal, is_none, slice_get, slice_set, slice_index_or, if◌then◌else◌}
+use Rattle.std.specs.Prelude.{ℕ, suc, zero, ◌+◌, Bool, true, false, ◌||◌, Option, Some, None, List, [], ◌∷◌, ◌++◌, map, decimal, is_none, length, slice_get, slice_set, slice_index_or, if◌then◌else◌}
 use Rattle.sedscript.specs.declared.types.Command.{Command}
 use Rattle.sedscript.specs.declared.types.Action.{Action}
 use Rattle.sedscript.specs.declared.types.Action.TheVariants.{Block, Branch, Change, Delete, Insert, LineNumber, Print, Quit}
-use Rattle.sedengine.specs.Select.{◌>>=◌, Current, Choice, selects}
+use Rattle.sedscript.specs.declared.types.Action.TheVariants.{Substitute, Test, Transliterate}
+use Rattle.sedscript.specs.declared.substitution.Substitution.{Substitution}
+use Rattle.sedengine.specs.Select.{◌>>=◌, Current, Choice, selects, stands_for}
+use Rattle.sedengine.specs.Substitute.{Match, occurrences, chosen, replaced_from}
 use Rattle.sedengine.specs.State.{Entry, text, file, Task, begin, rebegin, do_at, print_pattern, empty_pattern, flush, copy, fetch, join, State, Move, Setting}
 
 abbrev pub newline : ℕ
@@ -67,6 +70,32 @@ abbrev pub text_of : Option (List ℕ) → List ℕ
 text_of None = []
 text_of (Some bytes) = bytes
 
+-- the occurrences in the pattern space that a substitution with the expression e replaces
+abbrev pub chosen_in : Setting → Substitution → ℕ → List ℕ → List Match
+chosen_in g t e w = chosen t.number t.global (occurrences (g.search e w) (length w))
+
+-- the state in which the pattern space became a text by a substitution; with its flag `p` the text is written
+abbrev pub becomes : State → Substitution → List ℕ → Option Move
+becomes s t w = writing (if t.print then line_to 0 w else []) (record s { pattern = w; replaced = true })
+
+-- these occurrences are replaced, if there are any
+abbrev pub replaces : State → Substitution → List Match → Option Move
+replaces s t [] = quietly s
+replaces s t (m ∷ ms) = becomes s t (replaced_from s.pattern t.replacement 0 (m ∷ ms))
+
+-- A substitution. Its expression, or the one that an empty one stands for, is the one last used, whether it matches or
+-- not. Without an expression used before an empty one there is no move.
+abbrev pub substitutes : Setting → State → Option Substitution → Option Move
+substitutes g s None = quietly s
+substitutes g s (Some t) = do
+  e ← stands_for t.expression s.used
+  replaces (record s { used = Some e }) t (chosen_in g t e s.pattern)
+
+-- the byte that stands in a table for a byte
+abbrev pub in_table : Option (List ℕ) → ℕ → ℕ
+in_table None b = b
+in_table (Some bytes) b = slice_index_or bytes b b
+
 -- What a command does that applies (XCU sed, "Editing Commands in sed"). The state has taken the turn, and goes on
 -- behind the command unless a case says otherwise. `tells` says whether `c` writes its text here.
 abbrev pub acts : Setting → State → Bool → Action → Option Move
@@ -89,6 +118,13 @@ acts g s tells LineNumber = writing (line_to 0 (decimal s.number)) s
 acts g s tells Print = writing (line_to 0 s.pattern) s
 -- `q`: "Branch to the end of the script and quit without starting a new cycle."
 acts g s tells Quit = quietly (then_do (print_pattern ∷ flush ∷ []) s)
+-- `s`: "Substitute the replacement string for instances of the BRE in the pattern space."
+acts g s tells (Substitute k) = substitutes g s (slice_get g.substitutions k)
+-- `t`: "Branch to the ':' command verb bearing the label if any substitutions have been made since the most recent reading
+-- of an input line or execution of a t"
+acts g s tells (Test target) = quietly (if s.replaced then then_do (do_at target ∷ []) (record s { replaced = false }) else s)
+-- `y`: "Replace all occurrences of characters in string1 with the corresponding characters in string2."
+acts g s tells (Transliterate k) = quietly (record s { pattern = map (in_table (slice_get g.tables k)) s.pattern })
 
 -- What a command does that doesn't apply: `{` passes over its block.
 abbrev pub passes : State → Action → Option Move
@@ -100,6 +136,9 @@ passes s (Insert k) = quietly s
 passes s LineNumber = quietly s
 passes s Print = quietly s
 passes s Quit = quietly s
+passes s (Substitute k) = quietly s
+passes s (Test target) = quietly s
+passes s (Transliterate k) = quietly s
 
 abbrev pub none_left : List (List ℕ) → Bool
 none_left [] = true

@@ -1,11 +1,12 @@
 -- The engine as its callers see it, and what a run of it comes to (this project's own).
 use Rattle.std.specs.Prelude.{◌≡◌, ℕ, ◌+◌, ◌<◌, Bool, true, false, Option, Some, None, Result, Ok, Err, unwrap_or, List, [], ◌∷◌, ◌++◌, length, is_some, slice_get}
 use Rattle.sedre.specs.Arena.{Written, tree}
-use Rattle.sedmatch.specs.Matching.{found}
+use Rattle.sedmatch.specs.Matching.{found, report}
 use Rattle.sedscript.specs.Script.{Program}
 use Rattle.sedspace.specs.Stream.{TakesAtMost}
 use Rattle.sedengine.specs.Limits.{Limits}
 use Rattle.sedengine.specs.State.{Task, begin, rebegin, do_at, print_pattern, empty_pattern, flush, copy, fetch, join, State, Setting}
+use Rattle.sedengine.specs.Substitute.{Match}
 use Rattle.sedengine.specs.Move.{after, written}
 use Rattle.sedengine.specs.Ends.{Within, Cause, broken_sink}
 use Rattle.sedengine.specs.Held.{HoldsAt}
@@ -34,11 +35,27 @@ has_match (Some e) w = is_some (found (tree e) w 0)
 abbrev pub finds_in : List Written → ℕ → List ℕ → Bool
 finds_in expressions k w = has_match (slice_get expressions k) w
 
+-- the match of an expression in a text that has a span, with its groups (XBD 9.1)
+abbrev pub match_at : Written → List ℕ → Option (ℕ × ℕ) → Option Match
+match_at e w None = None
+match_at e w (Some span) = Some (record { start = span.0; end = span.1; groups = report (tree e) w span.0 span.1 })
+
+-- the match that is sought from a place on
+abbrev pub search_for : Option Written → List ℕ → ℕ → Option Match
+search_for None w from = None
+search_for (Some e) w from = match_at e w (found (tree e) w from)
+
+abbrev pub search_in : List Written → ℕ → List ℕ → ℕ → Option Match
+search_in expressions k w from = search_for (slice_get expressions k) w from
+
 abbrev pub setting_of : Program → (ℕ → List ℕ) → Setting
 setting_of p files = record {
   commands = p.commands;
   texts = p.texts;
+  substitutions = p.substitutions;
+  tables = p.tables;
   finds = finds_in p.expressions;
+  search = search_in p.expressions;
   quiet = p.quiet;
   files = files;
 }

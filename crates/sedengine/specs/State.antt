@@ -1,6 +1,8 @@
 -- A state of the editor (XCU sed, Extended Description).
 use Rattle.std.specs.Prelude.{ℕ, Bool, List, Option}
 use Rattle.sedscript.specs.declared.types.Command.{Command}
+use Rattle.sedscript.specs.declared.substitution.Substitution.{Substitution}
+use Rattle.sedengine.specs.Substitute.{Match}
 
 -- what the queue holds: a text, or the contents of a file by its number (the functions a and r)
 pub data Entry : Type 0 where
@@ -37,11 +39,15 @@ pub record Move : Type 0 where
   pub next : State
   pub writes : List (ℕ × ℕ)
 
--- What doesn't change in a run: the commands, the texts of `i` and `c`, which of the script's regular expressions have a
--- match in which text, whether default output is suppressed (-n), and the files to be read.
+-- What doesn't change in a run: the commands, the texts of `i` and `c`, what `s` substitutes, the tables of `y`, which of
+-- the script's regular expressions have a match in which text, and which match it is from which place on, whether default
+-- output is suppressed (-n), and the files to be read.
 pub record Setting : Type 0 where
   pub commands : List Command
   pub texts : List (List ℕ)
+  pub substitutions : List Substitution
+  pub tables : List (List ℕ)
   pub finds : ℕ → List ℕ → Bool
+  pub search : ℕ → List ℕ → ℕ → Option Match
   pub quiet : Bool
   pub files : ℕ → List ℕ

@@ -1,11 +1,11 @@
 -- Moves of the engine: what its private calls promise one another.
-use Rattle.std.specs.Prelude.{◌≡◌, ℕ, ◌+◌, ◌*◌, ◌-◌, ◌<◌, Option, Some, Result, Ok, Err, List, [], ◌∷◌, ◌++◌}
+use Rattle.std.specs.Prelude.{◌≡◌, ℕ, true, ◌+◌, ◌*◌, ◌-◌, ◌<◌, Option, Some, Result, Ok, Err, List, [], ◌∷◌, ◌++◌}
 use Rattle.sedspace.specs.Stream.{Stream, left, lines_left, TakesAtMost}
 use Rattle.sedengine.specs.Limits.{Limits}
 use Rattle.sedengine.specs.State.{Task, begin, rebegin, do_at, print_pattern, empty_pattern, flush, copy, fetch, join, State, Move, Setting}
 use Rattle.sedengine.specs.Move.{move, after, written}
-use Rattle.sedengine.specs.Ends.{Fits, Within, Cause, broken_sink}
-use Rattle.sedengine.specs.Held.{HoldsAt}
+use Rattle.sedengine.specs.Ends.{Fits, HasTurn, Within, Cause, broken_sink, comes}
+use Rattle.sedengine.specs.Held.{HoldsAt, SameLengths}
 use Rattle.sedengine.specs.Run.{Run, InOneCycle, at_lines, size_of}
 use Rattle.sedengine.specs.declared.ends.Ended.{Ended}
 use Rattle.sedengine.specs.declared.ends.Ended.TheVariants.{Done, PatternFull, TurnsSpent, NoPrevious, InputBroken, OutputBroken}
@@ -32,10 +32,20 @@ abbrev pub Moves : Limits → Setting → State → State → (List (ℕ × ℕ)
 Moves l g s now gained (Ok u) = Ran l g s now gained
 Moves l g s now gained (Err end) = Stopped l g s now gained end
 
--- What a call answers that makes the move o, and perhaps moves after it, from whichever state has that move.
-abbrev pub Performs : Limits → Setting → Option Move → List (List ℕ) → State → (List (ℕ × ℕ) → Type 0) →
+-- A state in which a command is come to with a turn left. In the state `there` the turn is taken, and the command acts.
+pub record ComesTo (l : Limits) (g : Setting) (s there : State) : Type 0 where
+  pub fits : Fits l s
+  pub comes : comes s.tasks ≡ true
+  pub turn : HasTurn l g s
+  pub lines : s.lines ≡ there.lines
+  pub number : s.number ≡ there.number
+  pub same : SameLengths s there
+
+-- What a call answers that makes the move o, and perhaps moves after it, from whichever state has that move and comes to
+-- the command that acts in the state `there`.
+abbrev pub Performs : Limits → Setting → Option Move → State → State → (List (ℕ × ℕ) → Type 0) →
     Result Unit Ended → Type 0
-Performs l g o ls now gained r = (s : State) → Fits l s → s.lines ≡ ls → move g s ≡ o → Moves l g s now gained r
+Performs l g o there now gained r = (s : State) → ComesTo l g s there → move g s ≡ o → Moves l g s now gained r
 
 -- Lines were taken, and no more bytes than theirs are gone.
 pub record TakesLines {R : Type 0} (remaining : R → Option (List ℕ)) (old new : Stream R)

@@ -39,6 +39,8 @@ pub struct Engine {
     ranges: Vec<bool>,
     // The number of the regular expression last used.
     used: Option<usize>,
+    // Whether a substitution was made, as the command `t` sees it.
+    replaced: bool,
     number: u64,
     place: Place,
     turns: u64,
@@ -103,6 +105,7 @@ impl Engine {
             scratch,
             ranges,
             used: None,
+            replaced: false,
             number: 0,
             turns: 0,
             place: Place::Begin,

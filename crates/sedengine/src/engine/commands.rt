@@ -1,7 +1,7 @@
 //! The commands (XCU sed, "Editing Commands in sed"): each has a case in `act` and a function of its own.
 ghost use Rattle.std.specs.Prelude.{◌≡◌, ◌<◌, ◌≤◌, ◌+◌, [], ◌∷◌, None, Some, Ok, Err, OnOk, ℕ, Option, List, decimal, length, slice_get, if◌then◌else◌};
 ghost use Rattle.std.specs.Option.{ForSome};
-ghost use Rattle.sedscript.specs.Ranges.{ActionWithin};
+ghost use Rattle.sedscript.specs.Ranges.{ActionWithin, sizes_of};
 ghost use Rattle.sedspace.specs.Stream.{lines_left};
 ghost use Rattle.sedengine.specs.State.{do_at, begin, print_pattern, flush};
 ghost use Rattle.sedengine.specs.Move.{acts, passes, line_to, tells_at, text_of};
@@ -65,11 +65,11 @@ impl Engine {
 
     /// What a command does that applies. `tells` says whether `c` writes its text.
     fn act<O: Outputs>(&mut self, action: Action, tells: bool, outputs: &mut O) -> Result<(), Ended>
-        requires within { ActionWithin (length self.old.script.commands) (length self.old.script.texts) action }
+        requires within { ActionWithin (sizes_of self.old.script) action }
         requires sink { 0 < O.count outputs.old }
         ensures acts { (files : ℕ → List ℕ) (ls : List (List ℕ)) →
             Performs self.old.limits (setting self.old files)
-            (acts (setting self.old files) (at_lines self.old ls) tells action) ls (at_lines self.new ls)
+            (acts (setting self.old files) (at_lines self.old ls) tells action) (at_lines self.old ls) (at_lines self.new ls)
             (Gained (O.contents outputs.old) (O.contents outputs.new)) result }
         ensures output { Writes O.failures O.count outputs.old outputs.new result }
         ensures input { result ≡ Err Ended.InputBroken → ⊥ }
@@ -102,8 +102,8 @@ impl Engine {
     /// What a command does that doesn't apply: `{` passes over its block.
     fn pass(&mut self, action: Action)
         ensures passes { (files : ℕ → List ℕ) (sinks : ℕ → Option (List ℕ)) (ls : List (List ℕ)) →
-            Performs self.old.limits (setting self.old files) (passes (at_lines self.old ls) action) ls
-            (at_lines self.new ls) (Gained sinks sinks) (Ok tt) }
+            Performs self.old.limits (setting self.old files) (passes (at_lines self.old ls) action)
+            (at_lines self.old ls) (at_lines self.new ls) (Gained sinks sinks) (Ok tt) }
         ensures falls { weight self.new ≤ weight self.old + 8 }
         ensures same { KeepsRun self.old self.new }
     {

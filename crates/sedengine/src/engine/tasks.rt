@@ -61,6 +61,7 @@ impl Engine {
             Ok(Got::Line) => {
                 self.number += 1;
                 self.turns += 1;
+                self.replaced = false;
                 self.place = Place::Do(0);
                 Ok(())
             }
