@@ -29,7 +29,7 @@ close_step Open d n us c h = h (suc d) ∙ tail_get us d
 close_step Comment d n us c h = h d
 close_step (Plain a) d n us c h = h d
 close_step (Label from to) d n us c h = h d
-close_step (Branch from to) d n us c h = h d
+close_step (Branch u from to) d n us c h = h d
 close_step (Text t from to) d n us c h = h d
 
 -- a closing brace behind so many inner ones is found in the list of those that close no block

@@ -13,10 +13,13 @@ use Rattle.sedscript.specs.declared.items.Simple.{Simple}
 use Rattle.sedscript.specs.declared.items.Simple.TheVariants.{Delete, LineNumber, Print, Quit}
 use Rattle.sedscript.specs.declared.items.TextUse.{TextUse}
 use Rattle.sedscript.specs.declared.items.TextUse.TheVariants.{Insert, Change}
+use Rattle.sedscript.specs.declared.items.BranchUse.{BranchUse}
+use Rattle.sedscript.specs.declared.items.BranchUse.TheVariants.{Always, IfReplaced}
 use Rattle.sedscript.specs.declared.items.Function.{Function}
 use Rattle.sedscript.specs.declared.items.Function.TheVariants.{Plain, Open, Close, Label, Branch, Text, Comment}
 use Rattle.sedscript.specs.declared.items.Addresses.{Addresses}
 use Rattle.sedscript.specs.declared.items.Item.{Item}
+use Rattle.sedscript.specs.declared.items.Counts.{Counts}
 use Rattle.sedscript.specs.declared.items.Here.{Here}
 use Rattle.sedscript.specs.declared.items.Here.TheVariants.{Is, Ends}
 use Rattle.sedscript.specs.Bytes.{past, part, is_digit, is_byte, with_digits}
@@ -24,7 +27,7 @@ use Rattle.sedscript.specs.Functions.{function_at, allowed, most_addresses, func
 use Rattle.sedscript.specs.Addresses.{Pattern, Reading, Addressed, Headed, plainly, then_on, line_of, match_to, match_at, own_match, own_delimiter, address_of, address_at, with_second, second_at, behind_first, addresses_at, with_bang, function_behind, item_from, item_at}
 use Rattle.sedscript.specs.Expressions.{AreRead}
 use Rattle.sedscript.specs.Targets.{leaves, counted, commands_in, label_in, is_label, close_in, is_close, depth_behind, block_end}
-use Rattle.sedscript.specs.Script.{Cut, done, item, with_text, texts_of, has_text, texts_with, action_of, simple_action, text_action, with_action, commands_of, Judged, Means, Program}
+use Rattle.sedscript.specs.Script.{Cut, done, item, with_text, texts_of, counts_with, none_counted, action_of, simple_action, text_action, branch_action, with_action, commands_of, Judged, Means, Program}
 use Rattle.sedscript.specs.declared.substitution.Substitution.{Substitution}
 use Rattle.sedscript.specs.Ranges.{Sizes, sizes_of, AddressWithin, ActionWithin, CommandWithin, SubstitutionWithin, InRange}
 use Rattle.sedscript.proofs.Labels.{commands_snoc, counted_in}
@@ -72,24 +75,29 @@ text_within : (n : Sizes) (k : ℕ) (u : TextUse) → k < n.texts → ActionWith
 text_within n k Insert h = h
 text_within n k Change h = h
 
+branch_within : (n : Sizes) (to : ℕ) (u : BranchUse) → to ≤ n.commands → ActionWithin n (branch_action u to)
+branch_within n to Always h = h
+branch_within n to IfReplaced h = h
+
 branch_bound : (n : ℕ) (same : Bool) (m : ℕ) (o : Option ℕ) → m ≤ n → AtMost n o → (if same then m else unwrap_or o 0) ≤ n
 branch_bound n true m o h g = h
 branch_bound n false m o h g = at_most_or n o g
 
-may_act : (text : List ℕ) (all before after : List Item) (texts : ℕ) (n : Sizes) (f : Function) → commands_in all ≡ n.commands →
-    commands_in before + (if leaves f then suc (commands_in after) else commands_in after) ≡ n.commands → texts + length (with_text text f (texts_of text after)) ≡ n.texts →
-    MayAct n (action_of text all before texts after f)
-may_act text all before after texts n (Plain s) whole count long = simple_within n s
-may_act text all before after texts n Open whole count long =
+may_act : (text : List ℕ) (all before after : List Item) (m : Counts) (n : Sizes) (f : Function) → commands_in all ≡ n.commands →
+    commands_in before + (if leaves f then suc (commands_in after) else commands_in after) ≡ n.commands → m.texts + length (with_text text f (texts_of text after)) ≡ n.texts →
+    MayAct n (action_of text all before m after f)
+may_act text all before after m n (Plain s) whole count long = simple_within n s
+may_act text all before after m n Open whole count long =
     at_most_or n.commands (block_end before after)
     (subst (λ (m : ℕ). AtMost m (block_end before after)) (let e : suc (commands_in before) + commands_in after ≡ n.commands = omega (arith, count) in e) (close_bound 0 (suc (commands_in before)) after))
-may_act text all before after texts n (Branch from to) whole count long =
-    branch_bound n.commands (from == to) (commands_in all) (label_in text (part text from to) 0 all) (omega (arith, whole))
-    (subst (λ (m : ℕ). AtMost m (label_in text (part text from to) 0 all)) (let e : 0 + commands_in all ≡ n.commands = omega (arith, whole) in e) (label_bound text (part text from to) 0 all))
-may_act text all before after texts n (Text u from to) whole count long = text_within n texts u (omega (arith, long))
-may_act text all before after texts n Close whole count long = tt
-may_act text all before after texts n (Label from to) whole count long = tt
-may_act text all before after texts n Comment whole count long = tt
+may_act text all before after m n (Branch u from to) whole count long =
+    branch_within n _ u
+    (branch_bound n.commands (from == to) (commands_in all) (label_in text (part text from to) 0 all) (omega (arith, whole))
+    (subst (λ (m : ℕ). AtMost m (label_in text (part text from to) 0 all)) (let e : 0 + commands_in all ≡ n.commands = omega (arith, whole) in e) (label_bound text (part text from to) 0 all)))
+may_act text all before after m n (Text u from to) whole count long = text_within n m.texts u (omega (arith, long))
+may_act text all before after m n Close whole count long = tt
+may_act text all before after m n (Label from to) whole count long = tt
+may_act text all before after m n Comment whole count long = tt
 
 -- addresses
 
@@ -258,39 +266,39 @@ with_within : (n : Sizes) (a : Addresses) (o : Option Action) (cs : List Command
 with_within n a None cs h g k = k
 with_within n a (Some x) cs h g k = (record { first = h.0; second = h.1; action = g }, k)
 
-texts_step : (text : List ℕ) (f : Function) (texts t : ℕ) (ts : List (List ℕ)) → texts + length (with_text text f ts) ≡ t → (if has_text f then suc texts else texts) + length ts ≡ t
-texts_step text (Text u from to) texts t ts h = omega (arith, h)
-texts_step text (Plain s) texts t ts h = h
-texts_step text Open texts t ts h = h
-texts_step text Close texts t ts h = h
-texts_step text (Label from to) texts t ts h = h
-texts_step text (Branch from to) texts t ts h = h
-texts_step text Comment texts t ts h = h
+texts_step : (text : List ℕ) (f : Function) (m : Counts) (t : ℕ) (ts : List (List ℕ)) → m.texts + length (with_text text f ts) ≡ t → (counts_with m f).texts + length ts ≡ t
+texts_step text (Text u from to) m t ts h = omega (arith, h)
+texts_step text (Plain s) m t ts h = h
+texts_step text Open m t ts h = h
+texts_step text Close m t ts h = h
+texts_step text (Label from to) m t ts h = h
+texts_step text (Branch u from to) m t ts h = h
+texts_step text Comment m t ts h = h
 
-commands_within : (text : List ℕ) (all before is : List Item) (texts : ℕ) (n : Sizes) → commands_in all ≡ n.commands → commands_in before + commands_in is ≡ n.commands → texts + length (texts_of text is) ≡ n.texts →
-    ItemsWithin n.expressions is → AllWithin n (commands_of text all before texts is)
-commands_within text all before [] texts n whole count long h = tt
-commands_within text all before (i ∷ is) texts n whole count long h =
-    with_within n i.addresses (action_of text all before texts is i.function) (commands_of text all (before ++ i ∷ []) (texts_with texts i) is) h.0
-    (may_act text all before is texts n i.function whole count long)
-    (commands_within text all (before ++ i ∷ []) is (texts_with texts i) n whole
+commands_within : (text : List ℕ) (all before is : List Item) (m : Counts) (n : Sizes) → commands_in all ≡ n.commands → commands_in before + commands_in is ≡ n.commands → m.texts + length (texts_of text is) ≡ n.texts →
+    ItemsWithin n.expressions is → AllWithin n (commands_of text all before m is)
+commands_within text all before [] m n whole count long h = tt
+commands_within text all before (i ∷ is) m n whole count long h =
+    with_within n i.addresses (action_of text all before m is i.function) (commands_of text all (before ++ i ∷ []) (counts_with m i.function) is) h.0
+    (may_act text all before is m n i.function whole count long)
+    (commands_within text all (before ++ i ∷ []) is (counts_with m i.function) n whole
     (ap (λ (m : ℕ). m + commands_in is) (commands_snoc before i) ∙ (counted_in (commands_in before) i is ∙ count))
-    (texts_step text i.function texts n.texts (texts_of text is) long) h.1)
+    (texts_step text i.function m n.texts (texts_of text is) long) h.1)
 
-leaf_length : (text : List ℕ) (all before after : List Item) (texts n : ℕ) (a : Addresses) (f : Function) (cs : List Command) → length cs ≡ n →
-    length (with_action a (action_of text all before texts after f) cs) ≡ (if leaves f then suc n else n)
-leaf_length text all before after texts n a (Plain s) cs h = omega (arith, h)
-leaf_length text all before after texts n a Open cs h = omega (arith, h)
-leaf_length text all before after texts n a (Branch from to) cs h = omega (arith, h)
-leaf_length text all before after texts n a (Text u from to) cs h = omega (arith, h)
-leaf_length text all before after texts n a Close cs h = h
-leaf_length text all before after texts n a (Label from to) cs h = h
-leaf_length text all before after texts n a Comment cs h = h
+leaf_length : (text : List ℕ) (all before after : List Item) (m : Counts) (n : ℕ) (a : Addresses) (f : Function) (cs : List Command) → length cs ≡ n →
+    length (with_action a (action_of text all before m after f) cs) ≡ (if leaves f then suc n else n)
+leaf_length text all before after m n a (Plain s) cs h = omega (arith, h)
+leaf_length text all before after m n a Open cs h = omega (arith, h)
+leaf_length text all before after m n a (Branch u from to) cs h = omega (arith, h)
+leaf_length text all before after m n a (Text u from to) cs h = omega (arith, h)
+leaf_length text all before after m n a Close cs h = h
+leaf_length text all before after m n a (Label from to) cs h = h
+leaf_length text all before after m n a Comment cs h = h
 
-commands_length : (text : List ℕ) (all before is : List Item) (texts : ℕ) → length (commands_of text all before texts is) ≡ commands_in is
-commands_length text all before [] texts = refl
-commands_length text all before (i ∷ is) texts =
-    leaf_length text all before is texts (commands_in is) i.addresses i.function (commands_of text all (before ++ i ∷ []) (texts_with texts i) is) (commands_length text all (before ++ i ∷ []) is (texts_with texts i))
+commands_length : (text : List ℕ) (all before is : List Item) (m : Counts) → length (commands_of text all before m is) ≡ commands_in is
+commands_length text all before [] m = refl
+commands_length text all before (i ∷ is) m =
+    leaf_length text all before is m (commands_in is) i.addresses i.function (commands_of text all (before ++ i ∷ []) (counts_with m i.function) is) (commands_length text all (before ++ i ∷ []) is (counts_with m i.function))
 
 -- expressions
 
@@ -329,10 +337,10 @@ no_table (x ∷ ts) k t h g = cc
 pub means_in_range : (text : List ℕ) (kind : Kind) (m : ℕ) (s : Program) → Means text kind m s → InRange s
 means_in_range text kind m s h =
     let is = h.items in
-    let long : length s.commands ≡ commands_in is = ap (λ (xs : List Command). length xs) h.commands ∙ commands_length text is [] is 0 in
+    let long : length s.commands ≡ commands_in is = ap (λ (xs : List Command). length xs) h.commands ∙ commands_length text is [] is none_counted in
     let all : AllWithin (sizes_of s) s.commands =
     subst (AllWithin (sizes_of s)) (sym h.commands)
-    (commands_within text is [] is 0 (sizes_of s) (sym long) (omega (arith, long)) (let e : length s.texts ≡ length (texts_of text is) = ap (λ (xs : List (List ℕ)). length xs) h.texts in omega (arith, e))
+    (commands_within text is [] is none_counted (sizes_of s) (sym long) (omega (arith, long)) (let e : length s.texts ≡ length (texts_of text is) = ap (λ (xs : List (List ℕ)). length xs) h.texts in omega (arith, e))
     (cut_within text kind m 0 0 h.to (length s.expressions) is s.expressions h.judged.cut (omega arith))) in
     record {
       each = λ i x g. all_at (sizes_of s) s.commands i x all g;

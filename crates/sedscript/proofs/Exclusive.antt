@@ -10,7 +10,7 @@ use Rattle.sedscript.specs.declared.bytes.Sort.TheVariants.{Separator}
 use Rattle.sedscript.specs.Bytes.{past}
 use Rattle.sedscript.specs.Addresses.{Pattern, Reading, item_at, item_from, plainly}
 use Rattle.sedscript.specs.Expressions.{IsRead, AreRead, Fails, own, expression}
-use Rattle.sedscript.specs.Script.{Cut, done, item, IsEnd, Means, Faulty, early, afterwards, Program, Judged, commands_of, texts_of}
+use Rattle.sedscript.specs.Script.{Cut, done, item, IsEnd, Means, Faulty, early, afterwards, Program, Judged, commands_of, none_counted, texts_of}
 use Rattle.sedscript.specs.Targets.{late}
 
 pub are_read_length : (text : List ℕ) (kind : Kind) (m : ℕ) (cs : List Pattern) (es : List Written) → AreRead text kind m cs es → length es ≡ length cs
@@ -94,7 +94,7 @@ pub one_meaning : (text : List ℕ) (kind : Kind) (m : ℕ) (s t : Program) → 
     (s.commands ≡ t.commands) × (s.texts ≡ t.texts) × (s.substitutions ≡ t.substitutions) × (s.tables ≡ t.tables) × (s.quiet ≡ t.quiet) × (s.max_nodes ≡ t.max_nodes)
 one_meaning text kind m s t h k =
     let same : h.items ≡ k.items = cut_same text kind m 0 0 h.to k.to h.items k.items s.expressions t.expressions h.judged.cut h.judged.ends k.judged.cut k.judged.ends in (
-      h.commands ∙ (ap (λ (is : List Item). commands_of text is [] 0 is) same ∙ sym k.commands),
+      h.commands ∙ (ap (λ (is : List Item). commands_of text is [] none_counted is) same ∙ sym k.commands),
       h.texts ∙ (ap (texts_of text) same ∙ sym k.texts),
       h.substitutions ∙ sym k.substitutions,
       h.tables ∙ sym k.tables,

@@ -6,6 +6,7 @@ use Rattle.sedscript.specs.declared.types.Action.{Action}
 use Rattle.sedscript.specs.declared.types.Action.TheVariants.{Block}
 use Rattle.sedscript.specs.Script.{action_of}
 use Rattle.sedscript.specs.declared.items.Item.{Item}
+use Rattle.sedscript.specs.declared.items.Counts.{Counts}
 use Rattle.sedscript.specs.declared.items.Function.{Function}
 use Rattle.sedscript.specs.declared.items.Function.TheVariants.{Open, Label}
 use Rattle.sedscript.specs.Bytes.{part}
@@ -32,7 +33,7 @@ late_label text name all before after depth place from to f b r is named earlier
     e ∙ (ap (λ (c : Bool). fault_if c RepeatedLabel place) (earlier own ∙ ap (λ (n : List ℕ). is_some (label_in text n 0 before)) named)
     ∙ ap (late_at text all before depth after place) (sym is))
 
-pub action_open : (text : List ℕ) (all before after : List Item) (texts to : ℕ) (f : Function) (o : Option ℕ) →
-    f ≡ Open → o ≡ block_end before after → to ≡ unwrap_or o 0 → ◌≡◌ {A = Option Action} (Some (Block to)) (action_of text all before texts after f)
-action_open text all before after texts to f o is end e =
-    ap (λ (n : ℕ). Some (Block n)) (e ∙ ap (λ (x : Option ℕ). unwrap_or x 0) end) ∙ ap (action_of text all before texts after) (sym is)
+pub action_open : (text : List ℕ) (all before after : List Item) (n : Counts) (to : ℕ) (f : Function) (o : Option ℕ) →
+    f ≡ Open → o ≡ block_end before after → to ≡ unwrap_or o 0 → ◌≡◌ {A = Option Action} (Some (Block to)) (action_of text all before n after f)
+action_open text all before after n to f o is end e =
+    ap (λ (k : ℕ). Some (Block k)) (e ∙ ap (λ (x : Option ℕ). unwrap_or x 0) end) ∙ ap (action_of text all before n after) (sym is)

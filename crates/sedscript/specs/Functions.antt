@@ -9,6 +9,8 @@ use Rattle.sedscript.specs.declared.types.Reason.TheVariants.{MissingLabel, Trai
 use Rattle.sedscript.specs.declared.items.Simple.TheVariants.{Delete, LineNumber, Print, Quit}
 use Rattle.sedscript.specs.declared.items.TextUse.{TextUse}
 use Rattle.sedscript.specs.declared.items.TextUse.TheVariants.{Insert, Change}
+use Rattle.sedscript.specs.declared.items.BranchUse.{BranchUse}
+use Rattle.sedscript.specs.declared.items.BranchUse.TheVariants.{Always, IfReplaced}
 use Rattle.sedscript.specs.declared.items.Function.{Function}
 use Rattle.sedscript.specs.declared.items.Function.TheVariants.{Plain, Open, Close, Label, Branch, Text, Comment}
 use Rattle.sedscript.specs.declared.items.Addresses.{Addresses}
@@ -85,8 +87,8 @@ label_of text place from =
     else ended text (Label from (past Name text from)) (past Name text from)
 
 -- a branch, from where its label begins. An empty label stands for the end of the script
-abbrev pub branch_of : List ℕ → ℕ → Result (Function × ℕ) ScriptFault
-branch_of text from = ended text (Branch from (past Name text from)) (past Name text from)
+abbrev pub branch_of : List ℕ → BranchUse → ℕ → Result (Function × ℕ) ScriptFault
+branch_of text u from = ended text (Branch u from (past Name text from)) (past Name text from)
 
 -- the function of a letter that stands at a place, and the place behind it
 unfoldable pub function_of : List ℕ → ℕ → ℕ → Result (Function × ℕ) ScriptFault
@@ -95,9 +97,10 @@ function_of text letter at =
     if letter == 123 then Ok (Open, at + 1)
     else if letter == 125 then ended text Close (at + 1)
     else if letter == 35 then Ok (Comment, past Line text (at + 1))
-    -- `:` `b`
+    -- `:` `b` `t`
     else if letter == 58 then label_of text at (past Blank text (at + 1))
-    else if letter == 98 then branch_of text (past Blank text (at + 1))
+    else if letter == 98 then branch_of text Always (past Blank text (at + 1))
+    else if letter == 116 then branch_of text IfReplaced (past Blank text (at + 1))
     -- `i` `c`
     else if letter == 105 then text_of Insert at (text_from text (past Blank text (at + 1)))
     else if letter == 99 then text_of Change at (text_from text (past Blank text (at + 1)))
@@ -111,11 +114,11 @@ function_of text letter at =
 -- the most addresses of a letter's function. None where the letter has none
 abbrev pub most_addresses : ℕ → Option ℕ
 most_addresses letter =
-    -- `:` `}` `#`, then `q`, then `=` `b` `c` `d` `i` `p` `{`
+    -- `:` `}` `#`, then `q`, then `=` `b` `c` `d` `i` `p` `t` `{`
     if letter == 58 || letter == 125 || letter == 35 then Some 0
     else if letter == 113 then Some 1
     else if letter == 61 || letter == 98 || letter == 99 || letter == 100 || letter == 105 || letter == 112
-    || letter == 123 then Some 2
+    || letter == 116 || letter == 123 then Some 2
     else None
 
 abbrev pub given : {A : Type 0} → Option A → ℕ

@@ -9,17 +9,20 @@ use Rattle.sedscript.specs.declared.types.Action.{Action}
 use Rattle.sedscript.specs.declared.types.Action.TheVariants.{Block, Branch as BranchTo, Change as ChangeText}
 use Rattle.sedscript.specs.declared.types.Action.TheVariants.{Delete as DeleteSpace, Insert as InsertText}
 use Rattle.sedscript.specs.declared.types.Action.TheVariants.{LineNumber as WriteNumber, Print as PrintSpace}
-use Rattle.sedscript.specs.declared.types.Action.TheVariants.{Quit as QuitHere}
+use Rattle.sedscript.specs.declared.types.Action.TheVariants.{Quit as QuitHere, Test as TestTo}
 use Rattle.sedscript.specs.declared.types.Command.{Command}
 use Rattle.sedscript.specs.declared.substitution.Substitution.{Substitution}
 use Rattle.sedscript.specs.declared.items.Simple.{Simple}
 use Rattle.sedscript.specs.declared.items.Simple.TheVariants.{Delete, LineNumber, Print, Quit}
 use Rattle.sedscript.specs.declared.items.TextUse.{TextUse}
 use Rattle.sedscript.specs.declared.items.TextUse.TheVariants.{Insert, Change}
+use Rattle.sedscript.specs.declared.items.BranchUse.{BranchUse}
+use Rattle.sedscript.specs.declared.items.BranchUse.TheVariants.{Always, IfReplaced}
 use Rattle.sedscript.specs.declared.items.Function.{Function}
 use Rattle.sedscript.specs.declared.items.Function.TheVariants.{Plain, Open, Close, Label, Branch, Text, Comment}
 use Rattle.sedscript.specs.declared.items.Addresses.{Addresses}
 use Rattle.sedscript.specs.declared.items.Item.{Item}
+use Rattle.sedscript.specs.declared.items.Counts.{Counts}
 use Rattle.sedscript.specs.declared.items.Here.TheVariants.{Is}
 use Rattle.sedscript.specs.Bytes.{part, past}
 use Rattle.sedscript.specs.Addresses.{item_at}
@@ -60,25 +63,25 @@ with_text text Close ts = ts
 with_text text Comment ts = ts
 with_text text (Plain a) ts = ts
 with_text text (Label from to) ts = ts
-with_text text (Branch from to) ts = ts
+with_text text (Branch u from to) ts = ts
 
 -- the texts of `i` and `c`, in order
 abbrev pub texts_of : List ℕ → List Item → List (List ℕ)
 texts_of text [] = []
 texts_of text (i ∷ is) = with_text text i.function (texts_of text is)
 
--- whether a function has a text
-abbrev pub has_text : Function → Bool
-has_text (Text t from to) = true
-has_text Open = false
-has_text Close = false
-has_text Comment = false
-has_text (Plain a) = false
-has_text (Label from to) = false
-has_text (Branch from to) = false
+abbrev pub none_counted : Counts
+none_counted = record { texts = 0; substitutions = 0; tables = 0 }
 
-abbrev pub texts_with : ℕ → Item → ℕ
-texts_with n i = if has_text i.function then suc n else n
+-- how many texts, substitutions and tables there are with a function, with so many before it
+abbrev pub counts_with : Counts → Function → Counts
+counts_with n (Text t from to) = record n { texts = suc n.texts }
+counts_with n Open = n
+counts_with n Close = n
+counts_with n Comment = n
+counts_with n (Plain a) = n
+counts_with n (Label from to) = n
+counts_with n (Branch u from to) = n
 
 abbrev pub simple_action : Simple → Action
 simple_action Delete = DeleteSpace
@@ -90,27 +93,32 @@ abbrev pub text_action : TextUse → ℕ → Action
 text_action Insert k = InsertText k
 text_action Change k = ChangeText k
 
--- what a function does among all items, with those before it, so many texts before it and the items behind it
-abbrev pub action_of : List ℕ → List Item → List Item → ℕ → List Item → Function → Option Action
-action_of text all before texts after (Plain s) = Some (simple_action s)
-action_of text all before texts after Open = Some (Block (unwrap_or (block_end before after) 0))
-action_of text all before texts after (Branch from to) =
-    Some (BranchTo (if from == to then commands_in all else unwrap_or (label_in text (part text from to) 0 all) 0))
-action_of text all before texts after (Text t from to) = Some (text_action t texts)
-action_of text all before texts after Close = None
-action_of text all before texts after (Label from to) = None
-action_of text all before texts after Comment = None
+abbrev pub branch_action : BranchUse → ℕ → Action
+branch_action Always to = BranchTo to
+branch_action IfReplaced to = TestTo to
+
+-- what a function does among all items, with those before it, which have so many texts, substitutions and tables, and the
+-- items behind it
+abbrev pub action_of : List ℕ → List Item → List Item → Counts → List Item → Function → Option Action
+action_of text all before n after (Plain s) = Some (simple_action s)
+action_of text all before n after Open = Some (Block (unwrap_or (block_end before after) 0))
+action_of text all before n after (Branch u from to) =
+    Some (branch_action u (if from == to then commands_in all else unwrap_or (label_in text (part text from to) 0 all) 0))
+action_of text all before n after (Text t from to) = Some (text_action t n.texts)
+action_of text all before n after Close = None
+action_of text all before n after (Label from to) = None
+action_of text all before n after Comment = None
 
 abbrev pub with_action : Addresses → Option Action → List Command → List Command
 with_action a None cs = cs
 with_action a (Some action) cs = record { first = a.first; second = a.second; negate = a.negate; action = action } ∷ cs
 
 -- the commands that the items leave, in the order of their letters
-abbrev pub commands_of : List ℕ → List Item → List Item → ℕ → List Item → List Command
-commands_of text all before texts [] = []
-commands_of text all before texts (i ∷ is) =
-    with_action i.addresses (action_of text all before texts is i.function)
-    (commands_of text all (before ++ i ∷ []) (texts_with texts i) is)
+abbrev pub commands_of : List ℕ → List Item → List Item → Counts → List Item → List Command
+commands_of text all before n [] = []
+commands_of text all before n (i ∷ is) =
+    with_action i.addresses (action_of text all before n is i.function)
+    (commands_of text all (before ++ i ∷ []) (counts_with n i.function) is)
 
 -- whether the first line is exactly `#n` (this project's own narrowing)
 abbrev pub is_quiet : List ℕ → Bool
@@ -131,7 +139,7 @@ pub record Means (text : List ℕ) (kind : Kind) (max_nodes : ℕ) (s : Program)
   pub items : List Item
   pub to : ℕ
   pub judged : Judged text kind max_nodes items s.expressions to
-  pub commands : s.commands ≡ commands_of text items [] 0 items
+  pub commands : s.commands ≡ commands_of text items [] none_counted items
   pub texts : s.texts ≡ texts_of text items
   pub substitutions : s.substitutions ≡ []
   pub tables : s.tables ≡ []

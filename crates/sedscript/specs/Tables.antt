@@ -7,6 +7,7 @@ use Rattle.std.specs.Cmp.Lexicographic.{slice_cmp}
 use Rattle.std.specs.Ordering.{nat_cmp}
 use Rattle.sedscript.specs.declared.targets.FirstLabel.{FirstLabel}
 use Rattle.sedscript.specs.declared.items.Item.{Item}
+use Rattle.sedscript.specs.declared.items.Counts.{Counts}
 use Rattle.sedscript.specs.declared.items.Function.{Function}
 use Rattle.sedscript.specs.Targets.{is_label, counted, commands_in, is_open, is_close, close_in}
 
@@ -63,6 +64,10 @@ abbrev pub EndsFrom : List Item → ℕ → List (Option ℕ) → Type 0
 EndsFrom items from ends = (k : ℕ) (i : Item) →
     from ≤ k → slice_get items k ≡ Some i → is_open i.function ≡ true →
     slice_get ends k ≡ Some (close_in 0 (commands_in (take (k + 1) items)) (drop (k + 1) items))
+
+-- at most so many of each
+abbrev pub AtMost : ℕ → Counts → Type 0
+AtMost most n = (n.texts ≤ most) × (n.substitutions ≤ most) × (n.tables ≤ most)
 
 -- the tables of all items
 pub record TargetsAre (text : List ℕ) (items : List Item) (labels : BTreeMap (Bor (List ℕ)) FirstLabel)

@@ -20,7 +20,7 @@ leaves (Label from to) = false
 leaves Comment = false
 leaves (Plain a) = true
 leaves Open = true
-leaves (Branch from to) = true
+leaves (Branch u from to) = true
 leaves (Text t from to) = true
 
 -- how many commands there are with this item, with so many before it
@@ -39,7 +39,7 @@ is_label text name Open = false
 is_label text name Close = false
 is_label text name Comment = false
 is_label text name (Plain a) = false
-is_label text name (Branch from to) = false
+is_label text name (Branch u from to) = false
 is_label text name (Text t from to) = false
 
 -- the number of the command behind the first label of this name, with so many commands before the items
@@ -53,7 +53,7 @@ is_open Close = false
 is_open Comment = false
 is_open (Plain a) = false
 is_open (Label from to) = false
-is_open (Branch from to) = false
+is_open (Branch u from to) = false
 is_open (Text t from to) = false
 
 abbrev pub is_close : Function → Bool
@@ -62,7 +62,7 @@ is_close Open = false
 is_close Comment = false
 is_close (Plain a) = false
 is_close (Label from to) = false
-is_close (Branch from to) = false
+is_close (Branch u from to) = false
 is_close (Text t from to) = false
 
 -- how many blocks are open behind a function, with so many before it
@@ -91,7 +91,7 @@ late_at text all before depth after place Open = fault_if (is_none (block_end be
 late_at text all before depth after place Close = fault_if (depth == 0) StrayClose place
 late_at text all before depth after place (Label from to) =
     fault_if (is_some (label_in text (part text from to) 0 before)) RepeatedLabel place
-late_at text all before depth after place (Branch from to) =
+late_at text all before depth after place (Branch u from to) =
     fault_if (not (from == to) && is_none (label_in text (part text from to) 0 all)) UnknownLabel place
 late_at text all before depth after place (Plain a) = None
 late_at text all before depth after place (Text t from to) = None

@@ -1,32 +1,31 @@
 //! The commands and texts that the items leave.
 
-ghost use Rattle.std.specs.Prelude.{◌≡◌, ◌<◌, ◌≤◌, ◌+◌, ◌++◌, [], Some, false, map, length, drop, take, slice_get};
+ghost use Rattle.std.specs.Prelude.{◌≡◌, ◌<◌, ◌≤◌, ◌+◌, ◌-◌, ◌++◌, ℕ, [], Some, false, map, length, drop, take, slice_get};
 ghost use Rattle.std.specs.Prelude.{IfOk, OnOk};
 ghost use Rattle.sedscript.specs.Bytes.{part};
-ghost use Rattle.sedscript.specs.Tables.{TargetsAre};
-ghost use Rattle.sedscript.specs.Script.{has_text, texts_with, simple_action, text_action, action_of, with_action};
+ghost use Rattle.sedscript.specs.Tables.{TargetsAre, AtMost};
+ghost use Rattle.sedscript.specs.Script.{none_counted, counts_with, simple_action, text_action, branch_action, action_of, with_action};
 ghost use Rattle.sedscript.specs.Script.{commands_of, texts_of, unescaped_from, is_quiet};
 
 use crate::bytes::part;
-use crate::items::{Addresses, Function, Item, Simple, TextUse};
+use crate::items::{Addresses, BranchUse, Counts, Function, Item, Simple, TextUse};
 use crate::targets::Targets;
 use crate::types::{Action, Command};
 use std::alloc::{AllocError, Global};
 
-/// Whether a function has a text.
-fn has_text(function: Function) -> bool
-    ensures { result ≡ has_text function }
+/// How many texts, substitutions and tables there are with this function, with so many before it.
+fn counts_with(n: Counts, function: Function) -> Counts
+    requires { AtMost (usize.MAX - 1) n }
+    ensures is { result ≡ counts_with n function }
+    ensures few { (k : ℕ) → AtMost k n → AtMost (k + 1) result }
 {
-    matches!(function, Function::Text(..))
-}
-
-/// How many texts there are with this item, with so many before it.
-fn texts_with(n: usize, item: Item) -> usize
-    requires { n < usize.MAX }
-    ensures is { result ≡ texts_with n item }
-    ensures few { result ≤ n + 1 }
-{
-    if has_text(item.function) { n + 1 } else { n }
+    match function {
+        Function::Text(..) => Counts {
+            texts: n.texts + 1,
+            ..n
+        },
+        _ => n,
+    }
 }
 
 fn simple_action(simple: Simple) -> Action
@@ -49,30 +48,39 @@ fn text_action(text_use: TextUse, k: usize) -> Action
     }
 }
 
-/// What the item of an index does, with so many texts before it. None where it leaves no command.
+fn branch_action(branch_use: BranchUse, to: usize) -> Action
+    ensures { result ≡ branch_action branch_use to }
+{
+    match branch_use {
+        BranchUse::Always => Action::Branch(to),
+        BranchUse::IfReplaced => Action::Test(to),
+    }
+}
+
+/// What the item of an index does, with what is counted before it. None where it leaves no command.
 fn action_of<'a>(
     text: &'a [u8],
     items: &[Item],
     targets: &Targets<'a>,
     k: usize,
-    texts: usize,
+    counts: Counts,
     item: Item,
 ) -> Option<Action>
     requires item { slice_get items.now k ≡ Some item }
     requires targets { TargetsAre text.now items.now targets.now.labels targets.now.ends.items targets.now.commands }
-    ensures { result ≡ action_of text.now items.now (take k items.now) texts (drop (k + 1) items.now) item.function }
+    ensures { result ≡ action_of text.now items.now (take k items.now) counts (drop (k + 1) items.now) item.function }
 {
     match item.function {
         Function::Plain(simple) => Some(simple_action(simple)),
         Function::Open => Some(Action::Block(targets.block_end(k).unwrap_or(0))),
-        Function::Branch(from, to) => {
+        Function::Branch(branch_use, from, to) => {
             if from == to {
-                Some(Action::Branch(targets.commands))
+                Some(branch_action(branch_use, targets.commands))
             } else {
-                Some(Action::Branch(targets.label(part(text, from, to)).unwrap_or(0)))
+                Some(branch_action(branch_use, targets.label(part(text, from, to)).unwrap_or(0)))
             }
         }
-        Function::Text(text_use, _, _) => Some(text_action(text_use, texts)),
+        Function::Text(text_use, _, _) => Some(text_action(text_use, counts.texts)),
         Function::Close | Function::Label(..) | Function::Comment => None,
     }
 }
@@ -109,19 +117,23 @@ pub fn commands_of<'a>(
     targets: &Targets<'a>,
 ) -> Result<Vec<Command>, AllocError>
     requires targets { TargetsAre text.now items.now targets.now.labels targets.now.ends.items targets.now.commands }
-    ensures { IfOk result (λ v. v.items ≡ commands_of text.now items.now [] 0 items.now) }
+    ensures { IfOk result (λ v. v.items ≡ commands_of text.now items.now [] none_counted items.now) }
 {
     let mut commands = Vec::new(alloc);
-    let mut texts = 0;
+    let mut counts = Counts {
+        texts: 0,
+        substitutions: 0,
+        tables: 0,
+    };
     let mut k = 0;
     'items: while k < items.len() {
         let item = items[k];
         add_command(
             &mut commands,
             item,
-            action_of(text, items, targets, k, texts, item),
+            action_of(text, items, targets, k, counts, item),
         )?;
-        texts = texts_with(texts, item);
+        counts = counts_with(counts, item.function);
         k += 1;
     }
     Ok(commands)

@@ -7,7 +7,7 @@ ghost use Rattle.sedscript.specs.Functions.{text_from, given, allowed, function_
 ghost use Rattle.sedscript.specs.Answers.{IsBehind};
 
 use crate::bytes::{Sort, byte_at, past};
-use crate::items::{Addresses, Function, Here, Item, Simple, TextUse};
+use crate::items::{Addresses, BranchUse, Function, Here, Item, Simple, TextUse};
 use crate::texts::text_from;
 use crate::types::{Address, Reason, ScriptFault};
 
@@ -56,13 +56,17 @@ fn label_of(text: &[u8], place: usize, from: usize) -> Result<(Function, usize),
 }
 
 /// The branch whose label begins at a place.
-fn branch_of(text: &[u8], from: usize) -> Result<(Function, usize), ScriptFault>
+fn branch_of(
+    text: &[u8],
+    branch_use: BranchUse,
+    from: usize,
+) -> Result<(Function, usize), ScriptFault>
     requires { from ≤ length text.now }
-    ensures is { result ≡ branch_of text.now from }
+    ensures is { result ≡ branch_of text.now branch_use from }
     ensures within { IfOk result (λ found. (from ≤ found.1) × (found.1 ≤ length text.now)) }
 {
     let end = past(Sort::Name, text, from);
-    ended(text, Function::Branch(from, end), end)
+    ended(text, Function::Branch(branch_use, from, end), end)
 }
 
 /// The function whose letter stands at a place and whose text follows.
@@ -92,7 +96,8 @@ fn function_of(text: &[u8], letter: u8, at: usize) -> Result<(Function, usize), 
         b'}' => ended(text, Function::Close, at + 1),
         b'#' => Ok((Function::Comment, past(Sort::Line, text, at + 1))),
         b':' => label_of(text, at, past(Sort::Blank, text, at + 1)),
-        b'b' => branch_of(text, past(Sort::Blank, text, at + 1)),
+        b'b' => branch_of(text, BranchUse::Always, past(Sort::Blank, text, at + 1)),
+        b't' => branch_of(text, BranchUse::IfReplaced, past(Sort::Blank, text, at + 1)),
         b'i' => text_of(text, TextUse::Insert, at),
         b'c' => text_of(text, TextUse::Change, at),
         b'=' => ended(text, Function::Plain(Simple::LineNumber), at + 1),
@@ -113,7 +118,7 @@ fn most_addresses(letter: u8) -> Option<usize>
     match letter {
         b':' | b'}' | b'#' => Some(0),
         b'q' => Some(1),
-        b'=' | b'b' | b'c' | b'd' | b'i' | b'p' | b'{' => Some(2),
+        b'=' | b'b' | b'c' | b'd' | b'i' | b'p' | b't' | b'{' => Some(2),
         _ => None,
     }
 }

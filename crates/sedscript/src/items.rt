@@ -41,6 +41,15 @@ pub enum TextUse {
     Change,
 }
 
+/// When a command that has a label goes there.
+#[derive(Clone, Copy)]
+pub enum BranchUse {
+    /// `b`
+    Always,
+    /// `t`
+    IfReplaced,
+}
+
 /// A function, as its letter and what follows say.
 #[derive(Clone, Copy)]
 pub enum Function {
@@ -52,8 +61,8 @@ pub enum Function {
     Close,
     /// `:` and a name.
     Label(usize, usize),
-    /// `b` and a name, which is empty where there is none.
-    Branch(usize, usize),
+    /// `b` or `t` and a name, which is empty where there is none.
+    Branch(BranchUse, usize, usize),
     /// `i` or `c` and a text as it is written.
     Text(TextUse, usize, usize),
     /// `#`
@@ -66,6 +75,14 @@ pub struct Item {
     pub addresses: Addresses,
     pub place: usize,
     pub function: Function,
+}
+
+/// How many texts, substitutions and tables there are.
+#[derive(Clone, Copy)]
+pub struct Counts {
+    pub texts: usize,
+    pub substitutions: usize,
+    pub tables: usize,
 }
 
 /// What stands at a place: an item and the place behind it, or the end.

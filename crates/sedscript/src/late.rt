@@ -43,7 +43,7 @@ fn late_at<'a>(
                 item.place,
             )
         }
-        Function::Branch(from, to) => {
+        Function::Branch(_, from, to) => {
             fault_if(
                 from != to && targets.label(part(text, from, to)).is_none(),
                 Reason::UnknownLabel,

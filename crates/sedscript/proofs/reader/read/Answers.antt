@@ -1,6 +1,6 @@
 use Rattle.std.proofs.Common.{◌∙◌, ℕ, ap, map, refl, List, [], Vec, Global}
 use Rattle.sedscript.specs.declared.items.Item.{Item}
-use Rattle.sedscript.specs.Script.{texts_of, commands_of, Means}
+use Rattle.sedscript.specs.Script.{texts_of, commands_of, none_counted, Means}
 use Rattle.sedscript.specs.Parts.{program_of}
 use Rattle.sedscript.proofs.Bounds.{means_in_range}
 use Rattle.sedscript.proofs.Exclusive.{judged_no_fault}
@@ -12,7 +12,7 @@ of-requires c =
       items = c.judge.new.items.items;
       to = c.in-Ok.ensures.judged.to;
       judged = c.in-Ok.ensures.judged.judged;
-      commands = c.in-Ok-commands_of.ensures ∙ ap (λ (is : List Item). commands_of c.args.text.now is [] 0 is) c.deref.ensures.value;
+      commands = c.in-Ok-commands_of.ensures ∙ ap (λ (is : List Item). commands_of c.args.text.now is [] none_counted is) c.deref.ensures.value;
       texts = c.in-Ok-texts_of.ensures ∙ ap (texts_of c.args.text.now) c.deref-in-Ok-commands_of.ensures.value;
       substitutions = c.new.ensures.items;
       tables = ap (λ (l : List (Vec ℕ Global)). map (λ (t : Vec ℕ Global). t.items) l) c.new-in-Ok-texts_of.ensures.items;
