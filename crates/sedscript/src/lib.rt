@@ -11,6 +11,7 @@ mod late;
 pub mod laws;
 pub mod reader;
 pub mod script;
+pub mod strings;
 mod targets;
 #[cfg(test)]
 mod tests;
