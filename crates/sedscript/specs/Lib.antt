@@ -2,6 +2,7 @@ pub mod Bytes
 pub mod Faults
 pub mod Functions
 pub mod Strings
+pub mod Flags
 pub mod Addresses
 pub mod Expressions
 pub mod Targets

@@ -5,13 +5,14 @@ mod addresses;
 mod bytes;
 mod commands;
 mod cut;
+mod flags;
 mod functions;
 mod items;
 mod late;
 pub mod laws;
 pub mod reader;
 pub mod script;
-pub mod strings;
+mod strings;
 mod targets;
 #[cfg(test)]
 mod tests;
