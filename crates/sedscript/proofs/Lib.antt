@@ -1,4 +1,5 @@
 pub mod Coming
+pub mod FlagLemmas
 pub mod Cuts
 pub mod Exclusive
 pub mod Labels

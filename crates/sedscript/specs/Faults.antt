@@ -2,8 +2,10 @@
 use Rattle.std.specs.Prelude.{ℕ, List, codes}
 use Rattle.sedscript.specs.declared.types.Reason.{Reason}
 use Rattle.sedscript.specs.declared.types.Reason.TheVariants.{UnknownCommand, TooManyAddresses, BadAddress, MissingText}
-use Rattle.sedscript.specs.declared.types.Reason.TheVariants.{OpenDelimiter, BadDelimiter, UnknownLabel, RepeatedLabel}
+use Rattle.sedscript.specs.declared.types.Reason.TheVariants.{OpenDelimiter, BadDelimiter, UnknownFlag, RepeatedFlag}
+use Rattle.sedscript.specs.declared.types.Reason.TheVariants.{BadNumber, UnknownLabel, RepeatedLabel}
 use Rattle.sedscript.specs.declared.types.Reason.TheVariants.{MissingLabel, OpenBlock, StrayClose, TrailingBytes}
+use Rattle.sedscript.specs.declared.types.Reason.TheVariants.{LengthsDiffer, RepeatedByte, BadEscape, GroupAbsent}
 use Rattle.sedscript.specs.declared.types.Reason.TheVariants.{Expression, NoMemory}
 
 abbrev pub number_of : Reason → ℕ
@@ -13,12 +15,19 @@ number_of BadAddress = 3
 number_of MissingText = 4
 number_of OpenDelimiter = 5
 number_of BadDelimiter = 6
+number_of UnknownFlag = 7
+number_of RepeatedFlag = 8
+number_of BadNumber = 9
 number_of UnknownLabel = 10
 number_of RepeatedLabel = 11
 number_of MissingLabel = 12
 number_of OpenBlock = 13
 number_of StrayClose = 14
 number_of TrailingBytes = 15
+number_of LengthsDiffer = 16
+number_of RepeatedByte = 17
+number_of BadEscape = 18
+number_of GroupAbsent = 20
 number_of (Expression f) = 21
 number_of NoMemory = 22
 
@@ -29,11 +38,18 @@ name_of BadAddress = codes "BadAddress"
 name_of MissingText = codes "MissingText"
 name_of OpenDelimiter = codes "OpenDelimiter"
 name_of BadDelimiter = codes "BadDelimiter"
+name_of UnknownFlag = codes "UnknownFlag"
+name_of RepeatedFlag = codes "RepeatedFlag"
+name_of BadNumber = codes "BadNumber"
 name_of UnknownLabel = codes "UnknownLabel"
 name_of RepeatedLabel = codes "RepeatedLabel"
 name_of MissingLabel = codes "MissingLabel"
 name_of OpenBlock = codes "OpenBlock"
 name_of StrayClose = codes "StrayClose"
 name_of TrailingBytes = codes "TrailingBytes"
+name_of LengthsDiffer = codes "LengthsDiffer"
+name_of RepeatedByte = codes "RepeatedByte"
+name_of BadEscape = codes "BadEscape"
+name_of GroupAbsent = codes "GroupAbsent"
 name_of (Expression f) = codes "Expression"
 name_of NoMemory = codes "NoMemory"

@@ -2,6 +2,8 @@ pub mod Bytes
 pub mod Faults
 pub mod Functions
 pub mod Replacement
+pub mod Strings
+pub mod Flags
 pub mod Addresses
 pub mod Expressions
 pub mod Targets

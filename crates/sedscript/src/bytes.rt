@@ -20,7 +20,8 @@ pub enum Sort {
     Line,
 }
 
-fn is_blank(b: u8) -> bool
+/// Whether the byte is a space or a tab.
+pub fn is_blank(b: u8) -> bool
     ensures { result ≡ Rattle.sedscript.specs.Bytes.is_blank b }
 {
     b == b' ' || b == b'\t'

@@ -12,7 +12,7 @@ use crate::texts::text_from;
 use crate::types::{Address, Reason, ScriptFault};
 
 /// Whether a command may end before this byte.
-fn may_end(next: Option<u8>) -> bool
+pub fn may_end(next: Option<u8>) -> bool
     ensures { result ≡ may_end next }
 {
     match next {

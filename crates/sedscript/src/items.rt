@@ -25,6 +25,14 @@ pub struct Addresses {
     pub negate: bool,
 }
 
+/// The flags of `s`: a number where one stands, `g` and `p`.
+#[derive(Clone, Copy)]
+pub struct Flags {
+    pub number: Option<u64>,
+    pub global: bool,
+    pub print: bool,
+}
+
 /// The commands of one letter that need nothing more.
 #[derive(Clone, Copy)]
 pub enum Simple {

@@ -5,6 +5,7 @@ mod addresses;
 mod bytes;
 mod commands;
 mod cut;
+mod flags;
 mod functions;
 mod items;
 mod late;
@@ -12,6 +13,7 @@ pub mod laws;
 pub mod reader;
 pub mod script;
 pub mod substitution;
+mod strings;
 mod targets;
 #[cfg(test)]
 mod tests;

@@ -73,6 +73,12 @@ pub enum Reason {
     OpenDelimiter,
     /// S6: this byte can't be a delimiter.
     BadDelimiter,
+    /// S7: this byte is no flag of `s`.
+    UnknownFlag,
+    /// S8: a flag of `s` stands a second time.
+    RepeatedFlag,
+    /// S9: a flag's number isn't from 1 to 2^64 - 1.
+    BadNumber,
     /// S10: the script has no label of this name.
     UnknownLabel,
     /// S11: an earlier label has this name.
@@ -85,6 +91,14 @@ pub enum Reason {
     StrayClose,
     /// S15: something follows a command on its line.
     TrailingBytes,
+    /// S16: the strings of `y` aren't of the same length.
+    LengthsDiffer,
+    /// S17: a byte stands a second time in the first string of `y`.
+    RepeatedByte,
+    /// S18: this backslash and the byte behind it stand for nothing.
+    BadEscape,
+    /// S20: the regular expression has no group of this number.
+    GroupAbsent,
     /// S21: a regular expression has this fault, with its place in the expression.
     Expression(ExprFault),
     /// S22: a request for memory was refused.
@@ -103,12 +117,19 @@ impl Reason {
             Reason::MissingText => 4,
             Reason::OpenDelimiter => 5,
             Reason::BadDelimiter => 6,
+            Reason::UnknownFlag => 7,
+            Reason::RepeatedFlag => 8,
+            Reason::BadNumber => 9,
             Reason::UnknownLabel => 10,
             Reason::RepeatedLabel => 11,
             Reason::MissingLabel => 12,
             Reason::OpenBlock => 13,
             Reason::StrayClose => 14,
             Reason::TrailingBytes => 15,
+            Reason::LengthsDiffer => 16,
+            Reason::RepeatedByte => 17,
+            Reason::BadEscape => 18,
+            Reason::GroupAbsent => 20,
             Reason::Expression(_) => 21,
             Reason::NoMemory => 22,
         }
@@ -125,12 +146,19 @@ impl Reason {
             Reason::MissingText => "MissingText",
             Reason::OpenDelimiter => "OpenDelimiter",
             Reason::BadDelimiter => "BadDelimiter",
+            Reason::UnknownFlag => "UnknownFlag",
+            Reason::RepeatedFlag => "RepeatedFlag",
+            Reason::BadNumber => "BadNumber",
             Reason::UnknownLabel => "UnknownLabel",
             Reason::RepeatedLabel => "RepeatedLabel",
             Reason::MissingLabel => "MissingLabel",
             Reason::OpenBlock => "OpenBlock",
             Reason::StrayClose => "StrayClose",
             Reason::TrailingBytes => "TrailingBytes",
+            Reason::LengthsDiffer => "LengthsDiffer",
+            Reason::RepeatedByte => "RepeatedByte",
+            Reason::BadEscape => "BadEscape",
+            Reason::GroupAbsent => "GroupAbsent",
             Reason::Expression(_) => "Expression",
             Reason::NoMemory => "NoMemory",
         }

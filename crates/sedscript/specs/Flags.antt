@@ -1,0 +1,52 @@
+-- The flags of `s` (XCU sed, "Editing Commands in sed").
+use Rattle.std.specs.Prelude.{ℕ, zero, suc, List, [], ◌∷◌, take, drop, Bool, true, false, ◌||◌, Option, Some, None, is_some}
+use Rattle.std.specs.Prelude.{if◌then◌else◌, ◌==◌, Result, Ok}
+use Rattle.sedscript.specs.declared.bytes.Sort.TheVariants.{Digit}
+use Rattle.sedscript.specs.declared.types.ScriptFault.{ScriptFault}
+use Rattle.sedscript.specs.declared.types.Reason.TheVariants.{UnknownFlag, RepeatedFlag, BadNumber}
+use Rattle.sedscript.specs.declared.items.Flags.{Flags}
+use Rattle.sedscript.specs.Bytes.{is_blank, is_digit, run_of, with_digits}
+use Rattle.sedscript.specs.Functions.{fault, may_end, ◌>>=◌}
+
+abbrev pub no_flags : Flags
+no_flags = record { number = None; global = false; print = false }
+
+-- whether flags end before this byte: a blank, or what ends a command
+abbrev pub ends_flags : ℕ → Bool
+ends_flags b = is_blank b || may_end (Some b)
+
+-- the flags with a number whose first digit stands at a place. It is from 1 to 2 ^ 64 - 1 (the end: this project's own)
+abbrev pub numbered : Flags → ℕ → Option ℕ → Result Flags ScriptFault
+numbered f at None = fault BadNumber at
+numbered f at (Some zero) = fault BadNumber at
+numbered f at (Some (suc n)) = Ok (record { number = Some (suc n); global = f.global; print = f.print })
+
+-- the same with its digits. No second number may stand there (this project's own)
+abbrev pub with_number : Flags → ℕ → List ℕ → Result Flags ScriptFault
+with_number f at digits =
+    if is_some f.number then fault RepeatedFlag at else numbered f at (with_digits (Some 0) digits)
+
+-- the flags with the one of a byte at a place: `g` or `p`, and none twice (this project's own)
+abbrev pub with_flag : Flags → ℕ → ℕ → Result Flags ScriptFault
+with_flag f at b =
+    if b == 103
+    then if f.global then fault RepeatedFlag at
+    else Ok (record { number = f.number; global = true; print = f.print })
+    else if b == 112
+    then if f.print then fault RepeatedFlag at
+    else Ok (record { number = f.number; global = f.global; print = true })
+    else fault UnknownFlag at
+
+-- the flags from a place on, in any order, and the place behind them. So many bytes are digits that were read
+abbrev pub flags_from : Flags → ℕ → ℕ → List ℕ → Result (Flags × ℕ) ScriptFault
+flags_from f skip at [] = Ok (f, at)
+flags_from f (suc skip) at (b ∷ bs) = flags_from f skip (suc at) bs
+flags_from f zero at (b ∷ bs) =
+    if is_digit b
+    then (with_number f at (b ∷ take (run_of Digit bs) bs) >>= λ g. flags_from g (run_of Digit bs) (suc at) bs)
+    else if ends_flags b then Ok (f, at)
+    else (with_flag f at b >>= λ g. flags_from g zero (suc at) bs)
+
+-- the flags with those that stand behind the place up to which they were read
+abbrev pub with_rest : List ℕ → Result (Flags × ℕ) ScriptFault → Result (Flags × ℕ) ScriptFault
+with_rest text read = read >>= λ found. flags_from found.0 0 found.1 (drop found.1 text)

@@ -1,0 +1,12 @@
+-- Strings between delimiters (XCU sed, "Editing Commands in sed": `s` and `y`).
+use Rattle.std.specs.Prelude.{ℕ, suc, List, [], ◌∷◌, Bool, false, not, ◌&&◌, Option, Some, None, if◌then◌else◌, ◌==◌}
+
+-- where a string ends that stands between delimiters: at the first delimiter that no backslash in force stands before.
+-- A newline ends it nowhere; one behind a backslash may stand in a replacement (it breaks lines), and in no string of `y`
+abbrev pub string_end : Bool → ℕ → Bool → ℕ → List ℕ → Option ℕ
+string_end breaks delimiter escaped at [] = None
+string_end breaks delimiter escaped at (b ∷ bs) =
+    if b == 10 && not (breaks && escaped) then None
+    else if escaped then string_end breaks delimiter false (suc at) bs
+    else if b == delimiter then Some at
+    else string_end breaks delimiter (b == 92) (suc at) bs

@@ -1,0 +1,95 @@
+//! The flags of `s`.
+
+ghost use Rattle.std.specs.Prelude.{◌≡◌, ◌≤◌, ◌<◌, length, drop, false, slice_index, IfOk};
+ghost use Rattle.sedscript.specs.Flags.{no_flags, ends_flags, with_number, with_flag, flags_from, with_rest};
+
+use crate::bytes::{Sort, is_blank, is_digit, number_of, part, past};
+use crate::functions::may_end;
+use crate::items::Flags;
+use crate::types::{Reason, ScriptFault};
+
+/// Whether flags end before this byte.
+fn ends_flags(b: u8) -> bool
+    ensures { result ≡ ends_flags b }
+{
+    is_blank(b) || may_end(Some(b))
+}
+
+/// The flags with the number of these digits, whose first stands at a place.
+fn with_number(flags: Flags, at: usize, digits: &[u8]) -> Result<Flags, ScriptFault>
+    ensures { result ≡ with_number flags at digits.now }
+{
+    if flags.number.is_some() {
+        return Err(ScriptFault {
+            place: at,
+            reason: Reason::RepeatedFlag,
+        });
+    }
+    match number_of(digits) {
+        None | Some(0) => Err(ScriptFault {
+            place: at,
+            reason: Reason::BadNumber,
+        }),
+        number => Ok(Flags { number, ..flags }),
+    }
+}
+
+/// The flags with the one of the byte at a place.
+fn with_flag(flags: Flags, at: usize, b: u8) -> Result<Flags, ScriptFault>
+    ensures { result ≡ with_flag flags at b }
+{
+    match b {
+        b'g' if !flags.global => Ok(Flags {
+            global: true,
+            ..flags
+        }),
+        b'p' if !flags.print => Ok(Flags {
+            print: true,
+            ..flags
+        }),
+        b'g' | b'p' => Err(ScriptFault {
+            place: at,
+            reason: Reason::RepeatedFlag,
+        }),
+        _ => Err(ScriptFault {
+            place: at,
+            reason: Reason::UnknownFlag,
+        }),
+    }
+}
+
+/// The flags with the one that begins at a place, and the place behind it.
+fn flag_at(text: &[u8], flags: Flags, at: usize) -> Result<(Flags, usize), ScriptFault>
+    requires inside { at < length text.now }
+    requires flag { ends_flags (slice_index text.now at) ≡ false }
+    ensures is { flags_from flags 0 at (drop at text.now) ≡ with_rest text.now result }
+    ensures within { IfOk result (λ next. (at < next.1) × (next.1 ≤ length text.now)) }
+{
+    let b = text[at];
+    if is_digit(b) {
+        let to = past(Sort::Digit, text, at);
+        Ok((with_number(flags, at, part(text, at, to))?, to))
+    } else {
+        Ok((with_flag(flags, at, b)?, at + 1))
+    }
+}
+
+/// The flags from a place on, and the place behind them.
+pub fn flags_at(text: &[u8], from: usize) -> Result<(Flags, usize), ScriptFault>
+    requires { from ≤ length text.now }
+    ensures is { result ≡ flags_from no_flags 0 from (drop from text.now) }
+    ensures within { IfOk result (λ found. (from ≤ found.1) × (found.1 ≤ length text.now)) }
+{
+    let mut flags = Flags {
+        number: None,
+        global: false,
+        print: false,
+    };
+    let mut at = from;
+    'flags: while at < text.len() && !ends_flags(text[at]) {
+        let (more, next) = flag_at(text, flags, at)?;
+        flags = more;
+        at = next;
+    }
+    Ok((flags, at))
+}

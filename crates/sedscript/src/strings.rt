@@ -1,0 +1,27 @@
+//! Strings between delimiters, as `s` and `y` have them.
+
+ghost use Rattle.std.specs.Prelude.{◌≡◌, ◌≤◌, ◌<◌, length, drop, false, IfSome};
+ghost use Rattle.sedscript.specs.Strings.{string_end};
+
+/// Where the string ends that begins at a place: at a delimiter, none where a newline or the end comes first.
+/// Where it `breaks`, a newline behind a backslash belongs to it.
+pub fn string_end(text: &[u8], breaks: bool, delimiter: u8, from: usize) -> Option<usize>
+    requires { from ≤ length text.now }
+    ensures is { result ≡ string_end breaks delimiter false from (drop from text.now) }
+    ensures bounds { IfSome result (λ to. (from ≤ to) × (to < length text.now)) }
+{
+    let mut escaped = false;
+    let mut at = from;
+    'bytes: while at < text.len() {
+        let b = text[at];
+        if b == b'\n' && !(breaks && escaped) {
+            return None;
+        }
+        if b == delimiter && !escaped {
+            return Some(at);
+        }
+        escaped = b == b'\\' && !escaped;
+        at += 1;
+    }
+    None
+}
