@@ -6,7 +6,7 @@ use Rattle.sedscript.proofs.Labels.{commands_snoc}
 use Rattle.std.proofs.lemmas.Bool.Decides.{eqb_tells}
 use Rattle.sedscript.specs.declared.items.Item.{Item}
 use Rattle.sedscript.specs.declared.items.Function.{Function}
-use Rattle.sedscript.specs.declared.items.Function.TheVariants.{Plain, Open, Close, Label, Branch, Text, Comment}
+use Rattle.sedscript.specs.declared.items.Function.TheVariants.{Plain, Open, Close, Label, Branch, Text, Comment, Substitute, Transliterate}
 use Rattle.sedscript.specs.Targets.{counted, commands_in, is_open, is_close, close_in, depth_behind, block_end, leaves}
 use Rattle.sedscript.specs.Tables.{unopened, unopened_by, tail, first, reversed, EndsFrom}
 
@@ -31,6 +31,8 @@ close_step (Plain a) d n us c h = h d
 close_step (Label from to) d n us c h = h d
 close_step (Branch u from to) d n us c h = h d
 close_step (Text t from to) d n us c h = h d
+close_step (Substitute s e f) d n us c h = h d
+close_step (Transliterate s) d n us c h = h d
 
 -- a closing brace behind so many inner ones is found in the list of those that close no block
 pub close_is : (d n : ℕ) (is : List Item) → close_in d n is ≡ slice_get (unopened n is) d

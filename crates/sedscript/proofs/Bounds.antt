@@ -16,7 +16,7 @@ use Rattle.sedscript.specs.declared.items.TextUse.TheVariants.{Insert, Change}
 use Rattle.sedscript.specs.declared.items.BranchUse.{BranchUse}
 use Rattle.sedscript.specs.declared.items.BranchUse.TheVariants.{Always, IfReplaced}
 use Rattle.sedscript.specs.declared.items.Function.{Function}
-use Rattle.sedscript.specs.declared.items.Function.TheVariants.{Plain, Open, Close, Label, Branch, Text, Comment}
+use Rattle.sedscript.specs.declared.items.Function.TheVariants.{Plain, Open, Close, Label, Branch, Text, Comment, Substitute, Transliterate}
 use Rattle.sedscript.specs.declared.items.Addresses.{Addresses}
 use Rattle.sedscript.specs.declared.items.Item.{Item}
 use Rattle.sedscript.specs.declared.items.Counts.{Counts}
@@ -27,7 +27,7 @@ use Rattle.sedscript.specs.Functions.{function_at, allowed, most_addresses, func
 use Rattle.sedscript.specs.Addresses.{Pattern, Reading, Addressed, Headed, plainly, then_on, line_of, match_to, match_at, own_match, own_delimiter, address_of, address_at, with_second, second_at, behind_first, addresses_at, with_bang, function_behind, item_from, item_at}
 use Rattle.sedscript.specs.Expressions.{AreRead}
 use Rattle.sedscript.specs.Targets.{leaves, counted, commands_in, label_in, is_label, close_in, is_close, depth_behind, block_end}
-use Rattle.sedscript.specs.Script.{Cut, done, item, with_text, texts_of, counts_with, none_counted, action_of, simple_action, text_action, branch_action, with_action, commands_of, Judged, Means, Program}
+use Rattle.sedscript.specs.Script.{Cut, done, item, with_text, texts_of, with_substitution, substitutions_of, with_table, tables_of, counts_with, none_counted, action_of, simple_action, text_action, branch_action, with_action, commands_of, Judged, Means, Program}
 use Rattle.sedscript.specs.declared.substitution.Substitution.{Substitution}
 use Rattle.sedscript.specs.Ranges.{Sizes, sizes_of, AddressWithin, ActionWithin, CommandWithin, SubstitutionWithin, InRange}
 use Rattle.sedscript.proofs.Labels.{commands_snoc, counted_in}
@@ -83,8 +83,13 @@ branch_bound : (n : ℕ) (same : Bool) (m : ℕ) (o : Option ℕ) → m ≤ n �
 branch_bound n true m o h g = h
 branch_bound n false m o h g = at_most_or n o g
 
+-- so many texts, substitutions and tables come to all that there are
+abbrev Sums : Counts → Sizes → ℕ → ℕ → ℕ → Type 0
+Sums m n texts substitutions tables = (m.texts + texts ≡ n.texts) × (m.substitutions + substitutions ≡ n.substitutions) × (m.tables + tables ≡ n.tables)
+
 may_act : (text : List ℕ) (all before after : List Item) (m : Counts) (n : Sizes) (f : Function) → commands_in all ≡ n.commands →
-    commands_in before + (if leaves f then suc (commands_in after) else commands_in after) ≡ n.commands → m.texts + length (with_text text f (texts_of text after)) ≡ n.texts →
+    commands_in before + (if leaves f then suc (commands_in after) else commands_in after) ≡ n.commands → 
+    Sums m n (length (with_text text f (texts_of text after))) (length (with_substitution text f (substitutions_of text after))) (length (with_table text f (tables_of text after))) →
     MayAct n (action_of text all before m after f)
 may_act text all before after m n (Plain s) whole count long = simple_within n s
 may_act text all before after m n Open whole count long =
@@ -94,7 +99,9 @@ may_act text all before after m n (Branch u from to) whole count long =
     branch_within n _ u
     (branch_bound n.commands (from == to) (commands_in all) (label_in text (part text from to) 0 all) (omega (arith, whole))
     (subst (λ (m : ℕ). AtMost m (label_in text (part text from to) 0 all)) (let e : 0 + commands_in all ≡ n.commands = omega (arith, whole) in e) (label_bound text (part text from to) 0 all)))
-may_act text all before after m n (Text u from to) whole count long = text_within n m.texts u (omega (arith, long))
+may_act text all before after m n (Text u from to) whole count long = text_within n m.texts u (omega (arith, long.0))
+may_act text all before after m n (Substitute s e f) whole count long = omega (arith, long.1)
+may_act text all before after m n (Transliterate s) whole count long = omega (arith, long.2)
 may_act text all before after m n Close whole count long = tt
 may_act text all before after m n (Label from to) whole count long = tt
 may_act text all before after m n Comment whole count long = tt
@@ -266,16 +273,19 @@ with_within : (n : Sizes) (a : Addresses) (o : Option Action) (cs : List Command
 with_within n a None cs h g k = k
 with_within n a (Some x) cs h g k = (record { first = h.0; second = h.1; action = g }, k)
 
-texts_step : (text : List ℕ) (f : Function) (m : Counts) (t : ℕ) (ts : List (List ℕ)) → m.texts + length (with_text text f ts) ≡ t → (counts_with m f).texts + length ts ≡ t
-texts_step text (Text u from to) m t ts h = omega (arith, h)
-texts_step text (Plain s) m t ts h = h
-texts_step text Open m t ts h = h
-texts_step text Close m t ts h = h
-texts_step text (Label from to) m t ts h = h
-texts_step text (Branch u from to) m t ts h = h
-texts_step text Comment m t ts h = h
+sums_step : (text : List ℕ) (f : Function) (m : Counts) (n : Sizes) (ts : List (List ℕ)) (ss : List Substitution) (us : List (List ℕ)) →
+    Sums m n (length (with_text text f ts)) (length (with_substitution text f ss)) (length (with_table text f us)) → Sums (counts_with m f) n (length ts) (length ss) (length us)
+sums_step text (Text u from to) m n ts ss us h = (omega (arith, h.0), h.1, h.2)
+sums_step text (Substitute s e f) m n ts ss us h = (h.0, omega (arith, h.1), h.2)
+sums_step text (Transliterate s) m n ts ss us h = (h.0, h.1, omega (arith, h.2))
+sums_step text (Plain s) m n ts ss us h = h
+sums_step text Open m n ts ss us h = h
+sums_step text Close m n ts ss us h = h
+sums_step text (Label from to) m n ts ss us h = h
+sums_step text (Branch u from to) m n ts ss us h = h
+sums_step text Comment m n ts ss us h = h
 
-commands_within : (text : List ℕ) (all before is : List Item) (m : Counts) (n : Sizes) → commands_in all ≡ n.commands → commands_in before + commands_in is ≡ n.commands → m.texts + length (texts_of text is) ≡ n.texts →
+commands_within : (text : List ℕ) (all before is : List Item) (m : Counts) (n : Sizes) → commands_in all ≡ n.commands → commands_in before + commands_in is ≡ n.commands → Sums m n (length (texts_of text is)) (length (substitutions_of text is)) (length (tables_of text is)) →
     ItemsWithin n.expressions is → AllWithin n (commands_of text all before m is)
 commands_within text all before [] m n whole count long h = tt
 commands_within text all before (i ∷ is) m n whole count long h =
@@ -283,7 +293,7 @@ commands_within text all before (i ∷ is) m n whole count long h =
     (may_act text all before is m n i.function whole count long)
     (commands_within text all (before ++ i ∷ []) is (counts_with m i.function) n whole
     (ap (λ (m : ℕ). m + commands_in is) (commands_snoc before i) ∙ (counted_in (commands_in before) i is ∙ count))
-    (texts_step text i.function m n.texts (texts_of text is) long) h.1)
+    (sums_step text i.function m n (texts_of text is) (substitutions_of text is) (tables_of text is) long) h.1)
 
 leaf_length : (text : List ℕ) (all before after : List Item) (m : Counts) (n : ℕ) (a : Addresses) (f : Function) (cs : List Command) → length cs ≡ n →
     length (with_action a (action_of text all before m after f) cs) ≡ (if leaves f then suc n else n)
@@ -291,6 +301,8 @@ leaf_length text all before after m n a (Plain s) cs h = omega (arith, h)
 leaf_length text all before after m n a Open cs h = omega (arith, h)
 leaf_length text all before after m n a (Branch u from to) cs h = omega (arith, h)
 leaf_length text all before after m n a (Text u from to) cs h = omega (arith, h)
+leaf_length text all before after m n a (Substitute s e f) cs h = omega (arith, h)
+leaf_length text all before after m n a (Transliterate s) cs h = omega (arith, h)
 leaf_length text all before after m n a Close cs h = h
 leaf_length text all before after m n a (Label from to) cs h = h
 leaf_length text all before after m n a Comment cs h = h
@@ -324,14 +336,6 @@ fit_at : (m : ℕ) (es : List Written) (k : ℕ) (e : Written) → AllFit m es �
 fit_at m [] k e h g = let bad : ◌≡◌ {A = Option Written} None (Some e) = g in cc
 fit_at m (f ∷ es) zero e h g = let same : f ≡ e = cc in subst (λ (x : Written). length x.nodes ≤ m) same h.0
 fit_at m (f ∷ es) (suc k) e h g = fit_at m es k e h.1 g
-
-no_substitution : (es : ℕ) (ss : List Substitution) (k : ℕ) (s : Substitution) → ss ≡ [] → slice_get ss k ≡ Some s → SubstitutionWithin es s
-no_substitution es [] k s h g = let bad : ◌≡◌ {A = Option Substitution} None (Some s) = g in cc
-no_substitution es (x ∷ ss) k s h g = cc
-
-no_table : (ts : List (List ℕ)) (k : ℕ) (t : List ℕ) → ts ≡ [] → slice_get ts k ≡ Some t → length t ≡ 256
-no_table [] k t h g = let bad : ◌≡◌ {A = Option (List ℕ)} None (Some t) = g in cc
-no_table (x ∷ ts) k t h g = cc
 
 -- what a text means is in range
 pub means_in_range : (text : List ℕ) (kind : Kind) (m : ℕ) (s : Program) → Means text kind m s → InRange s

@@ -10,6 +10,8 @@ use Rattle.sedscript.specs.declared.types.Action.TheVariants.{Block, Branch as B
 use Rattle.sedscript.specs.declared.types.Action.TheVariants.{Delete as DeleteSpace, Insert as InsertText}
 use Rattle.sedscript.specs.declared.types.Action.TheVariants.{LineNumber as WriteNumber, Print as PrintSpace}
 use Rattle.sedscript.specs.declared.types.Action.TheVariants.{Quit as QuitHere, Test as TestTo}
+use Rattle.sedscript.specs.declared.types.Action.TheVariants.{Substitute as SubstituteNow}
+use Rattle.sedscript.specs.declared.types.Action.TheVariants.{Transliterate as TransliterateNow}
 use Rattle.sedscript.specs.declared.types.Command.{Command}
 use Rattle.sedscript.specs.declared.substitution.Substitution.{Substitution}
 use Rattle.sedscript.specs.declared.items.Simple.{Simple}
@@ -20,13 +22,18 @@ use Rattle.sedscript.specs.declared.items.BranchUse.{BranchUse}
 use Rattle.sedscript.specs.declared.items.BranchUse.TheVariants.{Always, IfReplaced}
 use Rattle.sedscript.specs.declared.items.Function.{Function}
 use Rattle.sedscript.specs.declared.items.Function.TheVariants.{Plain, Open, Close, Label, Branch, Text, Comment}
+use Rattle.sedscript.specs.declared.items.Function.TheVariants.{Substitute, Transliterate}
 use Rattle.sedscript.specs.declared.items.Addresses.{Addresses}
 use Rattle.sedscript.specs.declared.items.Item.{Item}
 use Rattle.sedscript.specs.declared.items.Counts.{Counts}
+use Rattle.sedscript.specs.declared.items.Flags.{Flags}
+use Rattle.sedscript.specs.declared.items.Strings.{Strings}
 use Rattle.sedscript.specs.declared.items.Here.TheVariants.{Is}
 use Rattle.sedscript.specs.Bytes.{part, past}
 use Rattle.sedscript.specs.Addresses.{item_at}
 use Rattle.sedscript.specs.Expressions.{AreRead, Fails}
+use Rattle.sedscript.specs.Replacement.{pieces_of}
+use Rattle.sedscript.specs.Transliteration.{table_between}
 use Rattle.sedscript.specs.Targets.{commands_in, label_in, block_end, late}
 
 -- a script as its callers see it
@@ -64,6 +71,8 @@ with_text text Comment ts = ts
 with_text text (Plain a) ts = ts
 with_text text (Label from to) ts = ts
 with_text text (Branch u from to) ts = ts
+with_text text (Substitute s e f) ts = ts
+with_text text (Transliterate s) ts = ts
 
 -- the texts of `i` and `c`, in order
 abbrev pub texts_of : List ℕ → List Item → List (List ℕ)
@@ -72,6 +81,48 @@ texts_of text (i ∷ is) = with_text text i.function (texts_of text is)
 
 abbrev pub none_counted : Counts
 none_counted = record { texts = 0; substitutions = 0; tables = 0 }
+
+-- the substitution of an `s`. Without a number it begins with the first occurrence
+abbrev pub substitution_of : List ℕ → Strings → Option ℕ → Flags → Substitution
+substitution_of text s e f = record {
+  expression = e;
+  replacement = pieces_of s.delimiter (part text (s.middle + 1) s.to);
+  number = unwrap_or f.number 1;
+  global = f.global;
+  print = f.print;
+}
+
+abbrev pub with_substitution : List ℕ → Function → List Substitution → List Substitution
+with_substitution text (Substitute s e f) ss = substitution_of text s e f ∷ ss
+with_substitution text (Transliterate s) ss = ss
+with_substitution text (Text t from to) ss = ss
+with_substitution text Open ss = ss
+with_substitution text Close ss = ss
+with_substitution text Comment ss = ss
+with_substitution text (Plain a) ss = ss
+with_substitution text (Label from to) ss = ss
+with_substitution text (Branch u from to) ss = ss
+
+-- the substitutions of `s`, in order
+abbrev pub substitutions_of : List ℕ → List Item → List Substitution
+substitutions_of text [] = []
+substitutions_of text (i ∷ is) = with_substitution text i.function (substitutions_of text is)
+
+abbrev pub with_table : List ℕ → Function → List (List ℕ) → List (List ℕ)
+with_table text (Transliterate s) ts = table_between text s ∷ ts
+with_table text (Substitute s e f) ts = ts
+with_table text (Text t from to) ts = ts
+with_table text Open ts = ts
+with_table text Close ts = ts
+with_table text Comment ts = ts
+with_table text (Plain a) ts = ts
+with_table text (Label from to) ts = ts
+with_table text (Branch u from to) ts = ts
+
+-- the tables of `y`, in order
+abbrev pub tables_of : List ℕ → List Item → List (List ℕ)
+tables_of text [] = []
+tables_of text (i ∷ is) = with_table text i.function (tables_of text is)
 
 -- how many texts, substitutions and tables there are with a function, with so many before it
 abbrev pub counts_with : Counts → Function → Counts
@@ -82,6 +133,8 @@ counts_with n Comment = n
 counts_with n (Plain a) = n
 counts_with n (Label from to) = n
 counts_with n (Branch u from to) = n
+counts_with n (Substitute s e f) = record n { substitutions = suc n.substitutions }
+counts_with n (Transliterate s) = record n { tables = suc n.tables }
 
 abbrev pub simple_action : Simple → Action
 simple_action Delete = DeleteSpace
@@ -105,6 +158,8 @@ action_of text all before n after Open = Some (Block (unwrap_or (block_end befor
 action_of text all before n after (Branch u from to) =
     Some (branch_action u (if from == to then commands_in all else unwrap_or (label_in text (part text from to) 0 all) 0))
 action_of text all before n after (Text t from to) = Some (text_action t n.texts)
+action_of text all before n after (Substitute s e f) = Some (SubstituteNow n.substitutions)
+action_of text all before n after (Transliterate s) = Some (TransliterateNow n.tables)
 action_of text all before n after Close = None
 action_of text all before n after (Label from to) = None
 action_of text all before n after Comment = None
@@ -141,8 +196,8 @@ pub record Means (text : List ℕ) (kind : Kind) (max_nodes : ℕ) (s : Program)
   pub judged : Judged text kind max_nodes items s.expressions to
   pub commands : s.commands ≡ commands_of text items [] none_counted items
   pub texts : s.texts ≡ texts_of text items
-  pub substitutions : s.substitutions ≡ []
-  pub tables : s.tables ≡ []
+  pub substitutions : s.substitutions ≡ substitutions_of text items
+  pub tables : s.tables ≡ tables_of text items
   pub quiet : s.quiet ≡ is_quiet text
   pub nodes : s.max_nodes ≡ max_nodes
 

@@ -10,6 +10,7 @@ use Rattle.sedscript.specs.declared.types.Reason.{Reason}
 use Rattle.sedscript.specs.declared.types.Reason.TheVariants.{UnknownLabel, RepeatedLabel, OpenBlock, StrayClose}
 use Rattle.sedscript.specs.declared.items.Function.{Function}
 use Rattle.sedscript.specs.declared.items.Function.TheVariants.{Plain, Open, Close, Label, Branch, Text, Comment}
+use Rattle.sedscript.specs.declared.items.Function.TheVariants.{Substitute, Transliterate}
 use Rattle.sedscript.specs.declared.items.Item.{Item}
 use Rattle.sedscript.specs.Bytes.{part}
 
@@ -22,6 +23,8 @@ leaves (Plain a) = true
 leaves Open = true
 leaves (Branch u from to) = true
 leaves (Text t from to) = true
+leaves (Substitute s e f) = true
+leaves (Transliterate s) = true
 
 -- how many commands there are with this item, with so many before it
 abbrev pub counted : ℕ → Item → ℕ
@@ -41,6 +44,8 @@ is_label text name Comment = false
 is_label text name (Plain a) = false
 is_label text name (Branch u from to) = false
 is_label text name (Text t from to) = false
+is_label text name (Substitute s e f) = false
+is_label text name (Transliterate s) = false
 
 -- the number of the command behind the first label of this name, with so many commands before the items
 abbrev pub label_in : List ℕ → List ℕ → ℕ → List Item → Option ℕ
@@ -55,6 +60,8 @@ is_open (Plain a) = false
 is_open (Label from to) = false
 is_open (Branch u from to) = false
 is_open (Text t from to) = false
+is_open (Substitute s e f) = false
+is_open (Transliterate s) = false
 
 abbrev pub is_close : Function → Bool
 is_close Close = true
@@ -64,6 +71,8 @@ is_close (Plain a) = false
 is_close (Label from to) = false
 is_close (Branch u from to) = false
 is_close (Text t from to) = false
+is_close (Substitute s e f) = false
+is_close (Transliterate s) = false
 
 -- how many blocks are open behind a function, with so many before it
 abbrev pub depth_behind : ℕ → Function → ℕ
@@ -95,6 +104,8 @@ late_at text all before depth after place (Branch u from to) =
     fault_if (not (from == to) && is_none (label_in text (part text from to) 0 all)) UnknownLabel place
 late_at text all before depth after place (Plain a) = None
 late_at text all before depth after place (Text t from to) = None
+late_at text all before depth after place (Substitute s e f) = None
+late_at text all before depth after place (Transliterate s) = None
 late_at text all before depth after place Comment = None
 
 abbrev pub late_in : List ℕ → List Item → List Item → ℕ → List Item → Option ScriptFault

@@ -24,6 +24,14 @@ fn counts_with(n: Counts, function: Function) -> Counts
             texts: n.texts + 1,
             ..n
         },
+        Function::Substitute(..) => Counts {
+            substitutions: n.substitutions + 1,
+            ..n
+        },
+        Function::Transliterate(_) => Counts {
+            tables: n.tables + 1,
+            ..n
+        },
         _ => n,
     }
 }
@@ -81,6 +89,8 @@ fn action_of<'a>(
             }
         }
         Function::Text(text_use, _, _) => Some(text_action(text_use, counts.texts)),
+        Function::Substitute(..) => Some(Action::Substitute(counts.substitutions)),
+        Function::Transliterate(_) => Some(Action::Transliterate(counts.tables)),
         Function::Close | Function::Label(..) | Function::Comment => None,
     }
 }

@@ -58,6 +58,16 @@ pub enum BranchUse {
     IfReplaced,
 }
 
+/// Two strings between delimiters, as `s` and `y` have them. The first begins at `from` and ends at `middle`, where a
+/// delimiter stands; the second begins behind that and ends at `to`, where the last delimiter stands.
+#[derive(Clone, Copy)]
+pub struct Strings {
+    pub delimiter: u8,
+    pub from: usize,
+    pub middle: usize,
+    pub to: usize,
+}
+
 /// A function, as its letter and what follows say.
 #[derive(Clone, Copy)]
 pub enum Function {
@@ -73,6 +83,11 @@ pub enum Function {
     Branch(BranchUse, usize, usize),
     /// `i` or `c` and a text as it is written.
     Text(TextUse, usize, usize),
+    /// `s`: its regular expression and its replacement, the number of the expression in the script (none for the empty
+    /// one), and its flags.
+    Substitute(Strings, Option<usize>, Flags),
+    /// `y`
+    Transliterate(Strings),
     /// `#`
     Comment,
 }

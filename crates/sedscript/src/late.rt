@@ -50,7 +50,11 @@ fn late_at<'a>(
                 item.place,
             )
         }
-        Function::Plain(_) | Function::Text(..) | Function::Comment => None,
+        Function::Plain(_)
+        | Function::Text(..)
+        | Function::Substitute(..)
+        | Function::Transliterate(_)
+        | Function::Comment => None,
     }
 }
 

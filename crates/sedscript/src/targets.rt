@@ -29,7 +29,12 @@ pub fn leaves(function: Function) -> bool
 {
     matches!(
         function,
-        Function::Plain(_) | Function::Open | Function::Branch(..) | Function::Text(..)
+        Function::Plain(_)
+            | Function::Open
+            | Function::Branch(..)
+            | Function::Text(..)
+            | Function::Substitute(..)
+            | Function::Transliterate(_)
     )
 }
 
