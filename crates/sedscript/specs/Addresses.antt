@@ -1,7 +1,7 @@
 -- Addresses and what stands before a function (XCU sed, "Addresses in sed").
 -- Regular expressions are told as the places between which they stand.
-use Rattle.std.specs.Prelude.{ℕ, zero, suc, ◌+◌, List, [], ◌∷◌, ◌++◌, true, false, ◌||◌, Option, Some, None}
-use Rattle.std.specs.Prelude.{if◌then◌else◌, ◌==◌, slice_get, Result, Ok, Err}
+use Rattle.std.specs.Prelude.{ℕ, zero, suc, ◌+◌, List, true, false, ◌||◌, Option, Some, None}
+use Rattle.std.specs.Prelude.{if◌then◌else◌, ◌==◌, slice_get, Result, Ok}
 use Rattle.sedscript.specs.declared.bytes.Sort.TheVariants.{Blank, Separator, Bang, Digit}
 use Rattle.sedscript.specs.declared.types.ScriptFault.{ScriptFault}
 use Rattle.sedscript.specs.declared.types.Reason.TheVariants.{BadAddress, OpenDelimiter, BadDelimiter}
@@ -12,31 +12,8 @@ use Rattle.sedscript.specs.declared.items.Here.{Here}
 use Rattle.sedscript.specs.declared.items.Here.TheVariants.{Ends}
 use Rattle.sedscript.specs.Bytes.{past, part, is_digit, with_digits, is_byte}
 use Rattle.sedscript.specs.Functions.{fault, function_at}
+use Rattle.sedscript.specs.Reading.{Reading, plainly, expression, ◌>>=◌}
 use Rattle.sedre.specs.Delimited.{delimiter_at}
-
--- a regular expression in a script: where it begins, where it ends, and the delimiter that stands there
-pub record Pattern : Type 0 where
-  pub from : ℕ
-  pub to : ℕ
-  pub delimiter : ℕ
-
--- the regular expressions that were met in reading, in order, and what was read or the fault behind them
-pub record Reading (A : Type 0) : Type 0 where
-  pub patterns : List Pattern
-  pub end : Result A ScriptFault
-
--- what is read without a regular expression
-abbrev pub plainly : {A : Type 0} → Result A ScriptFault → Reading A
-plainly r = record { patterns = []; end = r }
-
-abbrev pub then_on : {A B : Type 0} → List Pattern → Result A ScriptFault → (A → Reading B) → Reading B
-then_on ps (Ok x) f = record { patterns = ps ++ (f x).patterns; end = (f x).end }
-then_on ps (Err e) f = record { patterns = ps; end = Err e }
-
--- what is read, and then what is read behind it
-infixl 10 ◌>>=◌
-abbrev pub ◌>>=◌ : {A B : Type 0} → Reading A → (A → Reading B) → Reading B
-r >>= f = then_on r.patterns r.end f
 
 -- an address or none, the place behind it, and how many regular expressions stand before that place
 pub record Addressed : Type 0 where
@@ -59,10 +36,8 @@ abbrev pub match_to : ℕ → ℕ → ℕ → Option ℕ → Reading Addressed
 match_to count delimiter place None = plainly (fault OpenDelimiter place)
 match_to count delimiter place (Some to) =
     if to == place + 1 then plainly (found (Some (Match None)) (to + 1) count)
-    else record {
-      patterns = record { from = place + 1; to = to; delimiter = delimiter } ∷ [];
-      end = found (Some (Match (Some count))) (to + 1) (count + 1);
-    }
+    else expression (record { from = place + 1; to = to; delimiter = delimiter })
+    (λ groups. plainly (found (Some (Match (Some count))) (to + 1) (count + 1)))
 
 unfoldable pub match_at : List ℕ → ℕ → ℕ → ℕ → Reading Addressed
 match_at text count delimiter place = match_to count delimiter place (delimiter_at text (place + 1) delimiter)

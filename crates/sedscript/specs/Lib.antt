@@ -1,6 +1,7 @@
 pub mod Bytes
 pub mod Faults
 pub mod Functions
+pub mod Reading
 pub mod Addresses
 pub mod Expressions
 pub mod Targets
