@@ -38,9 +38,6 @@ if_false : {A : Type 0} (x y : A) (b : Bool) → b ≡ false → (if b then x el
 if_false x y true e = let bad : true ≡ false = e in cc
 if_false x y false e = refl
 
-longer : (old new : List Written) (e : Written) → new ≡ old ++ e ∷ [] → length old + 1 ≡ length new
-longer old new e grown = sym (ap (λ (z : List Written). length z) grown ∙ length-append old (e ∷ []))
-
 -- what is read behind what was read
 pub gives_then : {A B : Type 0} (text : List ℕ) (kind : Kind) (m : ℕ) (r : Reading A) (f : A → Reading B) (es fs : List Written) (a : A) (b : B) →
     Gives text kind m r es a → Gives text kind m (f a) fs b → Gives text kind m (r >>= f) (es ++ fs) b
@@ -121,15 +118,12 @@ pub match_read : (text : List ℕ) (kind : Kind) (m d place to number : ℕ) (ol
     IsRead text kind m (record { from = place + 1; to = to; delimiter = d }) e → new ≡ old ++ e ∷ [] → number ≡ length old →
     Comes text kind m old new as_addressed (Ok (Some (Match (Some number)), to + 1)) (match_at text (length old) d place)
 unfolding match_at
-match_read text kind m d place to number old new e is n read grown same = (e ∷ [], reading _ (ap (match_to (length old) d place) is ∙ if_false _ _ (to == place + 1) (not_equal to (place + 1) n)), grown)
-  where
-    at_end : Gives text kind m (plainly (found (Some (Match (Some (length old)))) (to + 1) (length old + 1))) [] (as_addressed (Some (Match (Some number)), to + 1) (length new))
-    at_end = subst (λ (k : ℕ). Gives text kind m (plainly (found (Some (Match (Some (length old)))) (to + 1) (length old + 1))) [] (as_addressed (Some (Match (Some k)), to + 1) (length new))) (sym same)
-        (subst (λ (k : ℕ). Gives text kind m (plainly (found (Some (Match (Some (length old)))) (to + 1) (length old + 1))) [] (as_addressed (Some (Match (Some (length old))), to + 1) k)) (longer old new e grown) value)
-
-    reading : (r : Reading Addressed) → r ≡ expression (record { from = place + 1; to = to; delimiter = d }) (λ groups. plainly (found (Some (Match (Some (length old)))) (to + 1) (length old + 1))) →
-        Gives text kind m r (e ∷ []) (as_addressed (Some (Match (Some number)), to + 1) (length new))
-    reading r f = subst (λ (z : Reading Addressed). Gives text kind m z (e ∷ []) (as_addressed (Some (Match (Some number)), to + 1) (length new))) (sym f) (behind e read at_end)
+match_read text kind m d place to number old new e is n read grown same =
+    let reads = ap (match_to (length old) d place) is ∙ if_false _ _ (to == place + 1) (not_equal to (place + 1) n) in
+    let x : Addressed = as_addressed (Some (Match (Some number)), to + 1) (length new) in
+    let more : length old + 1 ≡ length new = sym (ap (λ (z : List Written). length z) grown ∙ length-append old (e ∷ [])) in
+    let found_is : as_addressed (Some (Match (Some (length old))), to + 1) (length old + 1) ≡ x = cc in
+    (e ∷ [], subst (λ (r : Reading Addressed). Gives text kind m r (e ∷ []) x) (sym reads) (behind e read (subst (Gives text kind m _ []) found_is value)), grown)
 
 pub own_none : (text : List ℕ) (kind : Kind) (m count place : ℕ) (o : Option ℕ) → o ≡ None → Fails text kind m (own_match text count place o) (record { place = place; reason = BadDelimiter })
 own_none text kind m count place o e = subst (λ (o : Option ℕ). Fails text kind m (own_match text count place o) (record { place = place; reason = BadDelimiter })) (sym e) own
