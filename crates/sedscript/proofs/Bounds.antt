@@ -24,14 +24,14 @@ use Rattle.sedscript.specs.declared.items.Here.{Here}
 use Rattle.sedscript.specs.declared.items.Here.TheVariants.{Is, Ends}
 use Rattle.sedscript.specs.Bytes.{past, part, is_digit, is_byte, with_digits}
 use Rattle.sedscript.specs.Functions.{function_at, allowed, most_addresses, function_of, item_of, item_with, ◌>>=◌ as ◌then◌}
-use Rattle.sedscript.specs.Addresses.{Pattern, Reading, Addressed, Headed, plainly, then_on, line_of, match_to, match_at, own_match, own_delimiter, address_of, address_at, with_second, second_at, behind_first, addresses_at, with_bang, function_behind, item_from, item_at}
-use Rattle.sedscript.specs.Expressions.{AreRead}
+use Rattle.sedscript.specs.Reading.{Reading, plainly, expression, ◌>>=◌}
+use Rattle.sedscript.specs.Addresses.{Addressed, Headed, line_of, match_to, match_at, own_match, own_delimiter, address_of, address_at, with_second, second_at, behind_first, addresses_at, with_bang, function_behind, item_from, item_at}
+use Rattle.sedscript.specs.Expressions.{Gives, value, behind}
 use Rattle.sedscript.specs.Targets.{leaves, counted, commands_in, label_in, is_label, close_in, is_close, depth_behind, block_end}
 use Rattle.sedscript.specs.Script.{Cut, done, item, with_text, texts_of, with_substitution, substitutions_of, with_table, tables_of, counts_with, none_counted, action_of, simple_action, text_action, branch_action, with_action, commands_of, Judged, Means, Program}
 use Rattle.sedscript.specs.declared.substitution.Substitution.{Substitution}
 use Rattle.sedscript.specs.Ranges.{Sizes, sizes_of, AddressWithin, ActionWithin, CommandWithin, SubstitutionWithin, InRange}
 use Rattle.sedscript.proofs.Labels.{commands_snoc, counted_in}
-use Rattle.sedscript.proofs.Exclusive.{are_read_length}
 
 -- targets
 
@@ -124,13 +124,20 @@ ItemsWithin n (i ∷ is) = AddressesWithin n i.addresses × ItemsWithin n is
 
 -- what is read is bounded by the count of expressions behind it
 abbrev Bounds : {A : Type 0} → (ℕ → A → Type 0) → ℕ → Reading A → Type 0
-Bounds P count r = IfOk r.end (P (count + length r.patterns))
+Bounds P count (plainly r) = IfOk r (P count)
+Bounds P count (expression p k) = (groups : ℕ) → Bounds P (suc count) (k groups)
 
-bounds_then : {A B : Type 0} (P : ℕ → A → Type 0) (Q : ℕ → B → Type 0) (count : ℕ) (ps : List Pattern) (e : Result A ScriptFault) (f : A → Reading B) →
-    IfOk e (P (count + length ps)) → ((n : ℕ) (x : A) → count ≤ n → P n x → Bounds Q n (f x)) → Bounds Q count (then_on ps e f)
-bounds_then P Q count ps (Ok x) f h g =
-    subst (λ (n : ℕ). IfOk (f x).end (Q n)) (let e : count + length ps + length (f x).patterns ≡ count + length (ps ++ (f x).patterns) = omega (arith, length-append ps (f x).patterns) in e) (g (count + length ps) x (omega arith) h)
-bounds_then P Q count ps (Err x) f h g = tt
+bounds_then : {A B : Type 0} (P : ℕ → A → Type 0) (Q : ℕ → B → Type 0) (count : ℕ) (r : Reading A) (f : A → Reading B) →
+    Bounds P count r → ((n : ℕ) (x : A) → count ≤ n → P n x → Bounds Q n (f x)) → Bounds Q count (r >>= f)
+bounds_then P Q count (plainly (Ok x)) f h g = g count x (omega arith) h
+bounds_then P Q count (plainly (Err x)) f h g = tt
+bounds_then P Q count (expression p k) f h g = λ groups. bounds_then P Q (suc count) (k groups) f (h groups) (λ n x le. g n x (omega (arith, le)))
+
+-- what is given is bounded by the count behind all expressions
+gives_bounds : {A : Type 0} (P : ℕ → A → Type 0) (text : List ℕ) (kind : Kind) (m count : ℕ) (r : Reading A) (es : List Written) (x : A) → Gives text kind m r es x → Bounds P count r → P (count + length es) x
+gives_bounds P text kind m count _ _ x value h = subst (λ (n : ℕ). P n x) (let e : count ≡ count + 0 = omega arith in e) h
+gives_bounds P text kind m count _ _ x (behind {k = k} {es = es} e is g) h =
+    subst (λ (n : ℕ). P n x) (let same : suc count + length es ≡ count + suc (length es) = omega arith in same) (gives_bounds P text kind m (suc count) (k e.groups) es x g (h e.groups))
 
 abbrev AddressedWithin : ℕ → Addressed → Type 0
 AddressedWithin n x = (x.count ≡ n) × AddressWithin n x.address
@@ -149,9 +156,9 @@ line_bounds count from to (Some (suc n)) = (omega arith, omega arith)
 
 match_if : (b : Bool) (count delimiter place to : ℕ) → Bounds AddressedWithin count
     (if b then plainly (Ok (record { address = Some (Match None); at = to + 1; count = count }))
-    else record { patterns = record { from = place + 1; to = to; delimiter = delimiter } ∷ []; end = Ok (record { address = Some (Match (Some count)); at = to + 1; count = count + 1 }) })
+    else expression (record { from = place + 1; to = to; delimiter = delimiter }) (λ groups. plainly (Ok (record { address = Some (Match (Some count)); at = to + 1; count = count + 1 }))))
 match_if true count delimiter place to = (omega arith, tt)
-match_if false count delimiter place to = (omega arith, omega arith)
+match_if false count delimiter place to = λ groups. (omega arith, omega arith)
 
 match_bounds : (text : List ℕ) (count delimiter place : ℕ) → Bounds AddressedWithin count (match_at text count delimiter place)
 unfolding match_at
@@ -191,20 +198,20 @@ second_within n first place next (Some a) h g = (h, g)
 second_bounds : (text : List ℕ) (count : ℕ) (first : Address) (at : ℕ) → AddressWithin count (Some first) → Bounds HeadedWithin count (second_at text count first at)
 unfolding second_at
 second_bounds text count first at h =
-    bounds_then AddressedWithin HeadedWithin count (address_at text count at).patterns (address_at text count at).end (λ (x : Addressed). plainly (with_second first at x.at x.address))
+    bounds_then AddressedWithin HeadedWithin count (address_at text count at) (λ (x : Addressed). plainly (with_second first at x.at x.address))
     (address_bounds text count at)
-    (λ n x le p. second_within (n + 0) first at x.at x.address (address_more count (n + 0) (Some first) (omega (arith, le)) h) (address_more n (n + 0) x.address (omega arith) p.1))
+    (λ n x le p. second_within n first at x.at x.address (address_more count n (Some first) le h) p.1)
 
 behind_bounds : (text : List ℕ) (count at : ℕ) (o : Option Address) → AddressWithin count o → Bounds HeadedWithin count (behind_first text count at o)
 behind_bounds text count at None h = (tt, tt)
 behind_bounds text count at (Some first) h =
     bounds_if HeadedWithin count (is_byte 44 (slice_get text (past Blank text at))) _ _ (second_bounds text count first (past Blank text (past Blank text at + 1)) h)
-    (address_more count (count + 0) (Some first) (omega arith) h, tt)
+    (h, tt)
 
 addresses_bounds : (text : List ℕ) (count at : ℕ) → Bounds HeadedWithin count (addresses_at text count at)
 unfolding addresses_at
 addresses_bounds text count at =
-    bounds_then AddressedWithin HeadedWithin count (address_at text count at).patterns (address_at text count at).end (λ (x : Addressed). behind_first text x.count x.at x.address)
+    bounds_then AddressedWithin HeadedWithin count (address_at text count at) (λ (x : Addressed). behind_first text x.count x.at x.address)
     (address_bounds text count at)
     (λ n x le p. subst (λ (k : ℕ). Bounds HeadedWithin k (behind_first text x.count x.at x.address)) p.0
     (behind_bounds text x.count x.at x.address (address_more n x.count x.address (omega (arith, p.0)) p.1)))
@@ -244,19 +251,16 @@ item_bounds text count at = by_byte (slice_get text (past Separator text at))
     by_byte : (o : Option ℕ) → Bounds HereWithin count (item_from text count (past Separator text at) o)
     by_byte None = tt
     by_byte (Some b) =
-        bounds_then HeadedWithin HereWithin count (addresses_at text count (past Separator text at)).patterns (addresses_at text count (past Separator text at)).end (λ (h : Headed). plainly (function_behind text h))
+        bounds_then HeadedWithin HereWithin count (addresses_at text count (past Separator text at)) (λ (h : Headed). plainly (function_behind text h))
         (addresses_bounds text count (past Separator text at))
-        (λ n h le p. function_within text (with_bang text h).addresses (with_bang text h).at (n + 0) (bang_within text h (n + 0) (addresses_more n (n + 0) h.addresses (omega arith) p)))
+        (λ n h le p. function_within text (with_bang text h).addresses (with_bang text h).at n (bang_within text h n p))
 
 cut_within : (text : List ℕ) (kind : Kind) (m count at to n : ℕ) (is : List Item) (es : List Written) → Cut text kind m count at is es to → n ≡ count + length es → ItemsWithin n is
 cut_within text kind m count at to n _ _ done e = tt
-cut_within text kind m count at to n _ _ (item {next = next} {i = i} {is = is} es fs is_item read rest) e =
-    let long : length es ≡ length (item_at text count at).patterns = are_read_length text kind m (item_at text count at).patterns es read in
-    let here : AddressesWithin (count + length (item_at text count at).patterns) i.addresses =
-    subst (λ (r : Result Here ScriptFault). IfOk r (HereWithin (count + length (item_at text count at).patterns))) is_item (item_bounds text count at) in (
-      addresses_more (count + length (item_at text count at).patterns) n i.addresses (omega (arith, e, long, length-append es fs)) here,
-      cut_within text kind m (count + length es) next to n is fs rest (e ∙ omega (arith, length-append es fs)),
-    )
+cut_within text kind m count at to n _ _ (item {next = next} {i = i} {is = is} es fs read rest) e = (
+  addresses_more (count + length es) n i.addresses (omega (arith, e, length-append es fs)) (gives_bounds HereWithin text kind m count (item_at text count at) es (Is i next) read (item_bounds text count at)),
+  cut_within text kind m (count + length es) next to n is fs rest (e ∙ omega (arith, length-append es fs)),
+)
 
 -- commands
 
@@ -322,15 +326,14 @@ fit_append : (m : ℕ) (es fs : List Written) → AllFit m es → AllFit m fs �
 fit_append m [] fs h g = g
 fit_append m (e ∷ es) fs h g = (h.0, fit_append m es fs h.1 g)
 
-fit_read : (text : List ℕ) (kind : Kind) (m : ℕ) (ps : List Pattern) (es : List Written) → AreRead text kind m ps es → AllFit m es
-fit_read text kind m ps [] h = tt
-fit_read text kind m [] (e ∷ es) h = absurd h
-fit_read text kind m (p ∷ ps) (e ∷ es) h = (h.0.fits, fit_read text kind m ps es h.1)
+fit_read : {A : Type 0} (text : List ℕ) (kind : Kind) (m : ℕ) (r : Reading A) (es : List Written) (x : A) → Gives text kind m r es x → AllFit m es
+fit_read text kind m _ _ x value = tt
+fit_read text kind m _ _ x (behind {k = k} {es = es} e is g) = (is.fits, fit_read text kind m (k e.groups) es x g)
 
 cut_fit : (text : List ℕ) (kind : Kind) (m count at to : ℕ) (is : List Item) (es : List Written) → Cut text kind m count at is es to → AllFit m es
 cut_fit text kind m count at to _ _ done = tt
-cut_fit text kind m count at to _ _ (item {next = next} {is = is} es fs is_item read rest) =
-    fit_append m es fs (fit_read text kind m (item_at text count at).patterns es read) (cut_fit text kind m (count + length es) next to is fs rest)
+cut_fit text kind m count at to _ _ (item {next = next} {i = i} {is = is} es fs read rest) =
+    fit_append m es fs (fit_read text kind m (item_at text count at) es (Is i next) read) (cut_fit text kind m (count + length es) next to is fs rest)
 
 fit_at : (m : ℕ) (es : List Written) (k : ℕ) (e : Written) → AllFit m es → slice_get es k ≡ Some e → length e.nodes ≤ m
 fit_at m [] k e h g = let bad : ◌≡◌ {A = Option Written} None (Some e) = g in cc
@@ -342,9 +345,12 @@ pub means_in_range : (text : List ℕ) (kind : Kind) (m : ℕ) (s : Program) →
 means_in_range text kind m s h =
     let is = h.items in
     let long : length s.commands ≡ commands_in is = ap (λ (xs : List Command). length xs) h.commands ∙ commands_length text is [] is none_counted in
+    let texts : 0 + length (texts_of text is) ≡ length s.texts = sym (ap (λ (xs : List (List ℕ)). length xs) h.texts) in
+    let substitutions : 0 + length (substitutions_of text is) ≡ length s.substitutions = sym (ap (λ (xs : List Substitution). length xs) h.substitutions) in
+    let tables : 0 + length (tables_of text is) ≡ length s.tables = sym (ap (λ (xs : List (List ℕ)). length xs) h.tables) in
     let all : AllWithin (sizes_of s) s.commands =
     subst (AllWithin (sizes_of s)) (sym h.commands)
-    (commands_within text is [] is none_counted (sizes_of s) (sym long) (omega (arith, long)) (let e : length s.texts ≡ length (texts_of text is) = ap (λ (xs : List (List ℕ)). length xs) h.texts in omega (arith, e))
+    (commands_within text is [] is none_counted (sizes_of s) (sym long) (omega (arith, long)) (texts, substitutions, tables)
     (cut_within text kind m 0 0 h.to (length s.expressions) is s.expressions h.judged.cut (omega arith))) in
     record {
       each = λ i x g. all_at (sizes_of s) s.commands i x all g;

@@ -1,5 +1,5 @@
 -- How what functions answer is put together.
-use Rattle.std.proofs.Common.{◌≡◌, ◌≢◌, ◌≤◌, ℕ, ◌+◌, Bool, true, false, ◌==◌, List, [], ◌∷◌, ◌++◌, length, Option, Some, None, Result, Ok, Err, IfOk, refl, sym, ap, subst, ◌∙◌, inl, inr, ◌⊎◌, append_assoc, arith, slice_get, if◌then◌else◌}
+use Rattle.std.proofs.Common.{◌≡◌, ◌≢◌, ◌≤◌, ℕ, ◌+◌, Bool, true, false, ◌==◌, List, [], ◌∷◌, ◌++◌, length, length-append, Option, Some, None, Result, Ok, Err, IfOk, refl, sym, ap, subst, ◌∙◌, inl, inr, ◌⊎◌, append_assoc, arith, slice_get, if◌then◌else◌}
 use Rattle.std.proofs.lemmas.Bool.Decides.{eqb_tells}
 use Rattle.std.proofs.lemmas.List.{append-nil}
 use Rattle.sedre.specs.declared.types.Kind.{Kind}
@@ -10,88 +10,96 @@ use Rattle.sedre.specs.declared.types.Reason.TheVariants.{NoMemory}
 use Rattle.sedre.specs.declared.types.TheConstants.{NO_MEMORY as no_expr_memory}
 use Rattle.sedre.specs.Delimited.{delimiter_at}
 use Rattle.sedre.specs.Grammar.{ExprFaulty}
-use Rattle.sedscript.specs.declared.bytes.Sort.TheVariants.{Separator, Digit}
+use Rattle.sedscript.specs.declared.bytes.Sort.TheVariants.{Blank, Separator, Digit}
 use Rattle.sedscript.specs.declared.types.ScriptFault.{ScriptFault}
 use Rattle.sedscript.specs.declared.types.Reason.TheVariants.{OpenDelimiter, BadDelimiter}
 use Rattle.sedscript.specs.declared.types.TheConstants.{NO_MEMORY}
 use Rattle.sedscript.specs.declared.types.Address.{Address}
+use Rattle.sedscript.specs.declared.types.Address.TheVariants.{Last, Match}
 use Rattle.sedscript.specs.declared.items.Here.{Here}
 use Rattle.sedscript.specs.declared.items.Here.TheVariants.{Is, Ends}
-use Rattle.sedscript.specs.Bytes.{part, past, is_digit, with_digits}
-use Rattle.sedscript.specs.Addresses.{Pattern, Reading, then_on, ◌>>=◌, match_at, match_to, own_match, plainly, item_at, item_from, Headed, addresses_at, function_behind, address_at, address_of, line_of}
-use Rattle.sedscript.specs.Expressions.{AreRead, Fails, own, expression, in_script}
+use Rattle.sedscript.specs.Bytes.{part, past, is_byte, is_digit, with_digits}
+use Rattle.sedscript.specs.Reading.{Pattern, Reading, plainly, expression, ◌>>=◌}
+use Rattle.sedscript.specs.Addresses.{Addressed, Headed, found, match_at, match_to, own_match, item_at, item_from, addresses_of, addresses_at, behind_first, function_behind, address_at, address_of, line_of}
+use Rattle.sedscript.specs.Expressions.{IsRead, Gives, value, behind, Fails, own, no_expression, later, in_script}
 use Rattle.sedscript.specs.Answers.{as_here, as_addressed, Comes, Agrees, IsBehind, IsHere, is_no_memory, fault_of}
-
-pub are_read_append : (text : List ℕ) (kind : Kind) (m : ℕ) (cs ds : List Pattern) (es fs : List Written) → AreRead text kind m cs es → AreRead text kind m ds fs → AreRead text kind m (cs ++ ds) (es ++ fs)
-are_read_append text kind m [] ds [] fs h k = k
-are_read_append text kind m [] ds (e ∷ es) fs h k = absurd h
-are_read_append text kind m (c ∷ cs) ds [] fs h k = absurd h
-are_read_append text kind m (c ∷ cs) ds (e ∷ es) fs h k = (h.0, are_read_append text kind m cs ds es fs h.1 k)
-
-ok_not_err : {A : Type 0} (a : A) (x : ScriptFault) → ◌≡◌ {A = Result A ScriptFault} (Ok a) (Err x) → ⊥
-ok_not_err a x h = cc
-
-again : {A B : Type 0} (y x : ScriptFault) → ◌≡◌ {A = Result A ScriptFault} (Err y) (Err x) → ◌≡◌ {A = Result B ScriptFault} (Err y) (Err x)
-again y x h = let e : y ≡ x = cc in ap Err e
 
 not_equal : (a b : ℕ) → a ≢ b → (a == b) ≡ false
 not_equal a b n = elim (eqb_tells a b) [ inl h ↦ absurd (n h.1) | inr h ↦ h.0 ]
 
--- a fault stands behind what was read
-pub fails_then_on : {A B : Type 0} (text : List ℕ) (kind : Kind) (m : ℕ) (cs : List Pattern) (e : Result A ScriptFault) (f : A → Reading B) (x : ScriptFault) →
-    Fails text kind m {A = A} (record { patterns = cs; end = e }) x → Fails text kind m (then_on cs e f) x
-fails_then_on text kind m cs (Ok a) f x (own es h is) = absurd (ok_not_err a x is)
-fails_then_on text kind m cs (Err y) f x (own es h is) = own es h (again y x is)
-fails_then_on text kind m cs (Ok a) f x (expression {f = g} before c after es is h bad) = expression before c (after ++ (f a).patterns) es (ap (λ (z : List Pattern). z ++ (f a).patterns) is ∙ append_assoc before (c ∷ after) (f a).patterns) h bad
-fails_then_on text kind m cs (Err y) f x (expression {f = g} before c after es is h bad) = expression {f = g} before c after es is h bad
+equal : (a b : ℕ) → a ≡ b → (a == b) ≡ true
+equal a b e = elim (eqb_tells a b) [ inl h ↦ h.0 | inr h ↦ absurd (h.1 e) ]
+
+pub if_true : {A : Type 0} (x y : A) (b : Bool) → b ≡ true → (if b then x else y) ≡ x
+if_true x y true e = refl
+if_true x y false e = let bad : false ≡ true = e in cc
+
+if_false : {A : Type 0} (x y : A) (b : Bool) → b ≡ false → (if b then x else y) ≡ y
+if_false x y true e = let bad : true ≡ false = e in cc
+if_false x y false e = refl
+
+-- what is read behind what was read
+pub gives_then : {A B : Type 0} (text : List ℕ) (kind : Kind) (m : ℕ) (r : Reading A) (f : A → Reading B) (es fs : List Written) (a : A) (b : B) →
+    Gives text kind m r es a → Gives text kind m (f a) fs b → Gives text kind m (r >>= f) (es ++ fs) b
+gives_then text kind m _ f _ fs _ b value h = h
+gives_then text kind m _ f _ fs a b (behind {k = k} {es = es} e is g) h = behind e is (gives_then text kind m (k e.groups) f es fs a b g h)
+
+-- a fault behind what was read
+pub fails_then : {A B : Type 0} (text : List ℕ) (kind : Kind) (m : ℕ) (r : Reading A) (f : A → Reading B) (es : List Written) (a : A) (x : ScriptFault) →
+    Gives text kind m r es a → Fails text kind m (f a) x → Fails text kind m (r >>= f) x
+fails_then text kind m _ f _ _ x value h = h
+fails_then text kind m _ f _ a x (behind {k = k} {es = es} e is g) h = later e is (fails_then text kind m (k e.groups) f es a x g h)
+
+-- a fault stands first
+pub fails_first : {A B : Type 0} (text : List ℕ) (kind : Kind) (m : ℕ) (r : Reading A) (f : A → Reading B) (x : ScriptFault) →
+    Fails text kind m r x → Fails text kind m (r >>= f) x
+fails_first text kind m _ f _ own = own
+fails_first text kind m _ f _ (no_expression {f = g} h) = no_expression {f = g} h
+fails_first text kind m _ f x (later {k = k} e is h) = later e is (fails_first text kind m (k e.groups) f x h)
 
 -- what one function read, and what another read behind it
-pub comes_ok : {B Y : Type 0} (text : List ℕ) (kind : Kind) (m : ℕ) (old mid new : List Written) (cs : List Pattern) (r : Reading B) (w : Y → ℕ → B) (result : Result Y ScriptFault) →
-    (es : List Written) → AreRead text kind m cs es → mid ≡ old ++ es →
-    Comes text kind m mid new w result r → Comes text kind m old new w result (record { patterns = cs ++ r.patterns; end = r.end })
-comes_ok text kind m old mid new cs r w (Ok y) es read grown h =
-    (h.0, es ++ h.1, are_read_append text kind m cs r.patterns es h.1 read h.2, h.3 ∙ (ap (λ (z : List Written). z ++ h.1) grown ∙ append_assoc old es h.1))
-comes_ok text kind m old mid new cs r w (Err x) es read grown (inr e) = inr e
-comes_ok text kind m old mid new cs r w (Err x) es read grown (inl (own fs h is)) = inl (own (es ++ fs) (are_read_append text kind m cs r.patterns es fs read h) is)
-comes_ok text kind m old mid new cs r w (Err x) es read grown (inl (expression {f = g} before c after fs is h bad)) =
-    inl (expression (cs ++ before) c after (es ++ fs) (ap (λ (z : List Pattern). cs ++ z) is ∙ sym (append_assoc cs before (c ∷ after))) (are_read_append text kind m cs before es fs read h) bad)
-
 pub comes_then : {A B Y : Type 0} (text : List ℕ) (kind : Kind) (m : ℕ) (old mid new : List Written) (r : Reading A) (f : A → Reading B) (a : A) (w : Y → ℕ → B) (result : Result Y ScriptFault) →
-    (r.end ≡ Ok a) × (es : List Written) × AreRead text kind m r.patterns es × (mid ≡ old ++ es) →
+    (es : List Written) × Gives text kind m r es a × (mid ≡ old ++ es) →
     Comes text kind m mid new w result (f a) → Comes text kind m old new w result (r >>= f)
-comes_then {A} {B} {Y} text kind m old mid new r f a w result first h =
-    subst (λ (e : Result A ScriptFault). Comes text kind m old new w result (then_on r.patterns e f)) (sym first.0)
-    (comes_ok text kind m old mid new r.patterns (f a) w result first.1 first.2 first.3 h)
+comes_then text kind m old mid new r f a w (Ok y) first h =
+    (first.0 ++ h.0, gives_then text kind m r f first.0 h.0 a (w y (length new)) first.1 h.1, h.2 ∙ (ap (λ (z : List Written). z ++ h.0) first.2 ∙ append_assoc old first.0 h.0))
+comes_then text kind m old mid new r f a w (Err x) first (inl h) = inl (fails_then text kind m r f first.0 a x first.1 h)
+comes_then text kind m old mid new r f a w (Err x) first (inr e) = inr e
 
 -- a fault of the first function
 pub comes_err : {A B : Type 0} (text : List ℕ) (kind : Kind) (m : ℕ) (r : Reading A) (f : A → Reading B) (x : ScriptFault) →
     Fails text kind m r x ⊎ (x ≡ NO_MEMORY) → Fails text kind m (r >>= f) x ⊎ (x ≡ NO_MEMORY)
-comes_err text kind m r f x (inl h) = inl (fails_then_on text kind m r.patterns r.end f x h)
+comes_err text kind m r f x (inl h) = inl (fails_first text kind m r f x h)
 comes_err text kind m r f x (inr e) = inr e
 
 -- what reads no expression
 pub comes_plain : {X A : Type 0} (text : List ℕ) (kind : Kind) (m : ℕ) (old new : List Written) (w : X → ℕ → A) (result : Result X ScriptFault) (r : Result A ScriptFault) →
     old ≡ new → Agrees w (length new) result r → Comes text kind m old new w result (plainly r)
-comes_plain text kind m old new w (Ok x) r same h = (h, [], tt, sym same ∙ sym (append-nil old))
-comes_plain text kind m old new w (Err x) r same h = inl (own [] tt h)
+comes_plain {A = A} text kind m old new w (Ok x) r same h =
+    ([], subst (λ (z : Result A ScriptFault). Gives text kind m (plainly z) [] (w x (length new))) (sym h) value, sym same ∙ sym (append-nil old))
+comes_plain {A = A} text kind m old new w (Err x) r same h = inl (subst (λ (z : Result A ScriptFault). Fails text kind m (plainly z) x) (sym h) own)
+
+-- a value without an expression
+pub gives_plain : {A : Type 0} (text : List ℕ) (kind : Kind) (m : ℕ) (old : List Written) (r : Reading A) (x : A) → r ≡ plainly (Ok x) →
+    (es : List Written) × Gives text kind m r es x × (old ≡ old ++ es)
+gives_plain {A = A} text kind m old r x e = ([], subst (λ (z : Reading A). Gives text kind m z [] x) (sym e) value, sym (append-nil old))
 
 pub match_open : (text : List ℕ) (kind : Kind) (m count d place : ℕ) → delimiter_at text (place + 1) d ≡ None →
     Fails text kind m (match_at text count d place) (record { place = place; reason = OpenDelimiter })
 unfolding match_at
 match_open text kind m count d place e =
-    subst (λ (o : Option ℕ). Fails text kind m (match_to count d place o) (record { place = place; reason = OpenDelimiter })) (sym e) (own [] tt refl)
+    subst (λ (o : Option ℕ). Fails text kind m (match_to count d place o) (record { place = place; reason = OpenDelimiter })) (sym e) own
 
 -- a fault of the reader of expressions, by whether memory was wanting
 not_memory : (r : ExprReason) → is_no_memory r ≡ false → r ≡ NoMemory → ⊥
 not_memory r e is = let g : true ≡ false = sym (ap is_no_memory is) ∙ e in cc
 
-fails_in_script : {A : Type 0} (text : List ℕ) (kind : Kind) (m from to d : ℕ) (end : Result A ScriptFault) (f : ExprFault) (b : Bool) → is_no_memory f.reason ≡ b →
-    ExprFaulty kind (Some d) (part text from to) m f.place f.reason ⊎ (f ≡ no_expr_memory) →
-    Fails text kind m {A = A} (record { patterns = record { from = from; to = to; delimiter = d } ∷ []; end = end }) (if b then NO_MEMORY else in_script from f)
-    ⊎ ((if b then NO_MEMORY else in_script from f) ≡ NO_MEMORY)
-fails_in_script text kind m from to d end f true is h = inr refl
-fails_in_script text kind m from to d end f false is (inl h) = inl (expression {f = f} [] (record { from = from; to = to; delimiter = d }) [] [] refl tt h)
-fails_in_script text kind m from to d end f false is (inr e) = absurd (not_memory f.reason is (ap (λ (g : ExprFault). g.reason) e))
+fails_in_script : {A : Type 0} (text : List ℕ) (kind : Kind) (m : ℕ) (p : Pattern) (k : ℕ → Reading A) (f : ExprFault) (b : Bool) → is_no_memory f.reason ≡ b →
+    ExprFaulty kind (Some p.delimiter) (part text p.from p.to) m f.place f.reason ⊎ (f ≡ no_expr_memory) →
+    Fails text kind m (expression p k) (if b then NO_MEMORY else in_script p.from f) ⊎ ((if b then NO_MEMORY else in_script p.from f) ≡ NO_MEMORY)
+fails_in_script text kind m p k f true is h = inr refl
+fails_in_script text kind m p k f false is (inl h) = inl (no_expression {f = f} h)
+fails_in_script text kind m p k f false is (inr e) = absurd (not_memory f.reason is (ap (λ (g : ExprFault). g.reason) e))
 
 pub match_bad : (text : List ℕ) (kind : Kind) (m count d place to : ℕ) (f : ExprFault) → delimiter_at text (place + 1) d ≡ Some to → to ≢ place + 1 →
     ExprFaulty kind (Some d) (part text (place + 1) to) m f.place f.reason ⊎ (f ≡ no_expr_memory) →
@@ -99,16 +107,32 @@ pub match_bad : (text : List ℕ) (kind : Kind) (m count d place to : ℕ) (f : 
 unfolding match_at
 match_bad text kind m count d place to f e n h =
     subst (λ (o : Option ℕ). Fails text kind m (match_to count d place o) (fault_of (place + 1) f) ⊎ (fault_of (place + 1) f ≡ NO_MEMORY)) (sym e)
-    (rw (not_equal to (place + 1) n) (fails_in_script text kind m (place + 1) to d _ f (is_no_memory f.reason) refl h))
+    (rw (not_equal to (place + 1) n) (fails_in_script text kind m (record { from = place + 1; to = to; delimiter = d }) _ f (is_no_memory f.reason) refl h))
+
+pub match_empty : (text : List ℕ) (count d place to : ℕ) → delimiter_at text (place + 1) d ≡ Some to → to ≡ place + 1 →
+    match_at text count d place ≡ plainly (found (Some (Match None)) (to + 1) count)
+unfolding match_at
+match_empty text count d place to e same = ap (match_to count d place) e ∙ if_true _ _ (to == place + 1) (equal to (place + 1) same)
+
+pub match_read : (text : List ℕ) (kind : Kind) (m d place to number : ℕ) (old new : List Written) (e : Written) → delimiter_at text (place + 1) d ≡ Some to → to ≢ place + 1 →
+    IsRead text kind m (record { from = place + 1; to = to; delimiter = d }) e → new ≡ old ++ e ∷ [] → number ≡ length old →
+    Comes text kind m old new as_addressed (Ok (Some (Match (Some number)), to + 1)) (match_at text (length old) d place)
+unfolding match_at
+match_read text kind m d place to number old new e is n read grown same =
+    let reads = ap (match_to (length old) d place) is ∙ if_false _ _ (to == place + 1) (not_equal to (place + 1) n) in
+    let x : Addressed = as_addressed (Some (Match (Some number)), to + 1) (length new) in
+    let more : length old + 1 ≡ length new = sym (ap (λ (z : List Written). length z) grown ∙ length-append old (e ∷ [])) in
+    let found_is : as_addressed (Some (Match (Some (length old))), to + 1) (length old + 1) ≡ x = cc in
+    (e ∷ [], subst (λ (r : Reading Addressed). Gives text kind m r (e ∷ []) x) (sym reads) (behind e read (subst (Gives text kind m _ []) found_is value)), grown)
 
 pub own_none : (text : List ℕ) (kind : Kind) (m count place : ℕ) (o : Option ℕ) → o ≡ None → Fails text kind m (own_match text count place o) (record { place = place; reason = BadDelimiter })
-own_none text kind m count place o e = subst (λ (o : Option ℕ). Fails text kind m (own_match text count place o) (record { place = place; reason = BadDelimiter })) (sym e) (own [] tt refl)
+own_none text kind m count place o e = subst (λ (o : Option ℕ). Fails text kind m (own_match text count place o) (record { place = place; reason = BadDelimiter })) (sym e) own
 
 pub item_none : (text : List ℕ) (kind : Kind) (m : ℕ) (old new : List Written) (place : ℕ) → slice_get text (past Separator text place) ≡ None → old ≡ new →
     Comes text kind m old new as_here (Ok Ends) (item_at text (length old) place)
 unfolding item_at
 item_none text kind m old new place e same =
-    subst (λ (o : Option ℕ). Comes text kind m old new as_here (Ok Ends) (item_from text (length old) (past Separator text place) o)) (sym e) (refl, [], tt, sym same ∙ sym (append-nil old))
+    subst (λ (o : Option ℕ). Comes text kind m old new as_here (Ok Ends) (item_from text (length old) (past Separator text place) o)) (sym e) ([], value, sym same ∙ sym (append-nil old))
 
 pub item_some : (text : List ℕ) (kind : Kind) (m : ℕ) (old new : List Written) (place start b : ℕ) (result : Result Here ScriptFault) → start ≡ past Separator text place → slice_get text start ≡ Some b →
     Comes text kind m old new as_here result (addresses_at text (length old) start >>= λ (h : Headed). plainly (function_behind text h)) →
@@ -117,6 +141,24 @@ unfolding item_at
 item_some text kind m old new place start b result s e h =
     subst (λ (z : ℕ). Comes text kind m old new as_here result (item_from text (length old) z (slice_get text z))) s
     (subst (λ (o : Option ℕ). Comes text kind m old new as_here result (item_from text (length old) start o)) (sym e) h)
+
+-- the addresses that read no expression, and none
+pub no_byte : (text : List ℕ) (count at : ℕ) → slice_get text at ≡ None → address_at text count at ≡ plainly (found None at count)
+unfolding address_at
+no_byte text count at e = ap (address_of text count at) e
+
+pub last_address : (text : List ℕ) (count at b : ℕ) → slice_get text at ≡ Some b → b ≡ 36 → address_at text count at ≡ plainly (found (Some Last) (at + 1) count)
+unfolding address_at
+last_address text count at b e is = ap (address_of text count at) (e ∙ ap Some is)
+
+pub no_address : (text : List ℕ) (count at b : ℕ) → slice_get text at ≡ Some b → is_digit b ≡ false → b ≢ 36 → b ≢ 47 → b ≢ 92 → address_at text count at ≡ plainly (found None at count)
+unfolding address_at
+no_address text count at b e d last slash other =
+    ap (address_of text count at) e ∙ if_false _ _ (is_digit b) d ∙ if_false _ _ (b == 36) (not_equal b 36 last) ∙ if_false _ _ (b == 47) (not_equal b 47 slash) ∙ if_false _ _ (b == 92) (not_equal b 92 other)
+
+pub only_first : (text : List ℕ) (count at : ℕ) (first : Address) (o : Option Address) → o ≡ Some first → is_byte 44 (slice_get text (past Blank text at)) ≡ false →
+    behind_first text count at o ≡ plainly (Ok (record { addresses = addresses_of (Some first) None; at = at }))
+only_first text count at first o e d = ap (behind_first text count at) e ∙ if_false _ _ (is_byte 44 (slice_get text (past Blank text at))) d
 
 pub line_comes : (text : List ℕ) (kind : Kind) (m : ℕ) (old : List Written) (at b : ℕ) (result : Result (Option Address × ℕ) ScriptFault) → slice_get text at ≡ Some b → is_digit b ≡ true →
     Agrees as_addressed (length old) result (line_of (length old) at (past Digit text at) (with_digits (Some 0) (part text at (past Digit text at)))) →

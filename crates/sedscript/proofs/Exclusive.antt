@@ -1,103 +1,112 @@
 -- A text that means a script has no fault.
-use Rattle.std.proofs.Common.{◌≡◌, ℕ, suc, ◌+◌, List, [], ◌∷◌, ◌++◌, length, Option, Some, None, Result, Ok, Err, refl, sym, ap, subst, ◌∙◌, arith, length-append}
+use Rattle.std.proofs.Common.{◌≡◌, ℕ, suc, ◌+◌, List, [], ◌∷◌, length, Option, Some, None, refl, sym, ap, subst, ◌∙◌, arith, length-append}
 use Rattle.sedre.specs.declared.types.Kind.{Kind}
-use Rattle.sedre.specs.Arena.{Written}
+use Rattle.sedre.specs.Arena.{Written, tree}
+use Rattle.sedre.specs.Tree.{Tree}
+use Rattle.sedre.specs.Grammar.{ReadsAs}
 use Rattle.sedscript.specs.declared.types.ScriptFault.{ScriptFault}
 use Rattle.sedscript.specs.declared.items.Item.{Item}
 use Rattle.sedscript.specs.declared.items.Here.{Here}
 use Rattle.sedscript.specs.declared.items.Here.TheVariants.{Is, Ends}
 use Rattle.sedscript.specs.declared.bytes.Sort.TheVariants.{Separator}
-use Rattle.sedscript.specs.Bytes.{past}
-use Rattle.sedscript.specs.Addresses.{Pattern, Reading, item_at, item_from, plainly}
-use Rattle.sedscript.specs.Expressions.{IsRead, AreRead, Fails, own, expression}
-use Rattle.sedscript.specs.Script.{Cut, done, item, IsEnd, Means, Faulty, early, afterwards, Program, Judged, commands_of, none_counted, texts_of}
+use Rattle.sedscript.specs.Bytes.{past, part}
+use Rattle.sedscript.specs.Reading.{Pattern, Reading}
+use Rattle.sedscript.specs.Addresses.{item_at, item_from}
+use Rattle.sedscript.specs.Expressions.{IsRead, Gives, value, behind, Fails, no_expression, later}
+use Rattle.sedscript.specs.Script.{Cut, done, item, IsEnd, Means, Faulty, early, afterwards, Program, Judged, commands_of, none_counted, texts_of, substitutions_of, tables_of}
 use Rattle.sedscript.specs.Targets.{late}
 
-pub are_read_length : (text : List ℕ) (kind : Kind) (m : ℕ) (cs : List Pattern) (es : List Written) → AreRead text kind m cs es → length es ≡ length cs
-are_read_length text kind m [] [] h = refl
-are_read_length text kind m [] (e ∷ es) h = absurd h
-are_read_length text kind m (c ∷ cs) [] h = absurd h
-are_read_length text kind m (c ∷ cs) (e ∷ es) h = ap suc (are_read_length text kind m cs es h.1)
+-- a text reads as one expression, with one number of groups
+abbrev pub ReadsAsOne : Type 0
+ReadsAsOne = (kind : Kind) (delimiter : Option ℕ) (text : List ℕ) (one other : Tree) (groups more : ℕ) →
+    ReadsAs kind delimiter text one groups → ReadsAs kind delimiter text other more → (one ≡ other) × (groups ≡ more)
 
--- the expression at a place of those that are read
-pub are_read_at : (text : List ℕ) (kind : Kind) (m : ℕ) (before : List Pattern) (c : Pattern) (after : List Pattern) (es : List Written) → AreRead text kind m (before ++ c ∷ after) es → (e : Written) × IsRead text kind m c e
-are_read_at text kind m [] c after [] h = absurd h
-are_read_at text kind m [] c after (e ∷ es) h = (e, h.0)
-are_read_at text kind m (b ∷ before) c after [] h = absurd h
-are_read_at text kind m (b ∷ before) c after (e ∷ es) h = are_read_at text kind m before c after es h.1
+-- what stands behind one reading of a pattern stands behind the other
+as_other : (text : List ℕ) (kind : Kind) (m : ℕ) (p : Pattern) (d e : Written) → ReadsAsOne → IsRead text kind m p d → IsRead text kind m p e → d.groups ≡ e.groups
+as_other text kind m p d e one h g = (one kind (Some p.delimiter) (part text p.from p.to) (tree d) (tree e) d.groups e.groups h.reads g.reads).1
+
+-- what is read is one value, with one number of expressions
+pub gives_one : {A : Type 0} (text : List ℕ) (kind : Kind) (m : ℕ) (r : Reading A) (es fs : List Written) (a b : A) → ReadsAsOne →
+    Gives text kind m r es a → Gives text kind m r fs b → (a ≡ b) × (length es ≡ length fs)
+gives_one text kind m _ _ _ _ _ one value value = (refl, refl)
+gives_one text kind m _ _ _ a b one (behind {p = p} {k = k} {es = es} d is g) (behind {es = fs} e is' g') =
+    let same = as_other text kind m p d e one is is' in
+    let h = gives_one text kind m (k e.groups) es fs a b one (subst (λ (n : ℕ). Gives text kind m (k n) es a) same g) g' in
+    (h.0, ap suc h.1)
 
 -- what is read has no fault
-pub no_fails : {A : Type 0} (text : List ℕ) (kind : Kind) (m : ℕ) (r : Reading A) (a : A) (es : List Written) (f : ScriptFault) → r.end ≡ Ok a → AreRead text kind m r.patterns es → Fails text kind m r f → ⊥
-no_fails {A} text kind m r a es f is read (own fs h e) = let g : ◌≡◌ {A = Result A ScriptFault} (Ok a) (Err f) = sym is ∙ e in cc
-no_fails {A} text kind m r a es f is read (expression {f = g} before c after fs e h bad) =
-    (are_read_at text kind m before c after es (subst (λ (cs : List Pattern). AreRead text kind m cs es) e read)).1.no_fault g.place g.reason bad
+pub no_fails : {A : Type 0} (text : List ℕ) (kind : Kind) (m : ℕ) (r : Reading A) (es : List Written) (a : A) (f : ScriptFault) → ReadsAsOne →
+    Gives text kind m r es a → Fails text kind m r f → ⊥
+no_fails text kind m _ _ _ _ one value h = elim h [ ]
+no_fails text kind m _ _ a _ one (behind {p = p} d is g) (no_expression {f = f} bad) = is.no_fault f.place f.reason bad
+no_fails text kind m _ _ a f one (behind {p = p} {k = k} {es = es} d is g) (later e is' bad) =
+    no_fails text kind m (k e.groups) es a f one (subst (λ (n : ℕ). Gives text kind m (k n) es a) (as_other text kind m p d e one is is') g) bad
 
 -- at the end stands nothing else
-pub end_reads : (text : List ℕ) (n at : ℕ) → IsEnd text at → item_at text n at ≡ plainly (Ok Ends)
+pub end_gives : (text : List ℕ) (kind : Kind) (m n at : ℕ) → IsEnd text at → Gives text kind m (item_at text n at) [] Ends
 unfolding item_at
-end_reads text n at e = ap (λ (o : Option ℕ). item_from text n (past Separator text at) o) e
-
-pub end_is : (text : List ℕ) (n at : ℕ) → IsEnd text at → (item_at text n at).end ≡ Ok Ends
-end_is text n at e = ap (λ (r : Reading Here). r.end) (end_reads text n at e)
-
-pub end_patterns : (text : List ℕ) (n at : ℕ) → IsEnd text at → (item_at text n at).patterns ≡ []
-end_patterns text n at e = ap (λ (r : Reading Here). r.patterns) (end_reads text n at e)
+end_gives text kind m n at e = subst (λ (o : Option ℕ). Gives text kind m (item_from text n (past Separator text at) o) [] Ends) (sym e) value
 
 -- the items of the next place
-pub is_next : (i j : Item) (a b : ℕ) (r : Result Here ScriptFault) → r ≡ Ok (Is i a) → r ≡ Ok (Is j b) → (i ≡ j) × (a ≡ b)
-is_next i j a b r e f = let g : ◌≡◌ {A = Result Here ScriptFault} (Ok (Is i a)) (Ok (Is j b)) = sym e ∙ f in (cc, cc)
+pub is_next : (i j : Item) (a b : ℕ) → ◌≡◌ {A = Here} (Is i a) (Is j b) → (i ≡ j) × (a ≡ b)
+is_next i j a b e = (cc, cc)
 
 -- no fault stands behind a cut that another cut goes on from
-pub cut_no_fault : (text : List ℕ) (kind : Kind) (m count at to stop : ℕ) (is js : List Item) (es fs : List Written) (f : ScriptFault) (n : ℕ) →
+pub cut_no_fault : (text : List ℕ) (kind : Kind) (m count at to stop : ℕ) (is js : List Item) (es fs : List Written) (f : ScriptFault) (n : ℕ) → ReadsAsOne →
     Cut text kind m count at is es to → IsEnd text to → Cut text kind m count at js fs stop → n ≡ count + length fs → Fails text kind m (item_at text n stop) f → ⊥
-cut_no_fault text kind m count at to stop _ _ _ _ f n done ends done e bad =
-    no_fails text kind m (item_at text n at) Ends [] f (end_is text n at ends) (subst (λ (cs : List Pattern). AreRead text kind m cs []) (sym (end_patterns text n at ends)) tt) bad
-cut_no_fault text kind m count at to stop _ _ _ _ f n done ends (item {next = next} {i = j} es fs is read rest) e bad =
-    let g : ◌≡◌ {A = Result Here ScriptFault} (Ok Ends) (Ok (Is j next)) = sym (end_is text count at ends) ∙ is in cc
-cut_no_fault text kind m count at to stop _ _ _ _ f n (item {next = next} {i = i} es fs is read rest) ends done e bad =
+cut_no_fault text kind m count at to stop _ _ _ _ f n one done ends done e bad =
+    no_fails text kind m (item_at text n at) [] Ends f one (end_gives text kind m n at ends) bad
+cut_no_fault text kind m count at to stop _ _ _ _ f n one done ends (item {next = next} {i = j} es fs is rest) e bad =
+    let same = gives_one text kind m (item_at text count at) [] es Ends (Is j next) one (end_gives text kind m count at ends) is in
+    let g : ◌≡◌ {A = Here} Ends (Is j next) = same.0 in cc
+cut_no_fault text kind m count at to stop _ _ _ _ f n one (item {next = next} {i = i} es fs is rest) ends done e bad =
     let same : n ≡ count = e ∙ omega arith in
-    no_fails text kind m (item_at text count at) (Is i next) es f is read (subst (λ (k : ℕ). Fails text kind m (item_at text k at) f) same bad)
-cut_no_fault text kind m count at to stop _ _ _ _ f n (item {next = next} {i = i} {is = is0} es fs is read rest) ends (item {next = other} {i = j} {is = js0} gs hs is' read' rest') e bad =
-    let same = is_next i j next other (item_at text count at).end is is' in
-    let long : length gs ≡ length es = are_read_length text kind m (item_at text count at).patterns gs read' ∙ sym (are_read_length text kind m (item_at text count at).patterns es read) in
-    cut_no_fault text kind m (count + length es) next to stop is0 js0 fs hs f n rest ends
+    no_fails text kind m (item_at text count at) es (Is i next) f one is (subst (λ (k : ℕ). Fails text kind m (item_at text k at) f) same bad)
+cut_no_fault text kind m count at to stop _ _ _ _ f n one (item {next = next} {i = i} {is = is0} es fs is rest) ends (item {next = other} {i = j} {is = js0} gs hs is' rest') e bad =
+    let both = gives_one text kind m (item_at text count at) es gs (Is i next) (Is j other) one is is' in
+    let same = is_next i j next other both.0 in
+    let long : length gs ≡ length es = sym both.1 in
+    cut_no_fault text kind m (count + length es) next to stop is0 js0 fs hs f n one rest ends
     (subst (λ (k : ℕ). Cut text kind m (count + k) next js0 hs stop) long (subst (λ (k : ℕ). Cut text kind m (count + length gs) k js0 hs stop) (sym same.1) rest'))
     (e ∙ (ap (λ (k : ℕ). count + k) (length-append gs hs) ∙ omega (arith, long))) bad
 
 -- two cuts up to the end have the same items
-pub cut_same : (text : List ℕ) (kind : Kind) (m count at to stop : ℕ) (is js : List Item) (es fs : List Written) →
+pub cut_same : (text : List ℕ) (kind : Kind) (m count at to stop : ℕ) (is js : List Item) (es fs : List Written) → ReadsAsOne →
     Cut text kind m count at is es to → IsEnd text to → Cut text kind m count at js fs stop → IsEnd text stop → is ≡ js
-cut_same text kind m count at to stop _ _ _ _ done ends done stops = refl
-cut_same text kind m count at to stop _ _ _ _ done ends (item {next = next} {i = j} es fs is read rest) stops =
-    let g : ◌≡◌ {A = Result Here ScriptFault} (Ok Ends) (Ok (Is j next)) = sym (end_is text count at ends) ∙ is in cc
-cut_same text kind m count at to stop _ _ _ _ (item {next = next} {i = j} es fs is read rest) ends done stops =
-    let g : ◌≡◌ {A = Result Here ScriptFault} (Ok Ends) (Ok (Is j next)) = sym (end_is text count at stops) ∙ is in cc
-cut_same text kind m count at to stop _ _ _ _ (item {next = next} {i = i} {is = is0} es fs is read rest) ends (item {next = other} {i = j} {is = js0} gs hs is' read' rest') stops =
-    let same = is_next i j next other (item_at text count at).end is is' in
-    let long : length gs ≡ length es = are_read_length text kind m (item_at text count at).patterns gs read' ∙ sym (are_read_length text kind m (item_at text count at).patterns es read) in
-    let tail : is0 ≡ js0 = cut_same text kind m (count + length es) next to stop is0 js0 fs hs rest ends
+cut_same text kind m count at to stop _ _ _ _ one done ends done stops = refl
+cut_same text kind m count at to stop _ _ _ _ one done ends (item {next = next} {i = j} es fs is rest) stops =
+    let same = gives_one text kind m (item_at text count at) [] es Ends (Is j next) one (end_gives text kind m count at ends) is in
+    let g : ◌≡◌ {A = Here} Ends (Is j next) = same.0 in cc
+cut_same text kind m count at to stop _ _ _ _ one (item {next = next} {i = j} es fs is rest) ends done stops =
+    let same = gives_one text kind m (item_at text count at) [] es Ends (Is j next) one (end_gives text kind m count at stops) is in
+    let g : ◌≡◌ {A = Here} Ends (Is j next) = same.0 in cc
+cut_same text kind m count at to stop _ _ _ _ one (item {next = next} {i = i} {is = is0} es fs is rest) ends (item {next = other} {i = j} {is = js0} gs hs is' rest') stops =
+    let both = gives_one text kind m (item_at text count at) es gs (Is i next) (Is j other) one is is' in
+    let same = is_next i j next other both.0 in
+    let long : length gs ≡ length es = sym both.1 in
+    let tail : is0 ≡ js0 = cut_same text kind m (count + length es) next to stop is0 js0 fs hs one rest ends
     (subst (λ (k : ℕ). Cut text kind m (count + k) next js0 hs stop) long (subst (λ (k : ℕ). Cut text kind m (count + length gs) k js0 hs stop) (sym same.1) rest')) stops in
     ap (λ (y : List Item). i ∷ y) tail ∙ ap (λ (x : Item). x ∷ js0) same.0
 
 -- a text that is cut to its end with nothing wrong has no fault
-pub judged_no_fault : (text : List ℕ) (kind : Kind) (m : ℕ) (is : List Item) (fs : List Written) (to : ℕ) (f : ScriptFault) → Judged text kind m is fs to → Faulty text kind m f → ⊥
-judged_no_fault text kind m is fs to f h (early items es stop cut bad) = cut_no_fault text kind m 0 0 to stop is items fs es f (length es) h.cut h.ends cut (omega arith) bad
-judged_no_fault text kind m is0 fs to f h (afterwards items es stop cut ends is) =
-    let same : is0 ≡ items = cut_same text kind m 0 0 to stop is0 items fs es h.cut h.ends cut ends in
+pub judged_no_fault : (text : List ℕ) (kind : Kind) (m : ℕ) (is : List Item) (fs : List Written) (to : ℕ) (f : ScriptFault) → ReadsAsOne → Judged text kind m is fs to → Faulty text kind m f → ⊥
+judged_no_fault text kind m is fs to f one h (early items es stop cut bad) = cut_no_fault text kind m 0 0 to stop is items fs es f (length es) one h.cut h.ends cut (omega arith) bad
+judged_no_fault text kind m is0 fs to f one h (afterwards items es stop cut ends is) =
+    let same : is0 ≡ items = cut_same text kind m 0 0 to stop is0 items fs es one h.cut h.ends cut ends in
     let g : ◌≡◌ {A = Option ScriptFault} None (Some f) = sym h.settled ∙ (ap (late text) same ∙ is) in cc
 
 -- what means a script has no fault
-pub means_no_fault : (text : List ℕ) (kind : Kind) (m : ℕ) (s : Program) (f : ScriptFault) → Means text kind m s → Faulty text kind m f → ⊥
-means_no_fault text kind m s f h bad = judged_no_fault text kind m h.items s.expressions h.to f h.judged bad
+pub means_no_fault : ReadsAsOne → (text : List ℕ) (kind : Kind) (m : ℕ) (s : Program) (f : ScriptFault) → Means text kind m s → Faulty text kind m f → ⊥
+means_no_fault one text kind m s f h bad = judged_no_fault text kind m h.items s.expressions h.to f one h.judged bad
 
-pub one_meaning : (text : List ℕ) (kind : Kind) (m : ℕ) (s t : Program) → Means text kind m s → Means text kind m t →
+pub one_meaning : ReadsAsOne → (text : List ℕ) (kind : Kind) (m : ℕ) (s t : Program) → Means text kind m s → Means text kind m t →
     (s.commands ≡ t.commands) × (s.texts ≡ t.texts) × (s.substitutions ≡ t.substitutions) × (s.tables ≡ t.tables) × (s.quiet ≡ t.quiet) × (s.max_nodes ≡ t.max_nodes)
-one_meaning text kind m s t h k =
-    let same : h.items ≡ k.items = cut_same text kind m 0 0 h.to k.to h.items k.items s.expressions t.expressions h.judged.cut h.judged.ends k.judged.cut k.judged.ends in (
+one_meaning one text kind m s t h k =
+    let same : h.items ≡ k.items = cut_same text kind m 0 0 h.to k.to h.items k.items s.expressions t.expressions one h.judged.cut h.judged.ends k.judged.cut k.judged.ends in (
       h.commands ∙ (ap (λ (is : List Item). commands_of text is [] none_counted is) same ∙ sym k.commands),
       h.texts ∙ (ap (texts_of text) same ∙ sym k.texts),
-      h.substitutions ∙ sym k.substitutions,
-      h.tables ∙ sym k.tables,
+      h.substitutions ∙ (ap (substitutions_of text) same ∙ sym k.substitutions),
+      h.tables ∙ (ap (tables_of text) same ∙ sym k.tables),
       h.quiet ∙ sym k.quiet,
       h.nodes ∙ sym k.nodes,
     )

@@ -1,42 +1,18 @@
 -- Addresses and what stands before a function (XCU sed, "Addresses in sed").
 -- Regular expressions are told as the places between which they stand.
-use Rattle.std.specs.Prelude.{ℕ, zero, suc, ◌+◌, List, [], ◌∷◌, ◌++◌, true, false, ◌||◌, Option, Some, None}
-use Rattle.std.specs.Prelude.{if◌then◌else◌, ◌==◌, slice_get, Result, Ok, Err}
-use Rattle.sedscript.specs.declared.bytes.Sort.TheVariants.{Blank, Separator, Bang, Digit}
+use Rattle.std.specs.Prelude.{ℕ, zero, suc, ◌+◌, List, true, false, ◌||◌, Option, Some, None}
+use Rattle.std.specs.Prelude.{if◌then◌else◌, ◌==◌, slice_get, Result, Ok}
+use Rattle.sedscript.specs.declared.bytes.Sort.TheVariants.{Blank, Bang, Digit}
 use Rattle.sedscript.specs.declared.types.ScriptFault.{ScriptFault}
 use Rattle.sedscript.specs.declared.types.Reason.TheVariants.{BadAddress, OpenDelimiter, BadDelimiter}
 use Rattle.sedscript.specs.declared.types.Address.{Address}
 use Rattle.sedscript.specs.declared.types.Address.TheVariants.{Line, Last, Match}
 use Rattle.sedscript.specs.declared.items.Addresses.{Addresses}
-use Rattle.sedscript.specs.declared.items.Here.{Here}
-use Rattle.sedscript.specs.declared.items.Here.TheVariants.{Ends}
 use Rattle.sedscript.specs.Bytes.{past, part, is_digit, with_digits, is_byte}
-use Rattle.sedscript.specs.Functions.{fault, function_at}
+use Rattle.sedscript.specs.Functions.{fault}
+use Rattle.sedscript.specs.Between.{own_delimiter}
+use Rattle.sedscript.specs.Reading.{Reading, plainly, expression, ◌>>=◌}
 use Rattle.sedre.specs.Delimited.{delimiter_at}
-
--- a regular expression in a script: where it begins, where it ends, and the delimiter that stands there
-pub record Pattern : Type 0 where
-  pub from : ℕ
-  pub to : ℕ
-  pub delimiter : ℕ
-
--- the regular expressions that were met in reading, in order, and what was read or the fault behind them
-pub record Reading (A : Type 0) : Type 0 where
-  pub patterns : List Pattern
-  pub end : Result A ScriptFault
-
--- what is read without a regular expression
-abbrev pub plainly : {A : Type 0} → Result A ScriptFault → Reading A
-plainly r = record { patterns = []; end = r }
-
-abbrev pub then_on : {A B : Type 0} → List Pattern → Result A ScriptFault → (A → Reading B) → Reading B
-then_on ps (Ok x) f = record { patterns = ps ++ (f x).patterns; end = (f x).end }
-then_on ps (Err e) f = record { patterns = ps; end = Err e }
-
--- what is read, and then what is read behind it
-infixl 10 ◌>>=◌
-abbrev pub ◌>>=◌ : {A B : Type 0} → Reading A → (A → Reading B) → Reading B
-r >>= f = then_on r.patterns r.end f
 
 -- an address or none, the place behind it, and how many regular expressions stand before that place
 pub record Addressed : Type 0 where
@@ -59,18 +35,11 @@ abbrev pub match_to : ℕ → ℕ → ℕ → Option ℕ → Reading Addressed
 match_to count delimiter place None = plainly (fault OpenDelimiter place)
 match_to count delimiter place (Some to) =
     if to == place + 1 then plainly (found (Some (Match None)) (to + 1) count)
-    else record {
-      patterns = record { from = place + 1; to = to; delimiter = delimiter } ∷ [];
-      end = found (Some (Match (Some count))) (to + 1) (count + 1);
-    }
+    else expression (record { from = place + 1; to = to; delimiter = delimiter })
+    (λ groups. plainly (found (Some (Match (Some count))) (to + 1) (count + 1)))
 
 unfoldable pub match_at : List ℕ → ℕ → ℕ → ℕ → Reading Addressed
 match_at text count delimiter place = match_to count delimiter place (delimiter_at text (place + 1) delimiter)
-
--- a byte that may be a delimiter: neither backslash nor newline
-abbrev pub own_delimiter : Option ℕ → Option ℕ
-own_delimiter None = None
-own_delimiter (Some d) = if d == 92 || d == 10 then None else Some d
 
 -- a regular expression with a delimiter of its own, which stands at a place
 abbrev pub own_match : List ℕ → ℕ → ℕ → Option ℕ → Reading Addressed
@@ -91,30 +60,34 @@ address_of text count at (Some b) =
 unfoldable pub address_at : List ℕ → ℕ → ℕ → Reading Addressed
 address_at text count at = address_of text count at (slice_get text at)
 
--- the addresses of a command and the place behind them
+-- the addresses of a command, the place behind them, and how many regular expressions stand before that place
 pub record Headed : Type 0 where
   pub addresses : Addresses
   pub at : ℕ
+  pub count : ℕ
 
 abbrev pub addresses_of : Option Address → Option Address → Addresses
 addresses_of first second = record { first = first; second = second; negate = false }
 
-abbrev pub with_second : Address → ℕ → ℕ → Option Address → Result Headed ScriptFault
-with_second first place next None = fault BadAddress place
-with_second first place next (Some a) = Ok (record { addresses = addresses_of (Some first) (Some a); at = next })
+abbrev pub headed : Option Address → Option Address → ℕ → ℕ → Result Headed ScriptFault
+headed first second at count = Ok (record { addresses = addresses_of first second; at = at; count = count })
+
+abbrev pub with_second : Address → ℕ → Addressed → Option Address → Result Headed ScriptFault
+with_second first place x None = fault BadAddress place
+with_second first place x (Some a) = headed (Some first) (Some a) x.at x.count
 
 -- the second address, which has to stand at a place
 unfoldable pub second_at : List ℕ → ℕ → Address → ℕ → Reading Headed
-second_at text count first at = address_at text count at >>= λ x. plainly (with_second first at x.at x.address)
+second_at text count first at = address_at text count at >>= λ x. plainly (with_second first at x x.address)
 
 -- what follows a first address: a comma and a second one, or nothing.
 -- Blanks round the comma are passed over (this project's own)
 abbrev pub behind_first : List ℕ → ℕ → ℕ → Option Address → Reading Headed
-behind_first text count at None = plainly (Ok (record { addresses = addresses_of None None; at = at }))
+behind_first text count at None = plainly (headed None None at count)
 behind_first text count at (Some first) =
     if is_byte 44 (slice_get text (past Blank text at))
     then second_at text count first (past Blank text (past Blank text at + 1))
-    else plainly (Ok (record { addresses = addresses_of (Some first) None; at = at }))
+    else plainly (headed (Some first) None at count)
 
 unfoldable pub addresses_at : List ℕ → ℕ → ℕ → Reading Headed
 addresses_at text count at = address_at text count at >>= λ x. behind_first text x.count x.at x.address
@@ -127,17 +100,6 @@ with_bang text h =
     then record {
       addresses = record { first = h.addresses.first; second = h.addresses.second; negate = true };
       at = past Bang text (past Blank text h.at);
+      count = h.count;
     }
-    else record { addresses = h.addresses; at = past Blank text h.at }
-
-abbrev pub function_behind : List ℕ → Headed → Result Here ScriptFault
-function_behind text h = function_at text (with_bang text h).addresses (with_bang text h).at
-
--- the item that begins with this byte, or the end
-abbrev pub item_from : List ℕ → ℕ → ℕ → Option ℕ → Reading Here
-item_from text count at None = plainly (Ok Ends)
-item_from text count at (Some b) = addresses_at text count at >>= λ h. plainly (function_behind text h)
-
--- the next item from a place on, with so many regular expressions before it, or the end
-unfoldable pub item_at : List ℕ → ℕ → ℕ → Reading Here
-item_at text count at = item_from text count (past Separator text at) (slice_get text (past Separator text at))
+    else record { addresses = h.addresses; at = past Blank text h.at; count = h.count }

@@ -14,8 +14,9 @@ use Rattle.sedscript.specs.declared.items.Addresses.{Addresses}
 use Rattle.sedscript.specs.declared.items.Item.{Item}
 use Rattle.sedscript.specs.declared.items.Here.{Here}
 use Rattle.sedscript.specs.declared.items.Here.TheVariants.{Is, Ends}
-use Rattle.sedscript.specs.Addresses.{Reading, Addressed, Headed}
-use Rattle.sedscript.specs.Expressions.{AreRead, Fails, in_script}
+use Rattle.sedscript.specs.Reading.{Reading}
+use Rattle.sedscript.specs.Addresses.{Addressed, Headed}
+use Rattle.sedscript.specs.Expressions.{Gives, Fails, in_script}
 use Rattle.sedscript.specs.Script.{IsEnd, Judged}
 
 -- what a function answered is what reading gives, and the expressions grew by those that were read,
@@ -23,8 +24,7 @@ use Rattle.sedscript.specs.Script.{IsEnd, Judged}
 abbrev pub Comes : {X A : Type 0} → List ℕ → Kind → ℕ → List Written → List Written → (X → ℕ → A) →
     Result X ScriptFault → Reading A → Type 0
 Comes text kind max_nodes old new view (Ok x) r =
-    (r.end ≡ Ok (view x (length new)))
-    × (es : List Written) × AreRead text kind max_nodes r.patterns es × (new ≡ old ++ es)
+    (es : List Written) × Gives text kind max_nodes r es (view x (length new)) × (new ≡ old ++ es)
 Comes text kind max_nodes old new view (Err f) r = Fails text kind max_nodes r f ⊎ (f ≡ NO_MEMORY)
 
 -- the same of a script that is read

@@ -114,11 +114,11 @@ function_of text letter at =
 -- the most addresses of a letter's function. None where the letter has none
 abbrev pub most_addresses : ℕ → Option ℕ
 most_addresses letter =
-    -- `:` `}` `#`, then `q`, then `=` `b` `c` `d` `i` `p` `t` `{`
+    -- `:` `}` `#`, then `q`, then `=` `b` `c` `d` `i` `p` `s` `t` `y` `{`
     if letter == 58 || letter == 125 || letter == 35 then Some 0
     else if letter == 113 then Some 1
     else if letter == 61 || letter == 98 || letter == 99 || letter == 100 || letter == 105 || letter == 112
-    || letter == 116 || letter == 123 then Some 2
+    || letter == 115 || letter == 116 || letter == 121 || letter == 123 then Some 2
     else None
 
 abbrev pub given : {A : Type 0} → Option A → ℕ
@@ -136,13 +136,3 @@ allowed addresses letter at (Some most) =
 
 abbrev pub item_of : Addresses → ℕ → Function × ℕ → Here
 item_of addresses place found = Is (record { addresses = addresses; place = place; function = found.0 }) found.1
-
--- the item of a function that is expected at a place, behind these addresses
-abbrev pub item_with : List ℕ → Addresses → ℕ → Option ℕ → Result Here ScriptFault
-item_with text addresses at None = fault UnknownCommand at
-item_with text addresses at (Some letter) =
-    allowed addresses letter at (most_addresses letter) >>= λ b.
-    function_of text b at >>= λ found. Ok (item_of addresses at found)
-
-unfoldable pub function_at : List ℕ → Addresses → ℕ → Result Here ScriptFault
-function_at text addresses at = item_with text addresses at (slice_get text at)

@@ -4,7 +4,11 @@ pub mod Functions
 pub mod Replacement
 pub mod Strings
 pub mod Flags
+pub mod Transliteration
+pub mod Between
+pub mod Reading
 pub mod Addresses
+pub mod Items
 pub mod Expressions
 pub mod Targets
 pub mod Script

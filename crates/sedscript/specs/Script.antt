@@ -1,6 +1,6 @@
 -- What a script means, and its first fault (XCU sed, "Extended Description").
 use Rattle.std.specs.Prelude.{◌≡◌, ℕ, suc, ◌+◌, List, [], ◌∷◌, ◌++◌, length, Bool, true, false, not, ◌&&◌, Option, Some}
-use Rattle.std.specs.Prelude.{None, if◌then◌else◌, ◌==◌, slice_get, Ok, unwrap_or}
+use Rattle.std.specs.Prelude.{None, if◌then◌else◌, ◌==◌, slice_get, unwrap_or}
 use Rattle.sedre.specs.declared.types.Kind.{Kind}
 use Rattle.sedre.specs.Arena.{Written}
 use Rattle.sedscript.specs.declared.bytes.Sort.TheVariants.{Separator}
@@ -30,8 +30,8 @@ use Rattle.sedscript.specs.declared.items.Flags.{Flags}
 use Rattle.sedscript.specs.declared.items.Strings.{Strings}
 use Rattle.sedscript.specs.declared.items.Here.TheVariants.{Is}
 use Rattle.sedscript.specs.Bytes.{part, past}
-use Rattle.sedscript.specs.Addresses.{item_at}
-use Rattle.sedscript.specs.Expressions.{AreRead, Fails}
+use Rattle.sedscript.specs.Items.{item_at}
+use Rattle.sedscript.specs.Expressions.{Gives, Fails}
 use Rattle.sedscript.specs.Replacement.{pieces_of}
 use Rattle.sedscript.specs.Transliteration.{table_between}
 use Rattle.sedscript.specs.Targets.{commands_in, label_in, block_end, late}
@@ -50,7 +50,7 @@ pub record Program : Type 0 where
 pub data Cut (text : List ℕ) (kind : Kind) (max_nodes : ℕ) : ℕ → ℕ → List Item → List Written → ℕ → Type 0 where
   done : {count at : ℕ} → Cut text kind max_nodes count at [] [] at
   item : {count at next to : ℕ} {i : Item} {is : List Item} (es fs : List Written) →
-      (item_at text count at).end ≡ Ok (Is i next) → AreRead text kind max_nodes (item_at text count at).patterns es →
+      Gives text kind max_nodes (item_at text count at) es (Is i next) →
       Cut text kind max_nodes (count + length es) next is fs to →
       Cut text kind max_nodes count at (i ∷ is) (es ++ fs) to
 

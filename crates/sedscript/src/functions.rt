@@ -118,7 +118,7 @@ fn most_addresses(letter: u8) -> Option<usize>
     match letter {
         b':' | b'}' | b'#' => Some(0),
         b'q' => Some(1),
-        b'=' | b'b' | b'c' | b'd' | b'i' | b'p' | b't' | b'{' => Some(2),
+        b'=' | b'b' | b'c' | b'd' | b'i' | b'p' | b's' | b't' | b'y' | b'{' => Some(2),
         _ => None,
     }
 }

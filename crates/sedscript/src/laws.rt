@@ -6,11 +6,15 @@ ghost use Rattle.sedscript.specs.Script.{Program, Means, Faulty};
 ghost use Rattle.sedscript.specs.Ranges.{InRange};
 ghost use Rattle.sedscript.specs.declared.types.ScriptFault.{ScriptFault};
 
+use sedre::laws::reads_as_one;
+
 /// What means a script has no fault.
 pub fn no_fault()
     ensures { (text : List ℕ) (kind : Kind) (max_nodes : ℕ) (s : Program) (f : ScriptFault) →
         Means text kind max_nodes s → Faulty text kind max_nodes f → ⊥ }
-{}
+{
+    reads_as_one();
+}
 
 /// A text means the same commands and texts whenever it means a script, and is quiet or not.
 pub fn one_meaning()
@@ -18,7 +22,9 @@ pub fn one_meaning()
         Means text kind max_nodes s → Means text kind max_nodes t →
         (s.commands ≡ t.commands) × (s.texts ≡ t.texts) × (s.substitutions ≡ t.substitutions) × (s.tables ≡ t.tables)
         × (s.quiet ≡ t.quiet) × (s.max_nodes ≡ t.max_nodes) }
-{}
+{
+    reads_as_one();
+}
 
 /// The numbers in a script that a text means are in range.
 pub fn in_range()

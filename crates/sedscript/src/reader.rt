@@ -14,6 +14,7 @@ use crate::script::{Named, Script};
 use crate::targets::{Targets, targets_of};
 use crate::types::{Kind, NO_MEMORY, ScriptFault};
 use sedre::Expr;
+use sedre::laws::reads_as_one;
 use std::alloc::Global;
 
 /// Cuts a text into its items and judges its labels and blocks.
@@ -58,6 +59,7 @@ pub fn read(alloc: Global, text: &[u8], kind: Kind, max_nodes: usize) -> Result<
     // A fault is the first one of the text, or memory was wanting.
     ensures fault { IfErr result (λ f. Faulty text.now kind max_nodes f ⊎ (f ≡ NO_MEMORY)) }
 {
+    reads_as_one();
     let mut items = Vec::new(alloc);
     let mut exprs = Vec::new(alloc);
     let source = Source {

@@ -1,6 +1,7 @@
 use Rattle.std.proofs.Common.{Err, refl, sym, ap, ◌∙◌, slice_get, length}
 use Rattle.sedscript.specs.Answers.{as_here}
-use Rattle.sedscript.specs.Addresses.{Headed, addresses_at, plainly, function_behind}
+use Rattle.sedscript.specs.Reading.{plainly}
+use Rattle.sedscript.specs.Addresses.{Headed, addresses_at, function_behind}
 use Rattle.sedscript.proofs.Coming.{comes_then, comes_err, comes_plain, item_none, item_some, answers_same, behind_here}
 use Rattle.sedscript.proofs.addresses.item_at.Goals as goal
 

@@ -2,4 +2,4 @@ use Rattle.sedscript.proofs.Exclusive.{one_meaning as law}
 use Rattle.sedscript.proofs.laws.one_meaning.Goals as goal
 
 pub returns : goal.returns
-returns c = law
+returns c = law c.reads_as_one.ensures

@@ -22,4 +22,4 @@ of-requires c =
 
 pub returns-clause-no_fault : goal.returns-clause-no_fault
 returns-clause-no_fault c = λ f bad.
-    judged_no_fault c.args.text.now c.args.kind c.args.max_nodes c.judge.new.items.items c.judge.new.exprs.items c.in-Ok.ensures.judged.to f c.in-Ok.ensures.judged.judged bad
+    judged_no_fault c.args.text.now c.args.kind c.args.max_nodes c.judge.new.items.items c.judge.new.exprs.items c.in-Ok.ensures.judged.to f c.reads_as_one.ensures c.in-Ok.ensures.judged.judged bad

@@ -1,0 +1,66 @@
+-- What stands between delimiters behind `s` and `y` (XCU sed, "Editing Commands in sed").
+use Rattle.std.specs.Prelude.{ℕ, ◌+◌, List, Bool, true, false, ◌||◌, Option, Some, None, drop, slice_get, if◌then◌else◌, ◌==◌}
+use Rattle.std.specs.Prelude.{Result, Ok, Err}
+use Rattle.sedre.specs.Delimited.{delimiter_at}
+use Rattle.sedscript.specs.declared.types.ScriptFault.{ScriptFault}
+use Rattle.sedscript.specs.declared.types.Reason.TheVariants.{OpenDelimiter, BadDelimiter}
+use Rattle.sedscript.specs.declared.items.Strings.{Strings}
+use Rattle.sedscript.specs.declared.items.Function.{Function}
+use Rattle.sedscript.specs.declared.items.Function.TheVariants.{Substitute, Transliterate}
+use Rattle.sedscript.specs.Bytes.{part}
+use Rattle.sedscript.specs.Functions.{fault, ended, ◌>>=◌}
+use Rattle.sedscript.specs.Strings.{string_end}
+use Rattle.sedscript.specs.Replacement.{replacement_fault}
+use Rattle.sedscript.specs.Flags.{no_flags, flags_from}
+use Rattle.sedscript.specs.Transliteration.{strings_fault}
+
+-- a byte that may be a delimiter: neither backslash nor newline
+abbrev pub own_delimiter : Option ℕ → Option ℕ
+own_delimiter None = None
+own_delimiter (Some d) = if d == 92 || d == 10 then None else Some d
+
+-- two strings, where the first begins and ends at these places, and the second ends where a delimiter was found
+abbrev pub strings_to : ℕ → ℕ → ℕ → Option ℕ → Result Strings ScriptFault
+strings_to d from middle None = fault OpenDelimiter middle
+strings_to d from middle (Some to) = Ok (record { delimiter = d; from = from; middle = middle; to = to })
+
+-- the two strings behind a delimiter at a place, of which the first ends where another was found. A newline behind a
+-- backslash may stand in the second, or not
+abbrev pub strings_behind : List ℕ → Bool → ℕ → ℕ → Option ℕ → Result Strings ScriptFault
+strings_behind text breaks d place None = fault OpenDelimiter place
+strings_behind text breaks d place (Some middle) =
+    strings_to d (place + 1) middle (string_end breaks d false (middle + 1) (drop (middle + 1) text))
+
+-- those of `s`, whose delimiter stands at a place: a regular expression and a replacement
+abbrev pub substitute_strings : List ℕ → ℕ → Option ℕ → Result Strings ScriptFault
+substitute_strings text place None = fault BadDelimiter place
+substitute_strings text place (Some d) = strings_behind text true d place (delimiter_at text (place + 1) d)
+
+-- those of `y`
+abbrev pub transliterate_strings : List ℕ → ℕ → Option ℕ → Result Strings ScriptFault
+transliterate_strings text place None = fault BadDelimiter place
+transliterate_strings text place (Some d) =
+    strings_behind text false d place (string_end false d false (place + 1) (drop (place + 1) text))
+
+-- what is read, where nothing before it has a fault
+abbrev pub unless_fault : {A : Type 0} → Option ScriptFault → Result A ScriptFault → Result A ScriptFault
+unless_fault None read = read
+unless_fault (Some f) read = Err f
+
+-- `y`, whose letter stands at a place
+unfoldable pub transliterate_at : List ℕ → ℕ → Result (Function × ℕ) ScriptFault
+transliterate_at text at =
+    transliterate_strings text (at + 1) (own_delimiter (slice_get text (at + 1))) >>= λ s.
+    unless_fault (strings_fault text s.delimiter at s.from s.middle s.to) (ended text (Transliterate s) (s.to + 1))
+
+-- the flags of `s`, and its end
+abbrev pub flagged : List ℕ → Strings → Option ℕ → Result (Function × ℕ) ScriptFault
+flagged text s e =
+    flags_from no_flags 0 (s.to + 1) (drop (s.to + 1) text) >>= λ found. ended text (Substitute s e found.0) found.1
+
+-- what stands behind the regular expression of `s`, which has this number in the script: a replacement, where no group
+-- may have a greater number than this, and flags
+unfoldable pub substituted : List ℕ → Strings → Option ℕ → Option ℕ → Result (Function × ℕ) ScriptFault
+substituted text s e limit =
+    unless_fault (replacement_fault s.delimiter limit false (s.middle + 1) (part text (s.middle + 1) s.to))
+    (flagged text s e)
