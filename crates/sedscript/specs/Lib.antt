@@ -6,6 +6,7 @@ pub mod Flags
 pub mod Addresses
 pub mod Expressions
 pub mod Targets
+pub mod Replacement
 pub mod Script
 pub mod Ranges
 pub mod Answers

@@ -51,6 +51,17 @@ pub struct Command {
     pub action: Action,
 }
 
+/// A part of a replacement (XCU sed, "s").
+#[derive(Debug, PartialEq, Drop)]
+pub enum Part {
+    /// These bytes.
+    Literal(Vec<u8>),
+    /// `&` or `\0`: the matched text.
+    Whole,
+    /// `\1` to `\9`: what this group of the match has.
+    Group(usize),
+}
+
 /// Why a text is no script.
 #[derive(Clone, Copy, Debug, PartialEq, Eq)]
 pub enum Reason {
