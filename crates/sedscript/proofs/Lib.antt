@@ -1,5 +1,6 @@
 pub mod Coming
 pub mod FlagLemmas
+pub mod Pieces
 pub mod Cuts
 pub mod Exclusive
 pub mod Labels

@@ -1,13 +1,79 @@
--- What stands for an occurrence that `s` replaces (XCU sed, "Editing Commands in sed").
-use Rattle.std.specs.Prelude.{ℕ, ◌≤◌, List, [], ◌∷◌, ◌++◌, map}
+-- Replacements (XCU sed, "Editing Commands in sed": `s`).
+use Rattle.std.specs.Prelude.{ℕ, suc, ◌-◌, ◌≤◌, List, [], ◌∷◌, ◌++◌, map, Bool, true, false, not, ◌&&◌, ◌||◌, Option}
+use Rattle.std.specs.Prelude.{Some, None, if◌then◌else◌, nat_lt, nat_le, ◌==◌}
+use Rattle.std.specs.Option.{option_or}
+use Rattle.sedscript.specs.declared.types.ScriptFault.{ScriptFault}
+use Rattle.sedscript.specs.declared.types.Reason.TheVariants.{BadEscape, GroupAbsent}
 use Rattle.sedscript.specs.declared.substitution.Part.{Part}
 use Rattle.sedscript.specs.declared.substitution.Part.TheVariants.{Literal, Whole, Group}
+use Rattle.sedscript.specs.Bytes.{is_digit}
+use Rattle.sedscript.specs.Targets.{fault_if}
+-- what a replacement is made of
+pub use Rattle.sedscript.specs.declared.replacement.Piece.{Piece}
+-- a byte, the whole match, and what a group of it has
+pub use Rattle.sedscript.specs.declared.replacement.Piece.TheVariants.{Literal as literal, Whole as whole, Group as group}
 
--- a byte, the whole match, or what a group of the match has
-pub data Piece : Type 0 where
-  literal : ℕ → Piece
-  whole : Piece
-  group : ℕ → Piece
+abbrev pub is_letter : ℕ → Bool
+is_letter b = (nat_le 65 b && nat_le b 90) || (nat_le 97 b && nat_le b 122)
+
+-- what a backslash in force and this byte stand for. The delimiter stands for itself, whatever byte it is; 0 for the
+-- whole match (this project's own), and another digit for that group of it; `n` for a newline, `t` for a tab (this
+-- project's own); a byte that is neither letter nor digit for itself, a newline among them. Other letters are refused
+abbrev pub escaped_piece : ℕ → ℕ → Option Piece
+escaped_piece delimiter b =
+    if b == delimiter then Some (literal b)
+    else if b == 48 then Some whole
+    else if is_digit b then Some (group (b - 48))
+    else if b == 110 then Some (literal 10)
+    else if b == 116 then Some (literal 9)
+    else if is_letter b then None
+    else Some (literal b)
+
+-- a byte without a backslash: `&` is the whole match
+abbrev pub plain_piece : ℕ → Piece
+plain_piece b = if b == 38 then whole else literal b
+
+-- the piece that a byte ends, with whether a backslash in force stands before it
+abbrev pub piece_of : ℕ → Bool → ℕ → Option Piece
+piece_of delimiter true b = escaped_piece delimiter b
+piece_of delimiter false b = if b == 92 then None else Some (plain_piece b)
+
+abbrev pub with_piece : Option Piece → List Piece → List Piece
+with_piece None ps = ps
+with_piece (Some p) ps = p ∷ ps
+
+-- the pieces of a replacement's text, with whether a backslash in force stands before it.
+-- An escape that is refused leaves none
+abbrev pub pieces_from : ℕ → Bool → List ℕ → List Piece
+pieces_from delimiter escaped [] = []
+pieces_from delimiter escaped (b ∷ bs) =
+    with_piece (piece_of delimiter escaped b) (pieces_from delimiter (b == 92 && not escaped) bs)
+
+abbrev pub pieces_of : ℕ → List ℕ → List Piece
+pieces_of delimiter text = pieces_from delimiter false text
+
+-- whether the expression hasn't this group. The empty expression sets no limit (this project's own)
+abbrev pub exceeds : Option ℕ → ℕ → Bool
+exceeds None k = false
+exceeds (Some limit) k = nat_lt limit k
+
+-- what is wrong with a piece, or with an escape that stands for none, at a place
+abbrev pub piece_fault : Option ℕ → ℕ → Option Piece → Option ScriptFault
+piece_fault limit place None = Some (record { place = place; reason = BadEscape })
+piece_fault limit place (Some (literal b)) = None
+piece_fault limit place (Some whole) = None
+piece_fault limit place (Some (group k)) = fault_if (exceeds limit k) GroupAbsent place
+
+-- what is wrong with the escape of a byte, whose backslash stands at a place
+abbrev pub escape_fault : ℕ → Option ℕ → ℕ → ℕ → Option ScriptFault
+escape_fault delimiter limit place b = piece_fault limit place (escaped_piece delimiter b)
+
+-- the first fault of a replacement's text that begins at a place, with whether a backslash in force stands before it
+abbrev pub replacement_fault : ℕ → Option ℕ → Bool → ℕ → List ℕ → Option ScriptFault
+replacement_fault delimiter limit escaped at [] = None
+replacement_fault delimiter limit true at (b ∷ bs) =
+    option_or (escape_fault delimiter limit (at - 1) b) (replacement_fault delimiter limit false (suc at) bs)
+replacement_fault delimiter limit false at (b ∷ bs) = replacement_fault delimiter limit (b == 92) (suc at) bs
 
 -- the pieces that parts stand for
 abbrev pub pieces_in : List Part → List Piece
@@ -16,9 +82,13 @@ pieces_in (Literal bytes ∷ ps) = map literal bytes.items ++ pieces_in ps
 pieces_in (Whole ∷ ps) = whole ∷ pieces_in ps
 pieces_in (Group k ∷ ps) = group k ∷ pieces_in ps
 
--- no group has a greater number
+-- no piece is of a group above this number
 abbrev pub GroupsWithin : ℕ → List Piece → Type 0
-GroupsWithin most [] = Unit {0}
-GroupsWithin most (literal b ∷ ps) = GroupsWithin most ps
-GroupsWithin most (whole ∷ ps) = GroupsWithin most ps
-GroupsWithin most (group k ∷ ps) = (k ≤ most) × GroupsWithin most ps
+GroupsWithin n [] = Unit {0}
+GroupsWithin n (literal b ∷ ps) = GroupsWithin n ps
+GroupsWithin n (whole ∷ ps) = GroupsWithin n ps
+GroupsWithin n (group k ∷ ps) = (k ≤ n) × GroupsWithin n ps
+
+-- the pieces of parts, and of bytes behind them
+abbrev pub pieces_with : List Part → List ℕ → List Piece
+pieces_with parts bytes = pieces_in parts ++ map literal bytes

@@ -11,6 +11,7 @@ mod items;
 mod late;
 pub mod laws;
 pub mod reader;
+mod replacement;
 pub mod script;
 pub mod substitution;
 mod strings;

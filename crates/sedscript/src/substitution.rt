@@ -6,7 +6,7 @@ ghost use Rattle.sedscript.specs.Replacement.{pieces_in, GroupsWithin};
 use std::marker::Model;
 
 /// A part of a replacement.
-#[derive(Drop)]
+#[derive(Debug, PartialEq, Drop)]
 pub enum Part {
     /// These bytes.
     Literal(Vec<u8>),

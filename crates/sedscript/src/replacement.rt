@@ -1,0 +1,186 @@
+//! Replacements of `s`.
+
+ghost use Rattle.std.specs.Prelude.{◌≡◌, ◌≤◌, ◌+◌, ◌++◌, ◌∷◌, [], false, length, IfOk, OnOk};
+ghost use Rattle.sedscript.specs.Bytes.{part};
+ghost use Rattle.sedscript.specs.Replacement.{group, is_letter, escaped_piece, plain_piece, piece_of, pieces_of, pieces_in};
+ghost use Rattle.sedscript.specs.Replacement.{pieces_with, exceeds, escape_fault, replacement_fault, GroupsWithin};
+
+use crate::bytes::{is_digit, part};
+use crate::substitution::Part;
+use crate::types::{Reason, ScriptFault};
+use std::alloc::{AllocError, Global};
+
+/// What a replacement is made of.
+#[derive(Clone, Copy)]
+pub enum Piece {
+    /// This byte.
+    Literal(u8),
+    /// The whole match.
+    Whole,
+    /// What this group of the match has.
+    Group(usize),
+}
+
+fn is_letter(b: u8) -> bool
+    ensures { result ≡ is_letter b }
+{
+    (b >= b'A' && b <= b'Z') || (b >= b'a' && b <= b'z')
+}
+
+/// What a backslash in force and this byte stand for.
+fn escaped_piece(delimiter: u8, b: u8) -> Option<Piece>
+    ensures { result ≡ escaped_piece delimiter b }
+{
+    if b == delimiter {
+        Some(Piece::Literal(b))
+    } else if b == b'0' {
+        Some(Piece::Whole)
+    } else if is_digit(b) {
+        Some(Piece::Group(usize::from(b - b'0')))
+    } else if b == b'n' {
+        Some(Piece::Literal(b'\n'))
+    } else if b == b't' {
+        Some(Piece::Literal(b'\t'))
+    } else if is_letter(b) {
+        None
+    } else {
+        Some(Piece::Literal(b))
+    }
+}
+
+fn plain_piece(b: u8) -> Piece
+    ensures { result ≡ plain_piece b }
+{
+    if b == b'&' {
+        Piece::Whole
+    } else {
+        Piece::Literal(b)
+    }
+}
+
+/// The piece that a byte ends.
+fn piece_of(delimiter: u8, escaped: bool, b: u8) -> Option<Piece>
+    ensures { result ≡ piece_of delimiter escaped b }
+{
+    if escaped {
+        escaped_piece(delimiter, b)
+    } else if b == b'\\' {
+        None
+    } else {
+        Some(plain_piece(b))
+    }
+}
+
+/// Whether the expression hasn't this group.
+fn exceeds(limit: Option<usize>, k: usize) -> bool
+    ensures { result ≡ exceeds limit k }
+{
+    match limit {
+        None => false,
+        Some(limit) => limit < k,
+    }
+}
+
+/// What is wrong with the escape of a byte, whose backslash stands at a place.
+fn escape_fault(delimiter: u8, limit: Option<usize>, place: usize, b: u8) -> Option<ScriptFault>
+    ensures { result ≡ escape_fault delimiter limit place b }
+{
+    match escaped_piece(delimiter, b) {
+        None => Some(ScriptFault {
+            place,
+            reason: Reason::BadEscape,
+        }),
+        Some(Piece::Group(k)) if exceeds(limit, k) => Some(ScriptFault {
+            place,
+            reason: Reason::GroupAbsent,
+        }),
+        Some(_) => None,
+    }
+}
+
+/// The first fault of the replacement that stands between two places.
+pub fn replacement_fault(
+    text: &[u8],
+    delimiter: u8,
+    limit: Option<usize>,
+    from: usize,
+    to: usize,
+) -> Option<ScriptFault>
+    requires { (from ≤ to) × (to ≤ length text.now) }
+    ensures { result ≡ replacement_fault delimiter limit false from (part text.now from to) }
+{
+    let bytes = part(text, from, to);
+    let mut escaped = false;
+    let mut k = 0;
+    'bytes: while k < bytes.len() {
+        let b = bytes[k];
+        if escaped {
+            if let Some(fault) = escape_fault(delimiter, limit, from + k - 1, b) {
+                return Some(fault);
+            }
+        }
+        escaped = b == b'\\' && !escaped;
+        k += 1;
+    }
+    None
+}
+
+/// Adds the bytes behind the parts as a part of their own.
+fn end_run(parts: &mut Vec<Part>, run: Vec<u8>) -> Result<(), AllocError>
+    ensures { OnOk result (pieces_in parts.new.items ≡ pieces_with parts.old.items run.items) }
+{
+    if !run.is_empty() {
+        parts.push(Part::Literal(run))?;
+    }
+    Ok(())
+}
+
+/// Adds a piece to the parts and the bytes behind them, and gives the bytes that then are behind them.
+fn add_piece(
+    alloc: Global,
+    parts: &mut Vec<Part>,
+    run: Vec<u8>,
+    piece: Piece,
+) -> Result<Vec<u8>, AllocError>
+    ensures { IfOk result (λ behind.
+        pieces_with parts.new.items behind.items ≡ pieces_with parts.old.items run.items ++ piece ∷ []) }
+{
+    match piece {
+        Piece::Literal(b) => {
+            let mut behind = run;
+            behind.push(b)?;
+            Ok(behind)
+        }
+        Piece::Whole => {
+            end_run(parts, run)?;
+            parts.push(Part::Whole)?;
+            Ok(Vec::new(alloc))
+        }
+        Piece::Group(k) => {
+            end_run(parts, run)?;
+            parts.push(Part::Group(k))?;
+            Ok(Vec::new(alloc))
+        }
+    }
+}
+
+/// The parts of a replacement without faults. Bytes that stand together are one part.
+pub fn parts_of(alloc: Global, bytes: &[u8], delimiter: u8) -> Result<Vec<Part>, AllocError>
+    ensures is { IfOk result (λ v. pieces_in v.items ≡ pieces_of delimiter bytes.now) }
+    ensures within { IfOk result (λ v. GroupsWithin 9 (pieces_in v.items)) }
+{
+    let mut parts = Vec::new(alloc);
+    let mut run = Vec::new(alloc);
+    let mut escaped = false;
+    let mut k = 0;
+    'bytes: while k < bytes.len() {
+        let b = bytes[k];
+        if let Some(piece) = piece_of(delimiter, escaped, b) {
+            run = add_piece(alloc, &mut parts, run, piece)?;
+        }
+        escaped = b == b'\\' && !escaped;
+        k += 1;
+    }
+    end_run(&mut parts, run)?;
+    Ok(parts)
+}
