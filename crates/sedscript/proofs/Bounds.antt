@@ -1,9 +1,10 @@
 -- The numbers of a script are in range.
-use Rattle.std.proofs.Common.{◌≡◌, ℕ, zero, suc, ◌+◌, ◌<◌, ◌≤◌, ◌&&◌, ◌==◌, Bool, true, false, List, [], ◌∷◌, ◌++◌, length, Option, Some, None, unwrap_or, Result, Ok, Err, IfOk, refl, sym, ap, subst, ◌∙◌, arith, if◌then◌else◌, slice_get, length-append}
+use Rattle.std.proofs.Common.{◌≡◌, ℕ, zero, suc, ◌+◌, ◌<◌, ◌≤◌, ◌&&◌, ◌==◌, Bool, true, false, List, [], ◌∷◌, ◌++◌, length, Option, Some, None, unwrap_or, Result, Ok, Err, IfOk, refl, sym, ap, subst, ◌∙◌, arith, if◌then◌else◌, slice_get, length-append, take, drop, is_some}
+use Rattle.std.proofs.lemmas.List.FromFn.{length-map-range_with_len}
 use Rattle.sedre.specs.declared.types.Kind.{Kind}
 use Rattle.sedre.specs.Arena.{Written}
 use Rattle.sedre.specs.Delimited.{delimiter_at}
-use Rattle.sedscript.specs.declared.bytes.Sort.TheVariants.{Blank, Bang, Digit, Separator}
+use Rattle.sedscript.specs.declared.bytes.Sort.TheVariants.{Blank, Name, Bang, Digit, Separator}
 use Rattle.sedscript.specs.declared.types.ScriptFault.{ScriptFault}
 use Rattle.sedscript.specs.declared.types.Address.{Address}
 use Rattle.sedscript.specs.declared.types.Address.TheVariants.{Line, Last, Match}
@@ -22,15 +23,23 @@ use Rattle.sedscript.specs.declared.items.Item.{Item}
 use Rattle.sedscript.specs.declared.items.Counts.{Counts}
 use Rattle.sedscript.specs.declared.items.Here.{Here}
 use Rattle.sedscript.specs.declared.items.Here.TheVariants.{Is, Ends}
-use Rattle.sedscript.specs.Bytes.{past, part, is_digit, is_byte, with_digits}
-use Rattle.sedscript.specs.Functions.{function_at, allowed, most_addresses, function_of, item_of, item_with, ◌>>=◌ as ◌then◌}
+use Rattle.sedscript.specs.Bytes.{past, part, run_of, is_digit, is_byte, with_digits}
+use Rattle.sedscript.specs.declared.items.Flags.{Flags}
+use Rattle.sedscript.specs.declared.items.Strings.{Strings}
+use Rattle.sedscript.specs.declared.types.Reason.TheVariants.{TrailingBytes, RepeatedFlag}
+use Rattle.sedscript.specs.Functions.{fault, allowed, most_addresses, function_of, item_of, ended, may_end, text_of, text_from, ◌>>=◌ as ◌then◌}
+use Rattle.sedscript.specs.Replacement.{replacement_fault}
+use Rattle.sedscript.specs.Flags.{no_flags, numbered, with_number, with_flag, ends_flags, flags_from}
+use Rattle.sedscript.specs.Transliteration.{strings_fault, counterpart, table_of}
+use Rattle.sedscript.specs.Between.{own_delimiter, substitute_strings, transliterate_strings, unless_fault, transliterate_at, substituted}
+use Rattle.sedscript.specs.Items.{substitute_with, substitute_at, function_with, function_at, function_behind, item_with, item_from, item_at}
 use Rattle.sedscript.specs.Reading.{Reading, plainly, expression, ◌>>=◌}
-use Rattle.sedscript.specs.Addresses.{Addressed, Headed, line_of, match_to, match_at, own_match, own_delimiter, address_of, address_at, with_second, second_at, behind_first, addresses_at, with_bang, function_behind, item_from, item_at}
+use Rattle.sedscript.specs.Addresses.{Addressed, Headed, line_of, match_to, match_at, own_match, address_of, address_at, with_second, second_at, behind_first, addresses_at, with_bang}
 use Rattle.sedscript.specs.Expressions.{Gives, value, behind}
 use Rattle.sedscript.specs.Targets.{leaves, counted, commands_in, label_in, is_label, close_in, is_close, depth_behind, block_end}
-use Rattle.sedscript.specs.Script.{Cut, done, item, with_text, texts_of, with_substitution, substitutions_of, with_table, tables_of, counts_with, none_counted, action_of, simple_action, text_action, branch_action, with_action, commands_of, Judged, Means, Program}
+use Rattle.sedscript.specs.Script.{Cut, done, item, with_text, texts_of, with_substitution, substitutions_of, with_table, tables_of, substitution_of, table_between, counts_with, none_counted, action_of, simple_action, text_action, branch_action, with_action, commands_of, Judged, Means, Program}
 use Rattle.sedscript.specs.declared.substitution.Substitution.{Substitution}
-use Rattle.sedscript.specs.Ranges.{Sizes, sizes_of, AddressWithin, ActionWithin, CommandWithin, SubstitutionWithin, InRange}
+use Rattle.sedscript.specs.Ranges.{Sizes, sizes_of, IsOneOf, AddressWithin, ActionWithin, CommandWithin, SubstitutionWithin, InRange}
 use Rattle.sedscript.proofs.Labels.{commands_snoc, counted_in}
 
 -- targets
@@ -118,9 +127,31 @@ address_more m n (Some Last) le h = tt
 address_more m n (Some (Match None)) le h = tt
 address_more m n (Some (Match (Some k))) le h = omega (arith, le, h)
 
+addresses_more : (m n : ℕ) (a : Addresses) → m ≤ n → AddressesWithin m a → AddressesWithin n a
+addresses_more m n a le h = (address_more m n a.first le h.0, address_more m n a.second le h.1)
+
+one_more : (m n : ℕ) (e : Option ℕ) → m ≤ n → IsOneOf m e → IsOneOf n e
+one_more m n None le h = tt
+one_more m n (Some k) le h = omega (arith, le, h)
+
+-- the expression of an `s` is one of so many, and its number counts from 1
+abbrev FunctionWithin : ℕ → Function → Type 0
+FunctionWithin n (Substitute s e f) = IsOneOf n e × (1 ≤ unwrap_or f.number 1)
+FunctionWithin n (Transliterate s) = Unit {0}
+FunctionWithin n (Plain s) = Unit {0}
+FunctionWithin n Open = Unit {0}
+FunctionWithin n Close = Unit {0}
+FunctionWithin n (Label from to) = Unit {0}
+FunctionWithin n (Branch u from to) = Unit {0}
+FunctionWithin n (Text u from to) = Unit {0}
+FunctionWithin n Comment = Unit {0}
+
+abbrev ItemWithin : ℕ → Item → Type 0
+ItemWithin n i = AddressesWithin n i.addresses × FunctionWithin n i.function
+
 abbrev ItemsWithin : ℕ → List Item → Type 0
 ItemsWithin n [] = Unit {0}
-ItemsWithin n (i ∷ is) = AddressesWithin n i.addresses × ItemsWithin n is
+ItemsWithin n (i ∷ is) = ItemWithin n i × ItemsWithin n is
 
 -- what is read is bounded by the count of expressions behind it
 abbrev Bounds : {A : Type 0} → (ℕ → A → Type 0) → ℕ → Reading A → Type 0
@@ -143,10 +174,10 @@ abbrev AddressedWithin : ℕ → Addressed → Type 0
 AddressedWithin n x = (x.count ≡ n) × AddressWithin n x.address
 
 abbrev HeadedWithin : ℕ → Headed → Type 0
-HeadedWithin n h = AddressesWithin n h.addresses
+HeadedWithin n h = (h.count ≡ n) × AddressesWithin n h.addresses
 
 abbrev HereWithin : ℕ → Here → Type 0
-HereWithin n (Is i next) = AddressesWithin n i.addresses
+HereWithin n (Is i next) = ItemWithin n i
 HereWithin n Ends = Unit {0}
 
 line_bounds : (count from to : ℕ) (o : Option ℕ) → Bounds AddressedWithin count (plainly (line_of count from to o))
@@ -191,22 +222,22 @@ address_bounds text count at = by_byte (slice_get text at)
         (bounds_if AddressedWithin count (b == 47) _ _ (match_bounds text count 47 at)
         (bounds_if AddressedWithin count (b == 92) _ _ (own_bounds text count (at + 1) (own_delimiter (slice_get text (at + 1)))) (nothing_bounds count at))))
 
-second_within : (n : ℕ) (first : Address) (place next : ℕ) (o : Option Address) → AddressWithin n (Some first) → AddressWithin n o → IfOk (with_second first place next o) (HeadedWithin n)
-second_within n first place next None h g = tt
-second_within n first place next (Some a) h g = (h, g)
+second_within : (n : ℕ) (first : Address) (place : ℕ) (x : Addressed) (o : Option Address) → x.count ≡ n → AddressWithin n (Some first) → AddressWithin n o → IfOk (with_second first place x o) (HeadedWithin n)
+second_within n first place x None e h g = tt
+second_within n first place x (Some a) e h g = (e, (h, g))
 
 second_bounds : (text : List ℕ) (count : ℕ) (first : Address) (at : ℕ) → AddressWithin count (Some first) → Bounds HeadedWithin count (second_at text count first at)
 unfolding second_at
 second_bounds text count first at h =
-    bounds_then AddressedWithin HeadedWithin count (address_at text count at) (λ (x : Addressed). plainly (with_second first at x.at x.address))
+    bounds_then AddressedWithin HeadedWithin count (address_at text count at) (λ (x : Addressed). plainly (with_second first at x x.address))
     (address_bounds text count at)
-    (λ n x le p. second_within n first at x.at x.address (address_more count n (Some first) le h) p.1)
+    (λ n x le p. second_within n first at x x.address p.0 (address_more count n (Some first) le h) p.1)
 
 behind_bounds : (text : List ℕ) (count at : ℕ) (o : Option Address) → AddressWithin count o → Bounds HeadedWithin count (behind_first text count at o)
-behind_bounds text count at None h = (tt, tt)
+behind_bounds text count at None h = (refl, (tt, tt))
 behind_bounds text count at (Some first) h =
     bounds_if HeadedWithin count (is_byte 44 (slice_get text (past Blank text at))) _ _ (second_bounds text count first (past Blank text (past Blank text at + 1)) h)
-    (h, tt)
+    (refl, (h, tt))
 
 addresses_bounds : (text : List ℕ) (count at : ℕ) → Bounds HeadedWithin count (addresses_at text count at)
 unfolding addresses_at
@@ -216,33 +247,160 @@ addresses_bounds text count at =
     (λ n x le p. subst (λ (k : ℕ). Bounds HeadedWithin k (behind_first text x.count x.at x.address)) p.0
     (behind_bounds text x.count x.at x.address (address_more n x.count x.address (omega (arith, p.0)) p.1)))
 
-function_within : (text : List ℕ) (a : Addresses) (at n : ℕ) → AddressesWithin n a → IfOk (function_at text a at) (HereWithin n)
-unfolding function_at
-function_within text a at n h = by_letter (slice_get text at)
-  where
-    by_function : (r : Result (Function × ℕ) ScriptFault) → IfOk (◌then◌ r (λ (found : Function × ℕ). Ok (item_of a at found))) (HereWithin n)
-    by_function (Ok found) = h
-    by_function (Err f) = tt
+-- functions
 
-    by_allowed : (r : Result ℕ ScriptFault) → IfOk (◌then◌ r (λ (b : ℕ). ◌then◌ (function_of text b at) (λ (found : Function × ℕ). Ok (item_of a at found)))) (HereWithin n)
-    by_allowed (Ok b) = by_function (function_of text b at)
+abbrev FoundWithin : ℕ → Function × ℕ → Type 0
+FoundWithin n found = FunctionWithin n found.0
+
+ended_within : (text : List ℕ) (n at : ℕ) (f : Function) → FunctionWithin n f → IfOk (ended text f at) (FoundWithin n)
+ended_within text n at f h = by_end (may_end (slice_get text (past Blank text at)))
+  where
+    by_end : (b : Bool) → IfOk (if b then Ok (f, past Blank text at) else fault TrailingBytes (past Blank text at)) (FoundWithin n)
+    by_end true = h
+    by_end false = tt
+
+found_if : (n : ℕ) (b : Bool) (r s : Result (Function × ℕ) ScriptFault) → IfOk r (FoundWithin n) → IfOk s (FoundWithin n) → IfOk (if b then r else s) (FoundWithin n)
+found_if n true r s h g = h
+found_if n false r s h g = g
+
+text_found : (n place : ℕ) (u : TextUse) (o : Option (ℕ × ℕ)) → IfOk (text_of u place o) (FoundWithin n)
+text_found n place u None = tt
+text_found n place u (Some span) = tt
+
+plain_within : (text : List ℕ) (n letter at : ℕ) → IfOk (function_of text letter at) (FoundWithin n)
+unfolding function_of
+plain_within text n letter at =
+    found_if n (letter == 123) _ _ tt
+    (found_if n (letter == 125) _ _ (ended_within text n (at + 1) Close tt)
+    (found_if n (letter == 35) _ _ tt
+    (found_if n (letter == 58) _ _
+    (found_if n (past Name text (past Blank text (at + 1)) == past Blank text (at + 1)) _ _ tt (ended_within text n _ _ tt))
+    (found_if n (letter == 98) _ _ (ended_within text n _ _ tt)
+    (found_if n (letter == 116) _ _ (ended_within text n _ _ tt)
+    (found_if n (letter == 105) _ _ (text_found n at Insert (text_from text (past Blank text (at + 1))))
+    (found_if n (letter == 99) _ _ (text_found n at Change (text_from text (past Blank text (at + 1))))
+    (found_if n (letter == 61) _ _ (ended_within text n (at + 1) (Plain LineNumber) tt)
+    (found_if n (letter == 100) _ _ (ended_within text n (at + 1) (Plain Delete) tt)
+    (found_if n (letter == 112) _ _ (ended_within text n (at + 1) (Plain Print) tt)
+    (found_if n (letter == 113) _ _ (ended_within text n (at + 1) (Plain Quit) tt) tt)))))))))))
+
+unless_within : (n : ℕ) (o : Option ScriptFault) (r : Result (Function × ℕ) ScriptFault) → IfOk r (FoundWithin n) → IfOk (unless_fault o r) (FoundWithin n)
+unless_within n None r h = h
+unless_within n (Some f) r h = tt
+
+transliterate_within : (text : List ℕ) (n at : ℕ) → IfOk (transliterate_at text at) (FoundWithin n)
+unfolding transliterate_at
+transliterate_within text n at = by_strings (transliterate_strings text (at + 1) (own_delimiter (slice_get text (at + 1))))
+  where
+    by_strings : (r : Result Strings ScriptFault) →
+        IfOk (◌then◌ r (λ (s : Strings). unless_fault (strings_fault text s.delimiter at s.from s.middle s.to) (ended text (Transliterate s) (s.to + 1)))) (FoundWithin n)
+    by_strings (Ok s) = unless_within n (strings_fault text s.delimiter at s.from s.middle s.to) _ (ended_within text n (s.to + 1) (Transliterate s) tt)
+    by_strings (Err f) = tt
+
+-- a number of flags counts from 1
+abbrev FlagsWithin : Flags → Type 0
+FlagsWithin f = 1 ≤ unwrap_or f.number 1
+
+numbered_within : (f : Flags) (at : ℕ) (o : Option ℕ) → IfOk (numbered f at o) FlagsWithin
+numbered_within f at None = tt
+numbered_within f at (Some zero) = tt
+numbered_within f at (Some (suc n)) = omega arith
+
+number_within : (f : Flags) (at : ℕ) (digits : List ℕ) → IfOk (with_number f at digits) FlagsWithin
+number_within f at digits = by_number (is_some f.number)
+  where
+    by_number : (b : Bool) → IfOk (if b then fault RepeatedFlag at else numbered f at (with_digits (Some 0) digits)) FlagsWithin
+    by_number true = tt
+    by_number false = numbered_within f at (with_digits (Some 0) digits)
+
+flags_if : (b : Bool) (r s : Result Flags ScriptFault) → IfOk r FlagsWithin → IfOk s FlagsWithin → IfOk (if b then r else s) FlagsWithin
+flags_if true r s h g = h
+flags_if false r s h g = g
+
+flag_within : (f : Flags) (at b : ℕ) → FlagsWithin f → IfOk (with_flag f at b) FlagsWithin
+flag_within f at b h =
+    flags_if (b == 103) _ _ (flags_if f.global _ _ tt h) (flags_if (b == 112) _ _ (flags_if f.print _ _ tt h) tt)
+
+abbrev ReadWithin : Flags × ℕ → Type 0
+ReadWithin found = FlagsWithin found.0
+
+flags_within : (f : Flags) (skip at : ℕ) (bs : List ℕ) → FlagsWithin f → IfOk (flags_from f skip at bs) ReadWithin
+flags_within f skip at [] h = h
+flags_within f (suc skip) at (b ∷ bs) h = flags_within f skip (suc at) bs h
+flags_within f zero at (b ∷ bs) h = by_digit (λ g skip. flags_within g skip (suc at) bs) (is_digit b)
+  where
+    Rest : Type 0
+    Rest = (g : Flags) (skip : ℕ) → FlagsWithin g → IfOk (flags_from g skip (suc at) bs) ReadWithin
+
+    behind : Rest → (skip : ℕ) (r : Result Flags ScriptFault) → IfOk r FlagsWithin → IfOk (◌then◌ r (λ (g : Flags). flags_from g skip (suc at) bs)) ReadWithin
+    behind rest skip (Ok g) k = rest g skip k
+    behind rest skip (Err e) k = tt
+
+    by_end : Rest → (t : Bool) → IfOk (if t then Ok (f, at) else ◌then◌ (with_flag f at b) (λ (g : Flags). flags_from g zero (suc at) bs)) ReadWithin
+    by_end rest true = h
+    by_end rest false = behind rest zero (with_flag f at b) (flag_within f at b h)
+
+    by_digit : Rest → (t : Bool) → IfOk (if t then ◌then◌ (with_number f at (b ∷ take (run_of Digit bs) bs)) (λ (g : Flags). flags_from g (run_of Digit bs) (suc at) bs)
+        else if ends_flags b then Ok (f, at) else ◌then◌ (with_flag f at b) (λ (g : Flags). flags_from g zero (suc at) bs)) ReadWithin
+    by_digit rest true = behind rest (run_of Digit bs) (with_number f at (b ∷ take (run_of Digit bs) bs)) (number_within f at (b ∷ take (run_of Digit bs) bs))
+    by_digit rest false = by_end rest (ends_flags b)
+
+substituted_within : (text : List ℕ) (s : Strings) (e limit : Option ℕ) (n : ℕ) → IsOneOf n e → IfOk (substituted text s e limit) (FoundWithin n)
+unfolding substituted
+substituted_within text s e limit n h =
+    unless_within n (replacement_fault s.delimiter limit false (s.middle + 1) (part text (s.middle + 1) s.to)) _
+    (by_flags (flags_from no_flags 0 (s.to + 1) (drop (s.to + 1) text)) (flags_within no_flags 0 (s.to + 1) (drop (s.to + 1) text) (omega arith)))
+  where
+    by_flags : (r : Result (Flags × ℕ) ScriptFault) → IfOk r ReadWithin → IfOk (◌then◌ r (λ (found : Flags × ℕ). ended text (Substitute s e found.0) found.1)) (FoundWithin n)
+    by_flags (Ok found) k = ended_within text n found.1 (Substitute s e found.0) (h, k)
+    by_flags (Err f) k = tt
+
+substitute_bounds : (text : List ℕ) (count : ℕ) (s : Strings) → Bounds FoundWithin count (substitute_with text count s)
+substitute_bounds text count s = by_length (s.middle == s.from)
+  where
+    by_length : (b : Bool) → Bounds FoundWithin count
+        (if b then plainly (substituted text s None None) else expression (record { from = s.from; to = s.middle; delimiter = s.delimiter }) (λ groups. plainly (substituted text s (Some count) (Some groups))))
+    by_length true = substituted_within text s None None count tt
+    by_length false = λ groups. substituted_within text s (Some count) (Some groups) (suc count) (omega arith)
+
+substitute_at_bounds : (text : List ℕ) (count at : ℕ) → Bounds FoundWithin count (substitute_at text count at)
+unfolding substitute_at
+substitute_at_bounds text count at = by_strings (substitute_strings text (at + 1) (own_delimiter (slice_get text (at + 1))))
+  where
+    by_strings : (r : Result Strings ScriptFault) → Bounds FoundWithin count (plainly r >>= substitute_with text count)
+    by_strings (Ok s) = substitute_bounds text count s
+    by_strings (Err f) = tt
+
+function_bounds : (text : List ℕ) (count letter at : ℕ) → Bounds FoundWithin count (function_with text count letter at)
+function_bounds text count letter at =
+    bounds_if FoundWithin count (letter == 115) _ _ (substitute_at_bounds text count at)
+    (bounds_if FoundWithin count (letter == 121) _ _ (transliterate_within text count at) (plain_within text count letter at))
+
+item_of_bounds : (text : List ℕ) (count : ℕ) (a : Addresses) (at : ℕ) → AddressesWithin count a → Bounds HereWithin count (function_at text count a at)
+unfolding function_at
+item_of_bounds text count a at h = by_letter (slice_get text at)
+  where
+    by_allowed : (r : Result ℕ ScriptFault) → Bounds HereWithin count (plainly r >>= λ (b : ℕ). function_with text count b at >>= λ (found : Function × ℕ). plainly (Ok (item_of a at found)))
+    by_allowed (Ok b) =
+        bounds_then FoundWithin HereWithin count (function_with text count b at) (λ (found : Function × ℕ). plainly (Ok (item_of a at found)))
+        (function_bounds text count b at) (λ n x le p. (addresses_more count n a le h, p))
     by_allowed (Err f) = tt
 
-    by_letter : (o : Option ℕ) → IfOk (item_with text a at o) (HereWithin n)
+    by_letter : (o : Option ℕ) → Bounds HereWithin count (item_with text count a at o)
     by_letter None = tt
     by_letter (Some letter) = by_allowed (allowed a letter at (most_addresses letter))
 
-bang_within : (text : List ℕ) (h : Headed) (n : ℕ) → HeadedWithin n h → HeadedWithin n (with_bang text h)
+bang_within : (text : List ℕ) (h : Headed) (n : ℕ) → AddressesWithin n h.addresses → AddressesWithin n (with_bang text h).addresses
 bang_within text h n g = by_bang (is_byte 33 (slice_get text (past Blank text h.at)))
   where
-    by_bang : (b : Bool) → HeadedWithin n
-        (if b then record { addresses = record { first = h.addresses.first; second = h.addresses.second; negate = true }; at = past Bang text (past Blank text h.at) }
-        else record { addresses = h.addresses; at = past Blank text h.at })
+    Of : Headed → Type 0
+    Of x = AddressesWithin n x.addresses
+
+    by_bang : (b : Bool) → Of
+        (if b then record { addresses = record { first = h.addresses.first; second = h.addresses.second; negate = true }; at = past Bang text (past Blank text h.at); count = h.count }
+        else record { addresses = h.addresses; at = past Blank text h.at; count = h.count })
     by_bang true = g
     by_bang false = g
-
-addresses_more : (m n : ℕ) (a : Addresses) → m ≤ n → AddressesWithin m a → AddressesWithin n a
-addresses_more m n a le h = (address_more m n a.first le h.0, address_more m n a.second le h.1)
 
 item_bounds : (text : List ℕ) (count at : ℕ) → Bounds HereWithin count (item_at text count at)
 unfolding item_at
@@ -251,14 +409,28 @@ item_bounds text count at = by_byte (slice_get text (past Separator text at))
     by_byte : (o : Option ℕ) → Bounds HereWithin count (item_from text count (past Separator text at) o)
     by_byte None = tt
     by_byte (Some b) =
-        bounds_then HeadedWithin HereWithin count (addresses_at text count (past Separator text at)) (λ (h : Headed). plainly (function_behind text h))
+        bounds_then HeadedWithin HereWithin count (addresses_at text count (past Separator text at)) (function_behind text)
         (addresses_bounds text count (past Separator text at))
-        (λ n h le p. function_within text (with_bang text h).addresses (with_bang text h).at n (bang_within text h n p))
+        (λ n h le p. subst (λ (k : ℕ). Bounds HereWithin k (function_behind text h)) p.0
+        (item_of_bounds text h.count (with_bang text h).addresses (with_bang text h).at (bang_within text h h.count (subst (λ (k : ℕ). AddressesWithin k h.addresses) (sym p.0) p.1))))
+
+function_more : (m n : ℕ) (f : Function) → m ≤ n → FunctionWithin m f → FunctionWithin n f
+function_more m n (Substitute s e f) le h = (one_more m n e le h.0, h.1)
+function_more m n (Transliterate s) le h = tt
+function_more m n (Plain s) le h = tt
+function_more m n Open le h = tt
+function_more m n Close le h = tt
+function_more m n (Label from to) le h = tt
+function_more m n (Branch u from to) le h = tt
+function_more m n (Text u from to) le h = tt
+function_more m n Comment le h = tt
 
 cut_within : (text : List ℕ) (kind : Kind) (m count at to n : ℕ) (is : List Item) (es : List Written) → Cut text kind m count at is es to → n ≡ count + length es → ItemsWithin n is
 cut_within text kind m count at to n _ _ done e = tt
 cut_within text kind m count at to n _ _ (item {next = next} {i = i} {is = is} es fs read rest) e = (
-  addresses_more (count + length es) n i.addresses (omega (arith, e, length-append es fs)) (gives_bounds HereWithin text kind m count (item_at text count at) es (Is i next) read (item_bounds text count at)),
+  (let here = gives_bounds HereWithin text kind m count (item_at text count at) es (Is i next) read (item_bounds text count at) in
+  let le : count + length es ≤ n = omega (arith, e, length-append es fs) in
+  (addresses_more (count + length es) n i.addresses le here.0, function_more (count + length es) n i.function le here.1)),
   cut_within text kind m (count + length es) next to n is fs rest (e ∙ omega (arith, length-append es fs)),
 )
 
@@ -293,7 +465,7 @@ commands_within : (text : List ℕ) (all before is : List Item) (m : Counts) (n 
     ItemsWithin n.expressions is → AllWithin n (commands_of text all before m is)
 commands_within text all before [] m n whole count long h = tt
 commands_within text all before (i ∷ is) m n whole count long h =
-    with_within n i.addresses (action_of text all before m is i.function) (commands_of text all (before ++ i ∷ []) (counts_with m i.function) is) h.0
+    with_within n i.addresses (action_of text all before m is i.function) (commands_of text all (before ++ i ∷ []) (counts_with m i.function) is) h.0.0
     (may_act text all before is m n i.function whole count long)
     (commands_within text all (before ++ i ∷ []) is (counts_with m i.function) n whole
     (ap (λ (m : ℕ). m + commands_in is) (commands_snoc before i) ∙ (counted_in (commands_in before) i is ∙ count))
@@ -340,21 +512,68 @@ fit_at m [] k e h g = let bad : ◌≡◌ {A = Option Written} None (Some e) = g
 fit_at m (f ∷ es) zero e h g = let same : f ≡ e = cc in subst (λ (x : Written). length x.nodes ≤ m) same h.0
 fit_at m (f ∷ es) (suc k) e h g = fit_at m es k e h.1 g
 
+from_none : (n m : ℕ) → m ≡ n → 0 + n ≡ m
+from_none n m e = omega (arith, e)
+
+-- substitutions and tables
+
+no_item : {A B : Type 0} (x : A) → ◌≡◌ {A = Option A} None (Some x) → B
+no_item x h = cc
+
+substitution_at : (n : ℕ) (text : List ℕ) (is : List Item) (k : ℕ) (t : Substitution) → ItemsWithin n is → slice_get (substitutions_of text is) k ≡ Some t → SubstitutionWithin n t
+substitution_at n text [] k t h g = no_item t g
+substitution_at n text (i ∷ is) k t h g = by_function i.function h.0.1 k g (λ k g. substitution_at n text is k t h.1 g)
+  where
+    by_function : (f : Function) → FunctionWithin n f → (k : ℕ) → slice_get (with_substitution text f (substitutions_of text is)) k ≡ Some t →
+        ((k : ℕ) → slice_get (substitutions_of text is) k ≡ Some t → SubstitutionWithin n t) → SubstitutionWithin n t
+    by_function (Substitute s e f) w zero g rest =
+        let same : substitution_of text s e f ≡ t = cc in subst (SubstitutionWithin n) same (record { expression = w.0; number = w.1 })
+    by_function (Substitute s e f) w (suc k) g rest = rest k g
+    by_function (Transliterate s) w k g rest = rest k g
+    by_function (Text u from to) w k g rest = rest k g
+    by_function Open w k g rest = rest k g
+    by_function Close w k g rest = rest k g
+    by_function Comment w k g rest = rest k g
+    by_function (Plain a) w k g rest = rest k g
+    by_function (Label from to) w k g rest = rest k g
+    by_function (Branch u from to) w k g rest = rest k g
+
+table_whole : (source target : List ℕ) → length (table_of source target) ≡ 256
+unfolding table_of
+table_whole source target = length-map-range_with_len (counterpart source target) 0 256
+
+table_at : (text : List ℕ) (is : List Item) (k : ℕ) (t : List ℕ) → slice_get (tables_of text is) k ≡ Some t → length t ≡ 256
+table_at text [] k t g = no_item t g
+table_at text (i ∷ is) k t g = by_function i.function k g (λ k g. table_at text is k t g)
+  where
+    by_function : (f : Function) (k : ℕ) → slice_get (with_table text f (tables_of text is)) k ≡ Some t → ((k : ℕ) → slice_get (tables_of text is) k ≡ Some t → length t ≡ 256) → length t ≡ 256
+    by_function (Transliterate s) zero g rest = let same : table_between text s ≡ t = cc in subst (λ (t : List ℕ). length t ≡ 256) same (table_whole _ _)
+    by_function (Transliterate s) (suc k) g rest = rest k g
+    by_function (Substitute s e f) k g rest = rest k g
+    by_function (Text u from to) k g rest = rest k g
+    by_function Open k g rest = rest k g
+    by_function Close k g rest = rest k g
+    by_function Comment k g rest = rest k g
+    by_function (Plain a) k g rest = rest k g
+    by_function (Label from to) k g rest = rest k g
+    by_function (Branch u from to) k g rest = rest k g
+
 -- what a text means is in range
 pub means_in_range : (text : List ℕ) (kind : Kind) (m : ℕ) (s : Program) → Means text kind m s → InRange s
 means_in_range text kind m s h =
     let is = h.items in
     let long : length s.commands ≡ commands_in is = ap (λ (xs : List Command). length xs) h.commands ∙ commands_length text is [] is none_counted in
-    let texts : 0 + length (texts_of text is) ≡ length s.texts = sym (ap (λ (xs : List (List ℕ)). length xs) h.texts) in
-    let substitutions : 0 + length (substitutions_of text is) ≡ length s.substitutions = sym (ap (λ (xs : List Substitution). length xs) h.substitutions) in
-    let tables : 0 + length (tables_of text is) ≡ length s.tables = sym (ap (λ (xs : List (List ℕ)). length xs) h.tables) in
+    let items : ItemsWithin (length s.expressions) is = cut_within text kind m 0 0 h.to (length s.expressions) is s.expressions h.judged.cut (omega arith) in
+    let texts : 0 + length (texts_of text is) ≡ length s.texts = from_none _ _ (ap (λ (xs : List (List ℕ)). length xs) h.texts) in
+    let substitutions : 0 + length (substitutions_of text is) ≡ length s.substitutions = from_none _ _ (ap (λ (xs : List Substitution). length xs) h.substitutions) in
+    let tables : 0 + length (tables_of text is) ≡ length s.tables = from_none _ _ (ap (λ (xs : List (List ℕ)). length xs) h.tables) in
     let all : AllWithin (sizes_of s) s.commands =
     subst (AllWithin (sizes_of s)) (sym h.commands)
     (commands_within text is [] is none_counted (sizes_of s) (sym long) (omega (arith, long)) (texts, substitutions, tables)
-    (cut_within text kind m 0 0 h.to (length s.expressions) is s.expressions h.judged.cut (omega arith))) in
+    items) in
     record {
       each = λ i x g. all_at (sizes_of s) s.commands i x all g;
       nodes = λ k e g. subst (λ (n : ℕ). length e.nodes ≤ n) (sym h.nodes) (fit_at m s.expressions k e (cut_fit text kind m 0 0 h.to is s.expressions h.judged.cut) g);
-      substitutions = λ k t g. no_substitution (length s.expressions) s.substitutions k t h.substitutions g;
-      tables = λ k t g. no_table s.tables k t h.tables g;
+      substitutions = λ k t g. substitution_at (length s.expressions) text is k t items (subst (λ (ss : List Substitution). slice_get ss k ≡ Some t) h.substitutions g);
+      tables = λ k t g. table_at text is k t (subst (λ (ts : List (List ℕ)). slice_get ts k ≡ Some t) h.tables g);
     }

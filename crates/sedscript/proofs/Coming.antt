@@ -20,9 +20,13 @@ use Rattle.sedscript.specs.declared.items.Here.{Here}
 use Rattle.sedscript.specs.declared.items.Here.TheVariants.{Is, Ends}
 use Rattle.sedscript.specs.Bytes.{part, past, is_byte, is_digit, with_digits}
 use Rattle.sedscript.specs.Reading.{Pattern, Reading, plainly, expression, ◌>>=◌}
-use Rattle.sedscript.specs.Addresses.{Addressed, Headed, found, match_at, match_to, own_match, item_at, item_from, addresses_of, addresses_at, behind_first, function_behind, address_at, address_of, line_of}
+use Rattle.sedscript.specs.Addresses.{Addressed, Headed, found, headed, match_at, match_to, own_match, addresses_of, addresses_at, behind_first, address_at, address_of, line_of}
+use Rattle.sedscript.specs.declared.items.Strings.{Strings}
+use Rattle.sedscript.specs.declared.items.Function.{Function}
+use Rattle.sedscript.specs.Between.{own_delimiter, substitute_strings, substituted}
+use Rattle.sedscript.specs.Items.{item_at, item_from, function_behind, substitute_with, substitute_at}
 use Rattle.sedscript.specs.Expressions.{IsRead, Gives, value, behind, Fails, own, no_expression, later, in_script}
-use Rattle.sedscript.specs.Answers.{as_here, as_addressed, Comes, Agrees, IsBehind, IsHere, is_no_memory, fault_of}
+use Rattle.sedscript.specs.Answers.{as_here, as_function, as_groups, as_addressed, Comes, Agrees, IsBehind, IsHere, is_no_memory, fault_of}
 
 not_equal : (a b : ℕ) → a ≢ b → (a == b) ≡ false
 not_equal a b n = elim (eqb_tells a b) [ inl h ↦ absurd (n h.1) | inr h ↦ h.0 ]
@@ -101,29 +105,41 @@ fails_in_script text kind m p k f true is h = inr refl
 fails_in_script text kind m p k f false is (inl h) = inl (no_expression {f = f} h)
 fails_in_script text kind m p k f false is (inr e) = absurd (not_memory f.reason is (ap (λ (g : ExprFault). g.reason) e))
 
-pub match_bad : (text : List ℕ) (kind : Kind) (m count d place to : ℕ) (f : ExprFault) → delimiter_at text (place + 1) d ≡ Some to → to ≢ place + 1 →
-    ExprFaulty kind (Some d) (part text (place + 1) to) m f.place f.reason ⊎ (f ≡ no_expr_memory) →
-    Fails text kind m (match_at text count d place) (fault_of (place + 1) f) ⊎ (fault_of (place + 1) f ≡ NO_MEMORY)
+-- a fault of the reader of expressions, in the script
+pub fails_as_read : {A : Type 0} (text : List ℕ) (kind : Kind) (m : ℕ) (p : Pattern) (k : ℕ → Reading A) (f : ExprFault) →
+    ExprFaulty kind (Some p.delimiter) (part text p.from p.to) m f.place f.reason ⊎ (f ≡ no_expr_memory) →
+    Fails text kind m (expression p k) (fault_of p.from f) ⊎ (fault_of p.from f ≡ NO_MEMORY)
+fails_as_read text kind m p k f h = fails_in_script text kind m p k f (is_no_memory f.reason) refl h
+
+-- an expression that was read
+pub expression_comes : (text : List ℕ) (kind : Kind) (m : ℕ) (p : Pattern) (old new : List Written) (e : Written) (groups : ℕ) → groups ≡ e.groups → IsRead text kind m p e → new ≡ old ++ e ∷ [] →
+    Comes text kind m old new as_groups (Ok groups) (expression p (λ (groups : ℕ). plainly (Ok groups)))
+expression_comes text kind m p old new e groups same read grown =
+    subst (λ (n : ℕ). Comes text kind m old new as_groups (Ok n) (expression p (λ (groups : ℕ). plainly (Ok groups)))) (sym same) (e ∷ [], behind e read value, grown)
+
+-- an address with an expression is what stands behind the expression alone
+pub match_is : (text : List ℕ) (count d place to : ℕ) → delimiter_at text (place + 1) d ≡ Some to → to ≢ place + 1 →
+    match_at text count d place ≡ (expression (record { from = place + 1; to = to; delimiter = d }) (λ (groups : ℕ). plainly (Ok groups)) >>= λ (groups : ℕ). plainly (found (Some (Match (Some count))) (to + 1) (count + 1)))
 unfolding match_at
-match_bad text kind m count d place to f e n h =
-    subst (λ (o : Option ℕ). Fails text kind m (match_to count d place o) (fault_of (place + 1) f) ⊎ (fault_of (place + 1) f ≡ NO_MEMORY)) (sym e)
-    (rw (not_equal to (place + 1) n) (fails_in_script text kind m (record { from = place + 1; to = to; delimiter = d }) _ f (is_no_memory f.reason) refl h))
+match_is text count d place to e n = ap (match_to count d place) e ∙ if_false _ _ (to == place + 1) (not_equal to (place + 1) n)
+
+match_agrees : (old new number at : ℕ) → number ≡ old → new ≡ old + 1 → Agrees as_addressed new (Ok (Some (Match (Some number)), at)) (found (Some (Match (Some old))) at (old + 1))
+match_agrees old new number at e f = cc
+
+pub match_comes : (text : List ℕ) (kind : Kind) (m d place to number groups : ℕ) (old new : List Written) → delimiter_at text (place + 1) d ≡ Some to → to ≢ place + 1 → number ≡ length old → length new ≡ length old + 1 →
+    Comes text kind m old new as_groups (Ok groups) (expression (record { from = place + 1; to = to; delimiter = d }) (λ (groups : ℕ). plainly (Ok groups))) →
+    Comes text kind m old new as_addressed (Ok (Some (Match (Some number)), to + 1)) (match_at text (length old) d place)
+match_comes text kind m d place to number groups old new e n same one h =
+    subst (λ (r : Reading Addressed). Comes text kind m old new as_addressed (Ok (Some (Match (Some number)), to + 1)) r) (sym (match_is text (length old) d place to e n))
+    (comes_then text kind m old new new (expression (record { from = place + 1; to = to; delimiter = d }) (λ (groups : ℕ). plainly (Ok groups)))
+    (λ (groups : ℕ). plainly (found (Some (Match (Some (length old)))) (to + 1) (length old + 1))) groups as_addressed (Ok (Some (Match (Some number)), to + 1)) h
+    (comes_plain text kind m new new as_addressed (Ok (Some (Match (Some number)), to + 1)) (found (Some (Match (Some (length old)))) (to + 1) (length old + 1)) refl
+    (match_agrees (length old) (length new) number (to + 1) same one)))
 
 pub match_empty : (text : List ℕ) (count d place to : ℕ) → delimiter_at text (place + 1) d ≡ Some to → to ≡ place + 1 →
     match_at text count d place ≡ plainly (found (Some (Match None)) (to + 1) count)
 unfolding match_at
 match_empty text count d place to e same = ap (match_to count d place) e ∙ if_true _ _ (to == place + 1) (equal to (place + 1) same)
-
-pub match_read : (text : List ℕ) (kind : Kind) (m d place to number : ℕ) (old new : List Written) (e : Written) → delimiter_at text (place + 1) d ≡ Some to → to ≢ place + 1 →
-    IsRead text kind m (record { from = place + 1; to = to; delimiter = d }) e → new ≡ old ++ e ∷ [] → number ≡ length old →
-    Comes text kind m old new as_addressed (Ok (Some (Match (Some number)), to + 1)) (match_at text (length old) d place)
-unfolding match_at
-match_read text kind m d place to number old new e is n read grown same =
-    let reads = ap (match_to (length old) d place) is ∙ if_false _ _ (to == place + 1) (not_equal to (place + 1) n) in
-    let x : Addressed = as_addressed (Some (Match (Some number)), to + 1) (length new) in
-    let more : length old + 1 ≡ length new = sym (ap (λ (z : List Written). length z) grown ∙ length-append old (e ∷ [])) in
-    let found_is : as_addressed (Some (Match (Some (length old))), to + 1) (length old + 1) ≡ x = cc in
-    (e ∷ [], subst (λ (r : Reading Addressed). Gives text kind m r (e ∷ []) x) (sym reads) (behind e read (subst (Gives text kind m _ []) found_is value)), grown)
 
 pub own_none : (text : List ℕ) (kind : Kind) (m count place : ℕ) (o : Option ℕ) → o ≡ None → Fails text kind m (own_match text count place o) (record { place = place; reason = BadDelimiter })
 own_none text kind m count place o e = subst (λ (o : Option ℕ). Fails text kind m (own_match text count place o) (record { place = place; reason = BadDelimiter })) (sym e) own
@@ -135,7 +151,7 @@ item_none text kind m old new place e same =
     subst (λ (o : Option ℕ). Comes text kind m old new as_here (Ok Ends) (item_from text (length old) (past Separator text place) o)) (sym e) ([], value, sym same ∙ sym (append-nil old))
 
 pub item_some : (text : List ℕ) (kind : Kind) (m : ℕ) (old new : List Written) (place start b : ℕ) (result : Result Here ScriptFault) → start ≡ past Separator text place → slice_get text start ≡ Some b →
-    Comes text kind m old new as_here result (addresses_at text (length old) start >>= λ (h : Headed). plainly (function_behind text h)) →
+    Comes text kind m old new as_here result (addresses_at text (length old) start >>= function_behind text) →
     Comes text kind m old new as_here result (item_at text (length old) place)
 unfolding item_at
 item_some text kind m old new place start b result s e h =
@@ -157,7 +173,7 @@ no_address text count at b e d last slash other =
     ap (address_of text count at) e ∙ if_false _ _ (is_digit b) d ∙ if_false _ _ (b == 36) (not_equal b 36 last) ∙ if_false _ _ (b == 47) (not_equal b 47 slash) ∙ if_false _ _ (b == 92) (not_equal b 92 other)
 
 pub only_first : (text : List ℕ) (count at : ℕ) (first : Address) (o : Option Address) → o ≡ Some first → is_byte 44 (slice_get text (past Blank text at)) ≡ false →
-    behind_first text count at o ≡ plainly (Ok (record { addresses = addresses_of (Some first) None; at = at }))
+    behind_first text count at o ≡ plainly (headed (Some first) None at count)
 only_first text count at first o e d = ap (behind_first text count at) e ∙ if_false _ _ (is_byte 44 (slice_get text (past Blank text at))) d
 
 pub line_comes : (text : List ℕ) (kind : Kind) (m : ℕ) (old : List Written) (at b : ℕ) (result : Result (Option Address × ℕ) ScriptFault) → slice_get text at ≡ Some b → is_digit b ≡ true →
@@ -176,3 +192,39 @@ pub behind_here : (text : List ℕ) (at start next : ℕ) (result : Result Here 
 behind_here text at start next (Err x) a b h = tt
 behind_here text at start next (Ok (Is i to)) a b h = (omega (arith, a, b, h.0), h.1)
 behind_here text at start next (Ok Ends) a b h = absurd h
+
+-- `s`
+
+pub functions_agree : (n : ℕ) (result r : Result (Function × ℕ) ScriptFault) → result ≡ r → Agrees as_function n result r
+functions_agree n (Ok x) r e = sym e
+functions_agree n (Err x) r e = sym e
+
+pub substitute_empty : (text : List ℕ) (count : ℕ) (s : Strings) → s.middle ≡ s.from → substitute_with text count s ≡ plainly (substituted text s None None)
+substitute_empty text count s e = if_true _ _ (s.middle == s.from) (equal s.middle s.from e)
+
+pub substitute_is : (text : List ℕ) (count : ℕ) (s : Strings) → s.middle ≢ s.from →
+    substitute_with text count s ≡ (expression (record { from = s.from; to = s.middle; delimiter = s.delimiter }) (λ (groups : ℕ). plainly (Ok groups)) >>= λ (groups : ℕ). plainly (substituted text s (Some count) (Some groups)))
+substitute_is text count s n = if_false _ _ (s.middle == s.from) (not_equal s.middle s.from n)
+
+pub substitute_comes : (text : List ℕ) (kind : Kind) (m number groups : ℕ) (s : Strings) (old new : List Written) (result : Result (Function × ℕ) ScriptFault) → s.middle ≢ s.from → number ≡ length old →
+    Comes text kind m old new as_groups (Ok groups) (expression (record { from = s.from; to = s.middle; delimiter = s.delimiter }) (λ (groups : ℕ). plainly (Ok groups))) →
+    result ≡ substituted text s (Some number) (Some groups) → Comes text kind m old new as_function result (substitute_with text (length old) s)
+substitute_comes text kind m number groups s old new result n same h is =
+    subst (λ (r : Reading (Function × ℕ)). Comes text kind m old new as_function result r) (sym (substitute_is text (length old) s n))
+    (comes_then text kind m old new new (expression (record { from = s.from; to = s.middle; delimiter = s.delimiter }) (λ (groups : ℕ). plainly (Ok groups)))
+    (λ (groups : ℕ). plainly (substituted text s (Some (length old)) (Some groups))) groups as_function result h
+    (comes_plain text kind m new new as_function result (substituted text s (Some (length old)) (Some groups)) refl
+    (functions_agree (length new) result _ (is ∙ ap (λ (k : ℕ). substituted text s (Some k) (Some groups)) same))))
+
+pub substitute_fault : (text : List ℕ) (kind : Kind) (m count at : ℕ) (f : ScriptFault) → substitute_strings text (at + 1) (own_delimiter (slice_get text (at + 1))) ≡ Err f →
+    Fails text kind m (substitute_at text count at) f ⊎ (f ≡ NO_MEMORY)
+unfolding substitute_at
+substitute_fault text kind m count at f e =
+    inl (subst (λ (r : Result Strings ScriptFault). Fails text kind m (plainly r >>= substitute_with text count) f) (sym e) own)
+
+pub substitute_goes : (text : List ℕ) (kind : Kind) (m : ℕ) (old new : List Written) (at : ℕ) (s : Strings) (result : Result (Function × ℕ) ScriptFault) →
+    substitute_strings text (at + 1) (own_delimiter (slice_get text (at + 1))) ≡ Ok s → Comes text kind m old new as_function result (substitute_with text (length old) s) →
+    Comes text kind m old new as_function result (substitute_at text (length old) at)
+unfolding substitute_at
+substitute_goes text kind m old new at s result e h =
+    subst (λ (r : Result Strings ScriptFault). Comes text kind m old new as_function result (plainly r >>= substitute_with text (length old))) (sym e) h

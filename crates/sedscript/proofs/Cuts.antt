@@ -9,7 +9,7 @@ use Rattle.sedscript.specs.declared.items.Here.TheVariants.{Is, Ends}
 use Rattle.sedscript.specs.declared.bytes.Sort.TheVariants.{Separator}
 use Rattle.sedscript.specs.Bytes.{past}
 use Rattle.sedscript.specs.Reading.{plainly}
-use Rattle.sedscript.specs.Addresses.{item_at, item_from}
+use Rattle.sedscript.specs.Items.{item_at, item_from}
 use Rattle.sedscript.specs.Expressions.{Gives, value}
 use Rattle.sedscript.specs.Answers.{IsHere}
 use Rattle.sedscript.specs.Script.{Cut, done, item, IsEnd}

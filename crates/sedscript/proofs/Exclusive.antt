@@ -11,7 +11,7 @@ use Rattle.sedscript.specs.declared.items.Here.TheVariants.{Is, Ends}
 use Rattle.sedscript.specs.declared.bytes.Sort.TheVariants.{Separator}
 use Rattle.sedscript.specs.Bytes.{past, part}
 use Rattle.sedscript.specs.Reading.{Pattern, Reading}
-use Rattle.sedscript.specs.Addresses.{item_at, item_from}
+use Rattle.sedscript.specs.Items.{item_at, item_from}
 use Rattle.sedscript.specs.Expressions.{IsRead, Gives, value, behind, Fails, no_expression, later}
 use Rattle.sedscript.specs.Script.{Cut, done, item, IsEnd, Means, Faulty, early, afterwards, Program, Judged, commands_of, none_counted, texts_of, substitutions_of, tables_of}
 use Rattle.sedscript.specs.Targets.{late}

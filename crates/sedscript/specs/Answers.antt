@@ -1,5 +1,5 @@
 -- What the reader's functions answer, against the definitions. Private machinery of the reader.
-use Rattle.std.specs.Prelude.{◌≡◌, ◌<◌, ◌≤◌, ◌⊎◌, ℕ, List, ◌++◌, length, Bool, true, false, if◌then◌else◌, Option}
+use Rattle.std.specs.Prelude.{◌≡◌, ◌≢◌, ◌<◌, ◌≤◌, ◌⊎◌, ℕ, List, ◌++◌, length, Bool, true, false, if◌then◌else◌, Option}
 use Rattle.std.specs.Prelude.{Result, Ok, Err}
 use Rattle.sedre.specs.declared.types.Kind.{Kind}
 use Rattle.sedre.specs.declared.types.Reason.{Reason as ExprReason}
@@ -12,6 +12,8 @@ use Rattle.sedscript.specs.declared.types.Address.{Address}
 use Rattle.sedscript.specs.declared.items.Source.{Source}
 use Rattle.sedscript.specs.declared.items.Addresses.{Addresses}
 use Rattle.sedscript.specs.declared.items.Item.{Item}
+use Rattle.sedscript.specs.declared.items.Strings.{Strings}
+use Rattle.sedscript.specs.declared.items.Function.{Function}
 use Rattle.sedscript.specs.declared.items.Here.{Here}
 use Rattle.sedscript.specs.declared.items.Here.TheVariants.{Is, Ends}
 use Rattle.sedscript.specs.Reading.{Reading}
@@ -42,10 +44,24 @@ abbrev pub as_addressed : Option Address × ℕ → ℕ → Addressed
 as_addressed x n = record { address = x.0; at = x.1; count = n }
 
 abbrev pub as_headed : Addresses × ℕ → ℕ → Headed
-as_headed x n = record { addresses = x.0; at = x.1 }
+as_headed x n = record { addresses = x.0; at = x.1; count = n }
+
+abbrev pub as_function : Function × ℕ → ℕ → Function × ℕ
+as_function x n = x
+
+abbrev pub as_groups : ℕ → ℕ → ℕ
+as_groups groups n = groups
 
 abbrev pub as_here : Here → ℕ → Here
 as_here x n = x
+
+-- the strings stand one behind the other from a place on, within a text of so many bytes
+pub record AreStrings (at len : ℕ) (s : Strings) : Type 0 where
+  pub delimiter : (s.delimiter ≢ 92) × (s.delimiter ≢ 10)
+  pub from : at ≤ s.from
+  pub middle : s.from ≤ s.middle
+  pub to : s.middle < s.to
+  pub inside : s.to < len
 
 -- what was read stands between a place and the end
 abbrev pub IsBehind : ℕ → ℕ → Here → Type 0

@@ -11,7 +11,6 @@ pub mod Addresses
 pub mod Items
 pub mod Expressions
 pub mod Targets
-pub mod Replacement
 pub mod Script
 pub mod Ranges
 pub mod Parts

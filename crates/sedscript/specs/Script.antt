@@ -33,7 +33,7 @@ use Rattle.sedscript.specs.Bytes.{part, past}
 use Rattle.sedscript.specs.Items.{item_at}
 use Rattle.sedscript.specs.Expressions.{Gives, Fails}
 use Rattle.sedscript.specs.Replacement.{pieces_of}
-use Rattle.sedscript.specs.Transliteration.{table_between}
+use Rattle.sedscript.specs.Transliteration.{chars_of, bytes_of, table_of}
 use Rattle.sedscript.specs.Targets.{commands_in, label_in, block_end, late}
 
 -- a script as its callers see it
@@ -107,6 +107,12 @@ with_substitution text (Branch u from to) ss = ss
 abbrev pub substitutions_of : List ℕ → List Item → List Substitution
 substitutions_of text [] = []
 substitutions_of text (i ∷ is) = with_substitution text i.function (substitutions_of text is)
+
+-- the table of a `y`
+abbrev pub table_between : List ℕ → Strings → List ℕ
+table_between text s =
+    table_of (bytes_of (chars_of text s.delimiter s.from s.middle))
+    (bytes_of (chars_of text s.delimiter (s.middle + 1) s.to))
 
 abbrev pub with_table : List ℕ → Function → List (List ℕ) → List (List ℕ)
 with_table text (Transliterate s) ts = table_between text s ∷ ts

@@ -3,16 +3,16 @@
 ghost use Rattle.std.specs.Prelude.{◌≡◌, ◌≢◌, ◌≤◌, ◌<◌, ◌+◌, ℕ, List, Option, Some, length, slice_get, IfOk, IfSome};
 ghost use Rattle.sedscript.specs.declared.types.Address.{Address};
 ghost use Rattle.sedscript.specs.Bytes.{part, with_digits};
-ghost use Rattle.sedscript.specs.Addresses.{match_at, own_match, own_delimiter, address_at, behind_first, second_at};
-ghost use Rattle.sedscript.specs.Addresses.{with_second, function_behind, addresses_at, with_bang, addresses_of};
-ghost use Rattle.sedscript.specs.Addresses.{item_at, line_of};
-ghost use Rattle.sedscript.specs.Answers.{as_addressed, as_headed, as_here, ComesFrom, Agrees, IsBehind, IsHere};
-ghost use Rattle.sedscript.specs.Answers.{is_no_memory, fault_of};
+ghost use Rattle.sedscript.specs.Addresses.{match_at, own_match, address_at, behind_first, second_at};
+ghost use Rattle.sedscript.specs.Addresses.{with_second, addresses_at, with_bang, addresses_of, line_of};
+ghost use Rattle.sedscript.specs.Between.{own_delimiter};
+ghost use Rattle.sedscript.specs.Answers.{as_addressed, as_headed, ComesFrom, Agrees};
 
+use crate::between::own_delimiter;
 use crate::bytes::{Sort, byte_at, is_byte, is_digit, number_of, past};
-use crate::functions::function_at;
-use crate::items::{Addresses, Here, Source};
-use crate::types::{Address, ExprFault, NO_MEMORY, Reason, ScriptFault};
+use crate::expressions::expression_at;
+use crate::items::{Addresses, Source};
+use crate::types::{Address, Reason, ScriptFault};
 use sedre::{Expr, delimited};
 
 /// The line's address whose digits stand between two places.
@@ -28,27 +28,6 @@ fn line_at(text: &[u8], from: usize, to: usize) -> Result<(Option<Address>, usiz
             reason: Reason::BadAddress,
         }),
         Some(n) => Ok((Some(Address::Line(n)), to)),
-    }
-}
-
-fn is_no_memory(reason: sedre::Reason) -> bool
-    ensures { result ≡ is_no_memory reason }
-{
-    matches!(reason, sedre::Reason::NoMemory)
-}
-
-/// The fault of a script whose expression begins at a place and has this fault.
-fn fault_of(from: usize, fault: ExprFault) -> ScriptFault
-    requires { from + fault.place ≤ usize.MAX }
-    ensures { result ≡ fault_of from fault }
-{
-    if is_no_memory(fault.reason) {
-        NO_MEMORY
-    } else {
-        ScriptFault {
-            place: from + fault.place,
-            reason: Reason::Expression(fault),
-        }
     }
 }
 
@@ -77,20 +56,9 @@ fn match_at(
         return Ok((Some(Address::Match(None)), to + 1));
     }
     let number = exprs.len();
-    match sedre::read(
-        source.alloc,
-        source.kind,
-        &source.text[from..to],
-        Some(delimiter),
-        source.max_nodes,
-    ) {
-        Ok(expr) => {
-            if exprs.push(expr).is_err() {
-                return Err(NO_MEMORY);
-            }
-            Ok((Some(Address::Match(Some(number))), to + 1))
-        }
-        Err(fault) => Err(fault_of(from, fault)),
+    match expression_at(source, exprs, delimiter, from, to) {
+        Err(fault) => Err(fault),
+        Ok(_) => Ok((Some(Address::Match(Some(number))), to + 1)),
     }
 }
 
@@ -112,22 +80,6 @@ fn own_match(
             reason: Reason::BadDelimiter,
         }),
         Some(delimiter) => match_at(source, exprs, delimiter, place),
-    }
-}
-
-/// The byte, if it may be a delimiter.
-fn own_delimiter(b: Option<u8>) -> Option<u8>
-    ensures is { result ≡ own_delimiter b }
-    ensures some { IfSome result (λ d. b ≡ Some d) }
-    ensures may { IfSome result (λ d. (d ≢ 92) × (d ≢ 10)) }
-{
-    match b {
-        None => None,
-        Some(b) => if b == b'\\' || b == b'\n' {
-            None
-        } else {
-            Some(b)
-        },
     }
 }
 
@@ -174,7 +126,7 @@ fn with_second(
     next: usize,
     second: Option<Address>,
 ) -> Result<(Addresses, usize), ScriptFault>
-    ensures is { (count : ℕ) → Agrees as_headed count result (with_second first place next second) }
+    ensures is { (count : ℕ) → Agrees as_headed count result (with_second first place (record { address = second; at = next; count = count }) second) }
     ensures next { IfOk result (λ found. found.1 ≡ next) }
 {
     match second {
@@ -233,7 +185,7 @@ fn behind_first(
 }
 
 /// The addresses at a place, and the place behind them.
-fn addresses_at(
+pub fn addresses_at(
     source: &Source,
     exprs: &mut Vec<Expr>,
     at: usize,
@@ -250,7 +202,7 @@ fn addresses_at(
 }
 
 /// With the `!` that stands there.
-fn with_bang(text: &[u8], addresses: Addresses, at: usize) -> (Addresses, usize)
+pub fn with_bang(text: &[u8], addresses: Addresses, at: usize) -> (Addresses, usize)
     requires { at ≤ length text.now }
     ensures is { as_headed result 0 ≡ with_bang text.now (as_headed (addresses, at) 0) }
     ensures within { (at ≤ result.1) × (result.1 ≤ length text.now) }
@@ -267,32 +219,5 @@ fn with_bang(text: &[u8], addresses: Addresses, at: usize) -> (Addresses, usize)
         )
     } else {
         (addresses, bang)
-    }
-}
-
-/// The item of the function behind its addresses.
-fn function_behind(text: &[u8], addresses: Addresses, at: usize) -> Result<Here, ScriptFault>
-    requires { at ≤ length text.now }
-    ensures is { result ≡ function_behind text.now (as_headed (addresses, at) 0) }
-    ensures within { IfOk result (IsBehind at (length text.now)) }
-{
-    let (addresses, next) = with_bang(text, addresses, at);
-    function_at(text, addresses, next)
-}
-
-/// The next item from a place on, or the end.
-pub fn item_at(source: &Source, exprs: &mut Vec<Expr>, at: usize) -> Result<Here, ScriptFault>
-    requires at { at ≤ length source.now.text.now }
-    ensures comes { ComesFrom source.now exprs.old.items exprs.new.items as_here result
-        (item_at source.now.text.now (length exprs.old.items) at) }
-    ensures here { IfOk result (IsHere source.now.text.now at) }
-{
-    let start = past(Sort::Separator, source.text, at);
-    match byte_at(source.text, start) {
-        None => Ok(Here::Ends),
-        Some(_) => match addresses_at(source, exprs, start) {
-            Err(fault) => Err(fault),
-            Ok((addresses, next)) => function_behind(source.text, addresses, next),
-        },
     }
 }

@@ -17,7 +17,8 @@ use std::alloc::{AllocError, Global};
 fn counts_with(n: Counts, function: Function) -> Counts
     requires { AtMost (usize.MAX - 1) n }
     ensures is { result ≡ counts_with n function }
-    ensures few { (k : ℕ) → AtMost k n → AtMost (k + 1) result }
+    ensures few { (result.texts ≤ n.texts + 1) × (result.substitutions ≤ n.substitutions + 1)
+        × (result.tables ≤ n.tables + 1) }
 {
     match function {
         Function::Text(..) => Counts {

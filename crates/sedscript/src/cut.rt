@@ -3,8 +3,8 @@
 ghost use Rattle.std.specs.Prelude.{◌≡◌, ◌≤◌, ◌⊎◌, [], IfOk, IfErr};
 ghost use Rattle.sedscript.specs.Script.{Cut, IsEnd, Faulty};
 
-use crate::addresses::item_at;
 use crate::items::{Here, Item, Source};
+use crate::reading::item_at;
 use crate::types::{NO_MEMORY, ScriptFault};
 use sedre::Expr;
 

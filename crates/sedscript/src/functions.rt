@@ -3,11 +3,10 @@
 ghost use Rattle.std.specs.Prelude.{◌≡◌, ◌≤◌, ◌<◌, ◌+◌, length, slice_get, Some, IfOk};
 ghost use Rattle.sedscript.specs.Bytes.{past};
 ghost use Rattle.sedscript.specs.Functions.{may_end, ended, most_addresses, label_of, branch_of, function_of, text_of};
-ghost use Rattle.sedscript.specs.Functions.{text_from, given, allowed, function_at};
-ghost use Rattle.sedscript.specs.Answers.{IsBehind};
+ghost use Rattle.sedscript.specs.Functions.{text_from, given, allowed};
 
 use crate::bytes::{Sort, byte_at, past};
-use crate::items::{Addresses, BranchUse, Function, Here, Item, Simple, TextUse};
+use crate::items::{Addresses, BranchUse, Function, Simple, TextUse};
 use crate::texts::text_from;
 use crate::types::{Address, Reason, ScriptFault};
 
@@ -22,7 +21,7 @@ pub fn may_end(next: Option<u8>) -> bool
 }
 
 /// The function, where nothing but the command's end follows a place.
-fn ended(text: &[u8], function: Function, at: usize) -> Result<(Function, usize), ScriptFault>
+pub fn ended(text: &[u8], function: Function, at: usize) -> Result<(Function, usize), ScriptFault>
     requires { at ≤ length text.now }
     ensures is { result ≡ ended text.now function at }
     ensures within { IfOk result (λ found. (at ≤ found.1) × (found.1 ≤ length text.now)) }
@@ -86,7 +85,7 @@ fn text_of(text: &[u8], text_use: TextUse, at: usize) -> Result<(Function, usize
 
 /// The function of a letter that stands at a place, and the place behind it.
 #[tactic(auto, unfolding(crate::specs::Functions::function_of))]
-fn function_of(text: &[u8], letter: u8, at: usize) -> Result<(Function, usize), ScriptFault>
+pub fn function_of(text: &[u8], letter: u8, at: usize) -> Result<(Function, usize), ScriptFault>
     requires { slice_get text.now at ≡ Some letter }
     ensures is { result ≡ function_of text.now letter at }
     ensures within { IfOk result (λ found. (at < found.1) × (found.1 ≤ length text.now)) }
@@ -133,7 +132,7 @@ fn given(address: Option<Address>) -> usize
 }
 
 /// The letter at a place, where it may stand behind these addresses.
-fn allowed(addresses: Addresses, letter: u8, at: usize) -> Result<u8, ScriptFault>
+pub fn allowed(addresses: Addresses, letter: u8, at: usize) -> Result<u8, ScriptFault>
     ensures is { result ≡ allowed addresses letter at (most_addresses letter) }
     ensures same { IfOk result (λ b. b ≡ letter) }
 {
@@ -158,29 +157,4 @@ fn allowed(addresses: Addresses, letter: u8, at: usize) -> Result<u8, ScriptFaul
             }
         }
     }
-}
-
-/// The item of the function that is expected at a place, behind these addresses.
-#[tactic(auto, unfolding(crate::specs::Functions::function_at))]
-pub fn function_at(text: &[u8], addresses: Addresses, at: usize) -> Result<Here, ScriptFault>
-    requires { at ≤ length text.now }
-    ensures is { result ≡ function_at text.now addresses at }
-    ensures within { IfOk result (IsBehind at (length text.now)) }
-{
-    let Some(letter) = byte_at(text, at) else {
-        return Err(ScriptFault {
-            place: at,
-            reason: Reason::UnknownCommand,
-        });
-    };
-    allowed(addresses, letter, at)?;
-    let (function, next) = function_of(text, letter, at)?;
-    Ok(Here::Is(
-        Item {
-            addresses,
-            place: at,
-            function,
-        },
-        next,
-    ))
 }

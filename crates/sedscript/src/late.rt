@@ -9,7 +9,7 @@ use crate::items::{Function, Item};
 use crate::targets::{Targets, is_close, is_open};
 use crate::types::{Reason, ScriptFault};
 
-fn fault_if(wrong: bool, reason: Reason, place: usize) -> Option<ScriptFault>
+pub fn fault_if(wrong: bool, reason: Reason, place: usize) -> Option<ScriptFault>
     ensures { result ≡ fault_if wrong reason place }
 {
     wrong.then_some(ScriptFault { place, reason })

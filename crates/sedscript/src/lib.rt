@@ -2,15 +2,18 @@
 #![tactic(auto)]
 
 mod addresses;
+mod between;
 mod bytes;
 mod commands;
 mod cut;
+mod expressions;
 mod flags;
 mod functions;
 mod items;
 mod late;
 pub mod laws;
 pub mod reader;
+mod reading;
 mod replacement;
 pub mod script;
 pub mod substitution;
@@ -19,6 +22,7 @@ mod targets;
 #[cfg(test)]
 mod tests;
 mod texts;
+mod transliteration;
 pub mod types;
 
 pub use reader::read;

@@ -1,9 +1,10 @@
 use Rattle.std.proofs.Common.{Err, refl, sym, ap, ◌∙◌, slice_get, length}
 use Rattle.sedscript.specs.Answers.{as_here}
 use Rattle.sedscript.specs.Reading.{plainly}
-use Rattle.sedscript.specs.Addresses.{Headed, addresses_at, function_behind}
+use Rattle.sedscript.specs.Addresses.{Headed, addresses_at}
+use Rattle.sedscript.specs.Items.{function_behind}
 use Rattle.sedscript.proofs.Coming.{comes_then, comes_err, comes_plain, item_none, item_some, answers_same, behind_here}
-use Rattle.sedscript.proofs.addresses.item_at.Goals as goal
+use Rattle.sedscript.proofs.reading.item_at.Goals as goal
 
 pub returns-in-None-clause-comes : goal.returns-in-None-clause-comes
 returns-in-None-clause-comes c = item_none c.args.source.now.text.now c.args.source.now.kind c.args.source.now.max_nodes c.args.exprs.now.items c.args.exprs.now.items c.args.at (ap (slice_get c.args.source.now.text.now) (sym c.past-start.ensures.is) ∙ (sym c.byte_at.ensures ∙ c.in-None.is)) refl
@@ -11,13 +12,13 @@ returns-in-None-clause-comes c = item_none c.args.source.now.text.now c.args.sou
 pub returns-in-Err-clause-comes : goal.returns-in-Err-clause-comes
 returns-in-Err-clause-comes c =
     item_some c.args.source.now.text.now c.args.source.now.kind c.args.source.now.max_nodes c.args.exprs.now.items c.addresses_at.new.exprs.items c.args.at c.past-start.result _ (Err c.in-Err.fault) c.past-start.ensures.is (sym c.byte_at.ensures ∙ c.in-Some.is)
-    (comes_err c.args.source.now.text.now c.args.source.now.kind c.args.source.now.max_nodes (addresses_at c.args.source.now.text.now (length c.args.exprs.now.items) c.past-start.result) (λ (h : Headed). plainly (function_behind c.args.source.now.text.now h)) c.in-Err.fault c.in-Err.ensures.comes)
+    (comes_err c.args.source.now.text.now c.args.source.now.kind c.args.source.now.max_nodes (addresses_at c.args.source.now.text.now (length c.args.exprs.now.items) c.past-start.result) (function_behind c.args.source.now.text.now) c.in-Err.fault c.in-Err.ensures.comes)
 
 pub returns-in-Ok-clause-comes : goal.returns-in-Ok-clause-comes
 returns-in-Ok-clause-comes c =
     item_some c.args.source.now.text.now c.args.source.now.kind c.args.source.now.max_nodes c.args.exprs.now.items c.addresses_at.new.exprs.items c.args.at c.past-start.result _ _ c.past-start.ensures.is (sym c.byte_at.ensures ∙ c.in-Some.is)
-    (comes_then c.args.source.now.text.now c.args.source.now.kind c.args.source.now.max_nodes _ c.addresses_at.new.exprs.items _ (addresses_at c.args.source.now.text.now (length c.args.exprs.now.items) c.past-start.result) (λ (h : Headed). plainly (function_behind c.args.source.now.text.now h)) _ as_here _ c.in-Ok.ensures.comes
-    (comes_plain c.args.source.now.text.now c.args.source.now.kind c.args.source.now.max_nodes _ _ as_here c.function_behind.result _ refl (answers_same (length c.addresses_at.new.exprs.items) c.function_behind.result _ c.function_behind.ensures.is)))
+    (comes_then c.args.source.now.text.now c.args.source.now.kind c.args.source.now.max_nodes _ c.addresses_at.new.exprs.items _ (addresses_at c.args.source.now.text.now (length c.args.exprs.now.items) c.past-start.result) (function_behind c.args.source.now.text.now) _ as_here _ c.in-Ok.ensures.comes
+    c.function_behind.ensures.comes)
 
 pub returns-in-None-clause-here : goal.returns-in-None-clause-here
 returns-in-None-clause-here c = ap (slice_get c.args.source.now.text.now) (sym c.past-start.ensures.is) ∙ (sym c.byte_at.ensures ∙ c.in-None.is)

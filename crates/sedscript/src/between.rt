@@ -1,0 +1,170 @@
+//! What stands between delimiters behind `s` and `y`.
+
+ghost use Rattle.std.specs.Prelude.{◌≡◌, ◌≢◌, ◌≤◌, ◌<◌, ◌+◌, false, Some, length, slice_get, drop, IfOk, IfSome, ℕ, Option};
+ghost use Rattle.sedre.specs.Delimited.{delimiter_at};
+ghost use Rattle.sedscript.specs.Strings.{string_end};
+ghost use Rattle.sedscript.specs.Between.{own_delimiter, strings_behind, substitute_strings, transliterate_strings};
+ghost use Rattle.sedscript.specs.Between.{unless_fault, transliterate_at, flagged, substituted};
+ghost use Rattle.sedscript.specs.Answers.{AreStrings};
+
+use crate::bytes::byte_at;
+use crate::flags::flags_at;
+use crate::functions::ended;
+use crate::items::{Function, Strings};
+use crate::replacement::replacement_fault;
+use crate::strings::string_end;
+use crate::transliteration::strings_fault;
+use crate::types::{Reason, ScriptFault};
+use sedre::delimited;
+
+/// The byte, if it may be a delimiter.
+pub fn own_delimiter(b: Option<u8>) -> Option<u8>
+    ensures is { result ≡ own_delimiter b }
+    ensures some { IfSome result (λ d. b ≡ Some d) }
+    ensures may { IfSome result (λ d. (d ≢ 92) × (d ≢ 10)) }
+{
+    match b {
+        None => None,
+        Some(b) => if b == b'\\' || b == b'\n' {
+            None
+        } else {
+            Some(b)
+        },
+    }
+}
+
+/// The two strings behind the delimiter at a place, of which the first ends where another was found. A newline behind a
+/// backslash may stand in the second where it `breaks`.
+fn strings_behind(
+    text: &[u8],
+    breaks: bool,
+    delimiter: u8,
+    place: usize,
+    first: Option<usize>,
+) -> Result<Strings, ScriptFault>
+    requires delimiter { (delimiter ≢ 92) × (delimiter ≢ 10) }
+    requires first { IfSome first (λ middle. (place < middle) × (middle < length text.now)) }
+    ensures is { result ≡ strings_behind text.now breaks delimiter place first }
+    ensures within { IfOk result (AreStrings (place + 1) (length text.now)) }
+{
+    let Some(middle) = first else {
+        return Err(ScriptFault {
+            place,
+            reason: Reason::OpenDelimiter,
+        });
+    };
+    match string_end(text, breaks, delimiter, middle + 1) {
+        None => Err(ScriptFault {
+            place: middle,
+            reason: Reason::OpenDelimiter,
+        }),
+        Some(to) => Ok(Strings {
+            delimiter,
+            from: place + 1,
+            middle,
+            to,
+        }),
+    }
+}
+
+/// The strings of `s`, whose delimiter stands at a place: a regular expression and a replacement.
+pub fn substitute_strings(text: &[u8], place: usize) -> Result<Strings, ScriptFault>
+    requires { place ≤ length text.now }
+    ensures is { result ≡ substitute_strings text.now place (own_delimiter (slice_get text.now place)) }
+    ensures within { IfOk result (AreStrings (place + 1) (length text.now)) }
+{
+    match own_delimiter(byte_at(text, place)) {
+        None => Err(ScriptFault {
+            place,
+            reason: Reason::BadDelimiter,
+        }),
+        Some(delimiter) => strings_behind(
+            text,
+            true,
+            delimiter,
+            place,
+            delimited(text, place + 1, delimiter),
+        ),
+    }
+}
+
+/// The strings of `y`, whose delimiter stands at a place.
+fn transliterate_strings(text: &[u8], place: usize) -> Result<Strings, ScriptFault>
+    requires { place ≤ length text.now }
+    ensures is { result ≡ transliterate_strings text.now place (own_delimiter (slice_get text.now place)) }
+    ensures within { IfOk result (AreStrings (place + 1) (length text.now)) }
+{
+    match own_delimiter(byte_at(text, place)) {
+        None => Err(ScriptFault {
+            place,
+            reason: Reason::BadDelimiter,
+        }),
+        Some(delimiter) => strings_behind(
+            text,
+            false,
+            delimiter,
+            place,
+            string_end(text, false, delimiter, place + 1),
+        ),
+    }
+}
+
+/// The command `y`, whose letter stands at a place.
+#[tactic(auto, unfolding(crate::specs::Between::transliterate_at))]
+pub fn transliterate_at(text: &[u8], at: usize) -> Result<(Function, usize), ScriptFault>
+    requires { at < length text.now }
+    ensures is { result ≡ transliterate_at text.now at }
+    ensures within { IfOk result (λ found. (at < found.1) × (found.1 ≤ length text.now)) }
+{
+    let strings = transliterate_strings(text, at + 1)?;
+    if let Some(fault) = strings_fault(
+        text,
+        strings.delimiter,
+        at,
+        strings.from,
+        strings.middle,
+        strings.to,
+    ) {
+        return Err(fault);
+    }
+    ended(text, Function::Transliterate(strings), strings.to + 1)
+}
+
+/// The flags of `s`, and its end.
+fn flagged(
+    text: &[u8],
+    strings: Strings,
+    expression: Option<usize>,
+) -> Result<(Function, usize), ScriptFault>
+    requires { strings.to < length text.now }
+    ensures is { result ≡ flagged text.now strings expression }
+    ensures within { IfOk result (λ found. (strings.to < found.1) × (found.1 ≤ length text.now)) }
+{
+    let (flags, end) = flags_at(text, strings.to + 1)?;
+    ended(text, Function::Substitute(strings, expression, flags), end)
+}
+
+/// What stands behind the regular expression of `s`, which has this number in the script: a replacement, where no group
+/// may have a greater number than the limit, and flags.
+#[tactic(auto, unfolding(crate::specs::Between::substituted))]
+pub fn substituted(
+    text: &[u8],
+    strings: Strings,
+    expression: Option<usize>,
+    limit: Option<usize>,
+) -> Result<(Function, usize), ScriptFault>
+    requires { AreStrings 0 (length text.now) strings }
+    ensures is { result ≡ substituted text.now strings expression limit }
+    ensures within { IfOk result (λ found. (strings.to < found.1) × (found.1 ≤ length text.now)) }
+{
+    if let Some(fault) = replacement_fault(
+        text,
+        strings.delimiter,
+        limit,
+        strings.middle + 1,
+        strings.to,
+    ) {
+        return Err(fault);
+    }
+    flagged(text, strings, expression)
+}
