@@ -7,6 +7,7 @@ pub mod Addresses
 pub mod Expressions
 pub mod Targets
 pub mod Replacement
+pub mod Transliteration
 pub mod Script
 pub mod Ranges
 pub mod Answers

@@ -18,6 +18,7 @@ mod targets;
 #[cfg(test)]
 mod tests;
 mod texts;
+mod transliteration;
 pub mod types;
 
 pub use reader::read;

@@ -1,0 +1,89 @@
+-- The strings of `y` (XCU sed, "Editing Commands in sed": `y`).
+use Rattle.std.specs.Prelude.{ℕ, suc, ◌+◌, ◌-◌, List, [], ◌∷◌, map, length, Bool, true, false, not, ◌&&◌, ◌||◌, Option}
+use Rattle.std.specs.Prelude.{Some, None, is_none, option_map, if◌then◌else◌, ◌==◌}
+use Rattle.std.specs.List.{list_any, range_with_len}
+use Rattle.std.specs.Option.{option_or}
+use Rattle.sedscript.specs.declared.types.ScriptFault.{ScriptFault}
+use Rattle.sedscript.specs.declared.types.Reason.TheVariants.{LengthsDiffer, RepeatedByte, BadEscape}
+use Rattle.sedscript.specs.Bytes.{part}
+use Rattle.sedscript.specs.Strings.{escapes}
+use Rattle.sedscript.specs.Targets.{fault_if}
+-- a byte of a string, and its place (of an escape: the place of its backslash)
+pub use Rattle.sedscript.specs.declared.transliteration.Char.{Char}
+
+-- what a backslash in force and this byte stand for. The delimiter and the backslash stand for themselves, `n` for a
+-- newline, `t` for a tab (this project's own); other bytes are refused (this project's own)
+abbrev pub escaped_byte : ℕ → ℕ → Option ℕ
+escaped_byte delimiter b =
+    if b == delimiter || b == 92 then Some b
+    else if b == 110 then Some 10
+    else if b == 116 then Some 9
+    else None
+
+-- the byte of a string that ends with the one at a place, with whether a backslash in force stands before it
+abbrev pub char_of : ℕ → Bool → ℕ → ℕ → Option Char
+char_of delimiter true at b = option_map (λ x. record { byte = x; place = at - 1 }) (escaped_byte delimiter b)
+char_of delimiter false at b = if b == 92 then None else Some (record { byte = b; place = at })
+
+abbrev pub with_char : Option Char → List Char → List Char
+with_char None cs = cs
+with_char (Some c) cs = c ∷ cs
+
+-- the bytes of a string that begins at a place, with whether a backslash in force stands before it.
+-- An escape that is refused leaves none
+abbrev pub chars_from : ℕ → Bool → ℕ → List ℕ → List Char
+chars_from delimiter escaped at [] = []
+chars_from delimiter escaped at (b ∷ bs) =
+    with_char (char_of delimiter escaped at b) (chars_from delimiter (escapes escaped b) (suc at) bs)
+
+-- the bytes of the string that stands between two places
+abbrev pub chars_of : List ℕ → ℕ → ℕ → ℕ → List Char
+chars_of text delimiter from to = chars_from delimiter false from (part text from to)
+
+abbrev pub bytes_of : List Char → List ℕ
+bytes_of cs = map (λ c. c.byte) cs
+
+-- the first escape of a string that is refused
+abbrev pub string_fault : ℕ → Bool → ℕ → List ℕ → Option ScriptFault
+string_fault delimiter escaped at [] = None
+string_fault delimiter escaped at (b ∷ bs) =
+    if escaped && is_none (escaped_byte delimiter b) then Some (record { place = at - 1; reason = BadEscape })
+    else string_fault delimiter (escapes escaped b) (suc at) bs
+
+-- whether a byte is one of these
+abbrev pub is_among : List ℕ → ℕ → Bool
+is_among bs b = list_any (λ x. x == b) bs
+
+-- the place of the first byte that stands there a second time, with those that stand before
+abbrev pub repeated_in : List ℕ → List Char → Option ℕ
+repeated_in before [] = None
+repeated_in before (c ∷ cs) =
+    if is_among before c.byte then Some c.place else repeated_in (c.byte ∷ before) cs
+
+abbrev pub repeated_fault : Option ℕ → Option ScriptFault
+repeated_fault found = option_map (λ place. record { place = place; reason = RepeatedByte }) found
+
+-- the first fault of the strings of a `y` whose letter stands at a place. The first string stands up to its delimiter
+-- in the middle, and the second one behind that (this project's own: the first may have no byte twice, and the strings
+-- have the same length)
+abbrev pub strings_fault : List ℕ → ℕ → ℕ → ℕ → ℕ → ℕ → Option ScriptFault
+strings_fault text delimiter letter from middle to =
+    option_or (string_fault delimiter false from (part text from middle))
+    (option_or (string_fault delimiter false (middle + 1) (part text (middle + 1) to))
+    (option_or (repeated_fault (repeated_in [] (chars_of text delimiter from middle)))
+    (fault_if (not (length (chars_of text delimiter from middle) == length (chars_of text delimiter (middle + 1) to)))
+    LengthsDiffer letter)))
+
+-- the byte of the target where a byte stands in the source, or the byte itself
+abbrev pub counterpart : List ℕ → List ℕ → ℕ → ℕ
+counterpart [] target b = b
+counterpart (s ∷ source) [] b = b
+counterpart (s ∷ source) (t ∷ target) b = if s == b then t else counterpart source target b
+
+-- what stands for each byte
+unfoldable pub table_of : List ℕ → List ℕ → List ℕ
+table_of source target = map (counterpart source target) (range_with_len 0 256)
+
+-- whether each byte is one of these
+unfoldable pub marks_of : List ℕ → List Bool
+marks_of bs = map (is_among bs) (range_with_len 0 256)

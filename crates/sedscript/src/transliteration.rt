@@ -1,0 +1,225 @@
+//! The strings of `y`.
+
+ghost use Rattle.std.specs.Prelude.{◌≡◌, ◌≤◌, ◌<◌, ◌+◌, ℕ, List, [], ◌∷◌, true, false, length, IfOk};
+ghost use Rattle.std.specs.List.{range_with_len};
+ghost use Rattle.sedscript.specs.Bytes.{part};
+ghost use Rattle.sedscript.specs.Transliteration.{escaped_byte, char_of, chars_from, chars_of, bytes_of, string_fault};
+ghost use Rattle.sedscript.specs.Transliteration.{is_among, repeated_in, strings_fault, table_of};
+ghost use Rattle.sedscript.specs.Transliteration.{marks_of};
+
+use crate::bytes::part;
+use crate::late::fault_if;
+use crate::strings::escapes;
+use crate::types::{Reason, ScriptFault};
+use std::alloc::{AllocError, Global};
+
+/// A byte of a string, and the place where it or its backslash stands.
+#[derive(Clone, Copy)]
+pub struct Char {
+    pub byte: u8,
+    pub place: usize,
+}
+
+/// What a backslash in force and this byte stand for.
+fn escaped_byte(delimiter: u8, b: u8) -> Option<u8>
+    ensures { result ≡ escaped_byte delimiter b }
+{
+    if b == delimiter || b == b'\\' {
+        Some(b)
+    } else if b == b'n' {
+        Some(b'\n')
+    } else if b == b't' {
+        Some(b'\t')
+    } else {
+        None
+    }
+}
+
+/// The byte of a string that ends with the one at a place.
+fn char_of(delimiter: u8, escaped: bool, at: usize, b: u8) -> Option<Char>
+    requires { escaped ≡ true → 1 ≤ at }
+    ensures { result ≡ char_of delimiter escaped at b }
+{
+    if escaped {
+        let byte = escaped_byte(delimiter, b)?;
+        Some(Char {
+            byte,
+            place: at - 1,
+        })
+    } else if b == b'\\' {
+        None
+    } else {
+        Some(Char { byte: b, place: at })
+    }
+}
+
+/// The first escape that is refused in the string that begins at a place.
+fn string_fault(bytes: &[u8], delimiter: u8, from: usize) -> Option<ScriptFault>
+    requires { from + length bytes.now ≤ usize.MAX }
+    ensures { result ≡ string_fault delimiter false from bytes.now }
+{
+    let mut escaped = false;
+    let mut k = 0;
+    'bytes: while k < bytes.len() {
+        let b = bytes[k];
+        if escaped && escaped_byte(delimiter, b).is_none() {
+            return Some(ScriptFault {
+                place: from + k - 1,
+                reason: Reason::BadEscape,
+            });
+        }
+        escaped = escapes(escaped, b);
+        k += 1;
+    }
+    None
+}
+
+/// Notes a byte, and tells whether it was noted before.
+fn note(seen: &mut [bool; 256], b: u8) -> bool
+    ensures { (before : List ℕ) → seen.old ≡ marks_of before →
+        (result ≡ is_among before b) × (seen.new ≡ marks_of (b ∷ before)) }
+{
+    let at = usize::from(b);
+    let noted = seen[at];
+    seen[at] = true;
+    noted
+}
+
+/// The place of the first byte that stands a second time in the string that begins at a place.
+fn repeated(bytes: &[u8], delimiter: u8, from: usize) -> Option<usize>
+    requires { from + length bytes.now ≤ usize.MAX }
+    ensures { result ≡ repeated_in [] (chars_from delimiter false from bytes.now) }
+{
+    let mut seen = [false; 256];
+    let mut escaped = false;
+    let mut k = 0;
+    'bytes: while k < bytes.len() {
+        let b = bytes[k];
+        if let Some(found) = char_of(delimiter, escaped, from + k, b) {
+            if note(&mut seen, found.byte) {
+                return Some(found.place);
+            }
+        }
+        escaped = escapes(escaped, b);
+        k += 1;
+    }
+    None
+}
+
+/// How many bytes the string has that begins at a place.
+fn count(bytes: &[u8], delimiter: u8, from: usize) -> usize
+    requires { from + length bytes.now ≤ usize.MAX }
+    ensures { result ≡ length (chars_from delimiter false from bytes.now) }
+{
+    let mut count = 0;
+    let mut escaped = false;
+    let mut k = 0;
+    'bytes: while k < bytes.len() {
+        let b = bytes[k];
+        if char_of(delimiter, escaped, from + k, b).is_some() {
+            count += 1;
+        }
+        escaped = escapes(escaped, b);
+        k += 1;
+    }
+    count
+}
+
+/// The first fault of the strings of a `y`: one stands between the first two places, the other behind the second.
+pub fn strings_fault(
+    text: &[u8],
+    delimiter: u8,
+    letter: usize,
+    from: usize,
+    middle: usize,
+    to: usize,
+) -> Option<ScriptFault>
+    requires { (from ≤ middle) × (middle < to) × (to ≤ length text.now) }
+    ensures { result ≡ strings_fault text.now delimiter letter from middle to }
+{
+    let source = part(text, from, middle);
+    let target = part(text, middle + 1, to);
+    if let Some(fault) = string_fault(source, delimiter, from) {
+        return Some(fault);
+    }
+    if let Some(fault) = string_fault(target, delimiter, middle + 1) {
+        return Some(fault);
+    }
+    if let Some(place) = repeated(source, delimiter, from) {
+        return Some(ScriptFault {
+            place,
+            reason: Reason::RepeatedByte,
+        });
+    }
+    let differ = count(source, delimiter, from) != count(target, delimiter, middle + 1);
+    fault_if(differ, Reason::LengthsDiffer, letter)
+}
+
+/// The bytes of the string that stands between two places.
+fn bytes_of(
+    alloc: Global,
+    text: &[u8],
+    delimiter: u8,
+    from: usize,
+    to: usize,
+) -> Result<Vec<u8>, AllocError>
+    requires { (from ≤ to) × (to ≤ length text.now) }
+    ensures { IfOk result (λ v. v.items ≡ bytes_of (chars_of text.now delimiter from to)) }
+{
+    let bytes = part(text, from, to);
+    let mut string = Vec::new(alloc);
+    let mut escaped = false;
+    let mut k = 0;
+    'bytes: while k < bytes.len() {
+        let b = bytes[k];
+        if let Some(found) = char_of(delimiter, escaped, from + k, b) {
+            string.push(found.byte)?;
+        }
+        escaped = escapes(escaped, b);
+        k += 1;
+    }
+    Ok(string)
+}
+
+/// Each byte at its own place.
+fn all_bytes(alloc: Global) -> Result<Vec<u8>, AllocError>
+    ensures { IfOk result (λ v. v.items ≡ range_with_len 0 256) }
+{
+    let mut bytes = Vec::new(alloc);
+    for b in 0..=255 {
+        bytes.push(b)?;
+    }
+    Ok(bytes)
+}
+
+/// What stands for each byte where these bytes stand for those.
+fn table_from(alloc: Global, source: &[u8], target: &[u8]) -> Result<Vec<u8>, AllocError>
+    ensures { IfOk result (λ v. v.items ≡ table_of source.now target.now) }
+{
+    let mut table = all_bytes(alloc)?;
+    let mut k = source.len().min(target.len());
+    'pairs: while k > 0 {
+        k -= 1;
+        table[usize::from(source[k])] = target[k];
+    }
+    Ok(table)
+}
+
+/// What stands for each byte, by the strings of a `y`.
+pub fn table_of(
+    alloc: Global,
+    text: &[u8],
+    delimiter: u8,
+    from: usize,
+    middle: usize,
+    to: usize,
+) -> Result<Vec<u8>, AllocError>
+    requires { (from ≤ middle) × (middle < to) × (to ≤ length text.now) }
+    ensures is { IfOk result (λ v. v.items ≡ table_of (bytes_of (chars_of text.now delimiter from middle))
+        (bytes_of (chars_of text.now delimiter (middle + 1) to))) }
+    ensures whole { IfOk result (λ v. length v.items ≡ 256) }
+{
+    let source = bytes_of(alloc, text, delimiter, from, middle)?;
+    let target = bytes_of(alloc, text, delimiter, middle + 1, to)?;
+    table_from(alloc, &source, &target)
+}
