@@ -1,6 +1,8 @@
 pub mod Coming
 pub mod FlagLemmas
+pub mod Chars
 pub mod Pieces
+pub mod ByteTables
 pub mod Cuts
 pub mod Exclusive
 pub mod Labels

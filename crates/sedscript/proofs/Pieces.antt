@@ -1,10 +1,11 @@
 -- The pieces of parts.
-use Rattle.std.proofs.Common.{◌≡◌, ℕ, ◌-◌, ◌≤◌, List, [], ◌∷◌, ◌++◌, map, length, Option, Some, None, Bool, true, false, not, ◌&&◌, ◌==◌, if◌then◌else◌, refl, sym, ap, subst, ◌∙◌, append_assoc, arith, drop, drop_of_length-le, Vec, Global}
+use Rattle.std.proofs.Common.{◌≡◌, ℕ, ◌-◌, ◌≤◌, List, [], ◌∷◌, ◌++◌, map, length, Option, Some, None, Bool, true, false, ◌==◌, if◌then◌else◌, refl, sym, ap, subst, ◌∙◌, append_assoc, arith, drop, drop_of_length-le, Vec, Global}
 use Rattle.std.proofs.lemmas.List.{append-nil}
 use Rattle.std.proofs.lemmas.Bool.Decides.{nat_tests}
 use Rattle.sedscript.specs.declared.substitution.Part.{Part}
 use Rattle.sedscript.specs.declared.substitution.Part.TheVariants.{Literal, Whole, Group}
 use Rattle.sedscript.specs.Bytes.{is_digit}
+use Rattle.sedscript.specs.Strings.{escapes}
 use Rattle.sedscript.specs.Replacement.{Piece, literal, whole, group, escaped_piece, piece_of, with_piece, pieces_from, pieces_of, pieces_in, pieces_with, GroupsWithin, is_letter}
 
 pub pieces_append : (ps qs : List Part) → pieces_in (ps ++ qs) ≡ pieces_in ps ++ pieces_in qs
@@ -62,7 +63,7 @@ with_within n (Some (group k)) ps h g = (h, g)
 
 from_within : (d : ℕ) (escaped : Bool) (bs : List ℕ) → GroupsWithin 9 (pieces_from d escaped bs)
 from_within d escaped [] = tt
-from_within d escaped (b ∷ bs) = with_within 9 (piece_of d escaped b) _ (piece_within d escaped b) (from_within d (b == 92 && not escaped) bs)
+from_within d escaped (b ∷ bs) = with_within 9 (piece_of d escaped b) _ (piece_within d escaped b) (from_within d (escapes escaped b) bs)
 
 -- each group of a replacement is one of a digit
 pub pieces_within : (d : ℕ) (bs : List ℕ) → GroupsWithin 9 (pieces_of d bs)

@@ -1,5 +1,5 @@
 -- Replacements (XCU sed, "Editing Commands in sed": `s`).
-use Rattle.std.specs.Prelude.{ℕ, suc, ◌-◌, ◌≤◌, List, [], ◌∷◌, ◌++◌, map, Bool, true, false, not, ◌&&◌, ◌||◌, Option}
+use Rattle.std.specs.Prelude.{ℕ, suc, ◌-◌, ◌≤◌, List, [], ◌∷◌, ◌++◌, map, Bool, true, false, ◌&&◌, ◌||◌, Option}
 use Rattle.std.specs.Prelude.{Some, None, if◌then◌else◌, nat_lt, nat_le, ◌==◌}
 use Rattle.std.specs.Option.{option_or}
 use Rattle.sedscript.specs.declared.types.ScriptFault.{ScriptFault}
@@ -7,6 +7,7 @@ use Rattle.sedscript.specs.declared.types.Reason.TheVariants.{BadEscape, GroupAb
 use Rattle.sedscript.specs.declared.substitution.Part.{Part}
 use Rattle.sedscript.specs.declared.substitution.Part.TheVariants.{Literal, Whole, Group}
 use Rattle.sedscript.specs.Bytes.{is_digit}
+use Rattle.sedscript.specs.Strings.{escapes}
 use Rattle.sedscript.specs.Targets.{fault_if}
 -- what a replacement is made of
 pub use Rattle.sedscript.specs.declared.replacement.Piece.{Piece}
@@ -47,7 +48,7 @@ with_piece (Some p) ps = p ∷ ps
 abbrev pub pieces_from : ℕ → Bool → List ℕ → List Piece
 pieces_from delimiter escaped [] = []
 pieces_from delimiter escaped (b ∷ bs) =
-    with_piece (piece_of delimiter escaped b) (pieces_from delimiter (b == 92 && not escaped) bs)
+    with_piece (piece_of delimiter escaped b) (pieces_from delimiter (escapes escaped b) bs)
 
 abbrev pub pieces_of : ℕ → List ℕ → List Piece
 pieces_of delimiter text = pieces_from delimiter false text

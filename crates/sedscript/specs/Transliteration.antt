@@ -6,8 +6,8 @@ use Rattle.std.specs.Option.{option_or}
 use Rattle.sedscript.specs.declared.types.ScriptFault.{ScriptFault}
 use Rattle.sedscript.specs.declared.types.Reason.TheVariants.{LengthsDiffer, RepeatedByte, BadEscape}
 use Rattle.sedscript.specs.Bytes.{part}
+use Rattle.sedscript.specs.Strings.{escapes}
 use Rattle.sedscript.specs.Targets.{fault_if}
-
 -- a byte of a string, and its place (of an escape: the place of its backslash)
 pub use Rattle.sedscript.specs.declared.transliteration.Char.{Char}
 
@@ -34,7 +34,7 @@ with_char (Some c) cs = c ∷ cs
 abbrev pub chars_from : ℕ → Bool → ℕ → List ℕ → List Char
 chars_from delimiter escaped at [] = []
 chars_from delimiter escaped at (b ∷ bs) =
-    with_char (char_of delimiter escaped at b) (chars_from delimiter (b == 92 && not escaped) (suc at) bs)
+    with_char (char_of delimiter escaped at b) (chars_from delimiter (escapes escaped b) (suc at) bs)
 
 -- the bytes of the string that stands between two places
 abbrev pub chars_of : List ℕ → ℕ → ℕ → ℕ → List Char
@@ -48,7 +48,7 @@ abbrev pub string_fault : ℕ → Bool → ℕ → List ℕ → Option ScriptFau
 string_fault delimiter escaped at [] = None
 string_fault delimiter escaped at (b ∷ bs) =
     if escaped && is_none (escaped_byte delimiter b) then Some (record { place = at - 1; reason = BadEscape })
-    else string_fault delimiter (b == 92 && not escaped) (suc at) bs
+    else string_fault delimiter (escapes escaped b) (suc at) bs
 
 -- whether a byte is one of these
 abbrev pub is_among : List ℕ → ℕ → Bool

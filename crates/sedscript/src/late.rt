@@ -9,6 +9,7 @@ use crate::items::{Function, Item};
 use crate::targets::{Targets, is_close, is_open};
 use crate::types::{Reason, ScriptFault};
 
+/// The fault at a place, if something is wrong.
 pub fn fault_if(wrong: bool, reason: Reason, place: usize) -> Option<ScriptFault>
     ensures { result ≡ fault_if wrong reason place }
 {

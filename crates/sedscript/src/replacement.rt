@@ -6,6 +6,7 @@ ghost use Rattle.sedscript.specs.Replacement.{group, is_letter, escaped_piece, p
 ghost use Rattle.sedscript.specs.Replacement.{pieces_with, exceeds, escape_fault, replacement_fault, GroupsWithin};
 
 use crate::bytes::{is_digit, part};
+use crate::strings::escapes;
 use crate::substitution::Part;
 use crate::types::{Reason, ScriptFault};
 use std::alloc::{AllocError, Global};
@@ -119,7 +120,7 @@ pub fn replacement_fault(
                 return Some(fault);
             }
         }
-        escaped = b == b'\\' && !escaped;
+        escaped = escapes(escaped, b);
         k += 1;
     }
     None
@@ -178,7 +179,7 @@ pub fn parts_of(alloc: Global, bytes: &[u8], delimiter: u8) -> Result<Vec<Part>,
         if let Some(piece) = piece_of(delimiter, escaped, b) {
             run = add_piece(alloc, &mut parts, run, piece)?;
         }
-        escaped = b == b'\\' && !escaped;
+        escaped = escapes(escaped, b);
         k += 1;
     }
     end_run(&mut parts, run)?;

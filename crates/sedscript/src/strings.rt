@@ -1,7 +1,14 @@
 //! Strings between delimiters, as `s` and `y` have them.
 
 ghost use Rattle.std.specs.Prelude.{◌≡◌, ◌≤◌, ◌<◌, length, drop, false, IfSome};
-ghost use Rattle.sedscript.specs.Strings.{string_end};
+ghost use Rattle.sedscript.specs.Strings.{escapes, string_end};
+
+/// Whether a byte is a backslash in force, with whether one stands before it.
+pub fn escapes(escaped: bool, b: u8) -> bool
+    ensures { result ≡ escapes escaped b }
+{
+    b == b'\\' && !escaped
+}
 
 /// Where the string ends that begins at a place: at a delimiter, none where a newline or the end comes first.
 /// Where it `breaks`, a newline behind a backslash belongs to it.
@@ -20,7 +27,7 @@ pub fn string_end(text: &[u8], breaks: bool, delimiter: u8, from: usize) -> Opti
         if b == delimiter && !escaped {
             return Some(at);
         }
-        escaped = b == b'\\' && !escaped;
+        escaped = escapes(escaped, b);
         at += 1;
     }
     None

@@ -1,13 +1,15 @@
 //! The strings of `y`.
 
-ghost use Rattle.std.specs.Prelude.{◌≡◌, ◌≤◌, ◌<◌, ◌+◌, [], true, false, length, IfOk, vec_len};
+ghost use Rattle.std.specs.Prelude.{◌≡◌, ◌≤◌, ◌<◌, ◌+◌, ℕ, List, [], ◌∷◌, true, false, length, IfOk};
 ghost use Rattle.std.specs.List.{range_with_len};
 ghost use Rattle.sedscript.specs.Bytes.{part};
 ghost use Rattle.sedscript.specs.Transliteration.{escaped_byte, char_of, chars_from, chars_of, bytes_of, string_fault};
-ghost use Rattle.sedscript.specs.Transliteration.{repeated_in, strings_fault, table_of};
+ghost use Rattle.sedscript.specs.Transliteration.{is_among, repeated_in, strings_fault, table_of};
+ghost use Rattle.sedscript.specs.Transliteration.{marks_of};
 
 use crate::bytes::part;
 use crate::late::fault_if;
+use crate::strings::escapes;
 use crate::types::{Reason, ScriptFault};
 use std::alloc::{AllocError, Global};
 
@@ -66,10 +68,21 @@ fn string_fault(bytes: &[u8], delimiter: u8, from: usize) -> Option<ScriptFault>
                 reason: Reason::BadEscape,
             });
         }
-        escaped = b == b'\\' && !escaped;
+        escaped = escapes(escaped, b);
         k += 1;
     }
     None
+}
+
+/// Notes a byte, and tells whether it was noted before.
+fn note(seen: &mut [bool; 256], b: u8) -> bool
+    ensures { (before : List ℕ) → seen.old ≡ marks_of before →
+        (result ≡ is_among before b) × (seen.new ≡ marks_of (b ∷ before)) }
+{
+    let at = usize::from(b);
+    let noted = seen[at];
+    seen[at] = true;
+    noted
 }
 
 /// The place of the first byte that stands a second time in the string that begins at a place.
@@ -83,12 +96,11 @@ fn repeated(bytes: &[u8], delimiter: u8, from: usize) -> Option<usize>
     'bytes: while k < bytes.len() {
         let b = bytes[k];
         if let Some(found) = char_of(delimiter, escaped, from + k, b) {
-            if seen[usize::from(found.byte)] {
+            if note(&mut seen, found.byte) {
                 return Some(found.place);
             }
-            seen[usize::from(found.byte)] = true;
         }
-        escaped = b == b'\\' && !escaped;
+        escaped = escapes(escaped, b);
         k += 1;
     }
     None
@@ -107,7 +119,7 @@ fn count(bytes: &[u8], delimiter: u8, from: usize) -> usize
         if char_of(delimiter, escaped, from + k, b).is_some() {
             count += 1;
         }
-        escaped = b == b'\\' && !escaped;
+        escaped = escapes(escaped, b);
         k += 1;
     }
     count
@@ -163,7 +175,7 @@ fn bytes_of(
         if let Some(found) = char_of(delimiter, escaped, from + k, b) {
             string.push(found.byte)?;
         }
-        escaped = b == b'\\' && !escaped;
+        escaped = escapes(escaped, b);
         k += 1;
     }
     Ok(string)
@@ -205,7 +217,7 @@ pub fn table_of(
     requires { (from ≤ middle) × (middle < to) × (to ≤ length text.now) }
     ensures is { IfOk result (λ v. v.items ≡ table_of (bytes_of (chars_of text.now delimiter from middle))
         (bytes_of (chars_of text.now delimiter (middle + 1) to))) }
-    ensures whole { IfOk result (λ v. vec_len v ≡ 256) }
+    ensures whole { IfOk result (λ v. length v.items ≡ 256) }
 {
     let source = bytes_of(alloc, text, delimiter, from, middle)?;
     let target = bytes_of(alloc, text, delimiter, middle + 1, to)?;

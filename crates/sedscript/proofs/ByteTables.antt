@@ -1,0 +1,88 @@
+-- Tables of all bytes.
+use Rattle.std.proofs.Common.{◌≡◌, ◌≢◌, ℕ, zero, suc, ◌+◌, ◌<◌, List, [], ◌∷◌, ◌++◌, map, set, length, get_or, drop, replicate, min, Bool, true, false, ◌==◌, refl, sym, ap, subst, ◌∙◌, ◌⊎◌, inl, inr, arith, drop-cons, drop_of_length-le, length-set, get_or-set_same, get_or-set_other}
+use Rattle.std.specs.List.{range_with_len}
+use Rattle.std.proofs.lemmas.Bool.Decides.{eqb_tells, leb_tells}
+use Rattle.std.proofs.lemmas.List.{get_or-replicate}
+use Rattle.std.proofs.lemmas.List.FromFn.{fill_by_all, length-map-range_with_len, get_or-map-range_with_len, length-range_with_len, get_or-range_with_len}
+use Rattle.sedscript.specs.Transliteration.{table_of, counterpart, marks_of, is_among}
+
+equal_self : (a : ℕ) → (a == a) ≡ true
+equal_self a = elim (eqb_tells a a) [ inl h ↦ h.0 | inr h ↦ absurd (h.1 refl) ]
+
+-- a list of all bytes' values with one written is that of a function that differs there
+set_filled : {X : Type 0} (f g : ℕ → X) (n s : ℕ) (x : X) → s < n → g s ≡ x → ((k : ℕ) → k ≢ s → f k ≡ g k) → set (map f (range_with_len 0 n)) s x ≡ map g (range_with_len 0 n)
+set_filled f g n s x lt here else_ =
+    fill_by_all g (set (map f (range_with_len 0 n)) s x) n x (length-set (map f (range_with_len 0 n)) s x ∙ length-map-range_with_len f 0 n)
+    (λ (k : ℕ) (small : k < n). elim (eqb_tells k s) [
+      | inl h ↦ subst (λ (z : ℕ). get_or (set (map f (range_with_len 0 n)) s x) z x ≡ g z) (sym h.1)
+          (get_or-set_same (map f (range_with_len 0 n)) s x x (let e : length (map f (range_with_len 0 n)) ≡ n = length-map-range_with_len f 0 n in omega (arith, e)) ∙ sym here)
+      | inr h ↦ get_or-set_other (map f (range_with_len 0 n)) s k x x h.1 ∙ (get_or-map-range_with_len f 0 n k k x small (omega arith) ∙ else_ k h.1)
+    ])
+
+-- a pair before the others
+pub table_more : (s t : ℕ) (source target : List ℕ) → s < 256 → set (table_of source target) s t ≡ table_of (s ∷ source) (t ∷ target)
+unfolding table_of
+table_more s t source target lt =
+    set_filled (counterpart source target) (counterpart (s ∷ source) (t ∷ target)) 256 s t lt (rw (equal_self s) refl)
+    (λ (k : ℕ) (other : k ≢ s). elim (eqb_tells s k) [ inl h ↦ absurd (other (sym h.1)) | inr h ↦ rw h.0 refl ])
+
+-- a byte more
+pub marks_more : (b : ℕ) (bs : List ℕ) → b < 256 → set (marks_of bs) b true ≡ marks_of (b ∷ bs)
+unfolding marks_of
+marks_more b bs lt =
+    set_filled (is_among bs) (is_among (b ∷ bs)) 256 b true lt (rw (equal_self b) refl)
+    (λ (k : ℕ) (other : k ≢ b). elim (eqb_tells b k) [ inl h ↦ absurd (other (sym h.1)) | inr h ↦ rw h.0 refl ])
+
+pub marks_at : (b : ℕ) (bs : List ℕ) (d : Bool) → b < 256 → get_or (marks_of bs) b d ≡ is_among bs b
+unfolding marks_of
+marks_at b bs d lt = get_or-map-range_with_len (is_among bs) 0 256 b b d lt (omega arith)
+
+pub table_length : (source target : List ℕ) → length (table_of source target) ≡ 256
+unfolding table_of
+table_length source target = length-map-range_with_len (counterpart source target) 0 256
+
+-- without a pair each byte stands for itself
+pub table_none : (source target : List ℕ) → source ≡ [] ⊎ target ≡ [] → range_with_len 0 256 ≡ table_of source target
+unfolding table_of
+table_none source target h =
+    fill_by_all (counterpart source target) (range_with_len 0 256) 256 0 (length-range_with_len 0 256)
+    (λ (k : ℕ) (lt : k < 256). get_or-range_with_len 0 256 k 0 lt ∙ (omega arith ∙ sym (same source target k h)))
+  where
+    same : (source target : List ℕ) (k : ℕ) → source ≡ [] ⊎ target ≡ [] → counterpart source target k ≡ k
+    same source target k (inl e) = rw e refl
+    same [] target k (inr e) = refl
+    same (s ∷ source) target k (inr e) = rw e refl
+
+-- a number more
+pub range_more : (a n : ℕ) → range_with_len a (n + 1) ≡ range_with_len a n ++ (a + n) ∷ []
+range_more a zero = ap (λ (k : ℕ). k ∷ []) (omega arith)
+range_more a (suc n) =
+    ap (range_with_len a) (let e : suc n + 1 ≡ suc (n + 1) = omega arith in e)
+    ∙ ap (λ (l : List ℕ). a ∷ l) (range_more (a + 1) n ∙ ap (λ (k : ℕ). range_with_len (a + 1) n ++ k ∷ []) (omega arith))
+
+-- the pair at an index, before those behind it
+pub table_step : (source target : List ℕ) (k d e s t : ℕ) → k < length source → k < length target → s ≡ get_or source k d → t ≡ get_or target k e → s < 256 →
+    set (table_of (drop (k + 1) source) (drop (k + 1) target)) s t ≡ table_of (drop k source) (drop k target)
+table_step source target k d e s t h g is as_ lt =
+    let one : k + 1 ≡ suc k = omega arith in
+    let these : s ∷ drop (k + 1) source ≡ drop k source = ap (λ (z : ℕ). z ∷ drop (k + 1) source) is ∙ (ap (λ (z : ℕ). get_or source k d ∷ drop z source) one ∙ sym (drop-cons source k d h)) in
+    let those : t ∷ drop (k + 1) target ≡ drop k target = ap (λ (z : ℕ). z ∷ drop (k + 1) target) as_ ∙ (ap (λ (z : ℕ). get_or target k e ∷ drop z target) one ∙ sym (drop-cons target k e g)) in
+    table_more s t (drop (k + 1) source) (drop (k + 1) target) lt ∙ (ap (λ (z : List ℕ). table_of z (t ∷ drop (k + 1) target)) these ∙ ap (table_of (drop k source)) those)
+
+-- behind the shorter string no pair stands
+pub table_start : (source target : List ℕ) (k : ℕ) → k ≡ min (length source) (length target) → range_with_len 0 256 ≡ table_of (drop k source) (drop k target)
+table_start source target k e = table_none (drop k source) (drop k target) (elim (leb_tells (length source) k)
+    [ inl h ↦ inl (drop_of_length-le source h.1) | inr h ↦ inr (drop_of_length-le target (let above = h.1 in omega (arith, e, above))) ])
+
+-- nothing is noted at first
+pub no_marks : (seen : List Bool) → seen ≡ replicate 256 false → seen ≡ marks_of []
+unfolding marks_of
+no_marks seen e = e ∙ fill_by_all (is_among []) (replicate 256 false) 256 false refl (λ (k : ℕ) (lt : k < 256). get_or-replicate 256 k false false lt)
+
+-- a byte is noted
+pub noted : (old : List Bool) (b at : ℕ) → b < 256 → at ≡ b →
+    (before : List ℕ) → old ≡ marks_of before → (get_or old at false ≡ is_among before b) × (set old at true ≡ marks_of (b ∷ before))
+noted old b at lt same before e = (
+  ap (λ (n : ℕ). get_or old n false) same ∙ (ap (λ (l : List Bool). get_or l b false) e ∙ marks_at b before false lt),
+  ap (λ (n : ℕ). set old n true) same ∙ (ap (λ (l : List Bool). set l b true) e ∙ marks_more b before lt),
+)
