@@ -37,7 +37,9 @@ use Rattle.sedscript.specs.Reading.{Reading, plainly, expression, ◌>>=◌}
 use Rattle.sedscript.specs.Addresses.{Addressed, Headed, line_of, match_to, match_at, own_match, address_of, address_at, with_second, second_at, behind_first, addresses_at, with_bang}
 use Rattle.sedscript.specs.Expressions.{Gives, value, behind}
 use Rattle.sedscript.specs.Targets.{leaves, counted, commands_in, label_in, is_label, close_in, is_close, depth_behind, block_end}
-use Rattle.sedscript.specs.Script.{Cut, done, item, with_text, texts_of, with_substitution, substitutions_of, with_table, tables_of, substitution_of, table_between, counts_with, none_counted, action_of, simple_action, text_action, branch_action, with_action, commands_of, Judged, Means, Program}
+use Rattle.sedscript.specs.declared.script.Named.{Named}
+use Rattle.sedscript.specs.Parts.{program_of, IsNamed}
+use Rattle.sedscript.specs.Script.{Cut, done, item, is_quiet, with_text, texts_of, with_substitution, substitutions_of, with_table, tables_of, substitution_of, table_between, counts_with, none_counted, action_of, simple_action, text_action, branch_action, with_action, commands_of, Judged, Means, Program}
 use Rattle.sedscript.specs.declared.substitution.Substitution.{Substitution}
 use Rattle.sedscript.specs.Ranges.{Sizes, sizes_of, IsOneOf, AddressWithin, ActionWithin, CommandWithin, SubstitutionWithin, InRange}
 use Rattle.sedscript.proofs.Labels.{commands_snoc, counted_in}
@@ -577,3 +579,19 @@ means_in_range text kind m s h =
       substitutions = λ k t g. substitution_at (length s.expressions) text is k t items (subst (λ (ss : List Substitution). slice_get ss k ≡ Some t) h.substitutions g);
       tables = λ k t g. table_at text is k t (subst (λ (ts : List (List ℕ)). slice_get ts k ≡ Some t) h.tables g);
     }
+
+-- the parts that were made are in range
+pub means_named : (text : List ℕ) (kind : Kind) (m to : ℕ) (is : List Item) (es : List Written) (cs : List Command) (named : Named) (quiet : Bool) {js : List Item} → Judged text kind m is es to →
+    cs ≡ commands_of text is [] none_counted is → js ≡ is → IsNamed text js es named → quiet ≡ is_quiet text → InRange (program_of cs named quiet m)
+means_named text kind m to is es cs named quiet j c same n q =
+    means_in_range text kind m (program_of cs named quiet m) (record {
+      items = is;
+      to = to;
+      judged = subst (λ (es : List Written). Judged text kind m is es to) (sym n.exprs) j;
+      commands = c;
+      texts = n.texts ∙ ap (texts_of text) same;
+      substitutions = n.substitutions ∙ ap (substitutions_of text) same;
+      tables = n.tables ∙ ap (tables_of text) same;
+      quiet = q;
+      nodes = refl;
+    })

@@ -1,7 +1,10 @@
 -- The bytes of a string, from one place to the next.
-use Rattle.std.proofs.Common.{◌≡◌, ℕ, suc, ◌+◌, ◌<◌, List, ◌∷◌, length, get_or, drop, Option, Some, None, Bool, true, false, if◌then◌else◌, refl, sym, ap, ◌∙◌, arith, drop-cons}
+use Rattle.std.proofs.Common.{◌≡◌, ℕ, suc, ◌+◌, ◌-◌, ◌<◌, ◌==◌, option_map, List, [], ◌∷◌, length, get_or, drop, Option, Some, None, Bool, true, false, if◌then◌else◌, refl, sym, ap, ◌∙◌, arith, drop-cons}
 use Rattle.sedscript.specs.Strings.{escapes}
-use Rattle.sedscript.specs.Transliteration.{Char, char_of, with_char, chars_from, repeated_in, is_among}
+use Rattle.sedscript.specs.Transliteration.{Char, escaped_byte, char_of, with_char, chars_from, chars_of, bytes_of, table_of, repeated_in, is_among}
+use Rattle.sedscript.specs.declared.items.Strings.{Strings}
+use Rattle.sedscript.specs.Bytes.{part}
+use Rattle.sedscript.specs.Script.{table_between}
 
 chars_step : (d from k : ℕ) (e f : Bool) (bytes : List ℕ) (o : Option Char) → k < length bytes → o ≡ char_of d e (from + k) (get_or bytes k 0) → f ≡ escapes e (get_or bytes k 0) →
     chars_from d e (from + k) (drop k bytes) ≡ with_char o (chars_from d f (from + (k + 1)) (drop (k + 1) bytes))
@@ -37,3 +40,27 @@ pub repeated_same : (d from k : ℕ) (e f : Bool) (bytes before : List ℕ) (o :
 repeated_same d from k e f bytes before o answer h is force none so_far =
     so_far ∙ (ap (repeated_in before) (chars_step d from k e f bytes o h is force)
     ∙ ap (λ (x : Option Char). repeated_in before (with_char x (chars_from d f (from + (k + 1)) (drop (k + 1) bytes)))) none)
+
+-- the bytes of a string are the same wherever it stands
+same_byte : (d at n : ℕ) (e : Bool) (b : ℕ) (cs ds : List Char) → bytes_of cs ≡ bytes_of ds → bytes_of (with_char (char_of d e at b) cs) ≡ bytes_of (with_char (char_of d e n b) ds)
+same_byte d at n true b cs ds h = by_byte (escaped_byte d b)
+  where
+    by_byte : (o : Option ℕ) → bytes_of (with_char (option_map (λ (x : ℕ). record { byte = x; place = at - 1 }) o) cs) ≡ bytes_of (with_char (option_map (λ (x : ℕ). record { byte = x; place = n - 1 }) o) ds)
+    by_byte None = h
+    by_byte (Some x) = ap (λ (bs : List ℕ). x ∷ bs) h
+same_byte d at n false b cs ds h = by_test (b == 92)
+  where
+    by_test : (t : Bool) → bytes_of (with_char (if t then None else Some (record { byte = b; place = at })) cs) ≡ bytes_of (with_char (if t then None else Some (record { byte = b; place = n })) ds)
+    by_test true = h
+    by_test false = ap (λ (bs : List ℕ). b ∷ bs) h
+
+pub same_bytes : (d at n : ℕ) (e : Bool) (bs : List ℕ) → bytes_of (chars_from d e at bs) ≡ bytes_of (chars_from d e n bs)
+same_bytes d at n e [] = refl
+same_bytes d at n e (b ∷ bs) = same_byte d at n e b _ _ (same_bytes d (suc at) (suc n) (escapes e b) bs)
+
+-- the table of two strings
+pub table_is : (text : List ℕ) (s : Strings) (table source target first second : List ℕ) → first ≡ part text s.from s.middle → second ≡ part text (s.middle + 1) s.to →
+    source ≡ bytes_of (chars_from s.delimiter false 0 first) → target ≡ bytes_of (chars_from s.delimiter false 0 second) → table ≡ table_of source target → table ≡ table_between text s
+table_is text s table source target first second one other from to is =
+    is ∙ ap (λ (x : List ℕ). table_of x target) (from ∙ (ap (λ (x : List ℕ). bytes_of (chars_from s.delimiter false 0 x)) one ∙ same_bytes s.delimiter 0 s.from false (part text s.from s.middle)))
+    ∙ ap (table_of (bytes_of (chars_of text s.delimiter s.from s.middle))) (to ∙ (ap (λ (x : List ℕ). bytes_of (chars_from s.delimiter false 0 x)) other ∙ same_bytes s.delimiter 0 (s.middle + 1) false (part text (s.middle + 1) s.to)))

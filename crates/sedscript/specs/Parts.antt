@@ -1,8 +1,10 @@
 -- The parts that a script is kept in. Private machinery of the reader.
-use Rattle.std.specs.Prelude.{ℕ, List, Bool, map}
+use Rattle.std.specs.Prelude.{◌≡◌, ℕ, List, Bool, map}
+use Rattle.sedre.specs.Arena.{Written}
+use Rattle.sedscript.specs.declared.items.Item.{Item}
 use Rattle.sedscript.specs.declared.types.Command.{Command}
 use Rattle.sedscript.specs.declared.script.Named.{Named}
-use Rattle.sedscript.specs.Script.{Program}
+use Rattle.sedscript.specs.Script.{Program, texts_of, substitutions_of, tables_of}
 
 -- the script of these parts
 abbrev pub program_of : List Command → Named → Bool → ℕ → Program
@@ -15,3 +17,10 @@ program_of commands named quiet max_nodes = record {
   quiet = quiet;
   max_nodes = max_nodes;
 }
+
+-- what the items name, with these expressions
+pub record IsNamed (text : List ℕ) (items : List Item) (expressions : List Written) (named : Named) : Type 0 where
+  pub exprs : named.exprs.items ≡ expressions
+  pub texts : map (λ t. t.items) named.texts.items ≡ texts_of text items
+  pub substitutions : named.substitutions.items ≡ substitutions_of text items
+  pub tables : map (λ t. t.items) named.tables.items ≡ tables_of text items

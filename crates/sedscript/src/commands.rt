@@ -5,11 +5,16 @@ ghost use Rattle.std.specs.Prelude.{IfOk, OnOk};
 ghost use Rattle.sedscript.specs.Bytes.{part};
 ghost use Rattle.sedscript.specs.Tables.{TargetsAre, AtMost};
 ghost use Rattle.sedscript.specs.Script.{none_counted, counts_with, simple_action, text_action, branch_action, action_of, with_action};
-ghost use Rattle.sedscript.specs.Script.{commands_of, texts_of, unescaped_from, is_quiet};
+ghost use Rattle.sedscript.specs.Script.{commands_of, texts_of, substitution_of, substitutions_of, tables_of};
+ghost use Rattle.sedscript.specs.Script.{unescaped_from, is_quiet};
 
 use crate::bytes::part;
-use crate::items::{Addresses, BranchUse, Counts, Function, Item, Simple, TextUse};
+use crate::items::{Addresses, BranchUse, Counts, Flags, Function, Item, Simple, Strings, TextUse};
+use crate::replacement::parts_of;
+use crate::strings::second_of;
+use crate::substitution::{Replacement, Substitution};
 use crate::targets::Targets;
+use crate::transliteration::table_between;
 use crate::types::{Action, Command};
 use std::alloc::{AllocError, Global};
 
@@ -183,6 +188,60 @@ pub fn texts_of(alloc: Global, text: &[u8], items: &[Item]) -> Result<Vec<Vec<u8
         k += 1;
     }
     Ok(texts)
+}
+
+/// The substitution of an `s`.
+fn substitution_of(
+    alloc: Global,
+    text: &[u8],
+    strings: Strings,
+    expression: Option<usize>,
+    flags: Flags,
+) -> Result<Substitution, AllocError>
+    ensures { IfOk result (λ s. s ≡ substitution_of text.now strings expression flags) }
+{
+    let parts = parts_of(alloc, second_of(text, strings), strings.delimiter)?;
+    Ok(Substitution {
+        expression,
+        replacement: Replacement::of(parts),
+        number: flags.number.unwrap_or(1),
+        global: flags.global,
+        print: flags.print,
+    })
+}
+
+/// The substitutions of the items, in their order.
+pub fn substitutions_of(
+    alloc: Global,
+    text: &[u8],
+    items: &[Item],
+) -> Result<Vec<Substitution>, AllocError>
+    ensures { IfOk result (λ v. v.items ≡ substitutions_of text.now items.now) }
+{
+    let mut substitutions = Vec::new(alloc);
+    let mut k = 0;
+    'items: while k < items.len() {
+        if let Function::Substitute(strings, expression, flags) = items[k].function {
+            substitutions.push(substitution_of(alloc, text, strings, expression, flags)?)?;
+        }
+        k += 1;
+    }
+    Ok(substitutions)
+}
+
+/// The tables of the items, in their order.
+pub fn tables_of(alloc: Global, text: &[u8], items: &[Item]) -> Result<Vec<Vec<u8>>, AllocError>
+    ensures { IfOk result (λ v. map (λ t. t.items) v.items ≡ tables_of text.now items.now) }
+{
+    let mut tables = Vec::new(alloc);
+    let mut k = 0;
+    'items: while k < items.len() {
+        if let Function::Transliterate(strings) = items[k].function {
+            tables.push(table_between(alloc, text, strings)?)?;
+        }
+        k += 1;
+    }
+    Ok(tables)
 }
 
 /// Whether the first line of a script is exactly `#n`.

@@ -3,10 +3,11 @@
 ghost use Rattle.std.specs.Prelude.{◌≡◌, ◌≤◌, ◌⊎◌, [], IfOk, IfErr, OnOk};
 ghost use Rattle.sedscript.specs.Script.{Means, Faulty};
 ghost use Rattle.sedscript.specs.Answers.{IsJudged};
+ghost use Rattle.sedscript.specs.Parts.{IsNamed};
 ghost use Rattle.sedscript.specs.Tables.{TargetsAre};
 ghost use Rattle.sedscript.specs.declared.types.ScriptFault.{ScriptFault};
 
-use crate::commands::{commands_of, is_quiet, texts_of};
+use crate::commands::{commands_of, is_quiet, substitutions_of, tables_of, texts_of};
 use crate::cut::cut;
 use crate::items::{Item, Source};
 use crate::late::late;
@@ -15,7 +16,7 @@ use crate::targets::{Targets, targets_of};
 use crate::types::{Kind, NO_MEMORY, ScriptFault};
 use sedre::Expr;
 use sedre::laws::reads_as_one;
-use std::alloc::Global;
+use std::alloc::{AllocError, Global};
 
 /// Cuts a text into its items and judges its labels and blocks.
 fn judge<'a>(
@@ -43,12 +44,29 @@ fn judge<'a>(
     }
 }
 
+/// What the commands of the items name by numbers.
+fn named_of(
+    alloc: Global,
+    text: &[u8],
+    items: &[Item],
+    exprs: Vec<Expr>,
+) -> Result<Named, AllocError>
+    ensures { IfOk result (IsNamed text.now items.now exprs.items) }
+{
+    Ok(Named {
+        exprs,
+        texts: texts_of(alloc, text, items)?,
+        substitutions: substitutions_of(alloc, text, items)?,
+        tables: tables_of(alloc, text, items)?,
+    })
+}
+
 /// Reads a text as a script, or answers its first fault.
 /// `max_nodes` is the most nodes that a regular expression may have, 1 to 65,536.
 /// The work and the memory grow with the text, and for its regular expressions with `max_nodes`.
 ///
 /// # Errors
-/// The first fault from left to right (S1 to S6, S12, S15 or S21, with its place). Where there is none, the fault of
+/// The first fault from left to right (S1 to S9, S12, S15 to S18, S20 or S21, with its place). Where there is none, the fault of
 /// labels and blocks with the least place (S10, S11, S13 or S14). S22 at 0 where a request for memory was refused.
 pub fn read(alloc: Global, text: &[u8], kind: Kind, max_nodes: usize) -> Result<Script, ScriptFault>
     requires nodes { (1 ≤ max_nodes) × (max_nodes ≤ 65536) }
@@ -72,17 +90,9 @@ pub fn read(alloc: Global, text: &[u8], kind: Kind, max_nodes: usize) -> Result<
         Err(fault) => Err(fault),
         Ok(targets) => match commands_of(alloc, text, &items, &targets) {
             Err(_) => Err(NO_MEMORY),
-            Ok(commands) => match texts_of(alloc, text, &items) {
+            Ok(commands) => match named_of(alloc, text, &items, exprs) {
                 Err(_) => Err(NO_MEMORY),
-                Ok(texts) => {
-                    let named = Named {
-                        exprs,
-                        texts,
-                        substitutions: Vec::new(alloc),
-                        tables: Vec::new(alloc),
-                    };
-                    Ok(Script::of(commands, named, is_quiet(text), max_nodes))
-                }
+                Ok(named) => Ok(Script::of(commands, named, is_quiet(text), max_nodes)),
             },
         },
     }

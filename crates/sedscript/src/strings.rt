@@ -1,7 +1,11 @@
 //! Strings between delimiters, as `s` and `y` have them.
 
-ghost use Rattle.std.specs.Prelude.{◌≡◌, ◌≤◌, ◌<◌, length, drop, false, IfSome};
+ghost use Rattle.std.specs.Prelude.{◌≡◌, ◌≤◌, ◌<◌, ◌+◌, length, drop, false, IfSome};
+ghost use Rattle.sedscript.specs.Bytes.{part};
 ghost use Rattle.sedscript.specs.Strings.{escapes, string_end};
+
+use crate::bytes::part;
+use crate::items::Strings;
 
 /// Whether a byte is a backslash in force, with whether one stands before it.
 pub fn escapes(escaped: bool, b: u8) -> bool
@@ -31,4 +35,14 @@ pub fn string_end(text: &[u8], breaks: bool, delimiter: u8, from: usize) -> Opti
         at += 1;
     }
     None
+}
+
+/// The second of two strings.
+pub fn second_of(text: &[u8], strings: Strings) -> &[u8]
+    ensures { result.now ≡ part text.now (strings.middle + 1) strings.to }
+{
+    if strings.to <= strings.middle {
+        return &[];
+    }
+    part(text, strings.middle + 1, strings.to)
 }

@@ -6,10 +6,12 @@ ghost use Rattle.sedscript.specs.Bytes.{part};
 ghost use Rattle.sedscript.specs.Transliteration.{escaped_byte, char_of, chars_from, chars_of, bytes_of, string_fault};
 ghost use Rattle.sedscript.specs.Transliteration.{is_among, repeated_in, strings_fault, table_of};
 ghost use Rattle.sedscript.specs.Transliteration.{marks_of};
+ghost use Rattle.sedscript.specs.Script.{table_between};
 
 use crate::bytes::part;
+use crate::items::Strings;
 use crate::late::fault_if;
-use crate::strings::escapes;
+use crate::strings::{escapes, second_of};
 use crate::types::{Reason, ScriptFault};
 use std::alloc::{AllocError, Global};
 
@@ -155,24 +157,16 @@ pub fn strings_fault(
     fault_if(differ, Reason::LengthsDiffer, letter)
 }
 
-/// The bytes of the string that stands between two places.
-fn bytes_of(
-    alloc: Global,
-    text: &[u8],
-    delimiter: u8,
-    from: usize,
-    to: usize,
-) -> Result<Vec<u8>, AllocError>
-    requires { (from ≤ to) × (to ≤ length text.now) }
-    ensures { IfOk result (λ v. v.items ≡ bytes_of (chars_of text.now delimiter from to)) }
+/// The bytes of a string.
+fn bytes_of(alloc: Global, bytes: &[u8], delimiter: u8) -> Result<Vec<u8>, AllocError>
+    ensures { IfOk result (λ v. v.items ≡ bytes_of (chars_from delimiter false 0 bytes.now)) }
 {
-    let bytes = part(text, from, to);
     let mut string = Vec::new(alloc);
     let mut escaped = false;
     let mut k = 0;
     'bytes: while k < bytes.len() {
         let b = bytes[k];
-        if let Some(found) = char_of(delimiter, escaped, from + k, b) {
+        if let Some(found) = char_of(delimiter, escaped, k, b) {
             string.push(found.byte)?;
         }
         escaped = escapes(escaped, b);
@@ -206,20 +200,11 @@ fn table_from(alloc: Global, source: &[u8], target: &[u8]) -> Result<Vec<u8>, Al
 }
 
 /// What stands for each byte, by the strings of a `y`.
-pub fn table_of(
-    alloc: Global,
-    text: &[u8],
-    delimiter: u8,
-    from: usize,
-    middle: usize,
-    to: usize,
-) -> Result<Vec<u8>, AllocError>
-    requires { (from ≤ middle) × (middle < to) × (to ≤ length text.now) }
-    ensures is { IfOk result (λ v. v.items ≡ table_of (bytes_of (chars_of text.now delimiter from middle))
-        (bytes_of (chars_of text.now delimiter (middle + 1) to))) }
-    ensures whole { IfOk result (λ v. length v.items ≡ 256) }
+pub fn table_between(alloc: Global, text: &[u8], strings: Strings) -> Result<Vec<u8>, AllocError>
+    ensures { IfOk result (λ v. v.items ≡ table_between text.now strings) }
 {
-    let source = bytes_of(alloc, text, delimiter, from, middle)?;
-    let target = bytes_of(alloc, text, delimiter, middle + 1, to)?;
+    let delimiter = strings.delimiter;
+    let source = bytes_of(alloc, part(text, strings.from, strings.middle), delimiter)?;
+    let target = bytes_of(alloc, second_of(text, strings), delimiter)?;
     table_from(alloc, &source, &target)
 }

@@ -2,23 +2,14 @@ use Rattle.std.proofs.Common.{◌∙◌, ℕ, ap, map, refl, List, [], Vec, Glob
 use Rattle.sedscript.specs.declared.items.Item.{Item}
 use Rattle.sedscript.specs.Script.{texts_of, commands_of, none_counted, Means}
 use Rattle.sedscript.specs.Parts.{program_of}
-use Rattle.sedscript.proofs.Bounds.{means_in_range}
+use Rattle.sedscript.proofs.Bounds.{means_named}
 use Rattle.sedscript.proofs.Exclusive.{judged_no_fault}
 use Rattle.sedscript.proofs.reader.read.Goals as goal
 
 pub of-requires : goal.of-requires
 of-requires c =
-    means_in_range c.args.text.now c.args.kind c.args.max_nodes _ (record {
-      items = c.judge.new.items.items;
-      to = c.in-Ok.ensures.judged.to;
-      judged = c.in-Ok.ensures.judged.judged;
-      commands = c.in-Ok-commands_of.ensures ∙ ap (λ (is : List Item). commands_of c.args.text.now is [] none_counted is) c.deref.ensures.value;
-      texts = c.in-Ok-texts_of.ensures ∙ ap (texts_of c.args.text.now) c.deref-in-Ok-commands_of.ensures.value;
-      substitutions = c.new.ensures.items;
-      tables = ap (λ (l : List (Vec ℕ Global)). map (λ (t : Vec ℕ Global). t.items) l) c.new-in-Ok-texts_of.ensures.items;
-      quiet = c.is_quiet.ensures;
-      nodes = refl;
-    })
+    means_named c.args.text.now c.args.kind c.args.max_nodes c.in-Ok.ensures.judged.to c.judge.new.items.items c.judge.new.exprs.items c.in-Ok-commands_of.commands.items c.in-Ok-named_of.named c.is_quiet.result
+    c.in-Ok.ensures.judged.judged (c.in-Ok-commands_of.ensures ∙ ap (λ (is : List Item). commands_of c.args.text.now is [] none_counted is) c.deref.ensures.value) c.deref-in-Ok-commands_of.ensures.value c.in-Ok-named_of.ensures c.is_quiet.ensures
 
 pub returns-clause-no_fault : goal.returns-clause-no_fault
 returns-clause-no_fault c = λ f bad.

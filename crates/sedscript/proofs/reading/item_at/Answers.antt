@@ -16,8 +16,8 @@ returns-in-Err-clause-comes c =
 
 pub returns-in-Ok-clause-comes : goal.returns-in-Ok-clause-comes
 returns-in-Ok-clause-comes c =
-    item_some c.args.source.now.text.now c.args.source.now.kind c.args.source.now.max_nodes c.args.exprs.now.items c.addresses_at.new.exprs.items c.args.at c.past-start.result _ _ c.past-start.ensures.is (sym c.byte_at.ensures ∙ c.in-Some.is)
-    (comes_then c.args.source.now.text.now c.args.source.now.kind c.args.source.now.max_nodes _ c.addresses_at.new.exprs.items _ (addresses_at c.args.source.now.text.now (length c.args.exprs.now.items) c.past-start.result) (function_behind c.args.source.now.text.now) _ as_here _ c.in-Ok.ensures.comes
+    item_some c.args.source.now.text.now c.args.source.now.kind c.args.source.now.max_nodes c.args.exprs.now.items c.function_behind.new.exprs.items c.args.at c.past-start.result _ _ c.past-start.ensures.is (sym c.byte_at.ensures ∙ c.in-Some.is)
+    (comes_then c.args.source.now.text.now c.args.source.now.kind c.args.source.now.max_nodes _ c.addresses_at.new.exprs.items c.function_behind.new.exprs.items (addresses_at c.args.source.now.text.now (length c.args.exprs.now.items) c.past-start.result) (function_behind c.args.source.now.text.now) _ as_here _ c.in-Ok.ensures.comes
     c.function_behind.ensures.comes)
 
 pub returns-in-None-clause-here : goal.returns-in-None-clause-here

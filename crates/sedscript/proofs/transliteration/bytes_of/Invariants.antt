@@ -4,7 +4,7 @@ use Rattle.sedscript.proofs.transliteration.bytes_of.Given as goal
 
 abbrev pub invariant-bytes : goal.invariant-bytes
 invariant-bytes l = (l.k ≤ length l.bytes) × (l.escaped ≡ true → 1 ≤ l.k) ×
-    (bytes_of (chars_from l.delimiter false l.from l.bytes) ≡ l.string.items ++ bytes_of (chars_from l.delimiter l.escaped (l.from + l.k) (drop l.k l.bytes)))
+    (bytes_of (chars_from l.delimiter false 0 l.bytes) ≡ l.string.items ++ bytes_of (chars_from l.delimiter l.escaped l.k (drop l.k l.bytes)))
 
 abbrev pub decreases-bytes : goal.decreases-bytes
 decreases-bytes l = length l.bytes - l.k
