@@ -6,3 +6,4 @@ mod faults;
 mod hostile;
 mod rows;
 mod run;
+mod substitution;

@@ -11,7 +11,7 @@ use std::test::Fail;
 type Fault = (&'static str, &'static str);
 
 /// Faults of scripts: each reason's number, name and place.
-const OF_SCRIPTS: [Fault; 54] = [
+const OF_SCRIPTS: [Fault; 66] = [
     // No function where one is expected.
     ("k", "0: S1 UnknownCommand"),
     ("p;!", "3: S1 UnknownCommand"),
@@ -68,7 +68,20 @@ const OF_SCRIPTS: [Fault; 54] = [
     ("{p};{{}", "4: S13 OpenBlock"),
     ("}", "0: S14 StrayClose"),
     ("{p}}", "3: S14 StrayClose"),
+    // What stands between delimiters.
+    ("s", "1: S6 BadDelimiter"),
+    ("y\\a\\b\\", "1: S6 BadDelimiter"),
+    ("s/a/b", "3: S5 OpenDelimiter"),
+    ("y/a/b\\\n/", "3: S5 OpenDelimiter"),
+    ("s/a/b/k", "6: S7 UnknownFlag"),
+    ("s/a/b/gg", "7: S8 RepeatedFlag"),
+    ("s/a/b/0", "6: S9 BadNumber"),
+    ("y/abc/x/", "0: S16 LengthsDiffer"),
+    ("y/aa/bc/", "3: S17 RepeatedByte"),
+    ("s/a/\\q/", "4: S18 BadEscape"),
+    ("s/a/\\1/", "4: S20 GroupAbsent"),
     // What follows a command.
+    ("s/a/b/ g", "7: S15 TrailingBytes"),
     ("p x", "2: S15 TrailingBytes"),
     ("pp", "1: S15 TrailingBytes"),
     (":a x", "3: S15 TrailingBytes"),
@@ -78,7 +91,7 @@ const OF_SCRIPTS: [Fault; 54] = [
 ];
 
 /// Faults of expressions in addresses, with their places in the script.
-const OF_EXPRESSIONS: [Fault; 16] = [
+const OF_EXPRESSIONS: [Fault; 19] = [
     ("/[[:foo:]]/p", "2: S21 Expression: E2 UnknownClass"),
     ("/[[.ab.]]/p", "2: S21 Expression: E3 LongCollating"),
     ("/[b-a]/p", "2: S21 Expression: E4 BadRange"),
@@ -94,6 +107,9 @@ const OF_EXPRESSIONS: [Fault; 16] = [
     ("p;/\\<a/p", "3: S21 Expression: E10 UnknownEscape"),
     ("/\\(a\\)\\1/p", "6: S21 Expression: E11 BackReference"),
     ("/ab/p", "3: S21 Expression: E12 TooManyNodes"),
+    ("s/\\(a\\)\\1/x/", "7: S21 Expression: E11 BackReference"),
+    ("s/a\\{3,2\\}/x/", "3: S21 Expression: E7 BadInterval"),
+    ("s/ab/x/", "4: S21 Expression: E12 TooManyNodes"),
     ("/a/p;/a/,/\\(/k", "12: S21 Expression: E5 OpenGroup"),
 ];
 
