@@ -4,6 +4,7 @@ pub mod Streams
 pub mod Moves
 pub mod Runs
 pub mod Tasks
+pub mod Substituting
 pub mod Choices
 pub mod Acts
 pub mod Examples

@@ -10,4 +10,5 @@ pub mod Run
 pub mod Select
 pub mod State
 pub mod Steps
+pub mod Substituting
 pub mod Substitute
