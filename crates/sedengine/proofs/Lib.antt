@@ -6,4 +6,6 @@ pub mod Runs
 pub mod Tasks
 pub mod Choices
 pub mod Acts
+pub mod Occurrences
+pub mod Replacements
 pub mod Examples

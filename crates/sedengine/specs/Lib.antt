@@ -11,3 +11,4 @@ pub mod Select
 pub mod State
 pub mod Steps
 pub mod Substitute
+pub mod Replacing

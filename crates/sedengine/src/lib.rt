@@ -17,6 +17,7 @@ mod engine;
 mod limits;
 mod place;
 mod select;
+mod substitute;
 mod write;
 
 pub use ends::{Ended, Held, Progress};
