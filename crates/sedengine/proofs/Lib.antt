@@ -8,4 +8,6 @@ pub mod Choices
 pub mod Acts
 pub mod Occurrences
 pub mod Replacements
+pub mod Due
 pub mod Examples
+pub mod OccurrenceExamples

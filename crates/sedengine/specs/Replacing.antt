@@ -1,5 +1,6 @@
 -- Private to this crate: what the parts of a substitution tell.
-use Rattle.std.specs.Prelude.{◌≡◌, ℕ, ◌+◌, ◌-◌, ◌<◌, ◌≤◌, List, [], ◌∷◌, ◌++◌, length, drop, Bool, true, false, Option, Some, None, Result, Ok, Err, if◌then◌else◌}
+use Rattle.std.specs.Prelude.{◌≡◌, ℕ, ◌+◌, ◌-◌, ◌<◌, ◌≤◌, List, [], ◌∷◌, ◌++◌, length, drop, Bool, true, false}
+use Rattle.std.specs.Prelude.{Option, Some, None, Result, Ok, Err, if◌then◌else◌}
 use Rattle.sedre.specs.Arena.{Written, tree}
 use Rattle.sedmatch.specs.Caps.{Groups}
 use Rattle.sedmatch.specs.Matching.{report}
@@ -33,10 +34,11 @@ has_group (group k ∷ ps) = true
 abbrev pub GroupsIn : ℕ → Groups → Type 0
 GroupsIn n groups = (k : ℕ) → SpanIn n (span_of groups k)
 
--- the occurrence of this span in the text w, and with these groups
+-- the match with this span and these groups
 abbrev pub with_groups : ℕ × ℕ → Groups → Match
 with_groups span groups = record { start = span.0; end = span.1; groups = groups }
 
+-- the match of an expression that has this span in the text w
 abbrev pub occurrence : Written → List ℕ → ℕ × ℕ → Match
 occurrence e w span = with_groups span (report (tree e) w span.0 span.1)
 
@@ -63,15 +65,11 @@ occurrences_behind e w (Some q) = occurrences_from (search_for (Some e) w) (leng
 -- the occurrences behind a number of them, where the last of these ended if there are so many
 abbrev pub Skips : Written → List ℕ → ℕ → Option (Option ℕ) → Type 0
 Skips e w count None = drop count (occurrences_behind e w None) ≡ []
-Skips e w count (Some last) = (drop count (occurrences_behind e w None) ≡ occurrences_behind e w last) × EndsIn (length w) last
+Skips e w count (Some last) =
+    (drop count (occurrences_behind e w None) ≡ occurrences_behind e w last) × EndsIn (length w) last
 
 -- the occurrences that are still to be replaced: the one that has the span, if there is one, and with the flag `g` all
 -- behind it
 abbrev pub pending : Written → List ℕ → Bool → Option (ℕ × ℕ) → List Match
 pending e w global None = []
 pending e w global (Some span) = occurrence e w span ∷ (if global then occurrences_behind e w (Some span.1) else [])
-
--- how many places are left behind an occurrence in a text of n bytes
-abbrev pub places_left : ℕ → Option (ℕ × ℕ) → ℕ
-places_left n None = 0
-places_left n (Some span) = n + 1 - span.1

@@ -17,8 +17,8 @@ use sedspace::{Full, Space};
 /// The span of each group of an occurrence.
 type Groups = [Option<(usize, usize)>; 10];
 
-/// Puts into `build` the text in which the occurrences that the substitution chooses are replaced. Says whether there are
-/// any.
+/// Puts into `build` the text in which the occurrences that the substitution chooses are replaced. Says whether
+/// there are any.
 pub(crate) fn substitute(
     substitution: &Substitution,
     expr: &Expr,
@@ -32,7 +32,7 @@ pub(crate) fn substitute(
     requires number { 1 ≤ substitution.now.number }
     ensures replaces { Replaces text.now substitution.now.replacement
         (chosen substitution.now.number substitution.now.global
-            (occurrences (search_for (Some expr.now) text.now) (length text.now)))
+        (occurrences (search_for (Some expr.now) text.now) (length text.now)))
         build.old.limit build.new.bytes result }
     ensures limit { build.new.limit ≡ build.old.limit }
     ensures scratch { scratch.new ≡ scratch.old }
@@ -46,10 +46,8 @@ pub(crate) fn substitute(
         return Ok(false);
     };
     build.clear();
-    match replace(substitution, expr, text, first, &mut groups, build, scratch) {
-        Ok(()) => Ok(true),
-        Err(full) => Err(full),
-    }
+    replace(substitution, expr, text, first, &mut groups, build, scratch)?;
+    Ok(true)
 }
 
 /// Where the last of the first `count` occurrences ended, for no occurrence None. None alone where there are fewer.
@@ -159,7 +157,7 @@ fn replace(
     requires groups_in { GroupsIn (length text.now) groups.old }
     ensures appends { Appends build.old build.new
         (replaced_from text.now substitution.now.replacement 0
-            (pending expr.now text.now substitution.now.global (Some first))) result }
+        (pending expr.now text.now substitution.now.global (Some first))) result }
     ensures scratch { scratch.new ≡ scratch.old }
 {
     let parts = substitution.replacement.parts();
@@ -190,7 +188,8 @@ fn put(
     requires within { GroupsWithin 9 (pieces_in parts.now) }
     requires lies { LiesBehind (length text.now) None span }
     requires groups_in { GroupsIn (length text.now) groups.now }
-    ensures { Appends build.old build.new (put_for text.now (with_groups span groups.now) (pieces_in parts.now)) result }
+    ensures { Appends build.old build.new
+        (put_for text.now (with_groups span groups.now) (pieces_in parts.now)) result }
 {
     for part in parts {
         put_part(part, span, groups, text, build)?;

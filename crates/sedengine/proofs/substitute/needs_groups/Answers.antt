@@ -4,4 +4,5 @@ use Rattle.sedengine.proofs.substitute.needs_groups.Goals as goal
 
 pub loop-part-preserved : goal.loop-part-preserved
 loop-part-preserved c =
-    none_here c.args.parts.now c.loop-part.part-index c.part-item.result (omega arith) c.part-item.is c.in_default.not-Group c.loop-part.invariant
+    none_here c.args.parts.now c.loop-part.part-index c.part-item.result (omega arith) c.part-item.is
+    c.in_default.not-Group c.loop-part.invariant

@@ -6,5 +6,8 @@ use Rattle.sedengine.proofs.substitute.search.Goals as goal
 
 pub returns-clause-lies : goal.returns-clause-lies
 returns-clause-lies c =
-    let is = subst (λ (w : List ℕ). found (tree c.args.expr.now) w c.args.from ≡ Some (c.in_ok-found.found.start, c.in_ok-found.found.end)) c.new-bytes.ensures (sym c.in_ok-found.ensures.computed) in
-    found_lies c.args.expr.now c.args.text.now c.args.from c.in_ok-found.found.start c.in_ok-found.found.end c.requires.from is
+    let e = c.args.expr.now in
+    let found_here = c.in_ok-found.found in
+    let is = subst (λ (w : List ℕ). found (tree e) w c.args.from ≡ Some (found_here.start, found_here.end))
+    c.new-bytes.ensures (sym c.in_ok-found.ensures.computed) in
+    found_lies e c.args.text.now c.args.from found_here.start found_here.end c.requires.from is

@@ -1,4 +1,4 @@
-use Rattle.std.proofs.Common.{◌≡◌, ◌≤◌, length, drop, None}
+use Rattle.std.proofs.Common.{◌≡◌, length, drop, None}
 use Rattle.sedengine.specs.Replacing.{EndsIn, occurrences_behind}
 use Rattle.sedengine.proofs.substitute.skip.Given as goal
 
