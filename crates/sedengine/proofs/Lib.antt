@@ -7,4 +7,8 @@ pub mod Tasks
 pub mod Substituting
 pub mod Choices
 pub mod Acts
+pub mod Occurrences
+pub mod Replacements
+pub mod Due
 pub mod Examples
+pub mod OccurrenceExamples

@@ -12,3 +12,4 @@ pub mod State
 pub mod Steps
 pub mod Substituting
 pub mod Substitute
+pub mod Replacing

@@ -31,7 +31,7 @@ then_behind (Some m) rest = m ∷ rest m
 unfoldable pub occurrences_from : (ℕ → Option Match) → ℕ → ℕ → Option ℕ → List Match
 occurrences_from search n zero last = []
 occurrences_from search n (suc most) last =
-    then_behind (next_occurrence search n last) (λ m. m ∷ occurrences_from search n most (Some m.end))
+    then_behind (next_occurrence search n last) (λ m. occurrences_from search n most (Some m.end))
 
 -- all occurrences in a text of n bytes, from left to right. Each but the first ends behind the one before
 abbrev pub occurrences : (ℕ → Option Match) → ℕ → List Match
