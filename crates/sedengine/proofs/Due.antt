@@ -8,7 +8,7 @@ use Rattle.std.proofs.lemmas.Bool.{false≢true}
 use Rattle.sedre.specs.Arena.{Written, tree}
 use Rattle.sedmatch.specs.Caps.{Groups}
 use Rattle.sedmatch.specs.Matching.{report}
-use Rattle.sedscript.specs.Replacement.{Piece}
+use Rattle.sedscript.specs.declared.substitution.Piece.{Piece}
 use Rattle.sedspace.specs.Spaces.{Contents}
 use Rattle.sedspace.specs.declared.errors.Full.{Full}
 use Rattle.sedengine.specs.Substitute.{Match, chosen, next_occurrence, occurrences, put_for, replaced_from}

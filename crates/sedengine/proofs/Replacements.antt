@@ -4,7 +4,9 @@ use Rattle.std.proofs.Common.{sym, subst, ap, ◌∙◌, add-one, append_assoc, 
 use Rattle.std.specs.Prelude.{slice_range}
 use Rattle.std.proofs.Math.Seq.{drop-cons}
 use Rattle.sedmatch.specs.Caps.{Groups}
-use Rattle.sedscript.specs.Replacement.{Piece, literal, whole, group, pieces_in, GroupsWithin}
+use Rattle.sedscript.specs.declared.substitution.Piece.{Piece}
+use Rattle.sedscript.specs.declared.substitution.Piece.TheVariants.{Literal as literal, Whole as whole, Group as group}
+use Rattle.sedscript.specs.Replacement.{pieces_in, GroupsWithin}
 use Rattle.sedscript.specs.declared.substitution.Part.{Part}
 use Rattle.sedscript.specs.declared.substitution.Part.TheVariants.{Literal, Whole, Group}
 use Rattle.sedengine.specs.Substitute.{Match, put_for}

@@ -3,7 +3,8 @@ use Rattle.std.specs.Prelude.{ℕ, zero, suc, ◌+◌, ◌-◌, List, [], ◌∷
 use Rattle.std.specs.Prelude.{slice_range, nat_eq, nat_lt, if◌then◌else◌}
 use Rattle.sedmatch.specs.Caps.{Groups}
 use Rattle.sedmatch.specs.Parts.{span_of, part_of}
-use Rattle.sedscript.specs.Replacement.{Piece, literal, whole, group}
+use Rattle.sedscript.specs.declared.substitution.Piece.{Piece}
+use Rattle.sedscript.specs.declared.substitution.Piece.TheVariants.{Literal as literal, Whole as whole, Group as group}
 
 -- where a match begins and ends, and which span each of its groups has
 pub record Match : Type 0 where
