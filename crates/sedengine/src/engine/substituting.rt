@@ -1,15 +1,14 @@
 //! The commands `s`, `t` and `y`: substitutions, what `t` sees of them, and tables (XCU sed, "Editing Commands in
 //! sed").
-ghost use Rattle.std.specs.Prelude.{◌≡◌, ◌<◌, ◌≤◌, [], ◌∷◌, Some, Ok, Err, OnErr, ℕ, Option, List, false, true, length, map, slice_get, if◌then◌else◌};
+ghost use Rattle.std.specs.Prelude.{◌≡◌, ◌<◌, ◌≤◌, [], ◌∷◌, Some, Err, OnErr, ℕ, List, false, true, length, map, slice_get, if◌then◌else◌};
 ghost use Rattle.sedscript.specs.declared.substitution.Substitution.{Substitution};
-ghost use Rattle.sedspace.specs.Spaces.{Contents};
 ghost use Rattle.sedengine.specs.State.{do_at};
 ghost use Rattle.sedengine.specs.Substitute.{chosen, occurrences};
 ghost use Rattle.sedengine.specs.Move.{chosen_in, in_table, line_to, replaces, substitutes};
 ghost use Rattle.sedengine.specs.Ends.{comes};
 ghost use Rattle.sedengine.specs.Devices.{Gained};
 ghost use Rattle.sedengine.specs.Calls.{NoSinkFailed, Puts, Writes};
-ghost use Rattle.sedengine.specs.Run.{Run, at_lines, search_in, setting};
+ghost use Rattle.sedengine.specs.Run.{at_lines, search_in, setting};
 ghost use Rattle.sedengine.specs.Steps.{KeepsRun, Performs, weight};
 ghost use Rattle.sedengine.specs.Substituting.{Makes, ReplacesIn, same_but_replaced};
 

@@ -1,4 +1,4 @@
-use Rattle.std.proofs.Common.{◌∙◌, ap, arith, true}
+use Rattle.std.proofs.Common.{◌∙◌, ap, true}
 use Rattle.sedengine.specs.Ends.{comes}
 use Rattle.sedengine.specs.Run.{Run, at_lines}
 use Rattle.sedengine.proofs.Substituting.{makes_full, replaced_is_run}
