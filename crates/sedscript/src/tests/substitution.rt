@@ -123,7 +123,8 @@ const FLAGS: [Row; 33] = [
     (b"y/[/]/x/", 15, 6),
 ];
 
-/// The strings of `y`: S17 at the first byte that stands a second time (of an escape: its backslash), S16 at the letter.
+/// The strings of `y`: S17 at the first byte that stands a second time (of an escape at its backslash), S16 at the
+/// letter.
 const STRINGS: [Row; 13] = [
     (b"y/aa/bc/", 17, 3),
     (b"y/aba/xyz/", 17, 4),
