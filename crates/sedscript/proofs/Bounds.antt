@@ -99,7 +99,7 @@ abbrev Sums : Counts → Sizes → ℕ → ℕ → ℕ → Type 0
 Sums m n texts substitutions tables = (m.texts + texts ≡ n.texts) × (m.substitutions + substitutions ≡ n.substitutions) × (m.tables + tables ≡ n.tables)
 
 may_act : (text : List ℕ) (all before after : List Item) (m : Counts) (n : Sizes) (f : Function) → commands_in all ≡ n.commands →
-    commands_in before + (if leaves f then suc (commands_in after) else commands_in after) ≡ n.commands → 
+    commands_in before + (if leaves f then suc (commands_in after) else commands_in after) ≡ n.commands →
     Sums m n (length (with_text text f (texts_of text after))) (length (with_substitution text f (substitutions_of text after))) (length (with_table text f (tables_of text after))) →
     MayAct n (action_of text all before m after f)
 may_act text all before after m n (Plain s) whole count long = simple_within n s
@@ -431,8 +431,8 @@ cut_within : (text : List ℕ) (kind : Kind) (m count at to n : ℕ) (is : List 
 cut_within text kind m count at to n _ _ done e = tt
 cut_within text kind m count at to n _ _ (item {next = next} {i = i} {is = is} es fs read rest) e = (
   (let here = gives_bounds HereWithin text kind m count (item_at text count at) es (Is i next) read (item_bounds text count at) in
-  let le : count + length es ≤ n = omega (arith, e, length-append es fs) in
-  (addresses_more (count + length es) n i.addresses le here.0, function_more (count + length es) n i.function le here.1)),
+      let le : count + length es ≤ n = omega (arith, e, length-append es fs) in
+      (addresses_more (count + length es) n i.addresses le here.0, function_more (count + length es) n i.function le here.1)),
   cut_within text kind m (count + length es) next to n is fs rest (e ∙ omega (arith, length-append es fs)),
 )
 

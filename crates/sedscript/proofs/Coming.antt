@@ -1,5 +1,5 @@
 -- How what functions answer is put together.
-use Rattle.std.proofs.Common.{◌≡◌, ◌≢◌, ◌≤◌, ℕ, ◌+◌, Bool, true, false, ◌==◌, List, [], ◌∷◌, ◌++◌, length, length-append, Option, Some, None, Result, Ok, Err, IfOk, refl, sym, ap, subst, ◌∙◌, inl, inr, ◌⊎◌, append_assoc, arith, slice_get, if◌then◌else◌}
+use Rattle.std.proofs.Common.{◌≡◌, ◌≢◌, ◌≤◌, ℕ, ◌+◌, Bool, true, false, ◌==◌, List, [], ◌∷◌, ◌++◌, length, Option, Some, None, Result, Ok, Err, IfOk, refl, sym, ap, subst, ◌∙◌, inl, inr, ◌⊎◌, append_assoc, arith, slice_get, if◌then◌else◌}
 use Rattle.std.proofs.lemmas.Bool.Decides.{eqb_tells}
 use Rattle.std.proofs.lemmas.List.{append-nil}
 use Rattle.sedre.specs.declared.types.Kind.{Kind}
@@ -20,7 +20,7 @@ use Rattle.sedscript.specs.declared.items.Here.{Here}
 use Rattle.sedscript.specs.declared.items.Here.TheVariants.{Is, Ends}
 use Rattle.sedscript.specs.Bytes.{part, past, is_byte, is_digit, with_digits}
 use Rattle.sedscript.specs.Reading.{Pattern, Reading, plainly, expression, ◌>>=◌}
-use Rattle.sedscript.specs.Addresses.{Addressed, Headed, found, headed, match_at, match_to, own_match, addresses_of, addresses_at, behind_first, address_at, address_of, line_of}
+use Rattle.sedscript.specs.Addresses.{Addressed, found, headed, match_at, match_to, own_match, addresses_at, behind_first, address_at, address_of, line_of}
 use Rattle.sedscript.specs.declared.items.Strings.{Strings}
 use Rattle.sedscript.specs.declared.items.Function.{Function}
 use Rattle.sedscript.specs.Between.{own_delimiter, substitute_strings, substituted, transliterate_at}

@@ -5,7 +5,8 @@ use Rattle.sedscript.specs.declared.types.ScriptFault.{ScriptFault}
 use Rattle.sedscript.specs.declared.items.Flags.{Flags}
 use Rattle.sedscript.specs.Bytes.{is_digit, past, part, run_of}
 use Rattle.sedscript.specs.Functions.{◌>>=◌}
-use Rattle.sedscript.specs.Flags.{flags_from, with_number, with_rest}
+use Rattle.sedscript.specs.Flags.{flags_from, with_number}
+use Rattle.sedscript.specs.Answers.{with_rest}
 
 -- digits that were read are passed over
 skipped : (f : Flags) (k at : ℕ) (bs : List ℕ) → k ≤ length bs → flags_from f k at bs ≡ flags_from f 0 (at + k) (drop k bs)

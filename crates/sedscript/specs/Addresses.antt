@@ -1,6 +1,5 @@
 -- Addresses and what stands before a function (XCU sed, "Addresses in sed").
--- Regular expressions are told as the places between which they stand.
-use Rattle.std.specs.Prelude.{ℕ, zero, suc, ◌+◌, List, true, false, ◌||◌, Option, Some, None}
+use Rattle.std.specs.Prelude.{ℕ, zero, suc, ◌+◌, List, true, false, Option, Some, None}
 use Rattle.std.specs.Prelude.{if◌then◌else◌, ◌==◌, slice_get, Result, Ok}
 use Rattle.sedscript.specs.declared.bytes.Sort.TheVariants.{Blank, Bang, Digit}
 use Rattle.sedscript.specs.declared.types.ScriptFault.{ScriptFault}

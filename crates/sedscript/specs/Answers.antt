@@ -1,6 +1,7 @@
 -- What the reader's functions answer, against the definitions. Private machinery of the reader.
-use Rattle.std.specs.Prelude.{◌≡◌, ◌≢◌, ◌<◌, ◌≤◌, ◌⊎◌, ℕ, List, ◌++◌, length, Bool, true, false, if◌then◌else◌, Option}
-use Rattle.std.specs.Prelude.{Result, Ok, Err}
+use Rattle.std.specs.Prelude.{◌≡◌, ◌≢◌, ◌<◌, ◌≤◌, ◌⊎◌, ℕ, List, ◌++◌, map, drop, length, Bool, true, false, Option}
+use Rattle.std.specs.Prelude.{if◌then◌else◌, Result, Ok, Err}
+use Rattle.std.specs.List.{range_with_len}
 use Rattle.sedre.specs.declared.types.Kind.{Kind}
 use Rattle.sedre.specs.declared.types.Reason.{Reason as ExprReason}
 use Rattle.sedre.specs.declared.types.Reason.TheVariants.{NoMemory}
@@ -16,6 +17,12 @@ use Rattle.sedscript.specs.declared.items.Strings.{Strings}
 use Rattle.sedscript.specs.declared.items.Function.{Function}
 use Rattle.sedscript.specs.declared.items.Here.{Here}
 use Rattle.sedscript.specs.declared.items.Here.TheVariants.{Is, Ends}
+use Rattle.sedscript.specs.declared.items.Flags.{Flags}
+use Rattle.sedscript.specs.declared.substitution.Part.{Part}
+use Rattle.sedscript.specs.Functions.{◌>>=◌}
+use Rattle.sedscript.specs.Flags.{flags_from}
+use Rattle.sedscript.specs.Replacement.{Piece, literal, pieces_in}
+use Rattle.sedscript.specs.Transliteration.{is_among}
 use Rattle.sedscript.specs.Reading.{Reading}
 use Rattle.sedscript.specs.Addresses.{Addressed, Headed}
 use Rattle.sedscript.specs.Expressions.{Gives, Fails, in_script}
@@ -86,3 +93,15 @@ pub record IsJudged (text : List ℕ) (kind : Kind) (max_nodes : ℕ) (items : L
     (expressions : List Written) : Type 0 where
   pub to : ℕ
   pub judged : Judged text kind max_nodes items expressions to
+
+-- the flags with those that stand behind the place up to which they were read
+abbrev pub with_rest : List ℕ → Result (Flags × ℕ) ScriptFault → Result (Flags × ℕ) ScriptFault
+with_rest text read = read >>= λ found. flags_from found.0 0 found.1 (drop found.1 text)
+
+-- the pieces of parts, and of bytes behind them
+abbrev pub pieces_with : List Part → List ℕ → List Piece
+pieces_with parts bytes = pieces_in parts ++ map literal bytes
+
+-- whether each byte is one of these
+unfoldable pub marks_of : List ℕ → List Bool
+marks_of bs = map (is_among bs) (range_with_len 0 256)

@@ -1,6 +1,6 @@
 -- What stands between delimiters behind `s` and `y` (XCU sed, "Editing Commands in sed").
-use Rattle.std.specs.Prelude.{ℕ, ◌+◌, List, Bool, true, false, ◌||◌, Option, Some, None, drop, slice_get, if◌then◌else◌, ◌==◌}
-use Rattle.std.specs.Prelude.{Result, Ok, Err}
+use Rattle.std.specs.Prelude.{ℕ, ◌+◌, List, Bool, true, false, ◌||◌, Option, Some, None, drop, slice_get}
+use Rattle.std.specs.Prelude.{if◌then◌else◌, ◌==◌, Result, Ok, Err}
 use Rattle.sedre.specs.Delimited.{delimiter_at}
 use Rattle.sedscript.specs.declared.types.ScriptFault.{ScriptFault}
 use Rattle.sedscript.specs.declared.types.Reason.TheVariants.{OpenDelimiter, BadDelimiter}

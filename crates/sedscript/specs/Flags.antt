@@ -1,5 +1,5 @@
 -- The flags of `s` (XCU sed, "Editing Commands in sed").
-use Rattle.std.specs.Prelude.{ℕ, zero, suc, List, [], ◌∷◌, take, drop, Bool, true, false, ◌||◌, Option, Some, None, is_some}
+use Rattle.std.specs.Prelude.{ℕ, zero, suc, List, [], ◌∷◌, take, Bool, true, false, ◌||◌, Option, Some, None, is_some}
 use Rattle.std.specs.Prelude.{if◌then◌else◌, ◌==◌, Result, Ok}
 use Rattle.sedscript.specs.declared.bytes.Sort.TheVariants.{Digit}
 use Rattle.sedscript.specs.declared.types.ScriptFault.{ScriptFault}
@@ -46,7 +46,3 @@ flags_from f zero at (b ∷ bs) =
     then (with_number f at (b ∷ take (run_of Digit bs) bs) >>= λ g. flags_from g (run_of Digit bs) (suc at) bs)
     else if ends_flags b then Ok (f, at)
     else (with_flag f at b >>= λ g. flags_from g zero (suc at) bs)
-
--- the flags with those that stand behind the place up to which they were read
-abbrev pub with_rest : List ℕ → Result (Flags × ℕ) ScriptFault → Result (Flags × ℕ) ScriptFault
-with_rest text read = read >>= λ found. flags_from found.0 0 found.1 (drop found.1 text)

@@ -1,4 +1,4 @@
--- The functions of commands and what follows them (XCU sed, "Editing Commands in sed").
+-- The functions of all commands but `s` and `y`, and what follows them (XCU sed, "Editing Commands in sed").
 use Rattle.std.specs.Prelude.{ℕ, ◌+◌, List, [], ◌∷◌, suc, drop, Bool, true, false, ◌&&◌, ◌||◌, Option, Some, None}
 use Rattle.std.specs.Prelude.{if◌then◌else◌, nat_lt, ◌==◌, slice_get, Result, Ok, Err, option_map}
 use Rattle.sedscript.specs.declared.bytes.Sort.TheVariants.{Blank, Name, Line}
@@ -90,7 +90,7 @@ label_of text place from =
 abbrev pub branch_of : List ℕ → BranchUse → ℕ → Result (Function × ℕ) ScriptFault
 branch_of text u from = ended text (Branch u from (past Name text from)) (past Name text from)
 
--- the function of a letter that stands at a place, and the place behind it
+-- the function of a letter that stands at a place and is neither `s` nor `y`, and the place behind it
 unfoldable pub function_of : List ℕ → ℕ → ℕ → Result (Function × ℕ) ScriptFault
 function_of text letter at =
     -- `{` `}` `#`

@@ -12,7 +12,8 @@ use Rattle.sedscript.specs.Targets.{fault_if}
 -- what a replacement is made of
 pub use Rattle.sedscript.specs.declared.substitution.Piece.{Piece}
 -- a byte, the whole match, and what a group of it has
-pub use Rattle.sedscript.specs.declared.substitution.Piece.TheVariants.{Literal as literal, Whole as whole, Group as group}
+pub use Rattle.sedscript.specs.declared.substitution.Piece.TheVariants.{Literal as literal, Whole as whole}
+pub use Rattle.sedscript.specs.declared.substitution.Piece.TheVariants.{Group as group}
 
 abbrev pub is_letter : ℕ → Bool
 is_letter b = (nat_le 65 b && nat_le b 90) || (nat_le 97 b && nat_le b 122)
@@ -89,7 +90,3 @@ GroupsWithin n [] = Unit {0}
 GroupsWithin n (literal b ∷ ps) = GroupsWithin n ps
 GroupsWithin n (whole ∷ ps) = GroupsWithin n ps
 GroupsWithin n (group k ∷ ps) = (k ≤ n) × GroupsWithin n ps
-
--- the pieces of parts, and of bytes behind them
-abbrev pub pieces_with : List Part → List ℕ → List Piece
-pieces_with parts bytes = pieces_in parts ++ map literal bytes

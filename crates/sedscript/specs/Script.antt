@@ -156,13 +156,14 @@ abbrev pub branch_action : BranchUse → ℕ → Action
 branch_action Always to = BranchTo to
 branch_action IfReplaced to = TestTo to
 
--- what a function does among all items, with those before it, which have so many texts, substitutions and tables, and the
--- items behind it
+-- what a function does among all items, with those before it, which have so many texts, substitutions and tables, and
+-- the items behind it
 abbrev pub action_of : List ℕ → List Item → List Item → Counts → List Item → Function → Option Action
 action_of text all before n after (Plain s) = Some (simple_action s)
 action_of text all before n after Open = Some (Block (unwrap_or (block_end before after) 0))
 action_of text all before n after (Branch u from to) =
-    Some (branch_action u (if from == to then commands_in all else unwrap_or (label_in text (part text from to) 0 all) 0))
+    Some (branch_action u
+    (if from == to then commands_in all else unwrap_or (label_in text (part text from to) 0 all) 0))
 action_of text all before n after (Text t from to) = Some (text_action t n.texts)
 action_of text all before n after (Substitute s e f) = Some (SubstituteNow n.substitutions)
 action_of text all before n after (Transliterate s) = Some (TransliterateNow n.tables)

@@ -1,5 +1,5 @@
 -- Where labels and blocks lead, and what is wrong with them
--- (XCU sed, "Editing Commands in sed": `{`, `}`, `b` and `:`).
+-- (XCU sed, "Editing Commands in sed": `{`, `}`, `b`, `t` and `:`).
 use Rattle.std.specs.Prelude.{ℕ, suc, ◌-◌, List, [], ◌∷◌, ◌++◌, Bool, true, false, not, ◌&&◌, Option, Some, None}
 use Rattle.std.specs.Prelude.{is_none, is_some, if◌then◌else◌, ◌==◌}
 use Rattle.std.specs.Bool.{then_some}

@@ -83,7 +83,3 @@ counterpart (s ∷ source) (t ∷ target) b = if s == b then t else counterpart 
 -- what stands for each byte
 unfoldable pub table_of : List ℕ → List ℕ → List ℕ
 table_of source target = map (counterpart source target) (range_with_len 0 256)
-
--- whether each byte is one of these
-unfoldable pub marks_of : List ℕ → List Bool
-marks_of bs = map (is_among bs) (range_with_len 0 256)

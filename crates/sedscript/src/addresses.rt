@@ -126,7 +126,8 @@ fn with_second(
     next: usize,
     second: Option<Address>,
 ) -> Result<(Addresses, usize), ScriptFault>
-    ensures is { (count : ℕ) → Agrees as_headed count result (with_second first place (record { address = second; at = next; count = count }) second) }
+    ensures is { (count : ℕ) → Agrees as_headed count result
+        (with_second first place (record { address = second; at = next; count = count }) second) }
     ensures next { IfOk result (λ found. found.1 ≡ next) }
 {
     match second {

@@ -1,6 +1,6 @@
 //! What stands between delimiters behind `s` and `y`.
 
-ghost use Rattle.std.specs.Prelude.{◌≡◌, ◌≢◌, ◌≤◌, ◌<◌, ◌+◌, false, Some, length, slice_get, drop, IfOk, IfSome, ℕ, Option};
+ghost use Rattle.std.specs.Prelude.{◌≡◌, ◌≢◌, ◌≤◌, ◌<◌, ◌+◌, false, Some, length, slice_get, drop, IfOk, IfSome};
 ghost use Rattle.sedre.specs.Delimited.{delimiter_at};
 ghost use Rattle.sedscript.specs.Strings.{string_end};
 ghost use Rattle.sedscript.specs.Between.{own_delimiter, strings_behind, substitute_strings, transliterate_strings};

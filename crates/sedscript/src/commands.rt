@@ -1,10 +1,11 @@
 //! The commands and texts that the items leave.
 
-ghost use Rattle.std.specs.Prelude.{◌≡◌, ◌<◌, ◌≤◌, ◌+◌, ◌-◌, ◌++◌, ℕ, [], Some, false, map, length, drop, take, slice_get};
-ghost use Rattle.std.specs.Prelude.{IfOk, OnOk};
+ghost use Rattle.std.specs.Prelude.{◌≡◌, ◌<◌, ◌≤◌, ◌+◌, ◌-◌, ◌++◌, ℕ, [], Some, false, map, length, drop, take};
+ghost use Rattle.std.specs.Prelude.{slice_get, IfOk, OnOk};
 ghost use Rattle.sedscript.specs.Bytes.{part};
 ghost use Rattle.sedscript.specs.Tables.{TargetsAre, AtMost};
-ghost use Rattle.sedscript.specs.Script.{none_counted, counts_with, simple_action, text_action, branch_action, action_of, with_action};
+ghost use Rattle.sedscript.specs.Script.{none_counted, counts_with, simple_action, text_action, branch_action};
+ghost use Rattle.sedscript.specs.Script.{action_of, with_action};
 ghost use Rattle.sedscript.specs.Script.{commands_of, texts_of, substitution_of, substitutions_of, tables_of};
 ghost use Rattle.sedscript.specs.Script.{unescaped_from, is_quiet};
 

@@ -1,7 +1,8 @@
 //! The flags of `s`.
 
 ghost use Rattle.std.specs.Prelude.{◌≡◌, ◌≤◌, ◌<◌, length, drop, false, slice_index, IfOk};
-ghost use Rattle.sedscript.specs.Flags.{no_flags, ends_flags, with_number, with_flag, flags_from, with_rest};
+ghost use Rattle.sedscript.specs.Flags.{no_flags, ends_flags, with_number, with_flag, flags_from};
+ghost use Rattle.sedscript.specs.Answers.{with_rest};
 
 use crate::bytes::{Sort, is_blank, is_digit, number_of, part, past};
 use crate::functions::may_end;

@@ -1,5 +1,5 @@
 //! What is read, and the items of a script, before labels and blocks are found.
-//! Names and texts are the places between which they stand.
+//! Names, texts and strings are the places between which they stand.
 
 ghost use Rattle.std.specs.Prelude.{◌≤◌};
 

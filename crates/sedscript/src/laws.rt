@@ -16,7 +16,7 @@ pub fn no_fault()
     reads_as_one();
 }
 
-/// A text means the same commands and texts whenever it means a script, and is quiet or not.
+/// A text means the same commands, texts, substitutions and tables whenever it means a script, and is quiet or not.
 pub fn one_meaning()
     ensures { (text : List ℕ) (kind : Kind) (max_nodes : ℕ) (s t : Program) →
         Means text kind max_nodes s → Means text kind max_nodes t →

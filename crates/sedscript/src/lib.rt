@@ -16,8 +16,8 @@ pub mod reader;
 mod reading;
 mod replacement;
 pub mod script;
-pub mod substitution;
 mod strings;
+pub mod substitution;
 mod targets;
 #[cfg(test)]
 mod tests;

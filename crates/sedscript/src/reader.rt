@@ -66,8 +66,9 @@ fn named_of(
 /// The work and the memory grow with the text, and for its regular expressions with `max_nodes`.
 ///
 /// # Errors
-/// The first fault from left to right (S1 to S9, S12, S15 to S18, S20 or S21, with its place). Where there is none, the fault of
-/// labels and blocks with the least place (S10, S11, S13 or S14). S22 at 0 where a request for memory was refused.
+/// The first fault from left to right (S1 to S9, S12, S15 to S18, S20 or S21, with its place). Where there is none, the
+/// fault of labels and blocks with the least place (S10, S11, S13 or S14). S22 at 0 where a request for memory was
+/// refused.
 pub fn read(alloc: Global, text: &[u8], kind: Kind, max_nodes: usize) -> Result<Script, ScriptFault>
     requires nodes { (1 ≤ max_nodes) × (max_nodes ≤ 65536) }
     // What is answered is what the text means.

@@ -1,7 +1,8 @@
 //! The items of a script: functions with their addresses.
 
 ghost use Rattle.std.specs.Prelude.{◌≡◌, ◌≤◌, ◌<◌, ◌+◌, Some, length, slice_get, IfOk};
-ghost use Rattle.sedscript.specs.Items.{substitute_at, substitute_with, function_with, function_at, function_behind, item_at};
+ghost use Rattle.sedscript.specs.Items.{substitute_at, substitute_with, function_with, function_at, function_behind};
+ghost use Rattle.sedscript.specs.Items.{item_at};
 ghost use Rattle.sedscript.specs.Functions.{item_of};
 ghost use Rattle.sedscript.specs.Answers.{as_function, as_headed, as_here, ComesFrom, AreStrings, IsBehind, IsHere};
 

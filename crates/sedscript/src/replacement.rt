@@ -2,8 +2,9 @@
 
 ghost use Rattle.std.specs.Prelude.{◌≡◌, ◌≤◌, ◌+◌, ◌++◌, ◌∷◌, [], false, length, IfOk, OnOk};
 ghost use Rattle.sedscript.specs.Bytes.{part};
-ghost use Rattle.sedscript.specs.Replacement.{group, is_letter, escaped_piece, plain_piece, piece_of, pieces_of, pieces_in};
-ghost use Rattle.sedscript.specs.Replacement.{pieces_with, exceeds, escape_fault, replacement_fault, GroupsWithin};
+ghost use Rattle.sedscript.specs.Replacement.{group, is_letter, escaped_piece, plain_piece, piece_of, pieces_of};
+ghost use Rattle.sedscript.specs.Replacement.{pieces_in, exceeds, escape_fault, replacement_fault, GroupsWithin};
+ghost use Rattle.sedscript.specs.Answers.{pieces_with};
 
 use crate::bytes::{is_digit, part};
 use crate::strings::escapes;

@@ -10,6 +10,7 @@ use std::marker::Model;
 /// What the commands of a script name by numbers.
 #[derive(Drop)]
 pub(crate) struct Named {
+    /// The regular expressions.
     pub exprs: Vec<Expr>,
     /// The texts of `i` and `c`.
     pub texts: Vec<Vec<u8>>,

@@ -1,5 +1,7 @@
 //! Tables of scripts and faults.
 
+mod substitution;
+
 use crate::laws::{in_range, no_fault, one_meaning};
 use crate::reader::read;
 use crate::script::Script;
@@ -17,7 +19,7 @@ fn fault(rt: &HostRuntime, text: &[u8]) -> Option<(u32, usize)> {
 
 #[test]
 fn names_the_first_fault(rt: HostRuntime) {
-    let rows: [(&[u8], u32, usize); 60] = [
+    let rows: [(&[u8], u32, usize); 59] = [
         (b"k", 1, 0),
         (b"1,2q", 2, 3),
         (b"0p", 3, 0),
@@ -56,7 +58,6 @@ fn names_the_first_fault(rt: HostRuntime) {
         (b"1,2!q", 2, 4),
         (b"1 , 0p", 3, 4),
         (b"a x", 1, 0),
-        (b"s/a/b/", 1, 0),
         (b"!", 1, 1),
         (b"p!", 15, 1),
         // Delimiters.

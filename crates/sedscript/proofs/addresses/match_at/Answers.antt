@@ -1,10 +1,7 @@
-use Rattle.std.proofs.Common.{arith, ◌≡◌, ◌+◌, inl, sym, subst, ◌∙◌, ◌⊎◌, length, refl, Ok, Some}
-use Rattle.sedscript.specs.declared.types.ScriptFault.{ScriptFault}
+use Rattle.std.proofs.Common.{arith, ◌≡◌, inl, sym, subst, ◌∙◌, ◌⊎◌, length}
 use Rattle.sedscript.specs.declared.types.TheConstants.{NO_MEMORY}
 use Rattle.sedscript.specs.Expressions.{Fails}
-use Rattle.sedscript.specs.declared.types.Address.TheVariants.{Match}
 use Rattle.sedscript.specs.Reading.{Reading}
-use Rattle.sedscript.specs.Answers.{Comes, as_addressed}
 use Rattle.sedscript.specs.Addresses.{Addressed, match_at}
 use Rattle.sedscript.proofs.Coming.{gives_plain, comes_err, match_open, match_empty, match_is, match_comes}
 use Rattle.sedscript.proofs.addresses.match_at.Goals as goal

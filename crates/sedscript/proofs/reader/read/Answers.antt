@@ -1,7 +1,6 @@
-use Rattle.std.proofs.Common.{◌∙◌, ℕ, ap, map, refl, List, [], Vec, Global}
+use Rattle.std.proofs.Common.{◌∙◌, ap, List, []}
 use Rattle.sedscript.specs.declared.items.Item.{Item}
-use Rattle.sedscript.specs.Script.{texts_of, commands_of, none_counted, Means}
-use Rattle.sedscript.specs.Parts.{program_of}
+use Rattle.sedscript.specs.Script.{commands_of, none_counted}
 use Rattle.sedscript.proofs.Bounds.{means_named}
 use Rattle.sedscript.proofs.Exclusive.{judged_no_fault}
 use Rattle.sedscript.proofs.reader.read.Goals as goal

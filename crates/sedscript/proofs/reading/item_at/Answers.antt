@@ -1,9 +1,8 @@
 use Rattle.std.proofs.Common.{Err, refl, sym, ap, ◌∙◌, slice_get, length}
 use Rattle.sedscript.specs.Answers.{as_here}
-use Rattle.sedscript.specs.Reading.{plainly}
-use Rattle.sedscript.specs.Addresses.{Headed, addresses_at}
+use Rattle.sedscript.specs.Addresses.{addresses_at}
 use Rattle.sedscript.specs.Items.{function_behind}
-use Rattle.sedscript.proofs.Coming.{comes_then, comes_err, comes_plain, item_none, item_some, answers_same, behind_here}
+use Rattle.sedscript.proofs.Coming.{comes_then, comes_err, item_none, item_some, behind_here}
 use Rattle.sedscript.proofs.reading.item_at.Goals as goal
 
 pub returns-in-None-clause-comes : goal.returns-in-None-clause-comes

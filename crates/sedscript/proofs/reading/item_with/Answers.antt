@@ -1,4 +1,4 @@
-use Rattle.std.proofs.Common.{sym, ◌∙◌, length, Ok, Err}
+use Rattle.std.proofs.Common.{sym, length, Ok, Err}
 use Rattle.sedscript.proofs.Coming.{item_fault, item_goes, item_comes, comes_err}
 use Rattle.sedscript.proofs.reading.item_with.Goals as goal
 

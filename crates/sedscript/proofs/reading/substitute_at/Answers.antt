@@ -1,6 +1,4 @@
-use Rattle.std.proofs.Common.{ℕ, sym, ◌∙◌, refl, length, slice_get, ◌+◌}
-use Rattle.sedscript.specs.Answers.{as_function}
-use Rattle.sedscript.specs.Items.{substitute_at, substitute_with}
+use Rattle.std.proofs.Common.{sym, length}
 use Rattle.sedscript.proofs.Coming.{substitute_fault, substitute_goes}
 use Rattle.sedscript.proofs.reading.substitute_at.Goals as goal
 

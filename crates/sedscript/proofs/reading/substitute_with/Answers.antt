@@ -1,4 +1,4 @@
-use Rattle.std.proofs.Common.{arith, ◌≡◌, ◌⊎◌, ℕ, sym, subst, ◌∙◌, refl, length}
+use Rattle.std.proofs.Common.{arith, ◌≡◌, ◌⊎◌, ℕ, sym, subst, refl, length}
 use Rattle.sedscript.specs.declared.types.TheConstants.{NO_MEMORY}
 use Rattle.sedscript.specs.declared.items.Function.{Function}
 use Rattle.sedscript.specs.Reading.{Reading}

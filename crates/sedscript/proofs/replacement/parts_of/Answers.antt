@@ -1,5 +1,5 @@
 use Rattle.sedscript.proofs.Pieces.{parts_within}
-use Rattle.sedscript.specs.Replacement.{pieces_with}
+use Rattle.sedscript.specs.Answers.{pieces_with}
 use Rattle.sedscript.proofs.replacement.parts_of.Goals as goal
 
 pub returns-clause-within : goal.returns-clause-within

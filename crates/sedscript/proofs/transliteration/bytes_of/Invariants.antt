@@ -1,4 +1,4 @@
-use Rattle.std.proofs.Common.{◌≡◌, ◌≤◌, ◌-◌, ◌+◌, ◌++◌, length, drop, false, true}
+use Rattle.std.proofs.Common.{◌≡◌, ◌≤◌, ◌-◌, ◌++◌, length, drop, false, true}
 use Rattle.sedscript.specs.Transliteration.{chars_from, bytes_of}
 use Rattle.sedscript.proofs.transliteration.bytes_of.Given as goal
 

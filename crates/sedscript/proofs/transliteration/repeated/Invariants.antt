@@ -1,5 +1,6 @@
 use Rattle.std.proofs.Common.{◌≡◌, ◌≤◌, ◌-◌, ◌+◌, ℕ, List, [], length, drop, false, true}
-use Rattle.sedscript.specs.Transliteration.{repeated_in, chars_from, marks_of}
+use Rattle.sedscript.specs.Transliteration.{repeated_in, chars_from}
+use Rattle.sedscript.specs.Answers.{marks_of}
 use Rattle.sedscript.proofs.transliteration.repeated.Given as goal
 
 abbrev pub invariant-bytes : goal.invariant-bytes

@@ -1,4 +1,4 @@
-use Rattle.std.proofs.Common.{ℕ, Vec, Global, ap, ◌∙◌, List}
+use Rattle.std.proofs.Common.{ℕ, Vec, Global, ◌∙◌}
 use Rattle.std.proofs.lemmas.Result.{IfOk-weaker}
 use Rattle.sedscript.proofs.Chars.{table_is}
 use Rattle.sedscript.proofs.transliteration.table_between.Goals as goal
