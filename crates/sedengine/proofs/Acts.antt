@@ -1,21 +1,22 @@
 -- What commands do are moves.
-use Rattle.std.proofs.Common.{◌≡◌, ℕ, ◌<◌, Bool, true, false, cond, List, [], ◌∷◌, ◌++◌, length, Option, Some, None, Result, Ok, Err, refl, subst, sym, ap, ◌∙◌, arith, length-append}
+use Rattle.std.proofs.Common.{◌≡◌, ℕ, ◌<◌, Bool, true, false, cond, List, [], ◌∷◌, ◌++◌, length, map, Option, Some, None, Result, Ok, Err, refl, subst, sym, ap, ◌∙◌, arith, length-append}
 use Rattle.std.specs.Prelude.{slice_get, slice_set, option_and_then}
+use Rattle.std.proofs.lemmas.List.{length-map}
 use Rattle.sedscript.specs.declared.types.Command.{Command}
 use Rattle.sedscript.specs.declared.types.Action.{Action}
-use Rattle.sedscript.specs.declared.types.Action.TheVariants.{Block, Branch, Change, Delete, Insert, LineNumber, Print, Quit}
+use Rattle.sedscript.specs.declared.types.Action.TheVariants.{Block, Branch, Change, Delete, Insert, LineNumber, Print, Quit, Substitute, Test, Transliterate}
 use Rattle.sedspace.specs.Stream.{Stream, TakesAtMost, left, lines_left}
 use Rattle.sedengine.specs.Limits.{Limits}
 use Rattle.sedengine.specs.State.{Task, begin, do_at, flush, State, Move, Setting}
 use Rattle.sedengine.specs.Select.{Choice, selects}
-use Rattle.sedengine.specs.Move.{move, comes_to, performs, acts, passes, writing, quietly, then_do, none_left, is_active, tells_at}
+use Rattle.sedengine.specs.Move.{move, comes_to, performs, acts, passes, writing, quietly, then_do, none_left, in_table, is_active, tells_at}
 use Rattle.sedengine.specs.Ends.{Fits, comes, reads, asks_last}
 use Rattle.sedengine.specs.Held.{SameLengths}
 use Rattle.sedengine.specs.Devices.{Gained}
 use Rattle.sedengine.specs.Calls.{Puts}
 use Rattle.sedengine.specs.Run.{Run, at_lines, setting, size_of, starts_cycle}
 use Rattle.sedengine.specs.Choose.{Judges, as_choice, come_with, current}
-use Rattle.sedengine.specs.Steps.{Moves, Performs, Steps, TakesLines}
+use Rattle.sedengine.specs.Steps.{ComesTo, Moves, Performs, Steps, TakesLines}
 use Rattle.sedengine.specs.Inside.{run_of, IsRun}
 use Rattle.sedengine.specs.declared.engine.Engine.TheInside.{Inside}
 use Rattle.sedengine.specs.declared.select.Chosen.{Chosen}
@@ -33,6 +34,14 @@ deleted e ts = record e { state = record e.state { pattern = []; tasks = ts } }
 abbrev pub going : Run → List Task → Run
 going e ts = record e { state = record e.state { tasks = ts } }
 
+-- the engine behind a `t` that goes to the target, or doesn't
+abbrev pub tested : Run → ℕ → Bool → Run
+tested e target goes = record e { state = cond goes (record e.state { tasks = do_at target ∷ []; replaced = false }) e.state }
+
+-- the engine whose pattern space was replaced by a table
+abbrev pub translated : Run → Option (List ℕ) → Run
+translated e table = record e { state = record e.state { pattern = map (in_table table) e.state.pattern } }
+
 deletes : (l : Limits) (g : Setting) (s m now : State) (old new : ℕ → Option (List ℕ)) (out : List (ℕ × ℕ)) (r : Result Unit Ended) → Fits l s → move g s ≡ writing out m → m.tasks ≡ flush ∷ begin ∷ [] → move g m ≡ quietly now →
     Fits l m → Fits l now → SameLengths m now → s.lines ≡ now.lines → Puts (Gained old new) out r → Moves l g s now (Gained old new) r
 deletes l g s m now old new out (Ok u) f first tasks then f' f'' same lines put =
@@ -45,30 +54,53 @@ module _ (a : Inside) (e : Run) (seen : run_of a ≡ e) (i : IsRun a) (ls : List
   fits = let Q : Run → Type 0 = λ e. Fits e.limits (at_lines e ls) in subst Q seen (fits_of a ls i)
 
   -- one that writes alone
-  pub acts_writing : (out : List (ℕ × ℕ)) (r : Result Unit Ended) → o ≡ writing out (at_lines e ls) → Puts (Gained old new) out r → Performs e.limits g o ls (at_lines e ls) (Gained old new) r
-  acts_writing out r is put = λ s f lines first. moves_writing e.limits g s (at_lines e ls) old new out r f (first ∙ is) fits lines put
+  pub acts_writing : (out : List (ℕ × ℕ)) (r : Result Unit Ended) → o ≡ writing out (at_lines e ls) → Puts (Gained old new) out r → Performs e.limits g o (at_lines e ls) (at_lines e ls) (Gained old new) r
+  acts_writing out r is put = λ s c first. moves_writing e.limits g s (at_lines e ls) old new out r c.fits (first ∙ is) fits c.lines put
+
+  -- one that leads to another engine and writes nothing
+  pub acts_leading : (e' : Run) → Fits e.limits (at_lines e' ls) → o ≡ quietly (at_lines e' ls) → Performs e.limits g o (at_lines e ls) (at_lines e' ls) (Gained old old) (Ok tt)
+  acts_leading e' there is = λ s c first. ran_quietly e.limits g s (at_lines e' ls) old c.fits (first ∙ is) there
 
   -- one that does nothing
-  pub acts_nothing : o ≡ quietly (at_lines e ls) → Performs e.limits g o ls (at_lines e ls) (Gained old old) (Ok tt)
-  acts_nothing is = λ s f lines first. ran_quietly e.limits g s (at_lines e ls) old f (first ∙ is) fits
+  pub acts_nothing : o ≡ quietly (at_lines e ls) → Performs e.limits g o (at_lines e ls) (at_lines e ls) (Gained old old) (Ok tt)
+  acts_nothing is = acts_leading e fits is
 
   -- one that goes on elsewhere
-  pub acts_going : (ts : List Task) (e' : Run) → e' ≡ going e ts → o ≡ quietly (then_do ts (at_lines e ls)) → Performs e.limits g o ls (at_lines e' ls) (Gained old old) (Ok tt)
+  pub acts_going : (ts : List Task) (e' : Run) → e' ≡ going e ts → o ≡ quietly (then_do ts (at_lines e ls)) → Performs e.limits g o (at_lines e ls) (at_lines e' ls) (Gained old old) (Ok tt)
   acts_going ts e' same is =
-      let Q : Run → Type 0 = λ e'. Performs e.limits g o ls (at_lines e' ls) (Gained old old) (Ok tt) in
-      let there : Fits e.limits (at_lines (going e ts) ls) = record { pattern = fits.pattern; hold = fits.hold; queue = fits.queue; turns = fits.turns } in
-      subst Q (sym same) (λ s f lines first. ran_quietly e.limits g s (at_lines (going e ts) ls) old f (first ∙ is) there)
+      let Q : Run → Type 0 = λ e'. Performs e.limits g o (at_lines e ls) (at_lines e' ls) (Gained old old) (Ok tt) in
+      subst Q (sym same) (acts_leading (going e ts) (record { pattern = fits.pattern; hold = fits.hold; queue = fits.queue; turns = fits.turns }) is)
+
+  -- `t`
+  pub acts_testing : (target : ℕ) (e' : Run) → e' ≡ tested e target e.state.replaced → o ≡ quietly (cond e.state.replaced (then_do (do_at target ∷ []) (record (at_lines e ls) { replaced = false })) (at_lines e ls)) →
+      Performs e.limits g o (at_lines e ls) (at_lines e' ls) (Gained old old) (Ok tt)
+  acts_testing target e' same is =
+      let Q : Run → Type 0 = λ e'. Performs e.limits g o (at_lines e ls) (at_lines e' ls) (Gained old old) (Ok tt) in
+      subst Q (sym same) (leads e.state.replaced is)
+    where
+      leads : (b : Bool) → o ≡ quietly (cond b (then_do (do_at target ∷ []) (record (at_lines e ls) { replaced = false })) (at_lines e ls)) →
+          Performs e.limits g o (at_lines e ls) (at_lines (tested e target b) ls) (Gained old old) (Ok tt)
+      leads true is = acts_leading (tested e target true) (record { pattern = fits.pattern; hold = fits.hold; queue = fits.queue; turns = fits.turns }) is
+      leads false is = acts_leading e fits is
+
+  -- `y`
+  pub acts_translating : (table : Option (List ℕ)) (e' : Run) → e' ≡ translated e table → o ≡ quietly (record (at_lines e ls) { pattern = map (in_table table) e.state.pattern }) →
+      Performs e.limits g o (at_lines e ls) (at_lines e' ls) (Gained old old) (Ok tt)
+  acts_translating table e' same is =
+      let Q : Run → Type 0 = λ e'. Performs e.limits g o (at_lines e ls) (at_lines e' ls) (Gained old old) (Ok tt) in
+      let long : length (map (in_table table) e.state.pattern) ≡ length e.state.pattern = length-map e.state.pattern (in_table table) in
+      subst Q (sym same) (acts_leading (translated e table) (record { pattern = rw long fits.pattern; hold = fits.hold; queue = fits.queue; turns = fits.turns }) is)
 
   -- one that deletes the pattern space
   pub acts_deleting : (out : List (ℕ × ℕ)) (r : Result Unit Ended) (e' : Run) → e' ≡ deleted e (begin ∷ []) → o ≡ writing out (at_lines (deleted e (flush ∷ begin ∷ [])) ls) → Puts (Gained old new) out r →
-      Performs e.limits g o ls (at_lines e' ls) (Gained old new) r
+      Performs e.limits g o (at_lines e ls) (at_lines e' ls) (Gained old new) r
   acts_deleting out r e' same is put =
-      let Q : Run → Type 0 = λ e'. Performs e.limits g o ls (at_lines e' ls) (Gained old new) r in
-      let S : Run → Type 0 = λ e. o ≡ writing out (at_lines (deleted e (flush ∷ begin ∷ [])) ls) → Performs e.limits g o ls (at_lines (deleted e (begin ∷ [])) ls) (Gained old new) r in
+      let Q : Run → Type 0 = λ e'. Performs e.limits g o (at_lines e ls) (at_lines e' ls) (Gained old new) r in
+      let S : Run → Type 0 = λ e. o ≡ writing out (at_lines (deleted e (flush ∷ begin ∷ [])) ls) → Performs e.limits g o (at_lines e ls) (at_lines (deleted e (begin ∷ [])) ls) (Gained old new) r in
       let f' : Fits a.limits (at_lines (deleted (run_of a) (flush ∷ begin ∷ [])) ls) = record { pattern = omega arith; hold = i.hold; queue = omega arith; turns = i.turns } in
       let f'' : Fits a.limits (at_lines (deleted (run_of a) (begin ∷ [])) ls) = record { pattern = omega arith; hold = i.hold; queue = omega arith; turns = i.turns } in
-      subst Q (sym same) (subst S seen (λ is s f lines first. deletes a.limits g s (at_lines (deleted (run_of a) (flush ∷ begin ∷ [])) ls) (at_lines (deleted (run_of a) (begin ∷ [])) ls) old new out r f (first ∙ is) refl
-      (move_at g _ (flush ∷ begin ∷ []) refl) f' f'' (record { pattern = refl; hold = refl; queue = refl }) lines put) is)
+      subst Q (sym same) (subst S seen (λ is s c first. deletes a.limits g s (at_lines (deleted (run_of a) (flush ∷ begin ∷ [])) ls) (at_lines (deleted (run_of a) (begin ∷ [])) ls) old new out r c.fits (first ∙ is) refl
+      (move_at g _ (flush ∷ begin ∷ []) refl) f' f'' (record { pattern = refl; hold = refl; queue = refl }) c.lines put) is)
 
 -- what no `{` does that doesn't apply
 pub passes_other : (s : State) (action : Action) → ((behind : ℕ) → action ≡ Block behind → ⊥) → passes s action ≡ quietly s
@@ -80,6 +112,9 @@ passes_other s (Insert k) h = refl
 passes_other s LineNumber h = refl
 passes_other s Print h = refl
 passes_other s Quit h = refl
+passes_other s (Substitute k) h = refl
+passes_other s (Test target) h = refl
+passes_other s (Transliterate k) h = refl
 
 -- a turn is left
 pub turn_left : (a : Inside) (e : Run) → run_of a ≡ e → IsRun a → (a.turns ≡ a.limits.turns → ⊥) → e.state.turns < e.limits.turns
@@ -148,19 +183,31 @@ module _ {R : Type 0} (remaining : R → Option (List ℕ)) (old new : Stream R)
     acted P (Ok u) h = (ls, taken, h)
     acted P (Err end) h = record { rest = ls; stopped = h; lines = []; are = refl; bytes = bytes_stay _ }
 
+    -- the command is come to in the state in which it acts
+    here_comes : ComesTo e.limits (setting e files) (at_lines e ls) (at_lines (come_with e k (slice_set e.state.ranges k choice.active) used) ls)
+    here_comes = record {
+      fits = here;
+      comes = ap comes t;
+      turn = λ _. turn_left a e seen i more;
+      lines = refl;
+      number = refl;
+      same = record { pattern = refl; hold = refl; queue = refl };
+    }
+
     -- the command applies
     pub comes_acting : (P : List (ℕ × ℕ) → Type 0) (r : Result Unit Ended) (tells : Bool) → choice.yes ≡ true → tells ≡ tells_at c choice.end →
-        Performs e1.limits (setting e1 files) (acts (setting e1 files) (at_lines e1 ls) tells c.action) ls (at_lines e2 ls) P r → Steps remaining old new ls e.limits (setting e files) e e2 P r
+        Performs e1.limits (setting e1 files) (acts (setting e1 files) (at_lines e1 ls) tells c.action) (at_lines e1 ls) (at_lines e2 ls) P r → Steps remaining old new ls e.limits (setting e files) e e2 P r
     comes_acting P r tells chosen tells_is h =
-        let Q : Run → Type 0 = λ e1. Performs e1.limits (setting e1 files) (acts (setting e1 files) (at_lines e1 ls) tells c.action) ls (at_lines e2 ls) P r in
-        let S : Bool → Type 0 = λ b. Performs e.limits (setting e files) (acts (setting e files) (at_lines (come_with e k (slice_set e.state.ranges k choice.active) used) ls) b c.action) ls (at_lines e2 ls) P r in
+        let Q : Run → Type 0 = λ e1. Performs e1.limits (setting e1 files) (acts (setting e1 files) (at_lines e1 ls) tells c.action) (at_lines e1 ls) (at_lines e2 ls) P r in
+        let now : State = at_lines (come_with e k (slice_set e.state.ranges k choice.active) used) ls in
+        let S : Bool → Type 0 = λ b. Performs e.limits (setting e files) (acts (setting e files) now b c.action) now (at_lines e2 ls) P r in
         let there = subst S tells_is (subst Q came h) in
-        acted P r (there (at_lines e ls) here refl (moves_as true chosen))
+        acted P r (there (at_lines e ls) here_comes (moves_as true chosen))
 
     -- it doesn't
     pub comes_passing : (sinks : ℕ → Option (List ℕ)) → choice.yes ≡ false →
-        Performs e1.limits (setting e1 files) (passes (at_lines e1 ls) c.action) ls (at_lines e2 ls) (Gained sinks sinks) (Ok tt) → Steps remaining old new ls e.limits (setting e files) e e2 (Gained sinks sinks) (Ok tt)
+        Performs e1.limits (setting e1 files) (passes (at_lines e1 ls) c.action) (at_lines e1 ls) (at_lines e2 ls) (Gained sinks sinks) (Ok tt) → Steps remaining old new ls e.limits (setting e files) e e2 (Gained sinks sinks) (Ok tt)
     comes_passing sinks passed h =
-        let Q : Run → Type 0 = λ e1. Performs e1.limits (setting e1 files) (passes (at_lines e1 ls) c.action) ls (at_lines e2 ls) (Gained sinks sinks) (Ok tt) in
+        let Q : Run → Type 0 = λ e1. Performs e1.limits (setting e1 files) (passes (at_lines e1 ls) c.action) (at_lines e1 ls) (at_lines e2 ls) (Gained sinks sinks) (Ok tt) in
         let there = subst Q came h in
-        acted (Gained sinks sinks) (Ok tt) (there (at_lines e ls) here refl (moves_as false passed))
+        acted (Gained sinks sinks) (Ok tt) (there (at_lines e ls) here_comes (moves_as false passed))

@@ -4,6 +4,11 @@ pub mod Streams
 pub mod Moves
 pub mod Runs
 pub mod Tasks
+pub mod Substituting
 pub mod Choices
 pub mod Acts
+pub mod Occurrences
+pub mod Replacements
+pub mod Due
 pub mod Examples
+pub mod OccurrenceExamples

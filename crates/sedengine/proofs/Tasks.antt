@@ -72,7 +72,7 @@ module _ {R : Type 0} (remaining : R → Option (List ℕ)) (old new : Stream R)
     (ls : List (List ℕ)) (known : lines_left remaining old ≡ Some ls) (files : ℕ → List ℕ) (sinks : ℕ → Option (List ℕ)) where
   -- the fields that a line leads to, and those where there is none
   abbrev with : Contents → Inside
-  with pattern = record a { place = p.Do 0; pattern = pattern; number = a.number + 1; turns = a.turns + 1 }
+  with pattern = record a { place = p.Do 0; pattern = pattern; number = a.number + 1; replaced = false; turns = a.turns + 1 }
 
   abbrev without : Contents → Inside
   without pattern = record a { place = p.Ended; pattern = pattern }
@@ -103,7 +103,7 @@ module _ {R : Type 0} (remaining : R → Option (List ℕ)) (old new : Stream R)
 
   pub begins_takes : (pattern : Contents) (line : List ℕ) → (a.turns ≡ a.limits.turns → ⊥) → pattern ≡ record a.pattern { bytes = a.pattern.bytes ++ line } → length pattern.bytes ≤ pattern.limit →
       TakesLine (left remaining old) (left remaining new) line → GivesLine (lines_left remaining old) (lines_left remaining new) line →
-      Steps remaining old new ls e.limits (setting e files) e (run_of (record a { place = p.Do 0; pattern = pattern; number = a.number + 1; turns = a.turns + 1 })) (Gained sinks sinks) (Ok tt)
+      Steps remaining old new ls e.limits (setting e files) e (run_of (record a { place = p.Do 0; pattern = pattern; number = a.number + 1; replaced = false; turns = a.turns + 1 })) (Gained sinks sinks) (Ok tt)
   begins_takes pattern line turns is within bytes given =
       let r = line_taken remaining old new ls line known bytes given in
       let most = i.turns in

@@ -1,5 +1,5 @@
 -- The fields of the engine, and what they stand for.
-use Rattle.std.specs.Prelude.{◌≡◌, ℕ, ◌<◌, ◌≤◌, false, Option, Some, None, List, [], ◌∷◌, length}
+use Rattle.std.specs.Prelude.{◌≡◌, ℕ, ◌<◌, ◌≤◌, Option, Some, None, List, [], ◌∷◌, length}
 use Rattle.sedengine.specs.State.{Task, begin, do_at, print_pattern, flush}
 use Rattle.sedengine.specs.Run.{Run}
 use Rattle.sedengine.specs.declared.place.Place.{Place}

@@ -10,4 +10,6 @@ pub mod Run
 pub mod Select
 pub mod State
 pub mod Steps
+pub mod Substituting
 pub mod Substitute
+pub mod Replacing

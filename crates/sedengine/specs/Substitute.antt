@@ -3,7 +3,8 @@ use Rattle.std.specs.Prelude.{ℕ, zero, suc, ◌+◌, ◌-◌, List, [], ◌∷
 use Rattle.std.specs.Prelude.{slice_range, nat_eq, nat_lt, if◌then◌else◌}
 use Rattle.sedmatch.specs.Caps.{Groups}
 use Rattle.sedmatch.specs.Parts.{span_of, part_of}
-use Rattle.sedscript.specs.Replacement.{Piece, literal, whole, group}
+use Rattle.sedscript.specs.declared.substitution.Piece.{Piece}
+use Rattle.sedscript.specs.declared.substitution.Piece.TheVariants.{Literal as literal, Whole as whole, Group as group}
 
 -- where a match begins and ends, and which span each of its groups has
 pub record Match : Type 0 where
@@ -31,7 +32,7 @@ then_behind (Some m) rest = m ∷ rest m
 unfoldable pub occurrences_from : (ℕ → Option Match) → ℕ → ℕ → Option ℕ → List Match
 occurrences_from search n zero last = []
 occurrences_from search n (suc most) last =
-    then_behind (next_occurrence search n last) (λ m. m ∷ occurrences_from search n most (Some m.end))
+    then_behind (next_occurrence search n last) (λ m. occurrences_from search n most (Some m.end))
 
 -- all occurrences in a text of n bytes, from left to right. Each but the first ends behind the one before
 abbrev pub occurrences : (ℕ → Option Match) → ℕ → List Match

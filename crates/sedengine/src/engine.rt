@@ -12,6 +12,7 @@ ghost use Rattle.sedengine.specs.Run.{outcome, Cycles, Ending, SameRun, at_lines
 mod addresses;
 mod commands;
 mod moves;
+mod substituting;
 mod tasks;
 
 use crate::ends::{Ended, Held, Progress};

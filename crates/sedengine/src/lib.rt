@@ -4,7 +4,8 @@
 //! What a run is to do stands in `specs/`: a state of the editor (`State`), the move that leads to the next state
 //! (`Move`), which pattern spaces addresses select (`Select`), and what an end of a run means (`Ends`, `Run`). The code
 //! makes these moves: `engine/tasks` starts and ends cycles, `engine/addresses` judges the addresses of a command,
-//! `engine/commands` acts, and `engine/moves` goes on to the end. `specs/Calls`, `Choose`, `Inside` and `Steps` are what
+//! `engine/commands` acts, with `engine/substituting` for `s`, `t` and `y`; `substitute` makes the text of `s`, and
+//! `engine/moves` goes on to the end. `specs/Calls`, `Choose`, `Inside`, `Steps`, `Replacing` and `Substituting` are what
 //! private calls promise one another.
 //!
 //! A new command takes a case of `sedscript`'s `Action` and of its reader, a case in `acts` of `specs/Move.antt` that says
@@ -17,6 +18,7 @@ mod engine;
 mod limits;
 mod place;
 mod select;
+mod substitute;
 mod write;
 
 pub use ends::{Ended, Held, Progress};

@@ -10,9 +10,9 @@ use Rattle.sedscript.specs.Bytes.{is_digit}
 use Rattle.sedscript.specs.Strings.{escapes}
 use Rattle.sedscript.specs.Targets.{fault_if}
 -- what a replacement is made of
-pub use Rattle.sedscript.specs.declared.replacement.Piece.{Piece}
+pub use Rattle.sedscript.specs.declared.substitution.Piece.{Piece}
 -- a byte, the whole match, and what a group of it has
-pub use Rattle.sedscript.specs.declared.replacement.Piece.TheVariants.{Literal as literal, Whole as whole, Group as group}
+pub use Rattle.sedscript.specs.declared.substitution.Piece.TheVariants.{Literal as literal, Whole as whole, Group as group}
 
 abbrev pub is_letter : ℕ → Bool
 is_letter b = (nat_le 65 b && nat_le b 90) || (nat_le 97 b && nat_le b 122)

@@ -27,5 +27,5 @@ pub mod types;
 
 pub use reader::read;
 pub use script::Script;
-pub use substitution::{Part, Replacement, Substitution};
+pub use substitution::{Part, Piece, Replacement, Substitution};
 pub use types::{Action, Address, Command, ExprFault, Kind, NO_MEMORY, Reason, ScriptFault};

@@ -7,20 +7,9 @@ ghost use Rattle.sedscript.specs.Replacement.{pieces_with, exceeds, escape_fault
 
 use crate::bytes::{is_digit, part};
 use crate::strings::escapes;
-use crate::substitution::Part;
+use crate::substitution::{Part, Piece};
 use crate::types::{Reason, ScriptFault};
 use std::alloc::{AllocError, Global};
-
-/// What a replacement is made of.
-#[derive(Clone, Copy)]
-pub enum Piece {
-    /// This byte.
-    Literal(u8),
-    /// The whole match.
-    Whole,
-    /// What this group of the match has.
-    Group(usize),
-}
 
 fn is_letter(b: u8) -> bool
     ensures { result ≡ is_letter b }

@@ -16,7 +16,18 @@ pub enum Part {
     Group(usize),
 }
 
-/// What stands for an occurrence that is replaced. Contracts see its pieces: bytes, and groups of the match.
+/// What a replacement is made of, a byte at a time, as contracts see it.
+#[derive(Clone, Copy, Debug, PartialEq, Eq)]
+pub enum Piece {
+    /// This byte.
+    Literal(u8),
+    /// The matched text.
+    Whole,
+    /// What this group of the match has.
+    Group(usize),
+}
+
+/// What stands for an occurrence that is replaced. Contracts see its pieces.
 #[derive(Drop)]
 pub struct Replacement {
     parts: Vec<Part>,

@@ -1,5 +1,5 @@
 -- How a space holds its bytes: in a list that may be longer, with a newline behind them.
-use Rattle.std.specs.Prelude.{◌≡◌, ℕ, List, Option, Some, take, drop, slice_get}
+use Rattle.std.specs.Prelude.{◌≡◌, ℕ, List, Some, take, drop, slice_get}
 
 -- the bytes from the front to the end
 abbrev pub between : ℕ → ℕ → List ℕ → List ℕ

@@ -3,7 +3,7 @@
 //! The pattern space and the hold space of XCU sed are spaces. The contents stand from a front on, so that a line is
 //! cut off without moving what stands behind it, and a newline is kept behind them, so that they can be written with
 //! their newline at once. What stands behind that newline is left from longer contents, and is written over.
-ghost use Rattle.std.specs.Prelude.{◌≡◌, ◌==◌, ◌+◌, ◌-◌, ◌<◌, ◌≤◌, [], ◌∷◌, ◌++◌, length, IfOk, OnOk, OnErr, IfSome, IsTrue, Contains, ℕ, false, take, vec_len, vec_capacity};
+ghost use Rattle.std.specs.Prelude.{◌≡◌, ◌==◌, ◌+◌, ◌-◌, ◌<◌, ◌≤◌, [], ◌∷◌, ◌++◌, length, IfOk, OnOk, OnErr, IfSome, IsTrue, Contains, ℕ, false, map, take, slice_get, slice_index_or, vec_len, vec_capacity};
 ghost use Rattle.std.specs.List.{after_first};
 ghost use Rattle.std.specs.Io.KnownBytes.{Keeps};
 ghost use Rattle.sedspace.specs.Lines.{is_newline, HasNoNewline};
@@ -222,6 +222,14 @@ impl Space {
         count
     }
 
+    /// Replaces each byte by the one at its place in a table of all 256 bytes, as the command `y` does.
+    pub fn translate(&mut self, table: &[u8])
+        requires { length table.now ≡ 256 }
+        ensures { self.new ≡ record self.old { bytes = map (λ b. slice_index_or table.now b b) self.old.bytes } }
+    {
+        translate_between(&mut self.held, self.front, self.end, table);
+    }
+
     /// Exchanges the contents of two spaces of one limit, as the command `x` does.
     pub fn swap(&mut self, other: &mut Space)
         requires { self.old.limit ≡ other.old.limit }
@@ -302,6 +310,28 @@ fn copy_exactly(held: &mut [u8], end: usize, bytes: &[u8])
     ensures len { length held.new ≡ length held.old }
 {
     held[end..end + bytes.len()].copy_from_slice(bytes);
+}
+
+// Replaces the bytes from the front to the end by those at their places in the table.
+fn translate_between(held: &mut [u8], front: usize, end: usize, table: &[u8])
+    requires table { length table.now ≡ 256 }
+    requires order { front ≤ end }
+    requires inside { end ≤ length held.old }
+    ensures bytes { between front end held.new ≡ map (λ b. slice_index_or table.now b b) (between front end held.old) }
+    ensures behind { slice_get held.new end ≡ slice_get held.old end }
+    ensures len { length held.new ≡ length held.old }
+{
+    translate_all(&mut held[front..end], table);
+}
+
+// Replaces each byte by the one at its place in the table.
+fn translate_all(bytes: &mut [u8], table: &[u8])
+    requires { length table.now ≡ 256 }
+    ensures bytes { bytes.new ≡ map (λ b. slice_index_or table.now b b) bytes.old }
+{
+    for byte in bytes.iter_mut() {
+        *byte = table[*byte as usize];
+    }
 }
 
 // Sees that the list has at least this length.

@@ -213,6 +213,22 @@ fn a_space_grows_short(rt: HostRuntime) -> Result<(), Fail> {
 }
 
 #[test]
+fn a_space_by_a_table(rt: HostRuntime) -> Result<(), Fail> {
+    let mut table = [b'.'; 256];
+    table[b'c' as usize] = b'\n';
+    table[b'\xff' as usize] = b'\0';
+    let mut space = Space::new(rt.alloc(), 9)?;
+    space.set(b"ab\ncd\xff\n")?;
+    assert!(rt; space.cut_line());
+    space.translate(&table);
+    same(&rt, space.line(), b"\n.\0.\n");
+    space.truncate(0);
+    space.translate(&table);
+    same(&rt, space.line(), b"\n");
+    Ok(())
+}
+
+#[test]
 fn a_queue_within_its_limit(rt: HostRuntime) -> Result<(), Fail> {
     let mut queue = Queue::new(rt.alloc(), 2)?;
     queue.push(7)?;

@@ -1,10 +1,11 @@
 //! The commands (XCU sed, "Editing Commands in sed"): each has a case in `act` and a function of its own.
-ghost use Rattle.std.specs.Prelude.{◌≡◌, ◌<◌, ◌≤◌, ◌+◌, [], ◌∷◌, None, Some, Ok, Err, OnOk, ℕ, Option, List, decimal, length, slice_get, if◌then◌else◌};
+ghost use Rattle.std.specs.Prelude.{◌≡◌, ◌<◌, ◌≤◌, ◌+◌, [], ◌∷◌, None, Some, Ok, Err, OnOk, ℕ, Option, List, true, decimal, length, slice_get, if◌then◌else◌};
 ghost use Rattle.std.specs.Option.{ForSome};
 ghost use Rattle.sedscript.specs.Ranges.{ActionWithin, sizes_of};
 ghost use Rattle.sedspace.specs.Stream.{lines_left};
 ghost use Rattle.sedengine.specs.State.{do_at, begin, print_pattern, flush};
 ghost use Rattle.sedengine.specs.Move.{acts, passes, line_to, tells_at, text_of};
+ghost use Rattle.sedengine.specs.Ends.{comes};
 ghost use Rattle.sedengine.specs.Devices.{Gained};
 ghost use Rattle.sedengine.specs.Calls.{Puts, Reads, Writes};
 ghost use Rattle.sedengine.specs.Run.{Run, at_lines, setting};
@@ -65,6 +66,7 @@ impl Engine {
 
     /// What a command does that applies. `tells` says whether `c` writes its text.
     fn act<O: Outputs>(&mut self, action: Action, tells: bool, outputs: &mut O) -> Result<(), Ended>
+        requires at { comes self.old.state.tasks ≡ true }
         requires within { ActionWithin (sizes_of self.old.script) action }
         requires sink { 0 < O.count outputs.old }
         ensures acts { (files : ℕ → List ℕ) (ls : List (List ℕ)) →
@@ -94,6 +96,15 @@ impl Engine {
             Action::Print => self.act_print(outputs),
             Action::Quit => {
                 self.act_quit();
+                Ok(())
+            }
+            Action::Substitute(k) => self.act_substitute(k, outputs),
+            Action::Test(target) => {
+                self.act_test(target);
+                Ok(())
+            }
+            Action::Transliterate(k) => {
+                self.act_transliterate(k);
                 Ok(())
             }
         }
@@ -177,7 +188,7 @@ impl Engine {
     }
 
     /// The command `p`: writes the pattern space.
-    fn act_print<O: Outputs>(&self, outputs: &mut O) -> Result<(), Ended>
+    pub(super) fn act_print<O: Outputs>(&self, outputs: &mut O) -> Result<(), Ended>
         requires { 0 < O.count outputs.old }
         ensures puts { Puts (Gained (O.contents outputs.old) (O.contents outputs.new))
             (line_to 0 self.now.state.pattern) result }

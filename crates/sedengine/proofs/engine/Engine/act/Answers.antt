@@ -1,9 +1,10 @@
-use Rattle.std.proofs.Common.{[], ◌∷◌, Ok, refl, ap}
+use Rattle.std.proofs.Common.{[], ◌∷◌, Ok, ap}
+use Rattle.std.specs.Prelude.{slice_get}
 use Rattle.sedengine.specs.State.{do_at, print_pattern, flush}
 use Rattle.sedengine.specs.Move.{acts}
 use Rattle.sedengine.specs.Run.{at_lines, setting}
 use Rattle.sedengine.proofs.Gains.{Gained-none}
-use Rattle.sedengine.proofs.Acts.{acts_writing, acts_nothing, acts_going, acts_deleting}
+use Rattle.sedengine.proofs.Acts.{acts_writing, acts_nothing, acts_going, acts_deleting, acts_testing, acts_translating}
 use Rattle.sedengine.proofs.engine.Engine.act.Goals as goal
 
 pub returns-in-Block-clause-acts : goal.returns-in-Block-clause-acts
@@ -45,3 +46,13 @@ pub returns-in-Quit-clause-acts : goal.returns-in-Quit-clause-acts
 returns-in-Quit-clause-acts g c = λ files ls.
     acts_going c.self.inside c.args.self.now c.self.view_is c.self.invariant ls (setting c.args.self.now files) (g.O.Outputs.contents c.args.outputs.now) (g.O.Outputs.contents c.args.outputs.now) _
     (print_pattern ∷ flush ∷ []) c.act_quit.new.self c.act_quit.ensures (ap (acts (setting c.args.self.now files) (at_lines c.args.self.now ls) c.args.tells) c.in-Quit.is)
+
+pub returns-in-Test-clause-acts : goal.returns-in-Test-clause-acts
+returns-in-Test-clause-acts g c = λ files ls.
+    acts_testing c.self.inside c.args.self.now c.self.view_is c.self.invariant ls (setting c.args.self.now files) (g.O.Outputs.contents c.args.outputs.now) (g.O.Outputs.contents c.args.outputs.now) _
+    c.in-Test.target c.act_test.new.self c.act_test.ensures (ap (acts (setting c.args.self.now files) (at_lines c.args.self.now ls) c.args.tells) c.in-Test.is)
+
+pub returns-in-Transliterate-clause-acts : goal.returns-in-Transliterate-clause-acts
+returns-in-Transliterate-clause-acts g c = λ files ls.
+    acts_translating c.self.inside c.args.self.now c.self.view_is c.self.invariant ls (setting c.args.self.now files) (g.O.Outputs.contents c.args.outputs.now) (g.O.Outputs.contents c.args.outputs.now) _
+    (slice_get c.args.self.now.script.tables c.in-Transliterate.k) c.act_transliterate.new.self c.act_transliterate.ensures (ap (acts (setting c.args.self.now files) (at_lines c.args.self.now ls) c.args.tells) c.in-Transliterate.is)

@@ -1,4 +1,4 @@
-use Rattle.std.proofs.Common.{◌≤◌, ◌+◌, ◌-◌, ap, sym, ◌∙◌, arith, take, drop, length, length-take, length-drop}
+use Rattle.std.proofs.Common.{◌≤◌, ◌+◌, ap, sym, ◌∙◌, arith, take, drop, length, length-take, length-drop}
 use Rattle.std.proofs.lemmas.List.{drop-take, take-take}
 use Rattle.sedspace.proofs.space.Space.truncate.Goals as goal
 

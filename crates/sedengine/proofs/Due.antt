@@ -1,0 +1,169 @@
+-- A text that is made in a space, part by part.
+use Rattle.std.proofs.Common.{◌≡◌, ℕ, ◌+◌, ◌-◌, ◌<◌, ◌≤◌, List, [], ◌++◌, Bool, true, false, length, drop, take}
+use Rattle.std.proofs.Common.{Option, Some, None, Result, Ok, Err, refl, sym, subst, ap, ◌∙◌, arith}
+use Rattle.std.proofs.Common.{append_assoc, length-append, length-drop}
+use Rattle.std.specs.Prelude.{OnOk, OnErr, IsErr, IfSome, slice_range, if◌then◌else◌}
+use Rattle.std.proofs.Math.Seq.{take-length}
+use Rattle.std.proofs.lemmas.Bool.{false≢true}
+use Rattle.sedre.specs.Arena.{Written, tree}
+use Rattle.sedmatch.specs.Caps.{Groups}
+use Rattle.sedmatch.specs.Matching.{report}
+use Rattle.sedscript.specs.declared.substitution.Piece.{Piece}
+use Rattle.sedspace.specs.Spaces.{Contents}
+use Rattle.sedspace.specs.declared.errors.Full.{Full}
+use Rattle.sedengine.specs.Substitute.{Match, chosen, next_occurrence, occurrences, put_for, replaced_from}
+use Rattle.sedengine.specs.Run.{match_at, search_for}
+use Rattle.sedengine.specs.Replacing.{Appends, GroupsOf, LiesBehind, Replaces, Skips, has_group, with_groups}
+use Rattle.sedengine.specs.Replacing.{occurrence, occurrences_behind, pending}
+use Rattle.sedengine.proofs.Occurrences.{behind_is}
+use Rattle.sedengine.proofs.Replacements.{put_same}
+
+-- bytes are appended as a space does it
+pub appended : (old new : Contents) (bytes given : List ℕ) (r : Result Unit Full) → given ≡ bytes →
+    OnOk r (new ≡ record old { bytes = old.bytes ++ given }) → OnErr r (old.limit < length old.bytes + length given) →
+    OnErr r (new ≡ old) → Appends old new bytes r
+appended old new bytes given (Ok u) same ok full err =
+    ok ∙ ap (λ (given : List ℕ). record old { bytes = old.bytes ++ given }) same
+appended old new bytes given (Err f) same ok full err =
+    (omega (arith, ap length same), ap (λ (s : Contents). s.limit) err)
+
+-- of all that is to be appended to a space this is left
+abbrev pub Due : Contents → Contents → List ℕ → List ℕ → Type 0
+Due old now all rest = (now.limit ≡ old.limit) × (now.bytes ++ rest ≡ old.bytes ++ all)
+
+-- the same by another name
+pub due_as : (old mid : Contents) (all rest same : List ℕ) → rest ≡ same → Due old mid all rest → Due old mid all same
+due_as old mid all rest same is due = subst (λ (rest : List ℕ). Due old mid all rest) is due
+
+-- its first part was appended
+pub due_less : (old mid new : Contents) (all part rest : List ℕ) → Due old mid all (part ++ rest) →
+    new ≡ record mid { bytes = mid.bytes ++ part } → Due old new all rest
+due_less old mid new all part rest due is =
+    let bytes : new.bytes ≡ mid.bytes ++ part = ap (λ (s : Contents). s.bytes) is in
+    (ap (λ (s : Contents). s.limit) is ∙ due.0, rw (bytes, append_assoc) due.1)
+
+-- where its first part doesn't fit, all doesn't
+pub due_full : (old mid new : Contents) (all part rest : List ℕ) (f : Full) (r : Result Unit Full) → IsErr r →
+    Due old mid all (part ++ rest) → Appends mid new part (Err f) → Appends old new all r
+due_full old mid new all part rest f (Ok u) is due full = absurd (false≢true is)
+due_full old mid new all part rest f (Err g) is due full =
+    let long : length mid.bytes + (length part + length rest) ≡ length old.bytes + length all =
+    simp length-append at (ap length due.1) in
+    (omega arith, full.1 ∙ due.0)
+
+-- its last part was appended, or doesn't fit
+due_last : (old mid new : Contents) (all part : List ℕ) (r : Result Unit Full) → Due old mid all part →
+    Appends mid new part r → Appends old new all r
+due_last old mid new all part (Ok u) due is =
+    is ∙ ap (λ (bytes : List ℕ). record mid { bytes = bytes }) due.1
+    ∙ ap (λ (limit : ℕ). record { bytes = old.bytes ++ all; limit = limit }) due.0
+due_last old mid new all part (Err f) due full =
+    let long : length mid.bytes + length part ≡ length old.bytes + length all =
+    simp length-append at (ap length due.1) in
+    (omega arith, full.1 ∙ due.0)
+
+-- what comes behind an occurrence that is replaced
+abbrev pub behind_it : Written → List ℕ → Bool → ℕ → List Match
+behind_it e w global q = if global then occurrences_behind e w (Some q) else []
+
+-- for an occurrence the text before it is due, what stands for it, and what comes behind it
+pub due_next : (old mid : Contents) (all : List ℕ) (e : Written) (w : List ℕ) (ps : List Piece) (global : Bool)
+    (at : ℕ) (groups : Groups) (o : Option (ℕ × ℕ)) (span : ℕ × ℕ) → o ≡ Some span →
+    GroupsOf e w (has_group ps) o groups → Due old mid all (replaced_from w ps at (pending e w global o)) →
+    Due old mid all (slice_range w at span.0
+    ++ (put_for w (with_groups span groups) ps ++ replaced_from w ps span.1 (behind_it e w global span.1)))
+due_next old mid all e w ps global at groups None span is told due = let never : None ≡ Some span = is in cc
+due_next old mid all e w ps global at groups (Some this) span is told due =
+    let same : this ≡ span = cc in
+    let Parts : ℕ × ℕ → List ℕ → Type 0 =
+    λ s put. Due old mid all (slice_range w at s.0
+    ++ (put ++ replaced_from w ps s.1 (behind_it e w global s.1))) in
+    let flat : Parts this (put_for w (occurrence e w this) ps) = due_as old mid all _ _ (simp append_assoc) due in
+    subst (λ (s : ℕ × ℕ). Parts s (put_for w (with_groups s groups) ps)) same
+    (subst (Parts this) (sym (put_same w this groups (report (tree e) w this.0 this.1) ps told)) flat)
+
+-- behind the text before it, what stands for it is due
+pub due_cut : (old mid cut : Contents) (all : List ℕ) (e : Written) (w : List ℕ) (ps qs : List Piece) (global : Bool)
+    (at : ℕ) (groups : Groups) (o : Option (ℕ × ℕ)) (span : ℕ × ℕ) → o ≡ Some span →
+    GroupsOf e w (has_group ps) o groups → qs ≡ ps → Due old mid all (replaced_from w ps at (pending e w global o)) →
+    cut ≡ record mid { bytes = mid.bytes ++ slice_range w at span.0 } →
+    Due old cut all (put_for w (with_groups span groups) qs ++ replaced_from w ps span.1 (behind_it e w global span.1))
+due_cut old mid cut all e w ps qs global at groups o span is told same due before =
+    let next = due_next old mid all e w ps global at groups o span is told due in
+    let left = due_less old mid cut all (slice_range w at span.0) _ next before in
+    let rest = replaced_from w ps span.1 (behind_it e w global span.1) in
+    subst (λ (qs : List Piece). Due old cut all (put_for w (with_groups span groups) qs ++ rest)) (sym same) left
+
+-- and behind that what comes behind it
+pub due_behind : (old mid cut new : Contents) (all : List ℕ) (e : Written) (w : List ℕ) (ps qs : List Piece)
+    (global : Bool) (at : ℕ) (groups : Groups) (o : Option (ℕ × ℕ)) (span : ℕ × ℕ) (ms : List Match) → o ≡ Some span →
+    GroupsOf e w (has_group ps) o groups → qs ≡ ps → Due old mid all (replaced_from w ps at (pending e w global o)) →
+    cut ≡ record mid { bytes = mid.bytes ++ slice_range w at span.0 } →
+    new ≡ record cut { bytes = cut.bytes ++ put_for w (with_groups span groups) qs } →
+    behind_it e w global span.1 ≡ ms → Due old new all (replaced_from w ps span.1 ms)
+due_behind old mid cut new all e w ps qs global at groups o span ms is told same due before put more =
+    let left = due_cut old mid cut all e w ps qs global at groups o span is told same due before in
+    let behind = due_less old cut new all (put_for w (with_groups span groups) qs) _ left put in
+    subst (λ (ms : List Match). Due old new all (replaced_from w ps span.1 ms)) more behind
+
+to_end : (w : List ℕ) (at : ℕ) → take (length w - at) (drop at w) ≡ drop at w
+to_end w at = ap (λ (n : ℕ). take n (drop at w)) (sym (length-drop at w)) ∙ take-length (drop at w)
+
+-- without an occurrence the rest of the text is due, and then all was appended or doesn't fit
+pub due_rest : (old mid new : Contents) (all : List ℕ) (e : Written) (w : List ℕ) (ps : List Piece) (global : Bool)
+    (at : ℕ) (o : Option (ℕ × ℕ)) (r : Result Unit Full) → o ≡ None →
+    Due old mid all (replaced_from w ps at (pending e w global o)) →
+    Appends mid new (take (length w - at) (drop at w)) r → Appends old new all r
+due_rest old mid new all e w ps global at None r is due rest =
+    due_last old mid new all (drop at w) r due (subst (λ (bytes : List ℕ). Appends mid new bytes r) (to_end w at) rest)
+due_rest old mid new all e w ps global at (Some span) r is due rest = let never : Some span ≡ None = is in cc
+
+-- behind an occurrence that is replaced the next one is, with the flag `g`
+pub more_pending : (e : Written) (w : List ℕ) (global : Bool) (q : ℕ) (r : Option (ℕ × ℕ)) → global ≡ true →
+    q ≤ length w → match_at e w r ≡ next_occurrence (search_for (Some e) w) (length w) (Some q) →
+    behind_it e w global q ≡ pending e w global r
+more_pending e w true q r is fits next = behind_is e w (Some q) r fits next
+more_pending e w false q r is fits next = absurd (false≢true is)
+
+pub none_pending : (e : Written) (w : List ℕ) (global : Bool) (q : ℕ) → global ≡ false → behind_it e w global q ≡ []
+none_pending e w true q is = absurd (false≢true (sym is))
+none_pending e w false q is = refl
+
+-- where an occurrence lies behind which another was
+pub lies_on : (n q : ℕ) (r : Option (ℕ × ℕ)) → IfSome r (LiesBehind n (Some q)) →
+    IfSome r (λ span. (q ≤ span.0) × (span.0 ≤ span.1) × (span.1 ≤ n))
+lies_on n q None lies = tt
+lies_on n q (Some span) lies = (lies.0, lies.2, lies.3)
+
+-- the chosen occurrences are pending where the first of them comes next
+pub chosen_is : (e : Written) (w : List ℕ) (number : ℕ) (global : Bool) (last : Option ℕ) (r : Option (ℕ × ℕ)) →
+    Skips e w (number - 1) (Some last) → match_at e w r ≡ next_occurrence (search_for (Some e) w) (length w) last →
+    chosen number global (occurrences (search_for (Some e) w) (length w)) ≡ pending e w global r
+chosen_is e w number global last r skips next = by_flag global r (skips.0 ∙ behind_is e w last r skips.1 next)
+  where
+    by_flag : (global : Bool) (r : Option (ℕ × ℕ)) →
+        drop (number - 1) (occurrences (search_for (Some e) w) (length w)) ≡ pending e w true r →
+        chosen number global (occurrences (search_for (Some e) w) (length w)) ≡ pending e w global r
+    by_flag true r is = is
+    by_flag false None is = ap (take 1) is
+    by_flag false (Some span) is = ap (take 1) is
+
+-- what a substitution answers where the text was appended to the empty space
+pub replaces_made : (w : List ℕ) (ps : List Piece) (ms ns : List Match) (old empty new : Contents) → ms ≡ ns →
+    0 < length ns → empty ≡ record old { bytes = [] } →
+    new ≡ record empty { bytes = empty.bytes ++ replaced_from w ps 0 ns } → Replaces w ps ms old.limit new.bytes (Ok true)
+replaces_made w ps ms ns old empty new same some cleared is =
+    let made : new.bytes ≡ replaced_from w ps 0 ns =
+    ap (λ (s : Contents). s.bytes) is ∙ ap (λ (s : Contents). s.bytes ++ replaced_from w ps 0 ns) cleared in
+    subst (λ (ms : List Match). (0 < length ms) × (new.bytes ≡ replaced_from w ps 0 ms)) (sym same) (some, made)
+
+-- and where it doesn't fit
+pub replaces_full : (w : List ℕ) (ps : List Piece) (ms ns : List Match) (old empty new : Contents) (f : Full)
+    (r : Result Bool Full) → IsErr r → ms ≡ ns → 0 < length ns → empty ≡ record old { bytes = [] } →
+    Appends empty new (replaced_from w ps 0 ns) (Err f) → Replaces w ps ms old.limit new.bytes r
+replaces_full w ps ms ns old empty new f (Ok b) is same some cleared full = absurd (false≢true is)
+replaces_full w ps ms ns old empty new f (Err g) is same some cleared full =
+    let over = subst (λ (s : Contents). s.limit < length s.bytes + length (replaced_from w ps 0 ns)) cleared full.0 in
+    let longer : old.limit < length (replaced_from w ps 0 ns) = omega arith in
+    subst (λ (ms : List Match). (0 < length ms) × (old.limit < length (replaced_from w ps 0 ms))) (sym same)
+    (some, longer)

@@ -1,0 +1,46 @@
+-- The definitions of what `s` replaces compute.
+use Rattle.std.proofs.Common.{◌≡◌, ℕ, ◌+◌, List, [], ◌∷◌, true, false, Option, Some, None, refl}
+use Rattle.std.specs.Prelude.{nat_eq, nat_lt, if◌then◌else◌}
+use Rattle.sedscript.specs.declared.substitution.Piece.{Piece}
+use Rattle.sedscript.specs.declared.substitution.Piece.TheVariants.{Literal as literal, Whole as whole}
+use Rattle.sedengine.specs.Substitute.{Match, occurrences_from, occurrences, chosen, replaced_from}
+
+abbrev between : ℕ → ℕ → Option Match
+between i j = Some (record { start = i; end = j; groups = [] })
+
+-- a period in three bytes
+abbrev one_byte : ℕ → Option Match
+one_byte p = if nat_lt p 3 then between p (p + 1) else None
+
+-- b* in abc
+abbrev any_b : ℕ → Option Match
+any_b p = if nat_eq p 1 then between 1 2 else between p p
+
+-- s/./x/g, s/./x/2 and s/./x/2g on abc
+example_all : replaced_from (97 ∷ 98 ∷ 99 ∷ []) (literal 120 ∷ []) 0 (chosen 1 true (occurrences one_byte 3))
+    ≡ 120 ∷ 120 ∷ 120 ∷ []
+unfolding occurrences_from
+example_all = refl
+
+example_second : replaced_from (97 ∷ 98 ∷ 99 ∷ []) (literal 120 ∷ []) 0 (chosen 2 false (occurrences one_byte 3))
+    ≡ 97 ∷ 120 ∷ 99 ∷ []
+unfolding occurrences_from
+example_second = refl
+
+example_later : replaced_from (97 ∷ 98 ∷ 99 ∷ []) (literal 120 ∷ []) 0 (chosen 2 true (occurrences one_byte 3))
+    ≡ 97 ∷ 120 ∷ 120 ∷ []
+unfolding occurrences_from
+example_later = refl
+
+-- s/b*/-/g on abc is -a-c-: no occurrence is the null string behind b
+example_null : replaced_from (97 ∷ 98 ∷ 99 ∷ []) (literal 45 ∷ []) 0 (chosen 1 true (occurrences any_b 3))
+    ≡ 45 ∷ 97 ∷ 45 ∷ 99 ∷ 45 ∷ []
+unfolding occurrences_from
+example_null = refl
+
+-- s/b*/<&>/2 on abc is a<b>c
+example_whole : replaced_from (97 ∷ 98 ∷ 99 ∷ []) (literal 60 ∷ whole ∷ literal 62 ∷ []) 0
+    (chosen 2 false (occurrences any_b 3))
+    ≡ 97 ∷ 60 ∷ 98 ∷ 62 ∷ 99 ∷ []
+unfolding occurrences_from
+example_whole = refl

@@ -1,0 +1,90 @@
+-- What stands for the parts of a replacement.
+use Rattle.std.proofs.Common.{◌≡◌, ℕ, suc, ◌+◌, ◌<◌, List, [], ◌∷◌, ◌++◌, true, length, get_or, drop, map, refl}
+use Rattle.std.proofs.Common.{sym, subst, ap, ◌∙◌, add-one, append_assoc, append-nil}
+use Rattle.std.specs.Prelude.{slice_range}
+use Rattle.std.proofs.Math.Seq.{drop-cons}
+use Rattle.sedmatch.specs.Caps.{Groups}
+use Rattle.sedscript.specs.declared.substitution.Piece.{Piece}
+use Rattle.sedscript.specs.declared.substitution.Piece.TheVariants.{Literal as literal, Whole as whole, Group as group}
+use Rattle.sedscript.specs.Replacement.{pieces_in, GroupsWithin}
+use Rattle.sedscript.specs.declared.substitution.Part.{Part}
+use Rattle.sedscript.specs.declared.substitution.Part.TheVariants.{Literal, Whole, Group}
+use Rattle.sedengine.specs.Substitute.{Match, put_for}
+use Rattle.sedengine.specs.Replacing.{has_group, with_groups}
+
+-- the parts from a place on are the one there and those behind it
+drop_next : {A : Type 0} (xs : List A) (k : ℕ) (x : A) → k < length xs → x ≡ get_or xs k x →
+    drop k xs ≡ x ∷ drop (k + 1) xs
+drop_next xs k x inside is = rw add-one (drop-cons xs k x inside ∙ ap (λ y. y ∷ drop (suc k) xs) (sym is))
+
+-- bytes stand for themselves
+put_literals : (w : List ℕ) (m : Match) (bytes : List ℕ) (ps : List Piece) →
+    put_for w m (map literal bytes ++ ps) ≡ bytes ++ put_for w m ps
+put_literals w m [] ps = refl
+put_literals w m (b ∷ bytes) ps = ap (λ (rest : List ℕ). b ∷ rest) (put_literals w m bytes ps)
+
+pub put_bytes : (w : List ℕ) (m : Match) (bytes : List ℕ) → bytes ≡ put_for w m (map literal bytes ++ [])
+put_bytes w m bytes = sym (put_literals w m bytes [] ∙ append-nil bytes)
+
+literals_have : (bytes : List ℕ) (ps : List Piece) → has_group (map literal bytes ++ ps) ≡ has_group ps
+literals_have [] ps = refl
+literals_have (b ∷ bytes) ps = literals_have bytes ps
+
+literals_within : (bytes : List ℕ) (ps : List Piece) → GroupsWithin 9 (map literal bytes ++ ps) → GroupsWithin 9 ps
+literals_within [] ps within = within
+literals_within (b ∷ bytes) ps within = literals_within bytes ps within
+
+literals_alone : (bytes : List ℕ) → GroupsWithin 9 (map literal bytes ++ [])
+literals_alone [] = tt
+literals_alone (b ∷ bytes) = literals_alone bytes
+
+-- a part that is no group of the match tells nothing of groups
+no_group : (p : Part) (ps : List Part) → ((k : ℕ) → p ≡ Group k → ⊥) →
+    has_group (pieces_in (p ∷ ps)) ≡ has_group (pieces_in ps)
+no_group (Literal bytes) ps other = literals_have bytes.items (pieces_in ps)
+no_group Whole ps other = refl
+no_group (Group k) ps other = absurd (other k refl)
+
+pub none_here : (parts : List Part) (k : ℕ) (p : Part) → k < length parts → p ≡ get_or parts k p →
+    ((g : ℕ) → p ≡ Group g → ⊥) → has_group (pieces_in (drop k parts)) ≡ has_group (pieces_in parts) →
+    has_group (pieces_in (drop (k + 1) parts)) ≡ has_group (pieces_in parts)
+none_here parts k p inside is other before =
+    sym (no_group p (drop (k + 1) parts) other)
+    ∙ ap (λ (ps : List Part). has_group (pieces_in ps)) (sym (drop_next parts k p inside is)) ∙ before
+
+-- the groups of a part, and of those behind it
+within_parts : (p : Part) (ps : List Part) → GroupsWithin 9 (pieces_in (p ∷ ps)) →
+    GroupsWithin 9 (pieces_in (p ∷ [])) × GroupsWithin 9 (pieces_in ps)
+within_parts (Literal bytes) ps within = (literals_alone bytes.items, literals_within bytes.items (pieces_in ps) within)
+within_parts Whole ps within = (tt, within)
+within_parts (Group k) ps within = ((within.0, tt), within.1)
+
+pub within_next : (parts : List Part) (k : ℕ) (p : Part) → k < length parts → p ≡ get_or parts k p →
+    GroupsWithin 9 (pieces_in (drop k parts)) →
+    GroupsWithin 9 (pieces_in (p ∷ [])) × GroupsWithin 9 (pieces_in (drop (k + 1) parts))
+within_next parts k p inside is within =
+    within_parts p (drop (k + 1) parts)
+    (subst (λ (ps : List Part). GroupsWithin 9 (pieces_in ps)) (drop_next parts k p inside is) within)
+
+-- what stands for a part, and for those behind it
+put_parts : (w : List ℕ) (m : Match) (p : Part) (ps : List Part) →
+    put_for w m (pieces_in (p ∷ ps)) ≡ put_for w m (pieces_in (p ∷ [])) ++ put_for w m (pieces_in ps)
+put_parts w m (Literal bytes) ps = simp (put_literals, append_assoc)
+put_parts w m Whole ps = simp append_assoc
+put_parts w m (Group k) ps = simp append_assoc
+
+pub put_next : (w : List ℕ) (m : Match) (parts : List Part) (k : ℕ) (p : Part) → k < length parts →
+    p ≡ get_or parts k p → put_for w m (pieces_in (drop k parts))
+    ≡ put_for w m (pieces_in (p ∷ [])) ++ put_for w m (pieces_in (drop (k + 1) parts))
+put_next w m parts k p inside is =
+    ap (λ (ps : List Part). put_for w m (pieces_in ps)) (drop_next parts k p inside is)
+    ∙ put_parts w m p (drop (k + 1) parts)
+
+-- the groups of a match tell only where the replacement has one
+pub put_same : (w : List ℕ) (span : ℕ × ℕ) (g h : Groups) (ps : List Piece) → (has_group ps ≡ true → g ≡ h) →
+    put_for w (with_groups span g) ps ≡ put_for w (with_groups span h) ps
+put_same w span g h [] same = refl
+put_same w span g h (literal b ∷ ps) same = ap (λ (rest : List ℕ). b ∷ rest) (put_same w span g h ps same)
+put_same w span g h (whole ∷ ps) same =
+    ap (λ (rest : List ℕ). slice_range w span.0 span.1 ++ rest) (put_same w span g h ps same)
+put_same w span g h (group k ∷ ps) same = ap (λ (g : Groups). put_for w (with_groups span g) (group k ∷ ps)) (same refl)

@@ -1,0 +1,159 @@
+-- What a substitution does is a move.
+use Rattle.std.proofs.Common.{◌≡◌, ℕ, zero, suc, ◌<◌, ◌≤◌, Bool, true, false, cond, List, [], ◌∷◌, length, Option, Some, None, Result, Ok, Err, refl, subst, sym, ap, ◌∙◌, arith}
+use Rattle.std.specs.Prelude.{option_and_then, slice_get}
+use Rattle.std.specs.Option.{option_or}
+use Rattle.sedmatch.specs.Room.{Room}
+use Rattle.sedscript.specs.declared.substitution.Substitution.{Substitution}
+use Rattle.sedspace.specs.Spaces.{Contents}
+use Rattle.sedspace.specs.declared.errors.Full.{Full}
+use Rattle.sedengine.specs.Limits.{Limits}
+use Rattle.sedengine.specs.State.{Task, begin, rebegin, do_at, print_pattern, empty_pattern, flush, copy, fetch, join, State, Move, Setting}
+use Rattle.sedengine.specs.Substitute.{Match, chosen, occurrences, replaced_from}
+use Rattle.sedengine.specs.Select.{stands_for}
+use Rattle.sedengine.specs.Move.{move, chosen_in, line_to, replaces, substitutes}
+use Rattle.sedengine.specs.Ends.{Fits, Leads, comes, line_at}
+use Rattle.sedengine.specs.Held.{SameLengths}
+use Rattle.sedengine.specs.Devices.{Gained}
+use Rattle.sedengine.specs.Calls.{Puts}
+use Rattle.sedengine.specs.Run.{Run, at_lines, search_in, setting}
+use Rattle.sedengine.specs.Steps.{ComesTo, Moves, Performs}
+use Rattle.sedengine.specs.Substituting.{Makes, ReplacesIn, same_but_replaced}
+use Rattle.sedengine.specs.Inside.{run_of, tasks_of, IsRun, IsEmptied}
+use Rattle.sedengine.specs.declared.engine.Engine.TheInside.{Inside}
+use Rattle.sedengine.specs.declared.place.Place.{Place}
+use Rattle.sedengine.specs.declared.place.Place.TheVariants as p
+use Rattle.sedengine.specs.declared.ends.Ended.{Ended}
+use Rattle.sedengine.specs.declared.ends.Ended.TheVariants.{Done, PatternFull, TurnsSpent, NoPrevious, InputBroken, OutputBroken}
+use Rattle.sedengine.proofs.Moves.{moves_writing, ran_quietly, stopped_here}
+use Rattle.sedengine.proofs.Tasks.{fits_of}
+
+-- Where a command is come to the pattern space needn't be empty.
+may_hold : (p : Place) (bytes : List ℕ) → comes (tasks_of p) ≡ true → IsEmptied p bytes
+may_hold p.Begin bytes h = cc
+may_hold (p.Do k) bytes h = tt
+may_hold p.Quit bytes h = tt
+may_hold p.Ended bytes h = tt
+
+-- the fields of the engine after a substitution with the expression e
+pub replaced_is_run : (a : Inside) (pattern build : Contents) (scratch : Room) (e : ℕ) (replaced : Bool) → IsRun a → comes (tasks_of a.place) ≡ true → e < length a.script.expressions →
+    pattern.limit ≡ a.pattern.limit → length pattern.bytes ≤ pattern.limit → build.limit ≡ a.build.limit → scratch ≡ a.scratch →
+    IsRun (record a { pattern = pattern; build = build; scratch = scratch; used = Some e; replaced = replaced })
+replaced_is_run a pattern build scratch e replaced i at within limit fits limit' same = record {
+  number = i.number;
+  turns = i.turns;
+  pattern_limit = limit ∙ i.pattern_limit;
+  pattern = let most = i.pattern_limit in omega arith;
+  hold_limit = i.hold_limit;
+  hold = i.hold;
+  build_limit = limit' ∙ i.build_limit;
+  queue_limit = i.queue_limit;
+  queue = i.queue;
+  empty = may_hold a.place pattern.bytes at;
+  ranges = i.ranges;
+  used = within;
+  scratch_text = λ some. ap (λ (r : Room). r.text) same ∙ i.scratch_text some;
+  scratch_nodes = ap (λ (r : Room). r.nodes) same ∙ i.scratch_nodes;
+  nodes = i.nodes;
+}
+
+-- a move whose pattern space has no room for what it makes
+leads_full : (s : State) (t : Substitution) (ms : List Match) (space : ℕ) → 0 < length ms → space < length (replaced_from s.pattern t.replacement 0 ms) →
+    Leads (replaces s t ms) (λ m. space < length m.next.pattern)
+leads_full s t [] space some more = absurd (omega arith)
+leads_full s t (m ∷ ms) space some more = (_, refl, more)
+
+pub makes_full : (a : Inside) (r : Run) (seen : run_of a ≡ r) (k e : ℕ) (files : ℕ → List ℕ) (ls : List (List ℕ)) (t : Substitution) (new : Contents) (now : State) (f : Full) → a.pattern.limit ≡ a.limits.space →
+    slice_get r.script.substitutions k ≡ Some t →
+    ((t : Substitution) → slice_get a.script.substitutions k ≡ Some t → ReplacesIn t (chosen t.number t.global (occurrences (search_in a.script.expressions e a.pattern.bytes) (length a.pattern.bytes))) a.pattern new (Err f)) →
+    Makes r.limits (replaces (record (at_lines r ls) { used = Some e }) t (chosen_in (setting r files) t e r.state.pattern)) t.print (at_lines r ls) now (Err (PatternFull a.number))
+makes_full a r seen k e files ls t new now f limit is h =
+    let Q : Run → Type 0 = λ r. slice_get r.script.substitutions k ≡ Some t → Makes r.limits (replaces (record (at_lines r ls) { used = Some e }) t (chosen_in (setting r files) t e r.state.pattern)) t.print (at_lines r ls) now (Err (PatternFull a.number)) in
+    subst Q seen
+    (λ is.
+    let made = h t is in
+    let more : a.limits.space < length (replaced_from a.pattern.bytes t.replacement 0 (chosen_in (setting (run_of a) files) t e a.pattern.bytes)) = rw limit at made.1 in
+    (leads_full (record (at_lines (run_of a) ls) { used = Some e }) t (chosen_in (setting (run_of a) files) t e a.pattern.bytes) a.limits.space made.0 more, refl)) is
+
+standing : (named used : Option ℕ) → option_or named used ≡ stands_for named used
+standing None used = refl
+standing (Some e) used = refl
+
+some_of : {A : Type 0} (x y : A) → Some x ≡ Some y → x ≡ y
+some_of x y h = cc
+
+-- the expression that the substitution k stands for
+pub stands : (a : Inside) (r : Run) (k e : ℕ) (t t' : Substitution) → run_of a ≡ r → slice_get r.script.substitutions k ≡ Some t → slice_get a.script.substitutions k ≡ Some t' → Some e ≡ option_or t'.expression a.used →
+    stands_for t.expression r.state.used ≡ Some e
+stands a r k e t t' seen is is' h =
+    let Q : Run → Type 0 = λ r. slice_get r.script.substitutions k ≡ Some t → stands_for t.expression r.state.used ≡ Some e in
+    subst Q seen (λ is. let same : t' ≡ t = some_of t' t (sym is' ∙ is) in sym (standing t.expression a.used) ∙ ap (λ (t : Substitution). option_or t.expression a.used) (sym same) ∙ sym h) is
+
+pub makes_standing : (l : Limits) (g : Setting) (s now : State) (t : Substitution) (e : ℕ) (told : Result Bool Ended) → stands_for t.expression s.used ≡ Some e →
+    Makes l (replaces (record s { used = Some e }) t (chosen_in g t e s.pattern)) t.print s now told → Makes l (substitutes g s (Some t)) t.print s now told
+makes_standing l g s now t e told is h =
+    let Q : Option ℕ → Type 0 = λ o. Makes l (option_and_then (λ e. replaces (record s { used = Some e }) t (chosen_in g t e s.pattern)) o) t.print s now told in
+    subst Q (sym is) h
+
+-- there is an element at each place
+pub there_is : {A : Type 0} (xs : List A) (k : ℕ) → k < length xs → (x : A) × (slice_get xs k ≡ Some x)
+there_is [] k h = absurd (omega arith)
+there_is (x ∷ xs) zero h = (x, refl)
+there_is (x ∷ xs) (suc k) h = there_is xs k (omega arith)
+
+-- the line of a command that is come to
+comes_line : (s : State) (ts : List Task) → comes ts ≡ true → line_at s ts ≡ s.number
+comes_line s [] h = cc
+comes_line s (do_at k ∷ rest) h = refl
+comes_line s (begin ∷ rest) h = cc
+comes_line s (rebegin ∷ rest) h = cc
+comes_line s (fetch ∷ rest) h = cc
+comes_line s (join ∷ rest) h = cc
+comes_line s (copy k o ∷ rest) h = cc
+comes_line s (print_pattern ∷ rest) h = cc
+comes_line s (empty_pattern ∷ rest) h = cc
+comes_line s (flush ∷ rest) h = cc
+
+-- The engine with the fields a, which is seen as r, was led to the engine r' by a call that makes the move o of a substitution.
+module _ (a : Inside) (r r' : Run) (seen : run_of a ≡ r) (i : IsRun a) (same : r' ≡ same_but_replaced r r'.state) (within : length r'.state.pattern ≤ r'.limits.space) (ls : List (List ℕ)) (g : Setting) (old new : ℕ → Option (List ℕ)) (o : Option Move) (print : Bool) where
+  before : Fits r.limits (at_lines r ls)
+  before = let Q : Run → Type 0 = λ r. Fits r.limits (at_lines r ls) in subst Q seen (fits_of a ls i)
+
+  there : Fits r.limits (at_lines r' ls)
+  there =
+      let limits : r'.limits ≡ r.limits = ap (λ (r : Run). r.limits) same in
+      let hold : r'.state.hold ≡ r.state.hold = ap (λ (r : Run). r.state.hold) same in
+      let queue : r'.state.queue ≡ r.state.queue = ap (λ (r : Run). r.state.queue) same in
+      let turns : r'.state.turns ≡ r.state.turns = ap (λ (r : Run). r.state.turns) same in
+      record { pattern = rw limits at within; hold = rw hold before.hold; queue = rw queue before.queue; turns = rw turns before.turns }
+
+  -- nothing was replaced
+  pub replaced_nothing : Makes r.limits o print (at_lines r ls) (at_lines r' ls) (Ok false) → Performs r.limits g o (at_lines r ls) (at_lines r' ls) (Gained old old) (Ok tt)
+  replaced_nothing is = λ s c first. ran_quietly r.limits g s (at_lines r' ls) old c.fits (first ∙ is) there
+
+  -- something was, and is written where the flag `p` stands
+  pub replaced_some : (told : Result Unit Ended) → Makes r.limits o print (at_lines r ls) (at_lines r' ls) (Ok true) → Puts (Gained old new) (cond print (line_to 0 r'.state.pattern) []) told →
+      Performs r.limits g o (at_lines r ls) (at_lines r' ls) (Gained old new) told
+  replaced_some told is put = λ s c first. moves_writing r.limits g s (at_lines r' ls) old new (cond print (line_to 0 r'.state.pattern) []) told c.fits (first ∙ is) there c.lines put
+
+  -- the end comes
+  pub replaced_not : (end : Ended) → r'.state.pattern ≡ r.state.pattern → Makes r.limits o print (at_lines r ls) (at_lines r' ls) (Err end) → Performs r.limits g o (at_lines r ls) (at_lines r' ls) (Gained old old) (Err end)
+  replaced_not end kept is = λ s c first. stops s c first end is
+    where
+      lengths : (s : State) → ComesTo r.limits g s (at_lines r ls) → SameLengths s (at_lines r' ls)
+      lengths s c =
+          let w = c.same in
+          record {
+            pattern = ap (λ (x : List ℕ). length x) kept ∙ w.pattern;
+            hold = ap (λ (r : Run). length r.state.hold) same ∙ w.hold;
+            queue = ap (λ (r : Run). length r.state.queue) same ∙ w.queue;
+          }
+
+      stops : (s : State) (c : ComesTo r.limits g s (at_lines r ls)) → move g s ≡ o → (end : Ended) → Makes r.limits o print (at_lines r ls) (at_lines r' ls) (Err end) → Moves r.limits g s (at_lines r' ls) (Gained old old) (Err end)
+      stops s c first (NoPrevious n) (without, number) =
+          stopped_here r.limits g s (at_lines r' ls) old (NoPrevious n) c.fits refl (number ∙ sym c.number, c.turn, c.comes, first ∙ without) (lengths s c) c.lines
+      stops s c first (PatternFull n) ((m, is, more), number) =
+          stopped_here r.limits g s (at_lines r' ls) old (PatternFull n) c.fits refl (number ∙ sym c.number ∙ sym (comes_line s s.tasks c.comes), c.turn, (m, first ∙ is, more)) (lengths s c) c.lines
+      stops s c first Done h = absurd h
+      stops s c first TurnsSpent h = absurd h
+      stops s c first InputBroken h = absurd h
+      stops s c first (OutputBroken k) h = absurd h

@@ -1,0 +1,8 @@
+use Rattle.std.proofs.Common.{arith}
+use Rattle.sedengine.proofs.Replacements.{none_here}
+use Rattle.sedengine.proofs.substitute.needs_groups.Goals as goal
+
+pub loop-part-preserved : goal.loop-part-preserved
+loop-part-preserved c =
+    none_here c.args.parts.now c.loop-part.part-index c.part-item.result (omega arith) c.part-item.is
+    c.in_default.not-Group c.loop-part.invariant

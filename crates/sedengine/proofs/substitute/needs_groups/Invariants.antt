@@ -1,0 +1,7 @@
+use Rattle.std.proofs.Common.{◌≡◌, drop}
+use Rattle.sedscript.specs.Replacement.{pieces_in}
+use Rattle.sedengine.specs.Replacing.{has_group}
+use Rattle.sedengine.proofs.substitute.needs_groups.Given as goal
+
+abbrev pub invariant-loop-part : goal.invariant-loop-part
+invariant-loop-part l = has_group (pieces_in (drop l.part-index l.parts)) ≡ has_group (pieces_in l.parts)

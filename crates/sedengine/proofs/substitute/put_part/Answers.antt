@@ -1,0 +1,18 @@
+use Rattle.std.proofs.Common.{◌∙◌, [], ◌∷◌, sym, subst}
+use Rattle.sedscript.specs.Replacement.{pieces_in}
+use Rattle.sedscript.specs.declared.substitution.Part.{Part}
+use Rattle.sedengine.specs.Substitute.{put_for}
+use Rattle.sedengine.specs.Replacing.{Appends, with_groups}
+use Rattle.sedengine.proofs.Due.{appended}
+use Rattle.sedengine.proofs.Replacements.{put_bytes}
+use Rattle.sedengine.proofs.substitute.put_part.Goals as goal
+
+pub returns-in-Literal : goal.returns-in-Literal
+returns-in-Literal c =
+    let old = c.args.build.now in
+    let new = c.append.new.self in
+    let m = with_groups c.args.span c.args.groups.now in
+    let put = c.deref.ensures.value ∙ put_bytes c.args.text.now m c.in-Literal.bytes.items in
+    let a = c.append.ensures in
+    subst (λ (p : Part). Appends old new (put_for c.args.text.now m (pieces_in (p ∷ []))) c.append.result)
+    (sym c.in-Literal.is) (appended old new _ c.deref.result.now c.append.result put a.ok a.full a.err)

@@ -1,0 +1,93 @@
+use Rattle.std.proofs.Common.{◌-◌, ◌∙◌, Bool, Err, ap, drop, length, refl, subst, take}
+use Rattle.std.specs.Prelude.{slice_range}
+use Rattle.sedengine.specs.Replacing.{GroupsOf, has_group}
+use Rattle.sedengine.proofs.Due.{appended, due_behind, due_cut, due_full, due_next, due_rest}
+use Rattle.sedengine.proofs.Due.{lies_on, more_pending, none_pending}
+use Rattle.sedengine.proofs.substitute.replace.Goals as goal
+
+pub returns-in_err-append-clause-appends : goal.returns-in_err-append-clause-appends
+returns-in_err-append-clause-appends c =
+    let l = c.occurrences in
+    let i = l.invariant in
+    let s = c.args.substitution.now in
+    let due = due_next c.args.build.now l.build _ c.args.expr.now c.args.text.now s.replacement s.global l.copied
+    l.groups l.occurrence c.in-Some.span c.in-Some.is i.groups (i.limit, i.made) in
+    let before = slice_range c.args.text.now l.copied c.in-Some.span.0 in
+    let a = c.in_err-append.ensures in
+    let f = c.in_err-append.field-0.0 in
+    let full = appended l.build c.append.new.self before before (Err f) refl a.ok a.full a.err in
+    due_full c.args.build.now l.build c.append.new.self _ before _ f c.from_residual.result
+    c.from_residual.ensures.0 due full
+
+pub returns-in_err-put-clause-appends : goal.returns-in_err-put-clause-appends
+returns-in_err-put-clause-appends c =
+    let l = c.occurrences in
+    let i = l.invariant in
+    let s = c.args.substitution.now in
+    let cut = c.append.new.self in
+    let due = due_cut c.args.build.now l.build cut _ c.args.expr.now c.args.text.now s.replacement _ s.global l.copied
+    l.groups l.occurrence c.in-Some.span c.in-Some.is i.groups c.parts-parts.ensures.pieces (i.limit, i.made)
+    c.in_ok-append.ensures.ok in
+    due_full c.args.build.now cut c.put.new.build _ _ _ c.in_err-put.field-0.0 c.from_residual-in_err-put.result
+    c.from_residual-in_err-put.ensures.0 due c.in_err-put.ensures
+
+pub occurrences-preserved-then-substitution : goal.occurrences-preserved-then-substitution
+occurrences-preserved-then-substitution c =
+    let l = c.occurrences in
+    let i = l.invariant in
+    let e = c.args.expr.now in
+    let w = c.args.text.now in
+    let s = c.args.substitution.now in
+    let span = c.in-Some.span in
+    let lies = rw c.in-Some.is at i.lies in
+    let next = c.next_occurrence-occurrence in
+    let more = more_pending e w s.global span.1 next.result c.if-substitution.true lies.2 next.ensures.next in
+    let due = due_behind c.args.build.now l.build c.append.new.self c.put.new.build _ e w s.replacement _ s.global
+    l.copied l.groups l.occurrence span _ c.in-Some.is i.groups c.parts-parts.ensures.pieces (i.limit, i.made)
+    c.in_ok-append.ensures.ok c.in_ok-put.ensures more in
+    let wanted = c.needs_groups-wanted.ensures ∙ ap has_group c.parts-parts.ensures.pieces in
+    record {
+      scratch = next.ensures.scratch ∙ i.scratch;
+      limit = due.0;
+      copied = lies.2;
+      lies = lies_on (length w) span.1 next.result next.ensures.lies;
+      groups = subst (λ (b : Bool). GroupsOf e w b next.result next.new.groups) wanted next.ensures.groups;
+      groups_in = next.ensures.groups_in i.groups_in;
+      made = due.1;
+    }
+
+pub occurrences-preserved : goal.occurrences-preserved
+occurrences-preserved c =
+    let l = c.occurrences in
+    let i = l.invariant in
+    let e = c.args.expr.now in
+    let w = c.args.text.now in
+    let s = c.args.substitution.now in
+    let span = c.in-Some.span in
+    let lies = rw c.in-Some.is at i.lies in
+    let none = none_pending e w s.global span.1 c.if-substitution.false in
+    let due = due_behind c.args.build.now l.build c.append.new.self c.put.new.build _ e w s.replacement _ s.global
+    l.copied l.groups l.occurrence span _ c.in-Some.is i.groups c.parts-parts.ensures.pieces (i.limit, i.made)
+    c.in_ok-append.ensures.ok c.in_ok-put.ensures none in
+    record {
+      scratch = i.scratch;
+      limit = due.0;
+      copied = lies.2;
+      lies = tt;
+      groups = tt;
+      groups_in = i.groups_in;
+      made = due.1;
+    }
+
+pub returns-clause-appends : goal.returns-clause-appends
+returns-clause-appends c =
+    let l = c.occurrences in
+    let i = l.invariant in
+    let w = c.args.text.now in
+    let s = c.args.substitution.now in
+    let new = c.append-2.new.self in
+    let a = c.append-2.ensures in
+    let rest = take (length w - l.copied) (drop l.copied w) in
+    due_rest c.args.build.now l.build new _ c.args.expr.now w s.replacement s.global l.copied l.occurrence
+    c.append-2.result c.in_default.is (i.limit, i.made)
+    (appended l.build new rest rest c.append-2.result refl a.ok a.full a.err)

@@ -1,0 +1,76 @@
+-- Private to this crate: what the parts of a substitution tell.
+use Rattle.std.specs.Prelude.{◌≡◌, ℕ, ◌+◌, ◌-◌, ◌<◌, ◌≤◌, List, [], ◌∷◌, ◌++◌, length, drop, Bool, true, false}
+use Rattle.std.specs.Prelude.{Option, Some, None, Result, Ok, Err, if◌then◌else◌}
+use Rattle.sedre.specs.Arena.{Written, tree}
+use Rattle.sedmatch.specs.Caps.{Groups}
+use Rattle.sedmatch.specs.Matching.{report}
+use Rattle.sedmatch.specs.Parts.{SpanIn, span_of}
+use Rattle.sedscript.specs.declared.substitution.Piece.{Piece}
+use Rattle.sedscript.specs.declared.substitution.Piece.TheVariants.{Literal as literal, Whole as whole, Group as group}
+use Rattle.sedspace.specs.Spaces.{Contents}
+use Rattle.sedspace.specs.declared.errors.Full.{Full}
+use Rattle.sedengine.specs.Substitute.{Match, occurrences_from, occurrences, replaced_from}
+use Rattle.sedengine.specs.Run.{search_for}
+
+-- what a substitution answers where these occurrences are to be replaced in the text w: whether there are any, and then
+-- the text made; Full where that would be longer than the space
+abbrev pub Replaces : List ℕ → List Piece → List Match → ℕ → List ℕ → Result Bool Full → Type 0
+Replaces w ps ms limit made (Ok false) = ms ≡ []
+Replaces w ps ms limit made (Ok true) = (0 < length ms) × (made ≡ replaced_from w ps 0 ms)
+Replaces w ps ms limit made (Err f) = (0 < length ms) × (limit < length (replaced_from w ps 0 ms))
+
+-- bytes were appended to a space, or they don't fit
+abbrev pub Appends : Contents → Contents → List ℕ → Result Unit Full → Type 0
+Appends old new bytes (Ok u) = new ≡ record old { bytes = old.bytes ++ bytes }
+Appends old new bytes (Err f) = (old.limit < length old.bytes + length bytes) × (new.limit ≡ old.limit)
+
+-- whether one of the pieces is a group of the match
+abbrev pub has_group : List Piece → Bool
+has_group [] = false
+has_group (literal b ∷ ps) = has_group ps
+has_group (whole ∷ ps) = has_group ps
+has_group (group k ∷ ps) = true
+
+-- every group's span lies in a text of n bytes
+abbrev pub GroupsIn : ℕ → Groups → Type 0
+GroupsIn n groups = (k : ℕ) → SpanIn n (span_of groups k)
+
+-- the match with this span and these groups
+abbrev pub with_groups : ℕ × ℕ → Groups → Match
+with_groups span groups = record { start = span.0; end = span.1; groups = groups }
+
+-- the match of an expression that has this span in the text w
+abbrev pub occurrence : Written → List ℕ → ℕ × ℕ → Match
+occurrence e w span = with_groups span (report (tree e) w span.0 span.1)
+
+-- where they are wanted, the groups are those of the occurrence that has the span, if there is one
+abbrev pub GroupsOf : Written → List ℕ → Bool → Option (ℕ × ℕ) → Groups → Type 0
+GroupsOf e w wanted None groups = Unit {0}
+GroupsOf e w wanted (Some span) groups = wanted ≡ true → groups ≡ report (tree e) w span.0 span.1
+
+-- the span lies in a text of n bytes, and behind the occurrence that ended at a place
+abbrev pub LiesBehind : ℕ → Option ℕ → ℕ × ℕ → Type 0
+LiesBehind n None span = (span.0 ≤ span.1) × (span.1 ≤ n)
+LiesBehind n (Some q) span = (q ≤ span.0) × (q < span.1) × (span.0 ≤ span.1) × (span.1 ≤ n)
+
+-- the place lies in a text of n bytes
+abbrev pub EndsIn : ℕ → Option ℕ → Type 0
+EndsIn n None = Unit {0}
+EndsIn n (Some q) = q ≤ n
+
+-- the occurrences behind the one that ended at a place, or all
+abbrev pub occurrences_behind : Written → List ℕ → Option ℕ → List Match
+occurrences_behind e w None = occurrences (search_for (Some e) w) (length w)
+occurrences_behind e w (Some q) = occurrences_from (search_for (Some e) w) (length w) (length w - q) (Some q)
+
+-- the occurrences behind a number of them, where the last of these ended if there are so many
+abbrev pub Skips : Written → List ℕ → ℕ → Option (Option ℕ) → Type 0
+Skips e w count None = drop count (occurrences_behind e w None) ≡ []
+Skips e w count (Some last) =
+    (drop count (occurrences_behind e w None) ≡ occurrences_behind e w last) × EndsIn (length w) last
+
+-- the occurrences that are still to be replaced: the one that has the span, if there is one, and with the flag `g` all
+-- behind it
+abbrev pub pending : Written → List ℕ → Bool → Option (ℕ × ℕ) → List Match
+pending e w global None = []
+pending e w global (Some span) = occurrence e w span ∷ (if global then occurrences_behind e w (Some span.1) else [])

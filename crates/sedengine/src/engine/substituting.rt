@@ -1,0 +1,186 @@
+//! The commands `s`, `t` and `y`: substitutions, what `t` sees of them, and tables (XCU sed, "Editing Commands in
+//! sed").
+ghost use Rattle.std.specs.Prelude.{◌≡◌, ◌<◌, ◌≤◌, [], ◌∷◌, Some, Err, OnErr, ℕ, List, false, true, length, map, slice_get, if◌then◌else◌};
+ghost use Rattle.sedscript.specs.declared.substitution.Substitution.{Substitution};
+ghost use Rattle.sedengine.specs.State.{do_at};
+ghost use Rattle.sedengine.specs.Substitute.{chosen, occurrences};
+ghost use Rattle.sedengine.specs.Move.{chosen_in, in_table, line_to, replaces, substitutes};
+ghost use Rattle.sedengine.specs.Ends.{comes};
+ghost use Rattle.sedengine.specs.Devices.{Gained};
+ghost use Rattle.sedengine.specs.Calls.{NoSinkFailed, Puts, Writes};
+ghost use Rattle.sedengine.specs.Run.{at_lines, search_in, setting};
+ghost use Rattle.sedengine.specs.Steps.{KeepsRun, Performs, weight};
+ghost use Rattle.sedengine.specs.Substituting.{Makes, ReplacesIn, same_but_replaced};
+
+use super::Engine;
+use crate::ends::Ended;
+use crate::place::Place;
+use crate::substitute::substitute;
+use sedmatch::Scratch;
+use sedscript::Script;
+use sedspace::{Full, Outputs, Space};
+
+/// Makes the substitution of number `k` in the pattern space, for the expression of number `e`. Says whether anything
+/// was replaced. What it makes is made in the build space.
+fn replace_in(
+    script: &Script,
+    k: usize,
+    e: usize,
+    pattern: &mut Space,
+    build: &mut Space,
+    scratch: &mut Scratch,
+) -> Result<bool, Full>
+    requires number { k < length script.now.substitutions }
+    requires expression { e < length script.now.expressions }
+    requires text { length pattern.old.bytes ≤ scratch.old.text }
+    requires nodes { script.now.max_nodes ≤ scratch.old.nodes }
+    requires limits { pattern.old.limit ≡ build.old.limit }
+    ensures replaces { (t : Substitution) → slice_get script.now.substitutions k ≡ Some t →
+        ReplacesIn t (chosen t.number t.global
+        (occurrences (search_in script.now.expressions e pattern.old.bytes) (length pattern.old.bytes)))
+        pattern.old pattern.new result }
+    ensures err { OnErr result (pattern.new ≡ pattern.old) }
+    ensures pattern { pattern.new.limit ≡ pattern.old.limit }
+    ensures fits { length pattern.new.bytes ≤ pattern.new.limit }
+    ensures build { build.new.limit ≡ build.old.limit }
+    ensures scratch { scratch.new ≡ scratch.old }
+{
+    let substitution = script.substitution(k);
+    let expr = script.expr(e);
+    let replaced = substitute(substitution, expr, pattern.bytes(), build, scratch)?;
+    if replaced {
+        // What a space holds is within its limit.
+        let _ = build.len();
+        pattern.swap(build);
+    }
+    Ok(replaced)
+}
+
+impl Engine {
+    /// The command `s`: replaces occurrences in the pattern space, and with its flag `p` writes it if it did.
+    #[inline(never)]
+    pub(super) fn act_substitute<O: Outputs>(
+        &mut self,
+        k: usize,
+        outputs: &mut O,
+    ) -> Result<(), Ended>
+        requires at { comes self.old.state.tasks ≡ true }
+        requires number { k < length self.old.script.substitutions }
+        requires sink { 0 < O.count outputs.old }
+        ensures acts { (files : ℕ → List ℕ) (ls : List (List ℕ)) →
+            Performs self.old.limits (setting self.old files)
+            (substitutes (setting self.old files) (at_lines self.old ls) (slice_get self.old.script.substitutions k))
+            (at_lines self.old ls) (at_lines self.new ls)
+            (Gained (O.contents outputs.old) (O.contents outputs.new)) result }
+        ensures output { Writes O.failures O.count outputs.old outputs.new result }
+        ensures input { result ≡ Err Ended.InputBroken → ⊥ }
+        ensures falls { weight self.new ≤ weight self.old }
+        ensures same { KeepsRun self.old self.new }
+    {
+        // The engine is open from here on, so its state is known to be within the limits.
+        let _ = &self.turns;
+        match self.replace(k) {
+            Ok(true) => self.print_replaced(k, outputs),
+            Ok(false) => Ok(()),
+            Err(end) => Err(end),
+        }
+    }
+
+    /// Makes the substitution of number `k` in the pattern space. Says whether anything was replaced.
+    fn replace(&mut self, k: usize) -> Result<bool, Ended>
+        requires at { comes self.old.state.tasks ≡ true }
+        requires number { k < length self.old.script.substitutions }
+        ensures makes { (t : Substitution) → slice_get self.old.script.substitutions k ≡ Some t →
+            (files : ℕ → List ℕ) (ls : List (List ℕ)) →
+            Makes self.old.limits (substitutes (setting self.old files) (at_lines self.old ls) (Some t)) t.print
+            (at_lines self.old ls) (at_lines self.new ls) result }
+        ensures err { OnErr result (self.new.state.pattern ≡ self.old.state.pattern) }
+        ensures output { NoSinkFailed result }
+        ensures input { result ≡ Err Ended.InputBroken → ⊥ }
+        ensures fits { length self.new.state.pattern ≤ self.new.limits.space }
+        ensures same { self.new ≡ same_but_replaced self.old self.new.state }
+    {
+        match self.script.substitution(k).expression.or(self.used) {
+            None => Err(Ended::NoPrevious(self.number)),
+            Some(e) => self.replace_by(k, e),
+        }
+    }
+
+    /// The same for the expression of number `e`, which is then the one last used.
+    fn replace_by(&mut self, k: usize, e: usize) -> Result<bool, Ended>
+        requires at { comes self.old.state.tasks ≡ true }
+        requires number { k < length self.old.script.substitutions }
+        requires expression { e < length self.old.script.expressions }
+        ensures makes { (t : Substitution) → slice_get self.old.script.substitutions k ≡ Some t →
+            (files : ℕ → List ℕ) (ls : List (List ℕ)) →
+            Makes self.old.limits
+            (replaces (record (at_lines self.old ls) { used = Some e }) t
+            (chosen_in (setting self.old files) t e self.old.state.pattern)) t.print
+            (at_lines self.old ls) (at_lines self.new ls) result }
+        ensures err { OnErr result (self.new.state.pattern ≡ self.old.state.pattern) }
+        ensures output { NoSinkFailed result }
+        ensures input { result ≡ Err Ended.InputBroken → ⊥ }
+        ensures fits { length self.new.state.pattern ≤ self.new.limits.space }
+        ensures same { self.new ≡ same_but_replaced self.old self.new.state }
+    {
+        self.used = Some(e);
+        match replace_in(
+            &self.script,
+            k,
+            e,
+            &mut self.pattern,
+            &mut self.build,
+            &mut self.scratch,
+        ) {
+            Ok(true) => {
+                self.replaced = true;
+                Ok(true)
+            }
+            Ok(false) => Ok(false),
+            Err(Full) => Err(Ended::PatternFull(self.number)),
+        }
+    }
+
+    /// Writes the pattern space if the substitution of number `k` has the flag `p`.
+    fn print_replaced<O: Outputs>(&self, k: usize, outputs: &mut O) -> Result<(), Ended>
+        requires number { k < length self.now.script.substitutions }
+        requires sink { 0 < O.count outputs.old }
+        ensures puts { (t : Substitution) → slice_get self.now.script.substitutions k ≡ Some t →
+            Puts (Gained (O.contents outputs.old) (O.contents outputs.new))
+            (if t.print then line_to 0 self.now.state.pattern else []) result }
+        ensures output { Writes O.failures O.count outputs.old outputs.new result }
+        ensures input { result ≡ Err Ended.InputBroken → ⊥ }
+    {
+        if !self.script.substitution(k).print {
+            return Ok(());
+        }
+        self.act_print(outputs)
+    }
+
+    /// The command `t`: goes on at its target if a substitution was made, which is then forgotten.
+    pub(super) fn act_test(&mut self, target: usize)
+        ensures { self.new ≡ record self.old {
+          state = if self.old.state.replaced
+              then record self.old.state { tasks = do_at target ∷ []; replaced = false }
+              else self.old.state;
+        } }
+    {
+        if self.replaced {
+            self.replaced = false;
+            self.place = Place::Do(target);
+        }
+    }
+
+    /// The command `y`: replaces each byte of the pattern space by the one at its place in the table of number `k`.
+    #[inline(never)]
+    pub(super) fn act_transliterate(&mut self, k: usize)
+        requires { k < length self.old.script.tables }
+        ensures { self.new ≡ record self.old {
+          state = record self.old.state {
+            pattern = map (in_table (slice_get self.old.script.tables k)) self.old.state.pattern;
+          };
+        } }
+    {
+        self.pattern.translate(self.script.table(k));
+    }
+}

@@ -1,0 +1,231 @@
+//! The command `s` (XCU sed, "Editing Commands in sed"): which occurrences it replaces, and the text that it makes.
+ghost use Rattle.std.specs.Prelude.{◌≡◌, ℕ, ◌+◌, ◌<◌, ◌≤◌, List, [], ◌∷◌, length, true, Some, None, IfSome};
+ghost use Rattle.sedre.specs.Arena.{tree};
+ghost use Rattle.sedmatch.specs.Matching.{found};
+ghost use Rattle.sedmatch.specs.Parts.{part_of, span_of};
+ghost use Rattle.sedscript.specs.Replacement.{GroupsWithin, pieces_in};
+ghost use Rattle.sedengine.specs.Substitute.{chosen, next_occurrence, occurrences, put_for, replaced_from};
+ghost use Rattle.sedengine.specs.Run.{match_at, search_for};
+ghost use Rattle.sedengine.specs.Replacing.{Appends, EndsIn, GroupsIn, GroupsOf, LiesBehind, Replaces, Skips};
+ghost use Rattle.sedengine.specs.Replacing.{has_group, pending, with_groups};
+
+use sedmatch::{Scratch, Text, find, find_span};
+use sedre::{Expr, Steps};
+use sedscript::{Part, Substitution};
+use sedspace::{Full, Space};
+
+/// The span of each group of an occurrence.
+type Groups = [Option<(usize, usize)>; 10];
+
+/// Puts into `build` the text in which the occurrences that the substitution chooses are replaced. Says whether
+/// there are any.
+pub(crate) fn substitute(
+    substitution: &Substitution,
+    expr: &Expr,
+    text: &[u8],
+    build: &mut Space,
+    scratch: &mut Scratch,
+) -> Result<bool, Full>
+    requires text { length text.now ≤ scratch.old.text }
+    requires short { length text.now ≤ build.old.limit }
+    requires nodes { length expr.now.nodes ≤ scratch.old.nodes }
+    requires number { 1 ≤ substitution.now.number }
+    ensures replaces { Replaces text.now substitution.now.replacement
+        (chosen substitution.now.number substitution.now.global
+        (occurrences (search_for (Some expr.now) text.now) (length text.now)))
+        build.old.limit build.new.bytes result }
+    ensures limit { build.new.limit ≡ build.old.limit }
+    ensures scratch { scratch.new ≡ scratch.old }
+{
+    let Some(last) = skip(expr, text, substitution.number - 1, scratch) else {
+        return Ok(false);
+    };
+    let wanted = needs_groups(substitution.replacement.parts());
+    let mut groups = [None; 10];
+    let Some(first) = next_occurrence(expr, text, last, wanted, &mut groups, scratch) else {
+        return Ok(false);
+    };
+    build.clear();
+    replace(substitution, expr, text, first, &mut groups, build, scratch)?;
+    Ok(true)
+}
+
+/// Where the last of the first `count` occurrences ended, for no occurrence None. None alone where there are fewer.
+fn skip(expr: &Expr, text: &[u8], count: u64, scratch: &mut Scratch) -> Option<Option<usize>>
+    requires text { length text.now ≤ scratch.old.text }
+    requires nodes { length expr.now.nodes ≤ scratch.old.nodes }
+    ensures skips { Skips expr.now text.now count result }
+    ensures scratch { scratch.new ≡ scratch.old }
+{
+    let mut last = None;
+    'occurrences: for _ in 0..count {
+        let (_, end) = next_occurrence(expr, text, last, false, &mut [None; 10], scratch)?;
+        last = Some(end);
+    }
+    Some(last)
+}
+
+/// Whether a replacement has a group of the match.
+fn needs_groups(parts: &[Part]) -> bool
+    ensures { result ≡ has_group (pieces_in parts.now) }
+{
+    for part in parts {
+        if let Part::Group(_) = part {
+            return true;
+        }
+    }
+    false
+}
+
+/// The next occurrence, behind the one that ended at a place, where there was one. Its groups are told where they are
+/// wanted.
+fn next_occurrence(
+    expr: &Expr,
+    text: &[u8],
+    last: Option<usize>,
+    wanted: bool,
+    groups: &mut Groups,
+    scratch: &mut Scratch,
+) -> Option<(usize, usize)>
+    requires last { EndsIn (length text.now) last }
+    requires text { length text.now ≤ scratch.old.text }
+    requires nodes { length expr.now.nodes ≤ scratch.old.nodes }
+    ensures next { match_at expr.now text.now result
+        ≡ next_occurrence (search_for (Some expr.now) text.now) (length text.now) last }
+    ensures lies { IfSome result (LiesBehind (length text.now) last) }
+    ensures groups { GroupsOf expr.now text.now wanted result groups.new }
+    ensures groups_in { GroupsIn (length text.now) groups.old → GroupsIn (length text.now) groups.new }
+    ensures scratch { scratch.new ≡ scratch.old }
+{
+    let Some(place) = last else {
+        return search(expr, text, 0, wanted, groups, scratch);
+    };
+    let span = search(expr, text, place, wanted, groups, scratch)?;
+    if place < span.1 {
+        return Some(span);
+    }
+    if place < text.len() {
+        search(expr, text, place + 1, wanted, groups, scratch)
+    } else {
+        None
+    }
+}
+
+/// The match sought from a place on. Its groups are told where they are wanted.
+fn search(
+    expr: &Expr,
+    text: &[u8],
+    from: usize,
+    wanted: bool,
+    groups: &mut Groups,
+    scratch: &mut Scratch,
+) -> Option<(usize, usize)>
+    requires from { from ≤ length text.now }
+    requires text { length text.now ≤ scratch.old.text }
+    requires nodes { length expr.now.nodes ≤ scratch.old.nodes }
+    ensures found { result ≡ found (tree expr.now) text.now from }
+    ensures lies { IfSome result (λ span. (from ≤ span.0) × (span.0 ≤ span.1) × (span.1 ≤ length text.now)) }
+    ensures groups { GroupsOf expr.now text.now wanted result groups.new }
+    ensures groups_in { GroupsIn (length text.now) groups.old → GroupsIn (length text.now) groups.new }
+    ensures scratch { scratch.new ≡ scratch.old }
+{
+    let bytes = Text::new(text);
+    let mut steps = Steps::new();
+    if !wanted {
+        return find_span(expr, &bytes, from, scratch, &mut steps);
+    }
+    let found = find(expr, &bytes, from, scratch, &mut steps)?;
+    let told = found.groups;
+    *groups = told;
+    Some((found.start, found.end))
+}
+
+/// Appends the text with the first occurrence and, with the flag `g`, all behind it replaced.
+fn replace(
+    substitution: &Substitution,
+    expr: &Expr,
+    text: &[u8],
+    first: (usize, usize),
+    groups: &mut Groups,
+    build: &mut Space,
+    scratch: &mut Scratch,
+) -> Result<(), Full>
+    requires text { length text.now ≤ scratch.old.text }
+    requires nodes { length expr.now.nodes ≤ scratch.old.nodes }
+    requires lies { LiesBehind (length text.now) None first }
+    requires groups { GroupsOf expr.now text.now (has_group substitution.now.replacement) (Some first) groups.old }
+    requires groups_in { GroupsIn (length text.now) groups.old }
+    ensures appends { Appends build.old build.new
+        (replaced_from text.now substitution.now.replacement 0
+        (pending expr.now text.now substitution.now.global (Some first))) result }
+    ensures scratch { scratch.new ≡ scratch.old }
+{
+    let parts = substitution.replacement.parts();
+    let wanted = needs_groups(parts);
+    let mut copied = 0;
+    let mut occurrence = Some(first);
+    'occurrences: while let Some(span) = occurrence {
+        build.append(&text[copied..span.0])?;
+        put(parts, span, groups, text, build)?;
+        copied = span.1;
+        occurrence = if substitution.global {
+            next_occurrence(expr, text, Some(copied), wanted, groups, scratch)
+        } else {
+            None
+        };
+    }
+    build.append(&text[copied..])
+}
+
+/// Appends what stands for an occurrence.
+fn put(
+    parts: &[Part],
+    span: (usize, usize),
+    groups: &Groups,
+    text: &[u8],
+    build: &mut Space,
+) -> Result<(), Full>
+    requires within { GroupsWithin 9 (pieces_in parts.now) }
+    requires lies { LiesBehind (length text.now) None span }
+    requires groups_in { GroupsIn (length text.now) groups.now }
+    ensures { Appends build.old build.new
+        (put_for text.now (with_groups span groups.now) (pieces_in parts.now)) result }
+{
+    for part in parts {
+        put_part(part, span, groups, text, build)?;
+    }
+    Ok(())
+}
+
+/// Appends what stands for a part of the replacement.
+fn put_part(
+    part: &Part,
+    span: (usize, usize),
+    groups: &Groups,
+    text: &[u8],
+    build: &mut Space,
+) -> Result<(), Full>
+    requires within { GroupsWithin 9 (pieces_in (part.now ∷ [])) }
+    requires lies { LiesBehind (length text.now) None span }
+    requires groups_in { GroupsIn (length text.now) groups.now }
+    ensures { Appends build.old build.new
+        (put_for text.now (with_groups span groups.now) (pieces_in (part.now ∷ []))) result }
+{
+    match part {
+        Part::Literal(bytes) => build.append(bytes),
+        Part::Whole => build.append(&text[span.0..span.1]),
+        Part::Group(k) => build.append(group_part(text, groups, *k)),
+    }
+}
+
+/// The bytes of group `k` in the text; empty where the group has no match.
+fn group_part<'a>(text: &'a [u8], groups: &Groups, k: usize) -> &'a [u8]
+    requires group { k ≤ 9 }
+    requires lies { GroupsIn (length text.now) groups.now }
+    ensures { result.now ≡ part_of text.now (span_of groups.now k) }
+{
+    match groups[k] {
+        None => &[],
+        Some((start, end)) => &text[start..end],
+    }
+}
