@@ -5,6 +5,7 @@ use Rattle.std.proofs.lemmas.List.{length-map}
 use Rattle.sedscript.specs.declared.types.Command.{Command}
 use Rattle.sedscript.specs.declared.types.Action.{Action}
 use Rattle.sedscript.specs.declared.types.Action.TheVariants.{Block, Branch, Change, Delete, Insert, LineNumber, Print, Quit, Substitute, Test, Transliterate}
+use Rattle.sedscript.specs.declared.types.Action.TheVariants.{AppendHold, CopyHold, Exchange, Hold, HoldMore, PrintFirst}
 use Rattle.sedspace.specs.Stream.{Stream, TakesAtMost, left, lines_left}
 use Rattle.sedengine.specs.Limits.{Limits}
 use Rattle.sedengine.specs.State.{Task, begin, do_at, flush, State, Move, Setting}
@@ -21,7 +22,7 @@ use Rattle.sedengine.specs.Inside.{run_of, IsRun}
 use Rattle.sedengine.specs.declared.engine.Engine.TheInside.{Inside}
 use Rattle.sedengine.specs.declared.select.Chosen.{Chosen}
 use Rattle.sedengine.specs.declared.ends.Ended.{Ended}
-use Rattle.sedengine.specs.declared.ends.Ended.TheVariants.{Done, PatternFull, TurnsSpent, NoPrevious, InputBroken, OutputBroken}
+use Rattle.sedengine.specs.declared.ends.Ended.TheVariants.{Done, PatternFull, HoldFull, TurnsSpent, NoPrevious, InputBroken, OutputBroken}
 use Rattle.sedengine.proofs.Streams.{TakesAtMost-more}
 use Rattle.sedengine.proofs.Moves.{move_at, ran_once, ran_quietly, stopped_writing, moves_writing, Moves-then}
 use Rattle.sedengine.proofs.Tasks.{fits_of, halts_here, comes_spent, steps_by_moves}
@@ -115,6 +116,12 @@ passes_other s Quit h = refl
 passes_other s (Substitute k) h = refl
 passes_other s (Test target) h = refl
 passes_other s (Transliterate k) h = refl
+passes_other s CopyHold h = refl
+passes_other s AppendHold h = refl
+passes_other s Hold h = refl
+passes_other s HoldMore h = refl
+passes_other s Exchange h = refl
+passes_other s PrintFirst h = refl
 
 -- a turn is left
 pub turn_left : (a : Inside) (e : Run) → run_of a ≡ e → IsRun a → (a.turns ≡ a.limits.turns → ⊥) → e.state.turns < e.limits.turns
@@ -169,6 +176,7 @@ module _ {R : Type 0} (remaining : R → Option (List ℕ)) (old new : Stream R)
           (ap (reads (setting e files)) t ∙ ap asks_last (command_seen a e k c seen is) ∙ h) (record { pattern = refl; hold = refl; queue = refl }) (bytes_stay _)
       stops Done h = absurd h
       stops (PatternFull n) h = absurd h
+      stops (HoldFull n) h = absurd h
       stops TurnsSpent h = absurd h
       stops (OutputBroken k) h = absurd h
 

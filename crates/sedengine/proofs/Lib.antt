@@ -7,6 +7,7 @@ pub mod Tasks
 pub mod Substituting
 pub mod Choices
 pub mod Acts
+pub mod Holding
 pub mod Occurrences
 pub mod Replacements
 pub mod Due

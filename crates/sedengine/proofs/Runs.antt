@@ -11,7 +11,7 @@ use Rattle.sedengine.specs.Held.{HoldsAt, SameLengths}
 use Rattle.sedengine.specs.Run.{Run, setting, setting_of, at_lines, size_of, more_at, Takes, Ending, EndingInCycle, Cycled, InOneCycle, starts_cycle}
 use Rattle.sedengine.specs.Steps.{Ran, TakesLines, Halted, Steps, lost, KeepsRun}
 use Rattle.sedengine.specs.declared.ends.Ended.{Ended}
-use Rattle.sedengine.specs.declared.ends.Ended.TheVariants.{Done, PatternFull, TurnsSpent, NoPrevious, InputBroken, OutputBroken}
+use Rattle.sedengine.specs.declared.ends.Ended.TheVariants.{Done, PatternFull, HoldFull, TurnsSpent, NoPrevious, InputBroken, OutputBroken}
 use Rattle.sedengine.proofs.Gains.{Gained-append, Gained-none}
 use Rattle.sedengine.proofs.Streams.{TakesLines-then, TakesAtMost-then, TakesAtMost-more, source_takes, lines_same, size_of-append}
 use Rattle.sedengine.proofs.Moves.{after-add, written-add, Within-add, Cause-add, HoldsAt-add, InOneCycle-add, within_none, after_none, written_none}
@@ -64,6 +64,7 @@ takes_of {R} remaining from to l g s t n m lines are gone shrinks ahead most = r
 pub lost_more : (l : Limits) (end : Ended) → lost l end + l.look ≤ more_at l end
 lost_more l Done = omega arith
 lost_more l (PatternFull n) = omega arith
+lost_more l (HoldFull n) = omega arith
 lost_more l TurnsSpent = omega arith
 lost_more l (NoPrevious n) = omega arith
 lost_more l InputBroken = omega arith

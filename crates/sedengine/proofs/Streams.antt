@@ -14,7 +14,7 @@ use Rattle.sedengine.specs.Ends.{any_left}
 use Rattle.sedengine.specs.Run.{size_of}
 use Rattle.sedengine.specs.Steps.{TakesLines}
 use Rattle.sedengine.specs.declared.ends.Ended.{Ended}
-use Rattle.sedengine.specs.declared.ends.Ended.TheVariants.{Done, PatternFull, TurnsSpent, NoPrevious, InputBroken, OutputBroken}
+use Rattle.sedengine.specs.declared.ends.Ended.TheVariants.{Done, PatternFull, HoldFull, TurnsSpent, NoPrevious, InputBroken, OutputBroken}
 
 -- there is no line only where there is no byte
 some_piece : (b : ℕ) (ps : List (List ℕ)) → 0 < length ps → without_empty_last (onto_first b ps) ≡ [] → ⊥
@@ -164,6 +164,7 @@ unread {T} n (Ok x) h = refl
 unread {T} n (Err InputBroken) h = absurd (h refl)
 unread {T} n (Err Done) h = tt
 unread {T} n (Err (PatternFull k)) h = tt
+unread {T} n (Err (HoldFull k)) h = tt
 unread {T} n (Err TurnsSpent) h = tt
 unread {T} n (Err (NoPrevious k)) h = tt
 unread {T} n (Err (OutputBroken k)) h = tt

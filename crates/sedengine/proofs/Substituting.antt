@@ -23,7 +23,7 @@ use Rattle.sedengine.specs.declared.engine.Engine.TheInside.{Inside}
 use Rattle.sedengine.specs.declared.place.Place.{Place}
 use Rattle.sedengine.specs.declared.place.Place.TheVariants as p
 use Rattle.sedengine.specs.declared.ends.Ended.{Ended}
-use Rattle.sedengine.specs.declared.ends.Ended.TheVariants.{Done, PatternFull, TurnsSpent, NoPrevious, InputBroken, OutputBroken}
+use Rattle.sedengine.specs.declared.ends.Ended.TheVariants.{Done, PatternFull, HoldFull, TurnsSpent, NoPrevious, InputBroken, OutputBroken}
 use Rattle.sedengine.proofs.Moves.{moves_writing, ran_quietly, stopped_here}
 use Rattle.sedengine.proofs.Tasks.{fits_of}
 
@@ -101,7 +101,7 @@ there_is (x ∷ xs) zero h = (x, refl)
 there_is (x ∷ xs) (suc k) h = there_is xs k (omega arith)
 
 -- the line of a command that is come to
-comes_line : (s : State) (ts : List Task) → comes ts ≡ true → line_at s ts ≡ s.number
+pub comes_line : (s : State) (ts : List Task) → comes ts ≡ true → line_at s ts ≡ s.number
 comes_line s [] h = cc
 comes_line s (do_at k ∷ rest) h = refl
 comes_line s (begin ∷ rest) h = cc
@@ -153,6 +153,7 @@ module _ (a : Inside) (r r' : Run) (seen : run_of a ≡ r) (i : IsRun a) (same :
           stopped_here r.limits g s (at_lines r' ls) old (NoPrevious n) c.fits refl (number ∙ sym c.number, c.turn, c.comes, first ∙ without) (lengths s c) c.lines
       stops s c first (PatternFull n) ((m, is, more), number) =
           stopped_here r.limits g s (at_lines r' ls) old (PatternFull n) c.fits refl (number ∙ sym c.number ∙ sym (comes_line s s.tasks c.comes), c.turn, (m, first ∙ is, more)) (lengths s c) c.lines
+      stops s c first (HoldFull n) h = absurd h
       stops s c first Done h = absurd h
       stops s c first TurnsSpent h = absurd h
       stops s c first InputBroken h = absurd h

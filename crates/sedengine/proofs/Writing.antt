@@ -8,7 +8,7 @@ use Rattle.std.specs.Prelude.{slice_get}
 use Rattle.sedengine.specs.Devices.{Gained, FailedSink}
 use Rattle.sedengine.specs.Calls.{Puts, Writes, NoSinkFailed}
 use Rattle.sedengine.specs.declared.ends.Ended.{Ended}
-use Rattle.sedengine.specs.declared.ends.Ended.TheVariants.{Done, PatternFull, TurnsSpent, NoPrevious, InputBroken, OutputBroken}
+use Rattle.sedengine.specs.declared.ends.Ended.TheVariants.{Done, PatternFull, HoldFull, TurnsSpent, NoPrevious, InputBroken, OutputBroken}
 use Rattle.sedengine.proofs.Gains.{Gained-append, same_or_not}
 
 pub slice_get-append_add : {A : Type 0} (xs ys : List A) (n : ℕ) → slice_get (xs ++ ys) (length xs + n) ≡ slice_get ys n
@@ -20,6 +20,7 @@ FailedSink-then a b c (Ok u) h i = λ k. i k ∙ h k
 FailedSink-then a b c (Err (OutputBroken k)) h i = let e = h k in rw e at i
 FailedSink-then a b c (Err Done) h i = tt
 FailedSink-then a b c (Err (PatternFull n)) h i = tt
+FailedSink-then a b c (Err (HoldFull n)) h i = tt
 FailedSink-then a b c (Err TurnsSpent) h i = tt
 FailedSink-then a b c (Err (NoPrevious n)) h i = tt
 FailedSink-then a b c (Err InputBroken) h i = tt
@@ -62,6 +63,7 @@ unwritten : (f : ℕ → ℕ) (end : Ended) → NoSinkFailed {T = Unit {0}} (Err
 unwritten f (OutputBroken k) h = absurd h
 unwritten f Done h = tt
 unwritten f (PatternFull n) h = tt
+unwritten f (HoldFull n) h = tt
 unwritten f TurnsSpent h = tt
 unwritten f (NoPrevious n) h = tt
 unwritten f InputBroken h = tt

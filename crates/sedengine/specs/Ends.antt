@@ -7,7 +7,7 @@ use Rattle.sedengine.specs.State.{Task, begin, rebegin, do_at, print_pattern, em
 use Rattle.sedengine.specs.Move.{move, after, written}
 use Rattle.sedengine.specs.declared.limits.Limits.{Limits}
 use Rattle.sedengine.specs.declared.ends.Ended.{Ended}
-use Rattle.sedengine.specs.declared.ends.Ended.TheVariants.{Done, PatternFull, TurnsSpent, NoPrevious, InputBroken, OutputBroken}
+use Rattle.sedengine.specs.declared.ends.Ended.TheVariants.{Done, PatternFull, HoldFull, TurnsSpent, NoPrevious, InputBroken, OutputBroken}
 
 -- a state within the limits
 pub record Fits (l : Limits) (s : State) : Type 0 where
@@ -104,6 +104,7 @@ abbrev pub broken_sink : Ended → Option ℕ
 broken_sink (OutputBroken k) = Some k
 broken_sink Done = None
 broken_sink (PatternFull n) = None
+broken_sink (HoldFull n) = None
 broken_sink TurnsSpent = None
 broken_sink (NoPrevious n) = None
 broken_sink InputBroken = None
@@ -113,6 +114,8 @@ abbrev pub IsCause : Limits → Setting → State → Ended → Type 0
 IsCause l g s Done = s.tasks ≡ []
 IsCause l g s (PatternFull n) =
     (n ≡ line_at s s.tasks) × HasTurn l g s × Leads (move g s) (λ m. l.space < length m.next.pattern)
+IsCause l g s (HoldFull n) =
+    (n ≡ s.number) × HasTurn l g s × Leads (move g s) (λ m. l.space < length m.next.hold)
 IsCause l g s TurnsSpent = (s.turns ≡ l.turns) × (takes_turn g s s.tasks ≡ true)
 IsCause l g s (NoPrevious n) = (n ≡ s.number) × HasTurn l g s × (comes s.tasks ≡ true) × (move g s ≡ None)
 IsCause l g s InputBroken = reads g s.tasks ≡ true

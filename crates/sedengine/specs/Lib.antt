@@ -3,6 +3,7 @@ pub mod Choose
 pub mod Devices
 pub mod Ends
 pub mod Held
+pub mod Holding
 pub mod Inside
 pub mod Limits
 pub mod Move

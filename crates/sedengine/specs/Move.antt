@@ -1,9 +1,10 @@
 -- How the editor moves from one state to the next (XCU sed, Extended Description). Nothing is limited here.
-use Rattle.std.specs.Prelude.{ℕ, suc, zero, ◌+◌, Bool, true, false, ◌||◌, Option, Some, None, List, [], ◌∷◌, ◌++◌, map, decimal, is_none, length, slice_get, slice_set, slice_index_or, if◌then◌else◌}
+use Rattle.std.specs.Prelude.{ℕ, suc, zero, ◌+◌, Bool, true, false, ◌||◌, Option, Some, None, List, [], ◌∷◌, ◌++◌, map, decimal, is_none, length, slice_get, slice_set, slice_index_or, if◌then◌else◌, ◌==◌}
 use Rattle.sedscript.specs.declared.types.Command.{Command}
 use Rattle.sedscript.specs.declared.types.Action.{Action}
 use Rattle.sedscript.specs.declared.types.Action.TheVariants.{Block, Branch, Change, Delete, Insert, LineNumber, Print, Quit}
 use Rattle.sedscript.specs.declared.types.Action.TheVariants.{Substitute, Test, Transliterate}
+use Rattle.sedscript.specs.declared.types.Action.TheVariants.{AppendHold, CopyHold, Exchange, Hold, HoldMore, PrintFirst}
 use Rattle.sedscript.specs.declared.substitution.Substitution.{Substitution}
 use Rattle.sedengine.specs.Select.{◌>>=◌, Current, Choice, selects, stands_for}
 use Rattle.sedengine.specs.Substitute.{Match, occurrences, chosen, replaced_from}
@@ -96,6 +97,11 @@ abbrev pub in_table : Option (List ℕ) → ℕ → ℕ
 in_table None b = b
 in_table (Some bytes) b = slice_index_or bytes b b
 
+-- the bytes up to the first newline
+abbrev pub first_line : List ℕ → List ℕ
+first_line [] = []
+first_line (b ∷ bs) = if b == newline then [] else b ∷ first_line bs
+
 -- What a command does that applies (XCU sed, "Editing Commands in sed"). The state has taken the turn, and goes on
 -- behind the command unless a case says otherwise. `tells` says whether `c` writes its text here.
 abbrev pub acts : Setting → State → Bool → Action → Option Move
@@ -112,10 +118,22 @@ acts g s tells (Change k) =
 acts g s tells Delete = quietly (record s { pattern = []; tasks = flush ∷ begin ∷ [] })
 -- `i`: "Write text to standard output."
 acts g s tells (Insert k) = writing (line_to 0 (text_of (slice_get g.texts k))) s
+-- `g`: "Replace the contents of the pattern space by the contents of the hold space."
+acts g s tells CopyHold = quietly (record s { pattern = s.hold })
+-- `G`: "Append to the pattern space a <newline> followed by the contents of the hold space."
+acts g s tells AppendHold = quietly (record s { pattern = s.pattern ++ newline ∷ s.hold })
+-- `h`: "Replace the contents of the hold space with the contents of the pattern space."
+acts g s tells Hold = quietly (record s { hold = s.pattern })
+-- `H`: "Append to the hold space a <newline> followed by the contents of the pattern space."
+acts g s tells HoldMore = quietly (record s { hold = s.hold ++ newline ∷ s.pattern })
+-- `x`: "Exchange the contents of the pattern and hold spaces."
+acts g s tells Exchange = quietly (record s { pattern = s.hold; hold = s.pattern })
 -- `=`: writes the line number and a newline
 acts g s tells LineNumber = writing (line_to 0 (decimal s.number)) s
 -- `p`: "Write the pattern space to standard output."
 acts g s tells Print = writing (line_to 0 s.pattern) s
+-- `P`: "Write the pattern space, up to the first <newline>, to standard output."
+acts g s tells PrintFirst = writing (line_to 0 (first_line s.pattern)) s
 -- `q`: "Branch to the end of the script and quit without starting a new cycle."
 acts g s tells Quit = quietly (then_do (print_pattern ∷ flush ∷ []) s)
 -- `s`: "Substitute the replacement string for instances of the BRE in the pattern space."
@@ -139,6 +157,12 @@ passes s Quit = quietly s
 passes s (Substitute k) = quietly s
 passes s (Test target) = quietly s
 passes s (Transliterate k) = quietly s
+passes s CopyHold = quietly s
+passes s AppendHold = quietly s
+passes s Hold = quietly s
+passes s HoldMore = quietly s
+passes s Exchange = quietly s
+passes s PrintFirst = quietly s
 
 abbrev pub none_left : List (List ℕ) → Bool
 none_left [] = true

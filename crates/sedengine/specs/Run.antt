@@ -11,7 +11,7 @@ use Rattle.sedengine.specs.Move.{after, written}
 use Rattle.sedengine.specs.Ends.{Within, Cause, broken_sink}
 use Rattle.sedengine.specs.Held.{HoldsAt}
 use Rattle.sedengine.specs.declared.ends.Ended.{Ended}
-use Rattle.sedengine.specs.declared.ends.Ended.TheVariants.{Done, PatternFull, TurnsSpent, NoPrevious, InputBroken, OutputBroken}
+use Rattle.sedengine.specs.declared.ends.Ended.TheVariants.{Done, PatternFull, HoldFull, TurnsSpent, NoPrevious, InputBroken, OutputBroken}
 use Rattle.sedengine.specs.declared.ends.Progress.{Progress}
 use Rattle.sedengine.specs.declared.ends.Progress.TheVariants as progress
 
@@ -85,6 +85,7 @@ more_at l (PatternFull n) = l.space + 1 + l.look
 more_at l InputBroken = l.space + 1 + l.look
 more_at l Done = l.look
 more_at l TurnsSpent = l.look
+more_at l (HoldFull n) = l.look
 more_at l (NoPrevious n) = l.look
 more_at l (OutputBroken k) = l.look
 

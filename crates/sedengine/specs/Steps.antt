@@ -8,7 +8,7 @@ use Rattle.sedengine.specs.Ends.{Fits, HasTurn, Within, Cause, broken_sink, come
 use Rattle.sedengine.specs.Held.{HoldsAt, SameLengths}
 use Rattle.sedengine.specs.Run.{Run, InOneCycle, at_lines, size_of}
 use Rattle.sedengine.specs.declared.ends.Ended.{Ended}
-use Rattle.sedengine.specs.declared.ends.Ended.TheVariants.{Done, PatternFull, TurnsSpent, NoPrevious, InputBroken, OutputBroken}
+use Rattle.sedengine.specs.declared.ends.Ended.TheVariants.{Done, PatternFull, HoldFull, TurnsSpent, NoPrevious, InputBroken, OutputBroken}
 
 -- Moves were made, which led to this state. Only the last of them may have led to the start of a cycle.
 pub record Ran (l : Limits) (g : Setting) (s now : State) (gained : List (ℕ × ℕ) → Type 0) : Type 0 where
@@ -61,6 +61,7 @@ lost l (PatternFull n) = l.space
 lost l InputBroken = l.space
 lost l Done = 0
 lost l TurnsSpent = 0
+lost l (HoldFull n) = 0
 lost l (NoPrevious n) = 0
 lost l (OutputBroken k) = 0
 

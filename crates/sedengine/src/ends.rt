@@ -10,6 +10,8 @@ pub enum Ended {
     /// F1: the next line, which is the one of this number, or what a command makes on this line is longer than the
     /// pattern space may be.
     PatternFull(u64),
+    /// F2: what a command makes on this line is longer than the hold space may be.
+    HoldFull(u64),
     /// F4: all turns were taken, and a further one is due.
     TurnsSpent,
     /// F5: on this line an empty regular expression stands for the one last used, and none was.

@@ -11,6 +11,7 @@ ghost use Rattle.sedengine.specs.Run.{outcome, Cycles, Ending, SameRun, at_lines
 
 mod addresses;
 mod commands;
+mod holding;
 mod moves;
 mod substituting;
 mod tasks;

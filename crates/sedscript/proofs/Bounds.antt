@@ -11,7 +11,7 @@ use Rattle.sedscript.specs.declared.types.Address.TheVariants.{Line, Last, Match
 use Rattle.sedscript.specs.declared.types.Action.{Action}
 use Rattle.sedscript.specs.declared.types.Command.{Command}
 use Rattle.sedscript.specs.declared.items.Simple.{Simple}
-use Rattle.sedscript.specs.declared.items.Simple.TheVariants.{Delete, LineNumber, Print, Quit}
+use Rattle.sedscript.specs.declared.items.Simple.TheVariants.{AppendHold, CopyHold, Delete, Exchange, Hold, HoldMore, LineNumber, Print, PrintFirst, Quit}
 use Rattle.sedscript.specs.declared.items.TextUse.{TextUse}
 use Rattle.sedscript.specs.declared.items.TextUse.TheVariants.{Insert, Change}
 use Rattle.sedscript.specs.declared.items.BranchUse.{BranchUse}
@@ -81,6 +81,12 @@ simple_within n Delete = tt
 simple_within n LineNumber = tt
 simple_within n Print = tt
 simple_within n Quit = tt
+simple_within n PrintFirst = tt
+simple_within n CopyHold = tt
+simple_within n AppendHold = tt
+simple_within n Hold = tt
+simple_within n HoldMore = tt
+simple_within n Exchange = tt
 
 text_within : (n : Sizes) (k : ℕ) (u : TextUse) → k < n.texts → ActionWithin n (text_action u k)
 text_within n k Insert h = h
@@ -284,7 +290,13 @@ plain_within text n letter at =
     (found_if n (letter == 61) _ _ (ended_within text n (at + 1) (Plain LineNumber) tt)
     (found_if n (letter == 100) _ _ (ended_within text n (at + 1) (Plain Delete) tt)
     (found_if n (letter == 112) _ _ (ended_within text n (at + 1) (Plain Print) tt)
-    (found_if n (letter == 113) _ _ (ended_within text n (at + 1) (Plain Quit) tt) tt)))))))))))
+    (found_if n (letter == 80) _ _ (ended_within text n (at + 1) (Plain PrintFirst) tt)
+    (found_if n (letter == 113) _ _ (ended_within text n (at + 1) (Plain Quit) tt)
+    (found_if n (letter == 103) _ _ (ended_within text n (at + 1) (Plain CopyHold) tt)
+    (found_if n (letter == 71) _ _ (ended_within text n (at + 1) (Plain AppendHold) tt)
+    (found_if n (letter == 104) _ _ (ended_within text n (at + 1) (Plain Hold) tt)
+    (found_if n (letter == 72) _ _ (ended_within text n (at + 1) (Plain HoldMore) tt)
+    (found_if n (letter == 120) _ _ (ended_within text n (at + 1) (Plain Exchange) tt) tt)))))))))))))))))
 
 unless_within : (n : ℕ) (o : Option ScriptFault) (r : Result (Function × ℕ) ScriptFault) → IfOk r (FoundWithin n) → IfOk (unless_fault o r) (FoundWithin n)
 unless_within n None r h = h

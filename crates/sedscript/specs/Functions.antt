@@ -6,7 +6,8 @@ use Rattle.sedscript.specs.declared.types.ScriptFault.{ScriptFault}
 use Rattle.sedscript.specs.declared.types.Reason.{Reason}
 use Rattle.sedscript.specs.declared.types.Reason.TheVariants.{UnknownCommand, TooManyAddresses, MissingText}
 use Rattle.sedscript.specs.declared.types.Reason.TheVariants.{MissingLabel, TrailingBytes}
-use Rattle.sedscript.specs.declared.items.Simple.TheVariants.{Delete, LineNumber, Print, Quit}
+use Rattle.sedscript.specs.declared.items.Simple.TheVariants.{AppendHold, CopyHold, Delete, Exchange, Hold, HoldMore}
+use Rattle.sedscript.specs.declared.items.Simple.TheVariants.{LineNumber, Print, PrintFirst, Quit}
 use Rattle.sedscript.specs.declared.items.TextUse.{TextUse}
 use Rattle.sedscript.specs.declared.items.TextUse.TheVariants.{Insert, Change}
 use Rattle.sedscript.specs.declared.items.BranchUse.{BranchUse}
@@ -104,20 +105,28 @@ function_of text letter at =
     -- `i` `c`
     else if letter == 105 then text_of Insert at (text_from text (past Blank text (at + 1)))
     else if letter == 99 then text_of Change at (text_from text (past Blank text (at + 1)))
-    -- `=` `d` `p` `q`
+    -- `=` `d` `p` `P` `q`
     else if letter == 61 then ended text (Plain LineNumber) (at + 1)
     else if letter == 100 then ended text (Plain Delete) (at + 1)
     else if letter == 112 then ended text (Plain Print) (at + 1)
+    else if letter == 80 then ended text (Plain PrintFirst) (at + 1)
     else if letter == 113 then ended text (Plain Quit) (at + 1)
+    -- `g` `G` `h` `H` `x`
+    else if letter == 103 then ended text (Plain CopyHold) (at + 1)
+    else if letter == 71 then ended text (Plain AppendHold) (at + 1)
+    else if letter == 104 then ended text (Plain Hold) (at + 1)
+    else if letter == 72 then ended text (Plain HoldMore) (at + 1)
+    else if letter == 120 then ended text (Plain Exchange) (at + 1)
     else fault UnknownCommand at
 
 -- the most addresses of a letter's function. None where the letter has none
 abbrev pub most_addresses : ℕ → Option ℕ
 most_addresses letter =
-    -- `:` `}` `#`, then `q`, then `=` `b` `c` `d` `i` `p` `s` `t` `y` `{`
+    -- `:` `}` `#`, then `q`, then `=` `b` `c` `d` `g` `G` `h` `H` `i` `p` `P` `s` `t` `x` `y` `{`
     if letter == 58 || letter == 125 || letter == 35 then Some 0
     else if letter == 113 then Some 1
-    else if letter == 61 || letter == 98 || letter == 99 || letter == 100 || letter == 105 || letter == 112
+    else if letter == 61 || letter == 98 || letter == 99 || letter == 100 || letter == 103 || letter == 71
+    || letter == 104 || letter == 72 || letter == 105 || letter == 112 || letter == 80 || letter == 120
     || letter == 115 || letter == 116 || letter == 121 || letter == 123 then Some 2
     else None
 

@@ -6,6 +6,7 @@ use Rattle.sedscript.specs.declared.types.Address.TheVariants.{Line, Last, Match
 use Rattle.sedscript.specs.declared.types.Action.{Action}
 use Rattle.sedscript.specs.declared.types.Action.TheVariants.{Block, Branch, Change, Delete, Insert, Print, Quit}
 use Rattle.sedscript.specs.declared.types.Action.TheVariants.{LineNumber, Substitute, Test, Transliterate}
+use Rattle.sedscript.specs.declared.types.Action.TheVariants.{AppendHold, CopyHold, Exchange, Hold, HoldMore, PrintFirst}
 use Rattle.sedscript.specs.declared.types.Command.{Command}
 use Rattle.sedscript.specs.declared.substitution.Substitution.{Substitution}
 use Rattle.sedscript.specs.Script.{Program}
@@ -52,6 +53,12 @@ ActionWithin n Delete = Unit {0}
 ActionWithin n Print = Unit {0}
 ActionWithin n Quit = Unit {0}
 ActionWithin n LineNumber = Unit {0}
+ActionWithin n PrintFirst = Unit {0}
+ActionWithin n CopyHold = Unit {0}
+ActionWithin n AppendHold = Unit {0}
+ActionWithin n Hold = Unit {0}
+ActionWithin n HoldMore = Unit {0}
+ActionWithin n Exchange = Unit {0}
 
 pub record CommandWithin (n : Sizes) (c : Command) : Type 0 where
   pub first : AddressWithin n.expressions c.first

@@ -15,7 +15,9 @@ use Rattle.sedscript.specs.declared.types.Action.TheVariants.{Transliterate as T
 use Rattle.sedscript.specs.declared.types.Command.{Command}
 use Rattle.sedscript.specs.declared.substitution.Substitution.{Substitution}
 use Rattle.sedscript.specs.declared.items.Simple.{Simple}
-use Rattle.sedscript.specs.declared.items.Simple.TheVariants.{Delete, LineNumber, Print, Quit}
+use Rattle.sedscript.specs.declared.items.Simple.TheVariants.{AppendHold, CopyHold, Delete, Exchange, Hold, HoldMore}
+use Rattle.sedscript.specs.declared.items.Simple.TheVariants.{LineNumber, Print, PrintFirst, Quit}
+use Rattle.sedscript.specs.declared.types.Action.TheVariants as a
 use Rattle.sedscript.specs.declared.items.TextUse.{TextUse}
 use Rattle.sedscript.specs.declared.items.TextUse.TheVariants.{Insert, Change}
 use Rattle.sedscript.specs.declared.items.BranchUse.{BranchUse}
@@ -147,6 +149,12 @@ simple_action Delete = DeleteSpace
 simple_action LineNumber = WriteNumber
 simple_action Print = PrintSpace
 simple_action Quit = QuitHere
+simple_action PrintFirst = a.PrintFirst
+simple_action CopyHold = a.CopyHold
+simple_action AppendHold = a.AppendHold
+simple_action Hold = a.Hold
+simple_action HoldMore = a.HoldMore
+simple_action Exchange = a.Exchange
 
 abbrev pub text_action : TextUse → ℕ → Action
 text_action Insert k = InsertText k

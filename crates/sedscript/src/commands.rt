@@ -51,6 +51,12 @@ fn simple_action(simple: Simple) -> Action
         Simple::LineNumber => Action::LineNumber,
         Simple::Print => Action::Print,
         Simple::Quit => Action::Quit,
+        Simple::PrintFirst => Action::PrintFirst,
+        Simple::CopyHold => Action::CopyHold,
+        Simple::AppendHold => Action::AppendHold,
+        Simple::Hold => Action::Hold,
+        Simple::HoldMore => Action::HoldMore,
+        Simple::Exchange => Action::Exchange,
     }
 }
 

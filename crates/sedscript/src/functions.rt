@@ -102,7 +102,13 @@ pub fn function_of(text: &[u8], letter: u8, at: usize) -> Result<(Function, usiz
         b'=' => ended(text, Function::Plain(Simple::LineNumber), at + 1),
         b'd' => ended(text, Function::Plain(Simple::Delete), at + 1),
         b'p' => ended(text, Function::Plain(Simple::Print), at + 1),
+        b'P' => ended(text, Function::Plain(Simple::PrintFirst), at + 1),
         b'q' => ended(text, Function::Plain(Simple::Quit), at + 1),
+        b'g' => ended(text, Function::Plain(Simple::CopyHold), at + 1),
+        b'G' => ended(text, Function::Plain(Simple::AppendHold), at + 1),
+        b'h' => ended(text, Function::Plain(Simple::Hold), at + 1),
+        b'H' => ended(text, Function::Plain(Simple::HoldMore), at + 1),
+        b'x' => ended(text, Function::Plain(Simple::Exchange), at + 1),
         _ => Err(ScriptFault {
             place: at,
             reason: Reason::UnknownCommand,
@@ -117,7 +123,7 @@ fn most_addresses(letter: u8) -> Option<usize>
     match letter {
         b':' | b'}' | b'#' => Some(0),
         b'q' => Some(1),
-        b'=' | b'b' | b'c' | b'd' | b'i' | b'p' | b's' | b't' | b'y' | b'{' => Some(2),
+        b'=' | b'b' | b'c' | b'd' | b'g' | b'G' | b'h' | b'H' | b'i' | b'p' | b'P' | b's' | b't' | b'x' | b'y' | b'{' => Some(2),
         _ => None,
     }
 }

@@ -36,9 +36,15 @@ pub struct Flags {
 /// The commands of one letter that need nothing more.
 #[derive(Clone, Copy)]
 pub enum Simple {
+    AppendHold,
+    CopyHold,
     Delete,
+    Exchange,
+    Hold,
+    HoldMore,
     LineNumber,
     Print,
+    PrintFirst,
     Quit,
 }
 
@@ -71,7 +77,7 @@ pub struct Strings {
 /// A function, as its letter and what follows say.
 #[derive(Clone, Copy)]
 pub enum Function {
-    /// `=`, `d`, `p` or `q`
+    /// `=`, `d`, `g`, `G`, `h`, `H`, `p`, `P`, `q` or `x`
     Plain(Simple),
     /// `{`
     Open,

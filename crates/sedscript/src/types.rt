@@ -26,6 +26,16 @@ pub enum Action {
     Branch(usize),
     /// `c`: changes the pattern space to the script's text of this number, counted from 0.
     Change(usize),
+    /// `g`: replaces the pattern space by the hold space.
+    CopyHold,
+    /// `G`: appends a newline and the hold space to the pattern space.
+    AppendHold,
+    /// `h`: replaces the hold space by the pattern space.
+    Hold,
+    /// `H`: appends a newline and the pattern space to the hold space.
+    HoldMore,
+    /// `x`: exchanges the pattern space and the hold space.
+    Exchange,
     /// `d`: deletes the pattern space and starts the next cycle.
     Delete,
     /// `i`: writes the script's text of this number, counted from 0.
@@ -34,6 +44,8 @@ pub enum Action {
     LineNumber,
     /// `p`: writes the pattern space.
     Print,
+    /// `P`: writes the pattern space up to its first newline.
+    PrintFirst,
     /// `q`: goes to the end of the script and quits.
     Quit,
     /// `s`: makes the script's substitution of this number, counted from 0.

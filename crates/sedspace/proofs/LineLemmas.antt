@@ -1,11 +1,12 @@
 -- Laws of lines.
-use Rattle.std.proofs.Common.{◌≡◌, ℕ, ◌+◌, ◌<◌, ◌≤◌, Bool, true, false, List, [], ◌∷◌, ◌++◌, length, take, drop, get_or, Option, None, Some, refl, sym, ap, ◌∙◌, cond, nat_lt, arith, Contains, eqb, position, length-take, get_or-take, take-append-drop, ap₂, ⊎_elim, eq-or-lt_of_le, not}
+use Rattle.std.proofs.Common.{◌≡◌, ℕ, ◌+◌, ◌<◌, ◌≤◌, Bool, true, false, List, [], ◌∷◌, ◌++◌, length, take, drop, get_or, Option, None, Some, refl, sym, ap, ◌∙◌, cond, nat_lt, arith, Contains, eqb, position, length-take, get_or-take, take-append-drop, append_assoc, ap₂, ⊎_elim, eq-or-lt_of_le, not}
 use Rattle.std.specs.List.{slice_split, position_or_len, before_first, after_first}
 use Rattle.std.proofs.lemmas.List.Splits.{slice_split_none, slice_split_at, length-slice_split, slice_split_first}
 use Rattle.std.proofs.lemmas.List.Sums.{fails_before_first, passes_at_first, position_or_len_is, prefix_len-le-length}
 use Rattle.std.proofs.lemmas.List.Folds.{prefix_len-append, length-prefix_len}
 use Rattle.std.proofs.lemmas.List.{drop_more, drop_all, get_or_at, take_all, length-take-le}
 use Rattle.std.proofs.lemmas.Bool.Decides.{nat_tests}
+use Rattle.std.proofs.Math.Seq.{take-append-add}
 use Rattle.memchr.specs.Find.{IsFirstByte, is_byte}
 use Rattle.sedspace.specs.Lines.{lines, is_newline, without_empty_last, HasNoNewline}
 
@@ -66,6 +67,17 @@ newline_parts bytes i e h =
 
 pub newline_at : (bytes : List ℕ) (i : ℕ) → Some i ≡ position is_newline bytes → IsNewlineAt bytes i
 newline_at bytes i e = let both = position_cases bytes i e in newline_parts bytes i both.0 both.1
+
+-- the bytes through the first newline
+pub line_through : (bytes : List ℕ) (i : ℕ) → Some i ≡ position is_newline bytes → take (i + 1) (bytes ++ 10 ∷ []) ≡ before_first is_newline bytes ++ 10 ∷ []
+line_through bytes i e =
+    let n = newline_at bytes i e in
+    let within = n.within in
+    let line = take i bytes in
+    let rest = 10 ∷ (drop (i + 1) bytes ++ 10 ∷ []) in
+    let long : i ≡ length line = omega (arith, length-take i bytes) in
+    let all : bytes ++ 10 ∷ [] ≡ line ++ rest = ap (λ z. z ++ 10 ∷ []) n.parts ∙ append_assoc line (10 ∷ drop (i + 1) bytes) (10 ∷ []) in
+    ap (take (i + 1)) all ∙ ap (λ k. take (k + 1) (line ++ rest)) long ∙ take-append-add line rest 1 ∙ ap (λ z. z ++ 10 ∷ []) (sym n.before)
 
 none_cases : (bytes : List ℕ) → None ≡ cond (nat_lt (position_or_len is_newline bytes) (length bytes)) (Some (position_or_len is_newline bytes)) None → length bytes ≤ position_or_len is_newline bytes
 none_cases bytes e = grind (arith, nat_tests)

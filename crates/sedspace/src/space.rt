@@ -4,7 +4,7 @@
 //! cut off without moving what stands behind it, and a newline is kept behind them, so that they can be written with
 //! their newline at once. What stands behind that newline is left from longer contents, and is written over.
 ghost use Rattle.std.specs.Prelude.{◌≡◌, ◌==◌, ◌+◌, ◌-◌, ◌<◌, ◌≤◌, [], ◌∷◌, ◌++◌, length, IfOk, OnOk, OnErr, IfSome, IsTrue, Contains, ℕ, false, map, take, slice_get, slice_index_or, vec_len, vec_capacity};
-ghost use Rattle.std.specs.List.{after_first};
+ghost use Rattle.std.specs.List.{after_first, before_first};
 ghost use Rattle.std.specs.Io.KnownBytes.{Keeps};
 ghost use Rattle.sedspace.specs.Lines.{is_newline, HasNoNewline};
 ghost use Rattle.sedspace.specs.Reading.{ReadsAt};
@@ -96,6 +96,17 @@ impl Space {
         ensures bound { length self.now.bytes ≤ self.now.limit }
     {
         &self.held[self.front..self.end + 1]
+    }
+
+    /// The bytes up to the first newline and a newline, as the command `P` writes them.
+    pub fn first_line(&self) -> &[u8]
+        ensures value { result.now ≡ before_first is_newline self.now.bytes ++ 10 ∷ [] }
+        ensures bound { length self.now.bytes ≤ self.now.limit }
+    {
+        match newline_in(self.bytes()) {
+            Some(at) => &self.line()[..at + 1],
+            None => self.line(),
+        }
     }
 
     /// Lets all bytes go.

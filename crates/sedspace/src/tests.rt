@@ -187,7 +187,9 @@ fn a_space_within_its_limit(rt: HostRuntime) -> Result<(), Fail> {
     assert!(rt; space.append_line(b"") == Err(Full));
     assert!(rt; space.set(b"abcdef") == Err(Full));
     same(&rt, space.line(), b"ab\ncd\n");
+    same(&rt, space.first_line(), b"ab\n");
     assert!(rt; space.cut_line() && !space.cut_line());
+    same(&rt, space.first_line(), b"cd\n");
     space.append(b"ef")?;
     space.append(b"g")?;
     same(&rt, space.line(), b"cdefg\n");

@@ -4,7 +4,7 @@ ghost use Rattle.std.specs.Option.{ForSome};
 ghost use Rattle.sedscript.specs.Ranges.{ActionWithin, sizes_of};
 ghost use Rattle.sedspace.specs.Stream.{lines_left};
 ghost use Rattle.sedengine.specs.State.{do_at, begin, print_pattern, flush};
-ghost use Rattle.sedengine.specs.Move.{acts, passes, line_to, tells_at, text_of};
+ghost use Rattle.sedengine.specs.Move.{acts, first_line, passes, line_to, tells_at, text_of};
 ghost use Rattle.sedengine.specs.Ends.{comes};
 ghost use Rattle.sedengine.specs.Devices.{Gained};
 ghost use Rattle.sedengine.specs.Calls.{Puts, Reads, Writes};
@@ -87,6 +87,20 @@ impl Engine {
                 Ok(())
             }
             Action::Change(text) => self.act_change(text, tells, outputs),
+            Action::CopyHold => {
+                self.act_copy_hold();
+                Ok(())
+            }
+            Action::AppendHold => self.act_append_hold(),
+            Action::Hold => {
+                self.act_hold();
+                Ok(())
+            }
+            Action::HoldMore => self.act_hold_more(),
+            Action::Exchange => {
+                self.act_exchange();
+                Ok(())
+            }
             Action::Delete => {
                 self.act_delete();
                 Ok(())
@@ -94,6 +108,7 @@ impl Engine {
             Action::Insert(text) => self.act_insert(text, outputs),
             Action::LineNumber => self.act_line_number(outputs),
             Action::Print => self.act_print(outputs),
+            Action::PrintFirst => self.act_print_first(outputs),
             Action::Quit => {
                 self.act_quit();
                 Ok(())
@@ -195,6 +210,16 @@ impl Engine {
         ensures output { Writes O.failures O.count outputs.old outputs.new result }
     {
         write_all(outputs, 0, self.pattern.line())
+    }
+
+    /// The command `P`: writes the pattern space up to its first newline.
+    fn act_print_first<O: Outputs>(&self, outputs: &mut O) -> Result<(), Ended>
+        requires { 0 < O.count outputs.old }
+        ensures puts { Puts (Gained (O.contents outputs.old) (O.contents outputs.new))
+            (line_to 0 (first_line self.now.state.pattern)) result }
+        ensures output { Writes O.failures O.count outputs.old outputs.new result }
+    {
+        write_all(outputs, 0, self.pattern.first_line())
     }
 
     /// The command `q`: the pattern space and the queue, which is empty, are written for the last time.

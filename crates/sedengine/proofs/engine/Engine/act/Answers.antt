@@ -1,10 +1,11 @@
-use Rattle.std.proofs.Common.{[], ◌∷◌, Ok, ap}
+use Rattle.std.proofs.Common.{[], ◌∷◌, ◌++◌, Ok, ap}
 use Rattle.std.specs.Prelude.{slice_get}
 use Rattle.sedengine.specs.State.{do_at, print_pattern, flush}
-use Rattle.sedengine.specs.Move.{acts}
+use Rattle.sedengine.specs.Move.{acts, newline}
 use Rattle.sedengine.specs.Run.{at_lines, setting}
 use Rattle.sedengine.proofs.Gains.{Gained-none}
 use Rattle.sedengine.proofs.Acts.{acts_writing, acts_nothing, acts_going, acts_deleting, acts_testing, acts_translating}
+use Rattle.sedengine.proofs.Holding.{acts_copying, acts_growing, acts_holding, acts_exchanging}
 use Rattle.sedengine.proofs.engine.Engine.act.Goals as goal
 
 pub returns-in-Block-clause-acts : goal.returns-in-Block-clause-acts
@@ -56,3 +57,33 @@ pub returns-in-Transliterate-clause-acts : goal.returns-in-Transliterate-clause-
 returns-in-Transliterate-clause-acts g c = λ files ls.
     acts_translating c.self.inside c.args.self.now c.self.view_is c.self.invariant ls (setting c.args.self.now files) (g.O.Outputs.contents c.args.outputs.now) (g.O.Outputs.contents c.args.outputs.now) _
     (slice_get c.args.self.now.script.tables c.in-Transliterate.k) c.act_transliterate.new.self c.act_transliterate.ensures (ap (acts (setting c.args.self.now files) (at_lines c.args.self.now ls) c.args.tells) c.in-Transliterate.is)
+
+pub returns-in-CopyHold-clause-acts : goal.returns-in-CopyHold-clause-acts
+returns-in-CopyHold-clause-acts g c = λ files ls.
+    acts_copying c.self.inside c.args.self.now c.self.view_is c.self.invariant ls (setting c.args.self.now files) (g.O.Outputs.contents c.args.outputs.now) _
+    c.act_copy_hold.new.self c.act_copy_hold.ensures (ap (acts (setting c.args.self.now files) (at_lines c.args.self.now ls) c.args.tells) c.in-CopyHold.is)
+
+pub returns-in-Hold-clause-acts : goal.returns-in-Hold-clause-acts
+returns-in-Hold-clause-acts g c = λ files ls.
+    acts_holding c.self.inside c.args.self.now c.self.view_is c.self.invariant ls (setting c.args.self.now files) (g.O.Outputs.contents c.args.outputs.now) _
+    c.act_hold.new.self c.act_hold.ensures (ap (acts (setting c.args.self.now files) (at_lines c.args.self.now ls) c.args.tells) c.in-Hold.is)
+
+pub returns-in-Exchange-clause-acts : goal.returns-in-Exchange-clause-acts
+returns-in-Exchange-clause-acts g c = λ files ls.
+    acts_exchanging c.self.inside c.args.self.now c.self.view_is c.self.invariant ls (setting c.args.self.now files) (g.O.Outputs.contents c.args.outputs.now) _
+    c.act_exchange.new.self c.act_exchange.ensures (ap (acts (setting c.args.self.now files) (at_lines c.args.self.now ls) c.args.tells) c.in-Exchange.is)
+
+pub returns-in-AppendHold-clause-acts : goal.returns-in-AppendHold-clause-acts
+returns-in-AppendHold-clause-acts g c = λ files ls.
+    acts_growing c.self.inside c.args.self.now c.self.view_is c.self.invariant ls (setting c.args.self.now files) (g.O.Outputs.contents c.args.outputs.now) _
+    (c.args.self.now.state.pattern ++ newline ∷ c.args.self.now.state.hold) c.args.self.now.state.hold c.act_append_hold.new.self c.act_append_hold.result c.act_append_hold.ensures (ap (acts (setting c.args.self.now files) (at_lines c.args.self.now ls) c.args.tells) c.in-AppendHold.is)
+
+pub returns-in-HoldMore-clause-acts : goal.returns-in-HoldMore-clause-acts
+returns-in-HoldMore-clause-acts g c = λ files ls.
+    acts_growing c.self.inside c.args.self.now c.self.view_is c.self.invariant ls (setting c.args.self.now files) (g.O.Outputs.contents c.args.outputs.now) _
+    c.args.self.now.state.pattern (c.args.self.now.state.hold ++ newline ∷ c.args.self.now.state.pattern) c.act_hold_more.new.self c.act_hold_more.result c.act_hold_more.ensures (ap (acts (setting c.args.self.now files) (at_lines c.args.self.now ls) c.args.tells) c.in-HoldMore.is)
+
+pub returns-in-PrintFirst-clause-acts : goal.returns-in-PrintFirst-clause-acts
+returns-in-PrintFirst-clause-acts g c = λ files ls.
+    acts_writing c.self.inside c.args.self.now c.self.view_is c.self.invariant ls (setting c.args.self.now files) (g.O.Outputs.contents c.args.outputs.now) (g.O.Outputs.contents c.act_print_first.new.outputs) _ _ _
+    (ap (acts (setting c.args.self.now files) (at_lines c.args.self.now ls) c.args.tells) c.in-PrintFirst.is) c.act_print_first.ensures.puts
