@@ -29,6 +29,7 @@ pub(crate) fn say_end<E: Write>(errors: &mut E, end: Ended) -> io::Result<()> {
     match end {
         Ended::Done => Ok(()),
         Ended::PatternFull(number) => writeln!(errors, "sed: line {number}: F1 PatternFull"),
+        Ended::HoldFull(number) => writeln!(errors, "sed: line {number}: F2 HoldFull"),
         Ended::TurnsSpent => writeln!(errors, "sed: F4 TurnsSpent"),
         Ended::NoPrevious(number) => writeln!(errors, "sed: line {number}: F5 NoPrevious"),
         Ended::InputBroken => writeln!(errors, "sed: F6 InputBroken"),

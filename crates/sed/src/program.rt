@@ -39,8 +39,8 @@ pub(crate) const STOPPED: u8 = 4;
 /// * 0: the script ran over the whole input; or `-h` or `--help` was given, and the help was written
 /// * 1: the words are refused, with the text of `clap`; the script is, as `sed: script byte 4: S1 UnknownCommand` or
 ///   `sed: script byte 3: S21 Expression: E5 OpenGroup`; or memory is wanting: `sed: no memory`. Nothing was read.
-/// * 4: the run stopped, as `sed: line 7: F1 PatternFull`, `sed: F4 TurnsSpent`, `sed: line 7: F5 NoPrevious`,
-///   `sed: F6 InputBroken` or `sed: F7 OutputBroken 0`. What was written stands.
+/// * 4: the run stopped, as `sed: line 7: F1 PatternFull`, `sed: line 7: F2 HoldFull`, `sed: F4 TurnsSpent`,
+///   `sed: line 7: F5 NoPrevious`, `sed: F6 InputBroken` or `sed: F7 OutputBroken 0`. What was written stands.
 pub fn stream<S: AsStr, R: ByteSource + Drop, O: Outputs, E: Write>(
     alloc: Global,
     words: &[S],

@@ -3,6 +3,7 @@
 mod calls;
 mod devices;
 mod faults;
+mod holding;
 mod hostile;
 mod rows;
 mod run;

@@ -171,14 +171,7 @@ const LIMITED: [Limited; 14] = [
     // The turns are judged before the expression, and both before the space.
     (b"s//xxxx/", 1, 1, b"a\n", b"", Ended::TurnsSpent),
     (b"s//xxxx/", 1, 9, b"a\n", b"", Ended::NoPrevious(1)),
-    (
-        b"2s//x/",
-        9,
-        9,
-        b"a\nb\n",
-        b"a\n",
-        Ended::NoPrevious(2),
-    ),
+    (b"2s//x/", 9, 9, b"a\nb\n", b"a\n", Ended::NoPrevious(2)),
     (b"s/^/x/;ta;:a;ta", 9, 3, b"a\n", b"", Ended::TurnsSpent),
 ];
 
