@@ -103,15 +103,3 @@ turns_cost m turn s0 s1 s few first before =
 -- a longer look ahead, and a pass behind it
 pub far_cost : (m n s0 s1 s2 : ℕ) → s1 ≤ s0 + (n + 8) * m → s2 ≤ s1 + 21 * m * (n + 1) → s2 ≤ s0 + 29 * m * (n + 1)
 far_cost m n s0 s1 s2 look pass = omega (arith, look, pass)
-
--- one part of a longer look ahead
-pub part_cost : (m n s0 s t x y r : ℕ) → t ≤ s + (n + 8) → y < x → s + (n + 8) * x ≤ s0 + (n + 8) * r → t + (n + 8) * y ≤ s0 + (n + 8) * r
-part_cost m n s0 s t x y r here less loop =
-    let fewer = mul-le-mul_left (n + 8) less in
-    omega (arith, fewer)
-
--- the last part of it
-pub parts_cost : (m n s0 s t x r : ℕ) → r + 1 ≡ m → t ≤ s + (n + 8) → s + (n + 8) * x ≤ s0 + (n + 8) * r → t ≤ s0 + (n + 8) * m
-parts_cost m n s0 s t x r root here loop =
-    let all = ap (λ v. (n + 8) * v) root in
-    omega (arith, all)

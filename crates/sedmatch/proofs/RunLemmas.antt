@@ -1,7 +1,7 @@
 -- Runs of bytes of a set, and what is left behind one.
-use Rattle.std.proofs.Common.{◌≡◌, ℕ, ◌+◌, ◌*◌, ◌<◌, ◌≤◌, ◌⊎◌, ◌↔◌, Bool, false, List, length, Some, None, IsTrue, refl, sym, ◌∙◌, subst, inl, inr, ⊎_elim, arith, mul-le-mul_left}
+use Rattle.std.proofs.Common.{◌≡◌, ℕ, ◌+◌, ◌<◌, ◌≤◌, ◌⊎◌, ◌↔◌, Bool, false, List, length, Some, IsTrue, refl, sym, ◌∙◌, subst, inl, inr, ⊎_elim, arith}
 use Rattle.std.specs.Prelude.{slice_get, slice_index_or}
-use Rattle.std.proofs.lemmas.Bool.{both_ways, cases_lt}
+use Rattle.std.proofs.lemmas.Bool.{cases_lt}
 use Rattle.std.proofs.lemmas.Option.{slice_get_within}
 use Rattle.sedre.specs.Tree.{set}
 use Rattle.sedre.specs.Arena.{IsArena}
@@ -12,13 +12,9 @@ use Rattle.sedmatch.specs.Spans.{Spans, Copies, no_copy, one_more}
 use Rattle.sedmatch.specs.Reach.{At}
 use Rattle.sedmatch.specs.Skip.{CanBegin, left_part}
 use Rattle.sedmatch.specs.declared.skip.Begins.TheVariants.{WithSet}
-use Rattle.sedmatch.specs.Ahead.{GoesOn, IsBelow}
-use Rattle.sedmatch.specs.declared.ahead.Lead.TheVariants.{Nowhere as leads_nowhere, To as leads_to, Unknown as leads_unknown}
-use Rattle.sedmatch.specs.declared.ahead.Rest.{Rest}
-use Rattle.sedmatch.specs.declared.ahead.Rest.TheVariants.{Part as rest_part, End as rest_end}
 use Rattle.sedmatch.specs.declared.runs.Far.{Far}
 use Rattle.sedmatch.specs.declared.runs.Far.TheVariants.{Nowhere, To, Unknown}
-use Rattle.sedmatch.specs.Runs.{EndsFar, GoesFar, IsNearer, further_of, Repeated, AllRepeat, IsRun, IsApart, IsFirst, NoneBefore}
+use Rattle.sedmatch.specs.Runs.{EndsFar, Repeated, AllRepeat, IsRun, IsApart, IsFirst, NoneBefore}
 use Rattle.sedmatch.proofs.SpanLemmas.{Copies-forward, Copies-append}
 use Rattle.sedmatch.proofs.SkipLemmas.{first_part, member_step}
 use Rattle.sedmatch.proofs.ReachLemmas.{open_at, close_at}
@@ -37,13 +33,6 @@ pub longer_run : (members : List Bool) (w : List ℕ) (i place byte : ℕ) (has 
     slice_get w place ≡ Some byte → has ≡ slice_index_or members byte false → IsTrue has → Repeated members w i place → Repeated members w i (place + 1)
 longer_run members w i place byte has is value holds copies =
     Copies-append (Spans (set members) w) place i (place + 1) copies (omega arith) (byte, is, sym value ∙ holds, refl)
-
--- a byte that isn't in the set ends it
-pub stops_at : (members : List Bool) (w : List ℕ) (place byte : ℕ) (has : Bool) →
-    slice_get w place ≡ Some byte → has ≡ slice_index_or members byte false → has ≡ false → CanBegin (WithSet members) w place → ⊥
-stops_at members w place byte has is value missing can =
-    let one : can.0 ≡ byte = let there = can.1 in cc in
-    both_ways has missing (value ∙ subst (λ b. IsTrue (slice_index_or members b false)) one can.2)
 
 -- one more byte that isn't in the other set
 pub longer_apart : (members : List Bool) (w : List ℕ) (i place byte : ℕ) (has : Bool) →
@@ -67,17 +56,6 @@ pub far_alike : (n : ℕ) (These Those : ℕ → Type 0) → ((j : ℕ) → Thes
 far_alike n These Those same Nowhere none = λ j h. none j ((same j).0 h)
 far_alike n These Those same (To k) one = (one.0, (same k).1 one.1, λ j h. one.2 j ((same j).0 h))
 far_alike n These Those same Unknown u = tt
-
--- what the shorter look tells
-pub goes_far : (nodes : List Node) (w : List ℕ) (Ends : ℕ → Type 0) (rest : Rest) → GoesOn nodes w Ends rest → GoesFar nodes w Ends (further_of rest)
-goes_far nodes w Ends (rest_part x i) goes = goes
-goes_far nodes w Ends (rest_end leads_nowhere) goes = goes
-goes_far nodes w Ends (rest_end (leads_to k)) goes = (goes.0, (goes.1 k).1 refl, λ j h. let e = (goes.1 j).0 h in omega arith)
-goes_far nodes w Ends (rest_end leads_unknown) goes = tt
-
-pub nearer : (x n : ℕ) (rest : Rest) → IsBelow x n rest → IsNearer x n (further_of rest)
-nearer x n (rest_part y i) below = below
-nearer x n (rest_end lead) below = tt
 
 -- copies of relations of which one has what the other has
 copies_alike : (R S : ℕ → ℕ → Type 0) → ((p q : ℕ) → R p q → S p q) → (j i : ℕ) → Copies R j i → Copies S j i

@@ -1,6 +1,5 @@
 use Rattle.std.proofs.Common.{◌≡◌, Some, sym, ◌∙◌, arith}
 use Rattle.std.specs.Prelude.{slice_get}
-use Rattle.sedmatch.specs.Skip.{left_part}
 use Rattle.sedmatch.proofs.SkipLemmas.{first_below}
 use Rattle.sedmatch.proofs.RunLemmas.{first_node, first_deeper}
 use Rattle.sedmatch.proofs.runs.near_first.Goals as goal

@@ -1,4 +1,4 @@
-use Rattle.std.proofs.Common.{◌≡◌, ◌⊎◌, ℕ, Some, length, refl, arith}
+use Rattle.std.proofs.Common.{◌≡◌, ◌⊎◌, Some, length, refl, arith}
 use Rattle.std.specs.Prelude.{slice_get}
 use Rattle.sedre.specs.Tree.{set}
 use Rattle.sedre.specs.declared.types.Node.TheVariants.{Set, Opt}

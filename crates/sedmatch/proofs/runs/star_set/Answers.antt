@@ -1,4 +1,4 @@
-use Rattle.std.proofs.Common.{◌≡◌, ◌<◌, Some, IfSome, length, refl, subst, arith}
+use Rattle.std.proofs.Common.{◌≡◌, ◌<◌, Some, refl, subst, arith}
 use Rattle.std.specs.Prelude.{slice_get}
 use Rattle.std.proofs.lemmas.Option.{IfSome_then}
 use Rattle.sedre.specs.declared.types.Node.TheVariants.{Group}
