@@ -24,10 +24,10 @@ place_last m n from start s0 s low cost =
     let all = mul-le-mul_left (8 * m) up in
     omega (arith, all)
 
--- starts from one to the next: the places looked at, and one pass
+-- starts from one to the next: the places looked at, a longer look ahead and one pass
 pub start_step : (m n from at start s0 s s1 s2 : ℕ) → 0 < m → at ≤ start →
-    s + 29 * m * (n + 1) * from ≤ s0 + 29 * m * (n + 1) * at → s1 + 8 * m * at ≤ s + 8 * m * (start + 1) → s2 ≤ s1 + 21 * m * (n + 1) →
-    s2 + 29 * m * (n + 1) * from ≤ s0 + 29 * m * (n + 1) * (start + 1)
+    s + 37 * m * (n + 1) * from ≤ s0 + 37 * m * (n + 1) * at → s1 + 8 * m * at ≤ s + 8 * m * (start + 1) → s2 ≤ s1 + 29 * m * (n + 1) →
+    s2 + 37 * m * (n + 1) * from ≤ s0 + 37 * m * (n + 1) * (start + 1)
 start_step m n from at start s0 s s1 s2 some low before skip pass =
     let d = start + 1 - at in
     let e : start + 1 ≡ at + d = omega arith in
@@ -37,20 +37,20 @@ start_step m n from at start s0 s s1 s2 some low before skip pass =
     let m_n : m * 1 ≤ m * (n + 1) = mul-le-mul_left m (let h : 1 ≤ n + 1 = omega arith in h) in
     let most = mul-le-mul_left d m_n in
     let looks : 8 * m * (start + 1) ≡ 8 * m * (at + d) = ap (λ v. 8 * m * v) e in
-    let all : 29 * m * (n + 1) * (start + 1) ≡ 29 * m * (n + 1) * (at + d) = ap (λ v. 29 * m * (n + 1) * v) e in
+    let all : 37 * m * (n + 1) * (start + 1) ≡ 37 * m * (n + 1) * (at + d) = ap (λ v. 37 * m * (n + 1) * v) e in
     omega (arith, grown, most, looks, all)
 
 -- up to the end of the text
 pub start_end : (m n from at s0 s s1 : ℕ) → 0 < m → at ≤ n →
-    s + 29 * m * (n + 1) * from ≤ s0 + 29 * m * (n + 1) * at → s1 + 8 * m * at ≤ s + 8 * m * (n + 1) →
-    s1 + 29 * m * (n + 1) * from ≤ s0 + 29 * m * (n + 1) * (n + 1)
+    s + 37 * m * (n + 1) * from ≤ s0 + 37 * m * (n + 1) * at → s1 + 8 * m * at ≤ s + 8 * m * (n + 1) →
+    s1 + 37 * m * (n + 1) * from ≤ s0 + 37 * m * (n + 1) * (n + 1)
 start_end m n from at s0 s s1 some low before skip = start_step m n from at n s0 s s1 s1 some low before skip (omega arith)
 
-pub start_last : (m n from start s0 s : ℕ) → start ≤ n → s + 29 * m * (n + 1) * from ≤ s0 + 29 * m * (n + 1) * (start + 1) →
-    s + 29 * m * (n + 1) * from ≤ s0 + 29 * m * (n + 1) * (n + 1)
+pub start_last : (m n from start s0 s : ℕ) → start ≤ n → s + 37 * m * (n + 1) * from ≤ s0 + 37 * m * (n + 1) * (start + 1) →
+    s + 37 * m * (n + 1) * from ≤ s0 + 37 * m * (n + 1) * (n + 1)
 start_last m n from start s0 s low cost =
     let up : start + 1 ≤ n + 1 = omega arith in
-    let all = mul-le-mul_left (29 * m * (n + 1)) up in
+    let all = mul-le-mul_left (37 * m * (n + 1)) up in
     omega (arith, all)
 
 -- a pass that enters every start: the places looked at before it, and its own
@@ -83,10 +83,10 @@ sweep_last m n from stop s0 s low cost =
 
 -- a whole search: one place, a start, a scan, and starts one after another
 pub whole_cost : (m n from start at s0 s1 s2 s3 s4 s5 : ℕ) → 1 ≤ at → s1 ≤ s0 + 9 * m → s2 + 8 * m * from ≤ s1 + 8 * m * (start + 1) →
-    s3 ≤ s2 + 21 * m * (n + 1) → s4 + 29 * m * (start + 1) ≤ s3 + 29 * m * (n + 1) →
-    s5 + 29 * m * (n + 1) * at ≤ s4 + 29 * m * (n + 1) * (n + 1) → s5 ≤ s0 + 45 * m * (n + 1) * (n + 1)
+    s3 ≤ s2 + 29 * m * (n + 1) → s4 + 29 * m * (start + 1) ≤ s3 + 29 * m * (n + 1) →
+    s5 + 37 * m * (n + 1) * at ≤ s4 + 37 * m * (n + 1) * (n + 1) → s5 ≤ s0 + 48 * m * (n + 1) * (n + 1)
 whole_cost m n from start at s0 s1 s2 s3 s4 s5 one begins place pass scan rest =
-    let all = mul-le-mul_left (29 * m * (n + 1)) one in
+    let all = mul-le-mul_left (37 * m * (n + 1)) one in
     omega (arith, all)
 
 -- the looks at one alternative more, of at most four
@@ -99,3 +99,7 @@ pub turns_cost : (m turn s0 s1 s : ℕ) → turn ≤ 4 → s1 ≤ s0 + m → s +
 turns_cost m turn s0 s1 s few first before =
     let all = mul-le-mul_left (2 * m) few in
     omega (arith, all)
+
+-- a longer look ahead, and a pass behind it
+pub far_cost : (m n s0 s1 s2 : ℕ) → s1 ≤ s0 + (n + 8) * m → s2 ≤ s1 + 21 * m * (n + 1) → s2 ≤ s0 + 29 * m * (n + 1)
+far_cost m n s0 s1 s2 look pass = omega (arith, look, pass)

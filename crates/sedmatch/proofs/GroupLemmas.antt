@@ -86,7 +86,7 @@ pub sizes_fit : (nodes : List Node) (groups : ℕ) → IsExpr nodes groups → (
 sizes_fit nodes groups expr x inside = let fits = expr.sizes x inside in omega arith
 
 -- there is room to count the steps of a report
-pub report_room : (m n s t : ℕ) → m ≤ 65536 → n ≤ 2 ^ 30 → s ≤ 2 ^ 100 → t ≤ s + 45 * m * (n + 1) * (n + 1) →
+pub report_room : (m n s t : ℕ) → m ≤ 65536 → n ≤ 2 ^ 30 → s ≤ 2 ^ 100 → t ≤ s + 48 * m * (n + 1) * (n + 1) →
     t + (23 * m * (n + 1) * (n + 2) + 1 + m) * m + 3 * m < 2 ^ 114
 report_room m n s t few short low first =
     let mn : m * n ≤ 65536 * 2 ^ 30 = mul-le-mul few short in
@@ -97,8 +97,8 @@ report_room m n s t few short low first =
     omega (arith, mn, mm, mnn, mmn, mmnn)
 
 -- a search that finds nothing costs no more than one that does
-pub miss_cost : (m n s t : ℕ) → 0 < m → t ≤ s + 45 * m * (n + 1) * (n + 1) → t ≤ s + 64 * m * m * (n + 1) * (n + 1)
+pub miss_cost : (m n s t : ℕ) → 0 < m → t ≤ s + 48 * m * (n + 1) * (n + 1) → t ≤ s + 64 * m * m * (n + 1) * (n + 1)
 miss_cost m n s t some first =
     let one : 1 ≤ m = omega arith in
-    let all = mul-le-mul_left (45 * m * (n + 1) * (n + 1)) one in
+    let all = mul-le-mul_left (48 * m * (n + 1) * (n + 1)) one in
     omega (arith, first, all)

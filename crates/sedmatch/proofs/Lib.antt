@@ -6,6 +6,7 @@ pub mod MatchingLemmas
 pub mod WorkLemmas
 pub mod TailLemmas
 pub mod AheadLemmas
+pub mod RunLemmas
 pub mod CostLemmas
 pub mod SweepLemmas
 pub mod SkipLemmas

@@ -400,14 +400,14 @@ two_le_square (suc k) = omega arith
 
 -- the steps of a report, and of the search before it
 pub report_cost : (m n s t : ℕ) → 1 ≤ m → t + (23 * m * (n + 1) * (n + 2) + 1 + m) ≤ s + (23 * m * (n + 1) * (n + 2) + 1 + m) * m + 3 * m →
-    t + 45 * m * (n + 1) * (n + 1) ≤ s + 48 * m * m * (n + 1) * (n + 1)
+    t + 48 * m * (n + 1) * (n + 1) ≤ s + 51 * m * m * (n + 1) * (n + 1)
 report_cost m n s t some decided =
     let line = mul-le-mul_left (m * n) some in
     let plane = mul-le-mul_left (m * n * n) some in
     let square = two_le_square m in
     omega (arith, decided, line, plane, square)
 
-pub report_free : (m n s : ℕ) → 1 ≤ m → s + 45 * m * (n + 1) * (n + 1) ≤ s + 48 * m * m * (n + 1) * (n + 1)
+pub report_free : (m n s : ℕ) → 1 ≤ m → s + 48 * m * (n + 1) * (n + 1) ≤ s + 51 * m * m * (n + 1) * (n + 1)
 report_free m n s some =
-    let more = mul-le-mul_left (45 * m * (n + 1) * (n + 1)) some in
+    let more = mul-le-mul_left (48 * m * (n + 1) * (n + 1)) some in
     omega (arith, more)

@@ -11,6 +11,7 @@ pub mod Local
 pub mod Reach
 pub mod Skip
 pub mod Ahead
+pub mod Runs
 pub mod Search
 pub mod Cuts
 pub mod Work

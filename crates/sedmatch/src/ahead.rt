@@ -77,7 +77,7 @@ pub enum Rest {
 
 /// What is left of the spans of the node, which stands at the index, behind its first part.
 #[inline(always)]
-fn rest_of_node(
+pub fn rest_of_node(
     expr: &Expr,
     index: usize,
     node: &Node,
@@ -134,7 +134,7 @@ fn fails_early(expr: &Expr, index: usize, text: &Text, place: usize, steps: &mut
 
 /// What is left of the spans of the node at the index that begin at the place, behind its first part. An alternative
 /// that fails early is left out.
-fn rest_behind(expr: &Expr, index: usize, text: &Text, place: usize, steps: &mut Steps) -> Rest
+pub fn rest_behind(expr: &Expr, index: usize, text: &Text, place: usize, steps: &mut Steps) -> Rest
     requires inside { index < length expr.now.nodes }
     requires place { place ≤ length text.now }
     requires room { steps.old < 2 ^ 118 }

@@ -767,3 +767,29 @@ pub const INTERVALS: [Case; 14] = [
     ),
     ("(a){2,3}", b"a", 0, "", "one copy is fewer than two"),
 ];
+
+// Runs of single bytes, which the longer look ahead passes over.
+pub const RUNS: [Case; 10] = [
+    ("-.*", b"a-b-c", 0, "(1,5)", "all that follows"),
+    ("[0-9]+", b"ab123c4", 0, "(2,5)", "as far as digits stand"),
+    (
+        "([a-z]*): x",
+        b"key: x",
+        0,
+        "(0,6)(0,3)",
+        "up to what follows",
+    ),
+    ("[ab]*b", b"abab", 0, "(0,4)", "what follows is in the run"),
+    ("[ab]*(cd)", b"abcd", 0, "(0,4)(2,4)", "a group follows"),
+    ("[ab]*$", b"abcab", 0, "(3,5)", "at the end alone"),
+    ("(a*)$", b"baa", 0, "(1,3)(1,3)", "at the end alone"),
+    (
+        "-a*b",
+        b"-aac-ab",
+        0,
+        "(4,7)",
+        "no `b` follows the first run",
+    ),
+    ("ab?", b"abb", 0, "(0,2)", "one copy"),
+    ("ab?", b"ac", 0, "(0,1)", "no copy"),
+];

@@ -398,7 +398,7 @@ pub fn report(
     ensures grows { steps.old ≤ steps.new }
     ensures none_cost { expr.now.groups ≡ 0 → steps.new ≡ steps.old }
     ensures cost { let m = length expr.now.nodes in let n = length text.now in
-        steps.new + 45 * m * (n + 1) * (n + 1) ≤ steps.old + 48 * m * m * (n + 1) * (n + 1) }
+        steps.new + 48 * m * (n + 1) * (n + 1) ≤ steps.old + 51 * m * m * (n + 1) * (n + 1) }
 {
     let root = expr.root().index();
     let mut groups = [None; 10];

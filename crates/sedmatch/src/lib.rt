@@ -14,6 +14,7 @@ mod groups;
 mod laws;
 mod matcher;
 mod passes;
+mod runs;
 mod scratch;
 mod search;
 mod skip;

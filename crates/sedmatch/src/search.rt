@@ -14,6 +14,7 @@ ghost use Rattle.sedmatch.specs.Skip.{AllBegin};
 use crate::ahead::{Lead, look_ahead};
 use crate::counted::Text;
 use crate::passes::{Here, Starts, advance};
+use crate::runs::{Far, look_far};
 use crate::scratch::Sets;
 use crate::skip::{Begins, how_begins, next_start};
 use sedre::{Expr, Steps};
@@ -97,16 +98,20 @@ fn longest_from(
     requires start { start ≤ length text.now }
     requires leads { LeadsTo (length text.now) (Spans (tree expr.now) text.now start) lead }
     requires fits { FitsNodes (length expr.now.nodes) sets.old }
-    requires room { steps.old < 2 ^ 116 }
+    requires room { steps.old < 2 ^ 113 }
     ensures marks { SameMarks sets.old sets.new }
     ensures longest { Longest (tree expr.now) text.now start result }
     ensures lies { IfSome result (λ end. (start ≤ end) × (end ≤ length text.now)) }
     ensures grows { steps.old ≤ steps.new }
-    ensures cost { steps.new ≤ steps.old + 21 * length expr.now.nodes * (length text.now + 1) }
+    ensures cost { steps.new ≤ steps.old + 29 * length expr.now.nodes * (length text.now + 1) }
 {
     match lead {
         Lead::To(end) => Some(end),
-        _ => longest_at(expr, text, start, sets, steps),
+        _ => match look_far(expr, text, start, steps) {
+            Far::Nowhere => None,
+            Far::To(end) => Some(end),
+            Far::Unknown => longest_at(expr, text, start, sets, steps),
+        },
     }
 }
 
@@ -265,14 +270,14 @@ fn first_span(
     requires from { from ≤ length text.now }
     requires begins { AllBegin (tree expr.now) begins.now }
     requires fits { FitsNodes (length expr.now.nodes) sets.old }
-    requires room { steps.old < 2 ^ 114 }
+    requires room { steps.old < 2 ^ 112 }
     ensures marks { SameMarks sets.old sets.new }
     ensures found { IfSome result (λ f. IsFound (tree expr.now) text.now from f.0 f.1) }
     ensures none { IfNone result (NotFound (tree expr.now) text.now from) }
     ensures lies { IfSome result (λ f. (f.0 ≤ f.1) × (f.1 ≤ length text.now)) }
     ensures grows { steps.old ≤ steps.new }
     ensures cost { let m = length expr.now.nodes in let n = length text.now in
-        steps.new + 29 * m * (n + 1) * from ≤ steps.old + 29 * m * (n + 1) * (n + 1) }
+        steps.new + 37 * m * (n + 1) * from ≤ steps.old + 37 * m * (n + 1) * (n + 1) }
 {
     let _count = expr.nodes();
     let mut at = from;
@@ -311,9 +316,9 @@ pub fn leftmost(
     ensures some { 0 < length expr.now.nodes }
     ensures grows { steps.old ≤ steps.new }
     ensures cost { let m = length expr.now.nodes in let n = length text.now in
-        steps.new ≤ steps.old + 45 * m * (n + 1) * (n + 1) }
+        steps.new ≤ steps.old + 48 * m * (n + 1) * (n + 1) }
     ensures none_cost { let m = length expr.now.nodes in let n = length text.now in
-        IfNone result (steps.new ≤ steps.old + 50 * m * (n + 1)) }
+        IfNone result (steps.new ≤ steps.old + 58 * m * (n + 1)) }
 {
     let _count = expr.nodes();
     let begins = how_begins(expr, steps);

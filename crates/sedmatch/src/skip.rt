@@ -62,7 +62,7 @@ pub enum Begins {
 }
 
 /// The part with which every span of a node begins, if the node has one.
-fn left_part(node: &Node) -> Option<usize>
+pub fn left_part(node: &Node) -> Option<usize>
     ensures { result ≡ left_part node.now }
 {
     match node {

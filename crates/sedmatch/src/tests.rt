@@ -1,7 +1,7 @@
 //! Worked cases: what the definitions were meant to say, and that each call can succeed.
 ghost use Rattle.std.specs.Prelude.{◌≡◌, IfOk};
 
-use crate::cases::{AHEAD, ANCHORS, COPIES, Case, INTERVALS, LEFTMOST, LONGEST, PARTS};
+use crate::cases::{AHEAD, ANCHORS, COPIES, Case, INTERVALS, LEFTMOST, LONGEST, PARTS, RUNS};
 use crate::{Found, Marks, Scratch, Text, find, find_span, is_match};
 use sedre::{Expr, Kind, Steps, read};
 use std::alloc::Global;
@@ -66,6 +66,7 @@ fn matches(rt: HostRuntime) -> Result<(), Fail> {
     run(&rt, alloc, &LEFTMOST)?;
     run(&rt, alloc, &AHEAD)?;
     run(&rt, alloc, &LONGEST)?;
+    run(&rt, alloc, &RUNS)?;
     run(&rt, alloc, &ANCHORS)?;
     Ok(())
 }

@@ -31,6 +31,6 @@ returns-clause-cost c =
     let m = length c.args.expr.now.nodes in
     let n = length c.args.text.now in
     elim c.if-groups-gt0.branch [
-      | then-groups-gt0 w ↦ subst (λ t. t + 45 * m * (n + 1) * (n + 1) ≤ c.args.steps.now + 48 * m * m * (n + 1) * (n + 1)) (sym w.steps-is) (report_cost m n c.args.steps.now w.decide.new.steps (omega arith) w.decide.ensures.cost)
-      | else-groups-gt0 w ↦ subst (λ t. t + 45 * m * (n + 1) * (n + 1) ≤ c.args.steps.now + 48 * m * m * (n + 1) * (n + 1)) (sym w.steps-is) (report_free m n c.args.steps.now (omega arith))
+      | then-groups-gt0 w ↦ subst (λ t. t + 48 * m * (n + 1) * (n + 1) ≤ c.args.steps.now + 51 * m * m * (n + 1) * (n + 1)) (sym w.steps-is) (report_cost m n c.args.steps.now w.decide.new.steps (omega arith) w.decide.ensures.cost)
+      | else-groups-gt0 w ↦ subst (λ t. t + 48 * m * (n + 1) * (n + 1) ≤ c.args.steps.now + 51 * m * m * (n + 1) * (n + 1)) (sym w.steps-is) (report_free m n c.args.steps.now (omega arith))
     ]

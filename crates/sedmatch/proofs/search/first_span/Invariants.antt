@@ -10,7 +10,7 @@ invariant-loop-start l = record {
   grows : l.initial.steps ≤ l.steps;
   after : l.from ≤ l.at;
   within : l.at ≤ length l.text;
-  cost : l.steps + 29 * length l.expr.nodes * (length l.text + 1) * l.from ≤ l.initial.steps + 29 * length l.expr.nodes * (length l.text + 1) * l.at;
+  cost : l.steps + 37 * length l.expr.nodes * (length l.text + 1) * l.from ≤ l.initial.steps + 37 * length l.expr.nodes * (length l.text + 1) * l.at;
   missed : NoneIn (tree l.expr) l.text l.from l.at;
 }
 

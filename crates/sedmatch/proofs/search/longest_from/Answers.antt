@@ -1,8 +1,11 @@
-use Rattle.std.proofs.Common.{length, refl, subst}
+use Rattle.std.proofs.Common.{length, refl, subst, arith}
 use Rattle.sedre.specs.Arena.{tree}
 use Rattle.sedmatch.specs.Spans.{Spans}
 use Rattle.sedmatch.specs.Ahead.{LeadsTo}
+use Rattle.sedmatch.specs.Runs.{EndsFar}
 use Rattle.sedmatch.specs.declared.ahead.Lead.TheVariants.{To}
+use Rattle.sedmatch.specs.declared.runs.Far.TheVariants.{To as FarTo}
+use Rattle.sedmatch.proofs.CostLemmas.{far_cost}
 use Rattle.sedmatch.proofs.SpanLemmas.{Spans-forward}
 use Rattle.sedmatch.proofs.search.longest_from.Goals as goal
 
@@ -12,3 +15,16 @@ returns-in-To-clause-lies c =
     let w = c.args.text.now in
     let leads : LeadsTo (length w) (Spans e w c.args.start) (To c.in-To.end) = subst (LeadsTo (length w) (Spans e w c.args.start)) c.in-To.is c.requires.leads in
     (Spans-forward e w c.args.start c.in-To.end ((leads.1 c.in-To.end).1 refl), leads.0)
+
+pub returns-in-To-look_far : goal.returns-in-To-look_far
+returns-in-To-look_far c =
+    let m = length c.args.expr.now.nodes in
+    let e = tree c.args.expr.now in
+    let w = c.args.text.now in
+    let far : EndsFar (length w) (Spans e w c.args.start) (FarTo c.in-To-look_far.end) = c.in-To-look_far.ensures.far in record {
+      marks = (refl, refl, refl);
+      longest = (far.1, far.2);
+      lies = (Spans-forward e w c.args.start c.in-To-look_far.end far.1, far.0);
+      grows = omega arith;
+      cost = far_cost m (length w) c.args.steps.now c.look_far.new.steps c.look_far.new.steps c.look_far.ensures.cost (omega arith);
+    }
