@@ -123,7 +123,22 @@ fn most_addresses(letter: u8) -> Option<usize>
     match letter {
         b':' | b'}' | b'#' => Some(0),
         b'q' => Some(1),
-        b'=' | b'b' | b'c' | b'd' | b'g' | b'G' | b'h' | b'H' | b'i' | b'p' | b'P' | b's' | b't' | b'x' | b'y' | b'{' => Some(2),
+        b'='
+        | b'b'
+        | b'c'
+        | b'd'
+        | b'g'
+        | b'G'
+        | b'h'
+        | b'H'
+        | b'i'
+        | b'p'
+        | b'P'
+        | b's'
+        | b't'
+        | b'x'
+        | b'y'
+        | b'{' => Some(2),
         _ => None,
     }
 }
