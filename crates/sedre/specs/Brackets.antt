@@ -80,12 +80,7 @@ items delimiter first zero place (b ∷ bs) =
 -- whether an item makes a range where another one stands before and behind it (XBD 9.3.5, 7)
 abbrev pub is_dash : Element → Bool
 is_dash (Plain b) = b == 45
-is_dash (Delimiter b) = false
-is_dash (OfClass class) = false
-is_dash (Equivalent b) = false
-is_dash (Collating b) = false
-is_dash (Wrong reason) = false
-is_dash Unclosed = false
+is_dash element = false
 
 -- whether what stands behind a range goes on as another one, as in a-c-e
 abbrev pub goes_on : List (ℕ × Element) → Bool
@@ -114,11 +109,8 @@ single (place, Unclosed) = Ok no_byte
 abbrev pub end_of : Element → Option ℕ
 end_of (Plain b) = Some b
 end_of (Delimiter b) = Some b
-end_of (OfClass class) = None
-end_of (Equivalent b) = None
 end_of (Collating b) = Some b
-end_of (Wrong reason) = None
-end_of Unclosed = None
+end_of element = None
 
 -- a range between two ends, by byte value (XBD 9.3.5, 7); `on`: it goes on as another one, which is refused: this
 -- project's own

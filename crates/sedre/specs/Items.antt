@@ -24,52 +24,27 @@ use Rattle.sedre.specs.declared.syntax.Here.TheVariants.{Is, Ends, Bad}
 -- whether an item stands first: at the beginning, behind an opening of a group or behind an alternation symbol
 abbrev pub is_first : Option Item → Bool
 is_first None = true
-is_first (Some (Byte members)) = false
 is_first (Some Open) = true
-is_first (Some Close) = false
 is_first (Some Bar) = true
-is_first (Some (Repeat least most)) = false
-is_first (Some AtBegin) = false
-is_first (Some AtEnd) = false
+is_first before = false
 
 -- whether a repetition may follow: behind an anchor none may (XBD 9.3.6, 9.4.6, 9.4.9)
 abbrev pub is_repeatable : Option Item → Bool
-is_repeatable None = false
 is_repeatable (Some (Byte members)) = true
-is_repeatable (Some Open) = false
 is_repeatable (Some Close) = true
-is_repeatable (Some Bar) = false
 is_repeatable (Some (Repeat least most)) = true
-is_repeatable (Some AtBegin) = false
-is_repeatable (Some AtEnd) = false
+is_repeatable before = false
 
 abbrev pub is_repeat : Option Item → Bool
-is_repeat None = false
-is_repeat (Some (Byte members)) = false
-is_repeat (Some Open) = false
-is_repeat (Some Close) = false
-is_repeat (Some Bar) = false
 is_repeat (Some (Repeat least most)) = true
-is_repeat (Some AtBegin) = false
-is_repeat (Some AtEnd) = false
+is_repeat before = false
 
 -- whether the text, a group or an alternative ends at the front
 abbrev pub ends_alternative : Option (Symbol × ℕ) → Bool
 ends_alternative None = true
-ends_alternative (Some (Literal b, n)) = false
-ends_alternative (Some (AnyByte, n)) = false
-ends_alternative (Some (Opening, n)) = false
 ends_alternative (Some (Closing, n)) = true
 ends_alternative (Some (Parting, n)) = true
-ends_alternative (Some (Star, n)) = false
-ends_alternative (Some (Plus, n)) = false
-ends_alternative (Some (Question, n)) = false
-ends_alternative (Some (Interval, n)) = false
-ends_alternative (Some (IntervalEnd, n)) = false
-ends_alternative (Some (BracketOpening, n)) = false
-ends_alternative (Some (Caret, n)) = false
-ends_alternative (Some (Dollar, n)) = false
-ends_alternative (Some (Unknown reason, n)) = false
+ends_alternative next = false
 
 abbrev pub fault : ℕ → Reason → Here
 fault place reason = Bad (record { place = place; reason = reason })

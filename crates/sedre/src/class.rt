@@ -1,5 +1,6 @@
 //! The character classes of the POSIX locale (XBD 7.3.1).
-ghost use Rattle.std.specs.Prelude.{◌≡◌};
+ghost use Rattle.std.specs.Prelude.{◌≡◌, nat_eq};
+ghost use Rattle.std.specs.Cmp.Lexicographic.{pointwise};
 ghost use Rattle.sedre.specs.Classes.{in_class, class_named};
 
 /// A character class. Bytes from 128 on are in none.
@@ -19,25 +20,44 @@ pub enum Class {
     Xdigit,
 }
 
+/// Whether the bytes are this word.
+fn is(bytes: &[u8], word: &str) -> bool
+    ensures { result ≡ pointwise nat_eq bytes.now word.now }
+{
+    bytes == word.as_bytes()
+}
+
 impl Class {
     /// The class of a name, as it stands between `[:` and `:]`.
     pub fn named(name: &[u8]) -> Option<Class>
         ensures { result ≡ class_named name.now }
     {
-        match name {
-            b"xdigit" => Some(Class::Xdigit),
-            b"alnum" => Some(Class::Alnum),
-            b"alpha" => Some(Class::Alpha),
-            b"blank" => Some(Class::Blank),
-            b"cntrl" => Some(Class::Cntrl),
-            b"digit" => Some(Class::Digit),
-            b"graph" => Some(Class::Graph),
-            b"lower" => Some(Class::Lower),
-            b"print" => Some(Class::Print),
-            b"punct" => Some(Class::Punct),
-            b"space" => Some(Class::Space),
-            b"upper" => Some(Class::Upper),
-            _ => None,
+        if is(name, "alnum") {
+            Some(Class::Alnum)
+        } else if is(name, "alpha") {
+            Some(Class::Alpha)
+        } else if is(name, "blank") {
+            Some(Class::Blank)
+        } else if is(name, "cntrl") {
+            Some(Class::Cntrl)
+        } else if is(name, "digit") {
+            Some(Class::Digit)
+        } else if is(name, "graph") {
+            Some(Class::Graph)
+        } else if is(name, "lower") {
+            Some(Class::Lower)
+        } else if is(name, "print") {
+            Some(Class::Print)
+        } else if is(name, "punct") {
+            Some(Class::Punct)
+        } else if is(name, "space") {
+            Some(Class::Space)
+        } else if is(name, "upper") {
+            Some(Class::Upper)
+        } else if is(name, "xdigit") {
+            Some(Class::Xdigit)
+        } else {
+            None
         }
     }
 

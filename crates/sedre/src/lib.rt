@@ -13,8 +13,6 @@ mod elements;
 mod intervals;
 mod items;
 pub mod laws;
-#[cfg(test)]
-mod list_tests;
 mod packed;
 mod parts;
 pub mod reader;
@@ -24,8 +22,6 @@ mod steps;
 mod symbols;
 mod syntax;
 mod table;
-#[cfg(test)]
-mod tests;
 pub mod types;
 
 pub use byte_set::ByteSet;

@@ -256,6 +256,7 @@ mod tests {
     use super::*;
     use std::test::Fail;
 
+    // It stands here since no call of another crate shows how many sets are kept.
     #[test]
     fn equal_sets_are_kept_once(rt: HostRuntime) -> Result<(), Fail> {
         let mut nodes = Packed::new(rt.alloc());

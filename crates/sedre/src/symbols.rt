@@ -1,5 +1,5 @@
 //! Which symbols stand in a text.
-ghost use Rattle.std.specs.Prelude.{◌≡◌, ◌<◌, ◌≤◌, ◌+◌, length, drop, IfSome};
+ghost use Rattle.std.specs.Prelude.{◌≡◌, ◌<◌, ◌≤◌, ◌+◌, ℕ, List, [], ◌∷◌, None, Some, length, drop, IfSome};
 ghost use Rattle.sedre.specs.Symbols.{alone, escaped, escaped_literal, symbol};
 
 use crate::syntax::Symbol;
@@ -69,6 +69,31 @@ fn escaped(kind: Kind, b: u8) -> Symbol
     }
 }
 
+/// The symbol of a byte that is the last one.
+fn last(kind: Kind, b: u8) -> Symbol
+    ensures { symbol kind None (b ∷ []) ≡ Some (result, 1) }
+{
+    if b == b'\\' {
+        Symbol::Unknown(Reason::LastBackslash)
+    } else {
+        alone(kind, b)
+    }
+}
+
+/// The symbol of a byte before another, and how many bytes it has.
+fn before(kind: Kind, delimiter: Option<u8>, b: u8, c: u8) -> (Symbol, usize)
+    ensures symbol { (rest : List ℕ) → symbol kind delimiter (b ∷ c ∷ rest) ≡ Some result }
+    ensures width { (0 < result.1) × (result.1 ≤ 2) }
+{
+    if b != b'\\' {
+        (alone(kind, b), 1)
+    } else if delimiter == Some(c) {
+        (Symbol::Literal(c), 2)
+    } else {
+        (escaped(kind, c), 2)
+    }
+}
+
 /// The symbol at a place and how many bytes it has, or None at the end of the text.
 pub fn symbol_at(
     kind: Kind,
@@ -82,15 +107,7 @@ pub fn symbol_at(
 {
     match &text[at..] {
         [] => None,
-        [b'\\'] => Some((Symbol::Unknown(Reason::LastBackslash), 1)),
-        [b] => Some((alone(kind, *b), 1)),
-        [b'\\', c, ..] => {
-            if delimiter == Some(*c) {
-                Some((Symbol::Literal(*c), 2))
-            } else {
-                Some((escaped(kind, *c), 2))
-            }
-        }
-        [b, _, ..] => Some((alone(kind, *b), 1)),
+        [b] => Some((last(kind, *b), 1)),
+        [b, c, ..] => Some(before(kind, delimiter, *b, *c)),
     }
 }

@@ -1,5 +1,6 @@
 -- What gathered parts mean for the lines to come.
-use Rattle.std.proofs.Common.{◌≡◌, ℕ, ◌+◌, ◌-◌, ◌<◌, ◌≤◌, List, [], ◌∷◌, ◌++◌, length, Option, None, Some, option_map, Bool, true, false, not, IsTrue, ◌↔◌, Result, Ok, Err, refl, sym, ap, ◌∙◌, arith, rules, inl, inr, ⊎_elim, length-append, append_assoc, append-nil, subst}
+use Rattle.std.proofs.Common.{◌≡◌, ℕ, ◌+◌, ◌-◌, ◌<◌, ◌≤◌, List, [], ◌∷◌, ◌++◌, length, Option, None, Some, option_map, Bool, true, false, not, IsTrue, ◌↔◌, Result, Ok, Err, refl, sym, ap, ◌∙◌, arith, rules, inl, inr, ⊎_elim, length-append, append_assoc, append-nil, subst, is_ok, if◌then◌else◌, take, length-take, length-drop, drop}
+use Rattle.std.proofs.Math.Seq.{take-append_seam}
 use Rattle.std.specs.List.{before_first}
 use Rattle.std.specs.Io.KnownBytes.{prepend_known, Consumes, IsAtEnd}
 use Rattle.sedspace.specs.Lines.{lines, is_newline, HasNoNewline}
@@ -8,7 +9,7 @@ use Rattle.sedspace.specs.declared.lines.Got.{Got}
 use Rattle.sedspace.specs.declared.lines.Got.TheVariants.{Line, End}
 use Rattle.sedspace.specs.declared.errors.LineFault.{LineFault}
 use Rattle.sedspace.specs.declared.errors.LineFault.TheVariants.{Broken, TooLong}
-use Rattle.sedspace.specs.Stream.{Stream, left, lines_left, TakesLine, GivesLine, NoneLeft, FirstIsLonger, TellsLast}
+use Rattle.sedspace.specs.Stream.{Stream, left, lines_left, TakesLine, TakesAtMost, GivesLine, NoneLeft, FirstIsLonger, TellsLast}
 use Rattle.sedspace.specs.Gathering.{Gathers}
 use Rattle.sedspace.proofs.LineLemmas.{lines_at, lines_last, lines_nil, lines_none, lines_first, length-before_first-append}
 
@@ -44,6 +45,15 @@ first_is_longer (Some xs) (Some ys) part ahead n h none long =
     first_longer (part ++ (ahead ++ ys)) n (omega (arith, long, length-before_first-append part ahead ys none))
     )
 
+-- bytes between two places of a buffer are no more than stand before the second
+pub ahead_within : (front filled n : ℕ) (bytes : List ℕ) → filled ≤ n → length (drop front (take filled bytes)) ≤ n
+ahead_within front filled n bytes most = omega (arith, length-drop front (take filled bytes), length-take filled bytes)
+
+-- what was appended within the limit stands within it
+pub appended_fits : (old new : Contents) (bytes : List ℕ) (count : ℕ) → new ≡ record old { bytes = old.bytes ++ bytes } → length bytes ≤ count → length old.bytes + count ≤ old.limit → length new.bytes ≤ new.limit
+appended_fits old new bytes count e most fits =
+    omega (arith, ap (λ (z : Contents). length z.bytes) e, ap (λ (z : Contents). z.limit) e, length-append old.bytes bytes, most, fits)
+
 -- bytes ahead are a line to come
 pub tells_more : (known : Option (List ℕ)) (ahead : List ℕ) → 0 < length ahead → TellsLast (option_map lines (prepend_known ahead known)) false
 tells_more None ahead some = tt
@@ -65,6 +75,23 @@ tells_same (Some xs) (Some ys) last h t = subst (λ z. TellsLast (Some (lines z)
 pub tells_read : (a known : Option (List ℕ)) (ahead : List ℕ) (more : Bool) → Consumes a (prepend_known ahead known) [] → (IsTrue more ↔ (0 < length ahead)) → (more ≡ false → IsAtEnd (prepend_known ahead known)) → TellsLast (option_map lines a) (not more)
 tells_read a known ahead true h given end = tells_same a _ false h (tells_more known ahead (given.0 (search rules)))
 tells_read a known ahead false h given end = tells_end a _ h (end refl)
+
+takes_at_most : (a b : Option (List ℕ)) (taken : List ℕ) (n : ℕ) → Consumes a b taken → length taken ≤ n → TakesAtMost a b n
+takes_at_most None b taken n h most = tt
+takes_at_most (Some xs) None taken n h most = absurd h
+takes_at_most (Some xs) (Some ys) taken n h most = (taken, h, most)
+
+module _ (before after : Contents) (part : List ℕ) (e : after ≡ record { bytes = before.bytes ++ part; limit = before.limit }) where
+  size_of : length after.bytes ≡ length before.bytes + length part
+  size_of = ap (λ (z : Contents). length z.bytes) e ∙ length-append before.bytes part
+
+  limit_of : after.limit ≡ before.limit
+  limit_of = ap (λ (z : Contents). z.limit) e
+
+  cut_back : (n : ℕ) → n ≡ length before.bytes → record after { bytes = take n after.bytes } ≡ before
+  cut_back n is =
+      ap (λ (z : Contents). record z { bytes = take n z.bytes }) e
+      ∙ ap (λ (bytes : List ℕ). record before { bytes = bytes }) (ap (λ m. take m (before.bytes ++ part)) is ∙ take-append_seam before.bytes part)
 
 module _ {R : Type 0} (remaining : R → Option (List ℕ)) (failures : R → ℕ) (old new : Stream R) (before after : Contents) where
   pub line_gathered : (r : Result Got LineFault) → Gathers remaining failures old new before after r → r ≡ Ok Line → (line : List ℕ) × (after ≡ record before { bytes = before.bytes ++ line }) × TakesLine (left remaining old) (left remaining new) line × GivesLine (lines_left remaining old) (lines_left remaining new) line
@@ -90,3 +117,26 @@ module _ {R : Type 0} (remaining : R → Option (List ℕ)) (failures : R → �
       let limit : after.limit ≡ before.limit = ap (λ (z : Contents). z.limit) h.3.space in
       first_is_longer _ _ h.1 new.ahead _ h.3.left_is h.3.part_is (omega (arith, size, limit, h.5, fits))
   too_long_gathered (Err Broken) h e fits = cc
+
+  -- a space that is cut at its old length has its old bytes
+  pub restored : (f : LineFault) → Gathers remaining failures old new before after (Err f) → (n : ℕ) → n ≡ length before.bytes → record after { bytes = take n after.bytes } ≡ before
+  restored TooLong h n e = cut_back before after h.1 h.3.space n e
+  restored Broken h n e = cut_back before after h.1 h.3.space n e
+
+  -- what is lost at a fault fits into a space
+  pub lost_gathered : (f : LineFault) → Gathers remaining failures old new before after (Err f) → TakesAtMost (left remaining old) (left remaining new) before.limit
+  lost_gathered TooLong h = takes_at_most _ _ h.1 _ h.3.left_is (omega (arith, size_of before after h.1 h.3.space, limit_of before after h.1 h.3.space, h.4))
+  lost_gathered Broken h = takes_at_most _ _ h.1 _ h.3.left_is (omega (arith, size_of before after h.1 h.3.space, limit_of before after h.1 h.3.space, h.4))
+
+  -- how much is taken from the source
+  pub taken_gathered : (r : Result Got LineFault) → Gathers remaining failures old new before after r → length new.ahead ≤ new.look → TakesAtMost (remaining old.source) (remaining new.source) (old.look + (if is_ok r then length after.bytes - length before.bytes + 1 else before.limit))
+  taken_gathered (Ok Line) h ahead =
+      ⊎_elim
+      (λ w. takes_at_most _ _ h.2 _ w.source_is (omega (arith, size_of before after h.1 w.space, w.count, w.look_is, ahead)))
+      (λ w. takes_at_most _ _ h.2 _ w.0.source_is (omega (arith, size_of before after h.1 w.0.space, w.0.count, w.0.look_is, ahead)))
+      h.3
+  taken_gathered (Ok End) h ahead = takes_at_most _ _ h.1 _ h.2.source_is (omega (arith, h.2.count, h.2.look_is, ahead))
+  taken_gathered (Err TooLong) h ahead =
+      takes_at_most _ _ h.2 _ h.3.source_is (omega (arith, size_of before after h.1 h.3.space, limit_of before after h.1 h.3.space, h.3.count, h.3.look_is, h.4, ahead))
+  taken_gathered (Err Broken) h ahead =
+      takes_at_most _ _ h.2 _ h.3.source_is (omega (arith, size_of before after h.1 h.3.space, limit_of before after h.1 h.3.space, h.3.count, h.3.look_is, h.4, ahead))

@@ -26,6 +26,3 @@ pub use queue::Queue;
 pub use source::ByteSource;
 pub use space::Space;
 pub use texts::Texts;
-
-#[cfg(test)]
-mod tests;

@@ -1,4 +1,5 @@
 use Rattle.std.proofs.Common.{◌∙◌, sym, ap, arith}
+use Rattle.std.proofs.lemmas.Grind.{common_steps}
 use Rattle.std.proofs.lemmas.Result.{err_from_is_err_and}
 use Rattle.sedre.specs.Brackets.{list_at}
 use Rattle.sedre.proofs.ListLemmas.{comes_to, list_begun, list_more, list_fault, union_none, none_none}
@@ -32,3 +33,6 @@ loop-place-preserved c = record {
       (sym c.members_at.ensures.is ∙ c.in_ok-members.was) c.loop-place.invariant.low (omega (arith, c.in_ok-members.ensures.behind))
       ∙ ap (λ s. comes_to c.args.delimiter c.args.text.now c.is_negated-negated.result c.args.at c.items_start-start.result c.in_ok-members.behind s) (sym c.union-set.ensures);
 }
+
+pub returns-clause-is : goal.returns-clause-is
+returns-clause-is c = grind (arith, common_steps)

@@ -1,4 +1,5 @@
 use Rattle.std.proofs.Common.{◌∙◌, sym, subst, arith, ◌-◌}
+use Rattle.std.proofs.lemmas.Grind.{common_steps}
 use Rattle.sedre.specs.Packed.{FitFrom}
 use Rattle.sedre.proofs.Packing.{fit_part, again_more}
 use Rattle.sedre.proofs.packed.add_again.Goals as goal
@@ -11,3 +12,6 @@ loop-i-preserved c = again_more c.args.entries.now.items c.loop-i.entries.items 
 
 pub returns-clause-fits : goal.returns-clause-fits
 returns-clause-fits c = λ sets p. subst (FitFrom sets 0) (sym c.loop-i.invariant) (fit_part sets c.args.from (c.loop-i.i - c.args.from) c.args.entries.now.items p)
+
+pub returns-clause-entries : goal.returns-clause-entries
+returns-clause-entries c = grind (arith, common_steps)

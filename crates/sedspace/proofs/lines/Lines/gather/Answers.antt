@@ -1,7 +1,12 @@
-use Rattle.std.proofs.Common.{◌≡◌, ◌<◌, Ok, refl, ◌∙◌, ap, [], ◌++◌, length, arith, inl, inr, length-append}
+use Rattle.std.proofs.Common.{◌≡◌, ◌<◌, rules, ℕ, List, ◌∷◌, subst, Ok, refl, ◌∙◌, ap, [], ◌++◌, length, arith, inl, inr, length-append}
 use Rattle.sedspace.specs.Spaces.{Contents}
+use Rattle.sedspace.specs.Gathering.{Gathered}
 use Rattle.sedspace.proofs.StreamLemmas.{same_source, Gathered-start, Gathered-moved, Gathered-line, Gathered-refilled}
 use Rattle.sedspace.proofs.lines.Lines.gather.Goals as goal
+
+empty : (bytes : List ℕ) → length bytes ≡ 0 → bytes ≡ []
+empty [] e = refl
+empty (b ∷ bytes) e = absurd (omega arith)
 
 pub loop-self-init : goal.loop-self-init
 loop-self-init g c = (refl, omega (arith, c.len-start.ensures.value), refl, [], [], Gathered-start _ _ _)
@@ -67,3 +72,28 @@ returns-in-Err-refill-clause-gathers g c =
       m.fits,
       r.err.0,
     )
+
+pub returns-in-Ok-false-2-clause-gathers : goal.returns-in-Ok-false-2-clause-gathers
+returns-in-Ok-false-2-clause-gathers g c =
+    let h = c.loop-self.invariant in
+    let m = c.in-Ok-false.ensures in
+    let a = m.all (ap Ok c.in-Ok-false.field-0-test) in
+    let r = c.in-Ok-false-refill.ensures in
+    let moved = Gathered-moved _ _ _ _ _ _ _ h.3 h.4 h.5 a.0 a.1 m.rest a.2 in
+    let e = r.end (ap Ok c.in-Ok-false-refill.field-0-test) in
+    let gathered = Gathered-refilled _ _ _ _ _ _ _ _ moved a.1 r.left r.taken r.look r.fault (λ e. (r.unread e).1) in
+    let grown : c.move_ahead.new.space.bytes ≡ c.args.space.now.bytes ++ (h.3 ++ c.loop-self.self.ahead) = ap (λ (z : Contents). z.bytes) moved.space in
+    let none : h.3 ++ c.loop-self.self.ahead ≡ [] = empty (h.3 ++ c.loop-self.self.ahead) (omega (arith, ap length grown, length-append c.args.space.now.bytes (h.3 ++ c.loop-self.self.ahead), c.len-start.ensures.value, c.len.ensures.value, c.if-len-start.false)) in (
+      r.failed ∙ (same_source g.R.ByteSource.failures c.loop-self.self c.move_ahead.new.self m.rest ∙ h.0),
+      _,
+      subst (λ part. Gathered g.R.ByteSource.remaining c.args.self.now c.refill.new.self c.args.space.now c.move_ahead.new.space part (h.4 ++ c.refill.new.self.ahead)) none gathered,
+      e.1,
+      e.0,
+    )
+
+pub loop-self-smaller : goal.loop-self-smaller
+loop-self-smaller g c =
+    let m = c.in-Ok-false.ensures in
+    let a = m.all (ap Ok c.in-Ok-false.field-0-test) in
+    let more : 0 < length c.refill.new.self.ahead = c.in-Ok-true-refill.ensures.given.0 (search rules) in
+    omega (arith, ap (λ (z : Contents). length z.bytes) a.2, ap (λ (z : Contents). z.limit) a.2, length-append c.loop-self.space.bytes c.loop-self.self.ahead, m.fits, more)

@@ -1,6 +1,6 @@
-use Rattle.std.proofs.Common.{◌<◌, Ok, ap, arith, length}
+use Rattle.std.proofs.Common.{◌<◌, ◌≤◌, Ok, ap, subst, arith, length}
 use Rattle.std.proofs.lemmas.Bool.Decides.{nat_tests}
-use Rattle.sedspace.proofs.StreamFacts.{tells_more, tells_read}
+use Rattle.sedspace.proofs.StreamFacts.{ahead_within, tells_more, tells_read}
 use Rattle.sedspace.proofs.lines.Lines.is_last.Goals as goal
 
 pub returns-then-not-is_empty-clause-last : goal.returns-then-not-is_empty-clause-last
@@ -13,3 +13,8 @@ pub returns-in-Ok-clause-last : goal.returns-in-Ok-clause-last
 returns-in-Ok-clause-last g c =
     let r = c.in-Ok.ensures in
     tells_read _ (g.R.ByteSource.remaining c.refill.new.self.source) c.refill.new.self.ahead c.in-Ok.more r.left r.given (λ e. (r.end (ap Ok e)).1)
+
+pub returns-in-Some-clause-ahead : goal.returns-in-Some-clause-ahead
+returns-in-Some-clause-ahead g c =
+    let s = c.self.inside in
+    subst (λ z. length z.ahead ≤ z.look) c.self.view_is (ahead_within s.front s.filled _ s.buffer.items (omega arith))
