@@ -6,7 +6,7 @@ use Rattle.sedscript.proofs.Labels.{commands_snoc}
 use Rattle.std.proofs.lemmas.Bool.Decides.{eqb_tells}
 use Rattle.sedscript.specs.declared.items.Item.{Item}
 use Rattle.sedscript.specs.declared.items.Function.{Function}
-use Rattle.sedscript.specs.declared.items.Function.TheVariants.{Plain, Open, Close, Label, Branch, Text, Comment, Substitute, Transliterate}
+use Rattle.sedscript.specs.declared.items.Function.TheVariants.{Open, Close}
 use Rattle.sedscript.specs.Targets.{counted, commands_in, is_open, is_close, close_in, depth_behind, block_end, leaves}
 use Rattle.sedscript.specs.Tables.{unopened, unopened_by, tail, first, reversed, EndsFrom}
 
@@ -26,13 +26,7 @@ close_step : (f : Function) (d n : ℕ) (us : List ℕ) (c : ℕ → Option ℕ)
 close_step Close zero n us c h = refl
 close_step Close (suc d) n us c h = let e : suc d - 1 ≡ d = omega arith in rw e (rw (not_zero d) (h d))
 close_step Open d n us c h = h (suc d) ∙ tail_get us d
-close_step Comment d n us c h = h d
-close_step (Plain a) d n us c h = h d
-close_step (Label from to) d n us c h = h d
-close_step (Branch u from to) d n us c h = h d
-close_step (Text t from to) d n us c h = h d
-close_step (Substitute s e f) d n us c h = h d
-close_step (Transliterate s) d n us c h = h d
+close_step f d n us c h = h d
 
 -- a closing brace behind so many inner ones is found in the list of those that close no block
 pub close_is : (d n : ℕ) (is : List Item) → close_in d n is ≡ slice_get (unopened n is) d

@@ -1,5 +1,8 @@
 -- The numbers of a script are in range.
-use Rattle.std.proofs.Common.{◌≡◌, ℕ, zero, suc, ◌+◌, ◌<◌, ◌≤◌, ◌&&◌, ◌==◌, Bool, true, false, List, [], ◌∷◌, ◌++◌, length, Option, Some, None, unwrap_or, Result, Ok, Err, IfOk, refl, sym, ap, subst, ◌∙◌, arith, if◌then◌else◌, slice_get, length-append, take, drop, is_some}
+use Rattle.std.proofs.Common.{◌≡◌, ℕ, zero, suc, ◌+◌, ◌<◌, ◌≤◌, ◌&&◌, ◌==◌, Bool, true, false, cond, not, ◌||◌, List, [], ◌∷◌, ◌++◌, length, filter_map, Option, Some, None, unwrap_or, Result, Ok, Err, IfOk, refl, sym, ap, subst, ◌∙◌, arith, if◌then◌else◌, slice_get, length-append, take, drop, is_some}
+use Rattle.std.specs.List.{position_from, cons_option}
+use Rattle.std.specs.Str.{bytes_eq}
+use Rattle.std.proofs.lemmas.Slice.Eq.{bytes_eq-Decides}
 use Rattle.std.proofs.lemmas.List.FromFn.{length-map-range_with_len}
 use Rattle.sedre.specs.declared.types.Kind.{Kind}
 use Rattle.sedre.specs.Arena.{Written}
@@ -11,13 +14,15 @@ use Rattle.sedscript.specs.declared.types.Address.TheVariants.{Line, Last, Match
 use Rattle.sedscript.specs.declared.types.Action.{Action}
 use Rattle.sedscript.specs.declared.types.Command.{Command}
 use Rattle.sedscript.specs.declared.items.Simple.{Simple}
-use Rattle.sedscript.specs.declared.items.Simple.TheVariants.{AppendHold, CopyHold, Delete, Exchange, Hold, HoldMore, LineNumber, Print, PrintFirst, Quit}
+use Rattle.sedscript.specs.declared.items.Simple.TheVariants.{AppendHold, CopyHold, Delete, Exchange, Hold, HoldMore, LineNumber, Print, PrintFirst, Quit, AppendNext, DeleteFirst, List as ListSpace, NextLine}
 use Rattle.sedscript.specs.declared.items.TextUse.{TextUse}
-use Rattle.sedscript.specs.declared.items.TextUse.TheVariants.{Insert, Change}
+use Rattle.sedscript.specs.declared.items.TextUse.TheVariants.{Append, Insert, Change}
+use Rattle.sedscript.specs.declared.items.FileUse.{FileUse}
+use Rattle.sedscript.specs.declared.items.FileUse.TheVariants.{Read, Write}
 use Rattle.sedscript.specs.declared.items.BranchUse.{BranchUse}
 use Rattle.sedscript.specs.declared.items.BranchUse.TheVariants.{Always, IfReplaced}
 use Rattle.sedscript.specs.declared.items.Function.{Function}
-use Rattle.sedscript.specs.declared.items.Function.TheVariants.{Plain, Open, Close, Label, Branch, Text, Comment, Substitute, Transliterate}
+use Rattle.sedscript.specs.declared.items.Function.TheVariants.{Plain, Open, Close, Label, Branch, Text, File, Comment, Substitute, Transliterate}
 use Rattle.sedscript.specs.declared.items.Addresses.{Addresses}
 use Rattle.sedscript.specs.declared.items.Item.{Item}
 use Rattle.sedscript.specs.declared.items.Counts.{Counts}
@@ -27,22 +32,30 @@ use Rattle.sedscript.specs.Bytes.{past, part, run_of, is_digit, is_byte, with_di
 use Rattle.sedscript.specs.declared.items.Flags.{Flags}
 use Rattle.sedscript.specs.declared.items.Strings.{Strings}
 use Rattle.sedscript.specs.declared.types.Reason.TheVariants.{TrailingBytes, RepeatedFlag}
-use Rattle.sedscript.specs.Functions.{fault, allowed, most_addresses, function_of, item_of, ended, may_end, text_of, text_from, ◌>>=◌ as ◌then◌}
+use Rattle.sedscript.specs.Functions.{fault, allowed, item_of, ended, may_end, text_of, text_from, file_of, name_from, ◌>>=◌ as ◌then◌}
 use Rattle.sedscript.specs.Replacement.{replacement_fault}
-use Rattle.sedscript.specs.Flags.{no_flags, numbered, with_number, with_flag, ends_flags, flags_from}
+use Rattle.sedscript.specs.Flags.{no_flags, numbered, with_number, with_flag, with_file, ends_flags, flags_from}
 use Rattle.sedscript.specs.Transliteration.{strings_fault, counterpart, table_of}
 use Rattle.sedscript.specs.Between.{own_delimiter, substitute_strings, transliterate_strings, unless_fault, transliterate_at, substituted}
-use Rattle.sedscript.specs.Items.{substitute_with, substitute_at, function_with, function_at, function_behind, item_with, item_from, item_at}
+use Rattle.sedscript.specs.Items.{substitute_with, substitute_at, function_of, function_with, function_at, function_behind, item_with, item_from, item_at}
 use Rattle.sedscript.specs.Reading.{Reading, plainly, expression, ◌>>=◌}
 use Rattle.sedscript.specs.Addresses.{Addressed, Headed, line_of, match_to, match_at, own_match, address_of, address_at, with_second, second_at, behind_first, addresses_at, with_bang}
 use Rattle.sedscript.specs.Expressions.{Gives, value, behind}
 use Rattle.sedscript.specs.Targets.{leaves, counted, commands_in, label_in, is_label, close_in, is_close, depth_behind, block_end}
 use Rattle.sedscript.specs.declared.script.Named.{Named}
 use Rattle.sedscript.specs.Parts.{program_of, IsNamed}
-use Rattle.sedscript.specs.Script.{Cut, done, item, is_quiet, with_text, texts_of, with_substitution, substitutions_of, with_table, tables_of, substitution_of, table_between, counts_with, none_counted, action_of, simple_action, text_action, branch_action, with_action, commands_of, Judged, Means, Program}
+use Rattle.sedscript.specs.Script.{Cut, done, item, is_quiet, with_text, texts_of, with_substitution, substitutions_of, with_table, tables_of, substitution_of, table_between, counts_with, none_counted, action_of, simple_action, text_action, branch_action, file_action, sink_of, with_action, commands_of, Judged, Means, Program}
 use Rattle.sedscript.specs.declared.substitution.Substitution.{Substitution}
-use Rattle.sedscript.specs.Ranges.{Sizes, sizes_of, IsOneOf, AddressWithin, ActionWithin, CommandWithin, SubstitutionWithin, InRange}
+use Rattle.sedscript.specs.Ranges.{Sizes, sizes_of, IsOneOf, SinkWithin, AddressWithin, ActionWithin, CommandWithin, SubstitutionWithin, InRange}
+use Rattle.sedscript.specs.Letters.{verb_of}
+use Rattle.sedscript.specs.declared.letters.Verb.{Verb}
+use Rattle.sedscript.specs.declared.letters.Verb.TheVariants.{ReadsExpression, Reads}
+use Rattle.sedscript.specs.declared.letters.Shape.{Shape}
+use Rattle.sedscript.specs.declared.letters.Shape.TheVariants.{Alone, OpensBlock, ClosesBlock, Remark, NamesLabel, GoesTo, TakesText, NamesFile, TakesStrings}
+use Rattle.sedscript.specs.Files.{is_standard_output, is_file, name_in, file_at, files_in, number_in}
+use Rattle.sedscript.specs.Tables.{has}
 use Rattle.sedscript.proofs.Labels.{commands_snoc, counted_in}
+use Rattle.sedscript.proofs.FileTables.{has_distinct}
 
 -- targets
 
@@ -87,14 +100,38 @@ simple_within n AppendHold = tt
 simple_within n Hold = tt
 simple_within n HoldMore = tt
 simple_within n Exchange = tt
+simple_within n NextLine = tt
+simple_within n AppendNext = tt
+simple_within n DeleteFirst = tt
+simple_within n ListSpace = tt
 
 text_within : (n : Sizes) (k : ℕ) (u : TextUse) → k < n.texts → ActionWithin n (text_action u k)
+text_within n k Append h = h
 text_within n k Insert h = h
 text_within n k Change h = h
 
 branch_within : (n : Sizes) (to : ℕ) (u : BranchUse) → to ≤ n.commands → ActionWithin n (branch_action u to)
 branch_within n to Always h = h
 branch_within n to IfReplaced h = h
+
+-- what a file's number is among the sizes
+abbrev FileWithin : Sizes → FileUse → ℕ → Type 0
+FileWithin n Read k = k < n.rfiles
+FileWithin n Write sink = sink ≤ n.wfiles
+
+file_action_within : (n : Sizes) (k : ℕ) (u : FileUse) → FileWithin n u k → ActionWithin n (file_action u k)
+file_action_within n k Read h = h
+file_action_within n k Write h = h
+
+-- what a function names among all items is among the sizes
+abbrev FilesWithin : List ℕ → List Item → Sizes → Function → Type 0
+FilesWithin text all n (File u from to) = FileWithin n u (number_in u text all (part text from to))
+FilesWithin text all n (Substitute s e f) = SinkWithin n.wfiles (sink_of text all f.file)
+FilesWithin text all n f = Unit {0}
+
+abbrev AllFilesWithin : List ℕ → List Item → Sizes → List Item → Type 0
+AllFilesWithin text all n [] = Unit {0}
+AllFilesWithin text all n (i ∷ is) = FilesWithin text all n i.function × AllFilesWithin text all n is
 
 branch_bound : (n : ℕ) (same : Bool) (m : ℕ) (o : Option ℕ) → m ≤ n → AtMost n o → (if same then m else unwrap_or o 0) ≤ n
 branch_bound n true m o h g = h
@@ -104,24 +141,25 @@ branch_bound n false m o h g = at_most_or n o g
 abbrev Sums : Counts → Sizes → ℕ → ℕ → ℕ → Type 0
 Sums m n texts substitutions tables = (m.texts + texts ≡ n.texts) × (m.substitutions + substitutions ≡ n.substitutions) × (m.tables + tables ≡ n.tables)
 
-may_act : (text : List ℕ) (all before after : List Item) (m : Counts) (n : Sizes) (f : Function) → commands_in all ≡ n.commands →
+may_act : (text : List ℕ) (all before after : List Item) (m : Counts) (n : Sizes) (f : Function) → FilesWithin text all n f → commands_in all ≡ n.commands →
     commands_in before + (if leaves f then suc (commands_in after) else commands_in after) ≡ n.commands →
-    Sums m n (length (with_text text f (texts_of text after))) (length (with_substitution text f (substitutions_of text after))) (length (with_table text f (tables_of text after))) →
+    Sums m n (length (with_text text f (texts_of text after))) (length (with_substitution text all f (substitutions_of text all after))) (length (with_table text f (tables_of text after))) →
     MayAct n (action_of text all before m after f)
-may_act text all before after m n (Plain s) whole count long = simple_within n s
-may_act text all before after m n Open whole count long =
+may_act text all before after m n (Plain s) files whole count long = simple_within n s
+may_act text all before after m n Open files whole count long =
     at_most_or n.commands (block_end before after)
     (subst (λ (m : ℕ). AtMost m (block_end before after)) (let e : suc (commands_in before) + commands_in after ≡ n.commands = omega (arith, count) in e) (close_bound 0 (suc (commands_in before)) after))
-may_act text all before after m n (Branch u from to) whole count long =
+may_act text all before after m n (Branch u from to) files whole count long =
     branch_within n _ u
     (branch_bound n.commands (from == to) (commands_in all) (label_in text (part text from to) 0 all) (omega (arith, whole))
     (subst (λ (m : ℕ). AtMost m (label_in text (part text from to) 0 all)) (let e : 0 + commands_in all ≡ n.commands = omega (arith, whole) in e) (label_bound text (part text from to) 0 all)))
-may_act text all before after m n (Text u from to) whole count long = text_within n m.texts u (omega (arith, long.0))
-may_act text all before after m n (Substitute s e f) whole count long = omega (arith, long.1)
-may_act text all before after m n (Transliterate s) whole count long = omega (arith, long.2)
-may_act text all before after m n Close whole count long = tt
-may_act text all before after m n (Label from to) whole count long = tt
-may_act text all before after m n Comment whole count long = tt
+may_act text all before after m n (Text u from to) files whole count long = text_within n m.texts u (omega (arith, long.0))
+may_act text all before after m n (File u from to) files whole count long = file_action_within n (number_in u text all (part text from to)) u files
+may_act text all before after m n (Substitute s e f) files whole count long = omega (arith, long.1)
+may_act text all before after m n (Transliterate s) files whole count long = omega (arith, long.2)
+may_act text all before after m n Close files whole count long = tt
+may_act text all before after m n (Label from to) files whole count long = tt
+may_act text all before after m n Comment files whole count long = tt
 
 -- addresses
 
@@ -145,14 +183,7 @@ one_more m n (Some k) le h = omega (arith, le, h)
 -- the expression of an `s` is one of so many, and its number counts from 1
 abbrev FunctionWithin : ℕ → Function → Type 0
 FunctionWithin n (Substitute s e f) = IsOneOf n e × (1 ≤ unwrap_or f.number 1)
-FunctionWithin n (Transliterate s) = Unit {0}
-FunctionWithin n (Plain s) = Unit {0}
-FunctionWithin n Open = Unit {0}
-FunctionWithin n Close = Unit {0}
-FunctionWithin n (Label from to) = Unit {0}
-FunctionWithin n (Branch u from to) = Unit {0}
-FunctionWithin n (Text u from to) = Unit {0}
-FunctionWithin n Comment = Unit {0}
+FunctionWithin n f = Unit {0}
 
 abbrev ItemWithin : ℕ → Item → Type 0
 ItemWithin n i = AddressesWithin n i.addresses × FunctionWithin n i.function
@@ -275,28 +306,9 @@ text_found : (n place : ℕ) (u : TextUse) (o : Option (ℕ × ℕ)) → IfOk (t
 text_found n place u None = tt
 text_found n place u (Some span) = tt
 
-plain_within : (text : List ℕ) (n letter at : ℕ) → IfOk (function_of text letter at) (FoundWithin n)
-unfolding function_of
-plain_within text n letter at =
-    found_if n (letter == 123) _ _ tt
-    (found_if n (letter == 125) _ _ (ended_within text n (at + 1) Close tt)
-    (found_if n (letter == 35) _ _ tt
-    (found_if n (letter == 58) _ _
-    (found_if n (past Name text (past Blank text (at + 1)) == past Blank text (at + 1)) _ _ tt (ended_within text n _ _ tt))
-    (found_if n (letter == 98) _ _ (ended_within text n _ _ tt)
-    (found_if n (letter == 116) _ _ (ended_within text n _ _ tt)
-    (found_if n (letter == 105) _ _ (text_found n at Insert (text_from text (past Blank text (at + 1))))
-    (found_if n (letter == 99) _ _ (text_found n at Change (text_from text (past Blank text (at + 1))))
-    (found_if n (letter == 61) _ _ (ended_within text n (at + 1) (Plain LineNumber) tt)
-    (found_if n (letter == 100) _ _ (ended_within text n (at + 1) (Plain Delete) tt)
-    (found_if n (letter == 112) _ _ (ended_within text n (at + 1) (Plain Print) tt)
-    (found_if n (letter == 80) _ _ (ended_within text n (at + 1) (Plain PrintFirst) tt)
-    (found_if n (letter == 113) _ _ (ended_within text n (at + 1) (Plain Quit) tt)
-    (found_if n (letter == 103) _ _ (ended_within text n (at + 1) (Plain CopyHold) tt)
-    (found_if n (letter == 71) _ _ (ended_within text n (at + 1) (Plain AppendHold) tt)
-    (found_if n (letter == 104) _ _ (ended_within text n (at + 1) (Plain Hold) tt)
-    (found_if n (letter == 72) _ _ (ended_within text n (at + 1) (Plain HoldMore) tt)
-    (found_if n (letter == 120) _ _ (ended_within text n (at + 1) (Plain Exchange) tt) tt)))))))))))))))))
+file_found : (n place : ℕ) (u : FileUse) (o : Option (ℕ × ℕ)) → IfOk (file_of u place o) (FoundWithin n)
+file_found n place u None = tt
+file_found n place u (Some name) = tt
 
 unless_within : (n : ℕ) (o : Option ScriptFault) (r : Result (Function × ℕ) ScriptFault) → IfOk r (FoundWithin n) → IfOk (unless_fault o r) (FoundWithin n)
 unless_within n None r h = h
@@ -310,6 +322,17 @@ transliterate_within text n at = by_strings (transliterate_strings text (at + 1)
         IfOk (◌then◌ r (λ (s : Strings). unless_fault (strings_fault text s.delimiter at s.from s.middle s.to) (ended text (Transliterate s) (s.to + 1)))) (FoundWithin n)
     by_strings (Ok s) = unless_within n (strings_fault text s.delimiter at s.from s.middle s.to) _ (ended_within text n (s.to + 1) (Transliterate s) tt)
     by_strings (Err f) = tt
+
+plain_within : (text : List ℕ) (n at : ℕ) (shape : Shape) → IfOk (function_of text shape at) (FoundWithin n)
+plain_within text n at OpensBlock = tt
+plain_within text n at ClosesBlock = ended_within text n (at + 1) Close tt
+plain_within text n at Remark = tt
+plain_within text n at NamesLabel = found_if n (past Name text (past Blank text (at + 1)) == past Blank text (at + 1)) _ _ tt (ended_within text n _ _ tt)
+plain_within text n at (GoesTo u) = ended_within text n _ _ tt
+plain_within text n at (TakesText t) = text_found n at t (text_from text (past Blank text (at + 1)))
+plain_within text n at (NamesFile u) = file_found n at u (name_from text (at + 1))
+plain_within text n at TakesStrings = transliterate_within text n at
+plain_within text n at (Alone s) = ended_within text n (at + 1) (Plain s) tt
 
 -- a number of flags counts from 1
 abbrev FlagsWithin : Flags → Type 0
@@ -338,24 +361,34 @@ flag_within f at b h =
 abbrev ReadWithin : Flags × ℕ → Type 0
 ReadWithin found = FlagsWithin found.0
 
-flags_within : (f : Flags) (skip at : ℕ) (bs : List ℕ) → FlagsWithin f → IfOk (flags_from f skip at bs) ReadWithin
-flags_within f skip at [] h = h
-flags_within f (suc skip) at (b ∷ bs) h = flags_within f skip (suc at) bs h
-flags_within f zero at (b ∷ bs) h = by_digit (λ g skip. flags_within g skip (suc at) bs) (is_digit b)
+file_flag_within : (f : Flags) (at : ℕ) (o : Option (ℕ × ℕ)) → FlagsWithin f → IfOk (with_file f at o) ReadWithin
+file_flag_within f at None h = tt
+file_flag_within f at (Some name) h = h
+
+flags_within : (text : List ℕ) (f : Flags) (skip at : ℕ) (bs : List ℕ) → FlagsWithin f → IfOk (flags_from text f skip at bs) ReadWithin
+flags_within text f skip at [] h = h
+flags_within text f (suc skip) at (b ∷ bs) h = flags_within text f skip (suc at) bs h
+flags_within text f zero at (b ∷ bs) h = by_digit (λ g skip. flags_within text g skip (suc at) bs) (is_digit b)
   where
     Rest : Type 0
-    Rest = (g : Flags) (skip : ℕ) → FlagsWithin g → IfOk (flags_from g skip (suc at) bs) ReadWithin
+    Rest = (g : Flags) (skip : ℕ) → FlagsWithin g → IfOk (flags_from text g skip (suc at) bs) ReadWithin
 
-    behind : Rest → (skip : ℕ) (r : Result Flags ScriptFault) → IfOk r FlagsWithin → IfOk (◌then◌ r (λ (g : Flags). flags_from g skip (suc at) bs)) ReadWithin
+    behind : Rest → (skip : ℕ) (r : Result Flags ScriptFault) → IfOk r FlagsWithin → IfOk (◌then◌ r (λ (g : Flags). flags_from text g skip (suc at) bs)) ReadWithin
     behind rest skip (Ok g) k = rest g skip k
     behind rest skip (Err e) k = tt
 
-    by_end : Rest → (t : Bool) → IfOk (if t then Ok (f, at) else ◌then◌ (with_flag f at b) (λ (g : Flags). flags_from g zero (suc at) bs)) ReadWithin
-    by_end rest true = h
-    by_end rest false = behind rest zero (with_flag f at b) (flag_within f at b h)
+    by_file : Rest → (t : Bool) → IfOk (if t then with_file f at (name_from text (at + 1)) else ◌then◌ (with_flag f at b) (λ (g : Flags). flags_from text g zero (suc at) bs)) ReadWithin
+    by_file rest true = file_flag_within f at (name_from text (at + 1)) h
+    by_file rest false = behind rest zero (with_flag f at b) (flag_within f at b h)
 
-    by_digit : Rest → (t : Bool) → IfOk (if t then ◌then◌ (with_number f at (b ∷ take (run_of Digit bs) bs)) (λ (g : Flags). flags_from g (run_of Digit bs) (suc at) bs)
-        else if ends_flags b then Ok (f, at) else ◌then◌ (with_flag f at b) (λ (g : Flags). flags_from g zero (suc at) bs)) ReadWithin
+    by_end : Rest → (t : Bool) →
+        IfOk (if t then Ok (f, at) else if b == 119 then with_file f at (name_from text (at + 1)) else ◌then◌ (with_flag f at b) (λ (g : Flags). flags_from text g zero (suc at) bs)) ReadWithin
+    by_end rest true = h
+    by_end rest false = by_file rest (b == 119)
+
+    by_digit : Rest → (t : Bool) → IfOk (if t then ◌then◌ (with_number f at (b ∷ take (run_of Digit bs) bs)) (λ (g : Flags). flags_from text g (run_of Digit bs) (suc at) bs)
+        else if ends_flags b then Ok (f, at) else if b == 119 then with_file f at (name_from text (at + 1))
+        else ◌then◌ (with_flag f at b) (λ (g : Flags). flags_from text g zero (suc at) bs)) ReadWithin
     by_digit rest true = behind rest (run_of Digit bs) (with_number f at (b ∷ take (run_of Digit bs) bs)) (number_within f at (b ∷ take (run_of Digit bs) bs))
     by_digit rest false = by_end rest (ends_flags b)
 
@@ -363,7 +396,7 @@ substituted_within : (text : List ℕ) (s : Strings) (e limit : Option ℕ) (n :
 unfolding substituted
 substituted_within text s e limit n h =
     unless_within n (replacement_fault s.delimiter limit false (s.middle + 1) (part text (s.middle + 1) s.to)) _
-    (by_flags (flags_from no_flags 0 (s.to + 1) (drop (s.to + 1) text)) (flags_within no_flags 0 (s.to + 1) (drop (s.to + 1) text) (omega arith)))
+    (by_flags (flags_from text no_flags 0 (s.to + 1) (drop (s.to + 1) text)) (flags_within text no_flags 0 (s.to + 1) (drop (s.to + 1) text) (omega arith)))
   where
     by_flags : (r : Result (Flags × ℕ) ScriptFault) → IfOk r ReadWithin → IfOk (◌then◌ r (λ (found : Flags × ℕ). ended text (Substitute s e found.0) found.1)) (FoundWithin n)
     by_flags (Ok found) k = ended_within text n found.1 (Substitute s e found.0) (h, k)
@@ -385,24 +418,23 @@ substitute_at_bounds text count at = by_strings (substitute_strings text (at + 1
     by_strings (Ok s) = substitute_bounds text count s
     by_strings (Err f) = tt
 
-function_bounds : (text : List ℕ) (count letter at : ℕ) → Bounds FoundWithin count (function_with text count letter at)
-function_bounds text count letter at =
-    bounds_if FoundWithin count (letter == 115) _ _ (substitute_at_bounds text count at)
-    (bounds_if FoundWithin count (letter == 121) _ _ (transliterate_within text count at) (plain_within text count letter at))
+function_bounds : (text : List ℕ) (count at : ℕ) (verb : Verb) → Bounds FoundWithin count (function_with text count verb at)
+function_bounds text count at ReadsExpression = substitute_at_bounds text count at
+function_bounds text count at (Reads shape) = plain_within text count at shape
 
 item_of_bounds : (text : List ℕ) (count : ℕ) (a : Addresses) (at : ℕ) → AddressesWithin count a → Bounds HereWithin count (function_at text count a at)
 unfolding function_at
 item_of_bounds text count a at h = by_letter (slice_get text at)
   where
-    by_allowed : (r : Result ℕ ScriptFault) → Bounds HereWithin count (plainly r >>= λ (b : ℕ). function_with text count b at >>= λ (found : Function × ℕ). plainly (Ok (item_of a at found)))
-    by_allowed (Ok b) =
-        bounds_then FoundWithin HereWithin count (function_with text count b at) (λ (found : Function × ℕ). plainly (Ok (item_of a at found)))
-        (function_bounds text count b at) (λ n x le p. (addresses_more count n a le h, p))
+    by_allowed : (r : Result Verb ScriptFault) → Bounds HereWithin count (plainly r >>= λ (v : Verb). function_with text count v at >>= λ (found : Function × ℕ). plainly (Ok (item_of a at found)))
+    by_allowed (Ok verb) =
+        bounds_then FoundWithin HereWithin count (function_with text count verb at) (λ (found : Function × ℕ). plainly (Ok (item_of a at found)))
+        (function_bounds text count at verb) (λ n x le p. (addresses_more count n a le h, p))
     by_allowed (Err f) = tt
 
     by_letter : (o : Option ℕ) → Bounds HereWithin count (item_with text count a at o)
     by_letter None = tt
-    by_letter (Some letter) = by_allowed (allowed a letter at (most_addresses letter))
+    by_letter (Some letter) = by_allowed (allowed a at (verb_of letter))
 
 bang_within : (text : List ℕ) (h : Headed) (n : ℕ) → AddressesWithin n h.addresses → AddressesWithin n (with_bang text h).addresses
 bang_within text h n g = by_bang (is_byte 33 (slice_get text (past Blank text h.at)))
@@ -430,14 +462,7 @@ item_bounds text count at = by_byte (slice_get text (past Separator text at))
 
 function_more : (m n : ℕ) (f : Function) → m ≤ n → FunctionWithin m f → FunctionWithin n f
 function_more m n (Substitute s e f) le h = (one_more m n e le h.0, h.1)
-function_more m n (Transliterate s) le h = tt
-function_more m n (Plain s) le h = tt
-function_more m n Open le h = tt
-function_more m n Close le h = tt
-function_more m n (Label from to) le h = tt
-function_more m n (Branch u from to) le h = tt
-function_more m n (Text u from to) le h = tt
-function_more m n Comment le h = tt
+function_more m n f le h = tt
 
 cut_within : (text : List ℕ) (kind : Kind) (m count at to n : ℕ) (is : List Item) (es : List Written) → Cut text kind m count at is es to → n ≡ count + length es → ItemsWithin n is
 cut_within text kind m count at to n _ _ done e = tt
@@ -463,27 +488,22 @@ with_within : (n : Sizes) (a : Addresses) (o : Option Action) (cs : List Command
 with_within n a None cs h g k = k
 with_within n a (Some x) cs h g k = (record { first = h.0; second = h.1; action = g }, k)
 
-sums_step : (text : List ℕ) (f : Function) (m : Counts) (n : Sizes) (ts : List (List ℕ)) (ss : List Substitution) (us : List (List ℕ)) →
-    Sums m n (length (with_text text f ts)) (length (with_substitution text f ss)) (length (with_table text f us)) → Sums (counts_with m f) n (length ts) (length ss) (length us)
-sums_step text (Text u from to) m n ts ss us h = (omega (arith, h.0), h.1, h.2)
-sums_step text (Substitute s e f) m n ts ss us h = (h.0, omega (arith, h.1), h.2)
-sums_step text (Transliterate s) m n ts ss us h = (h.0, h.1, omega (arith, h.2))
-sums_step text (Plain s) m n ts ss us h = h
-sums_step text Open m n ts ss us h = h
-sums_step text Close m n ts ss us h = h
-sums_step text (Label from to) m n ts ss us h = h
-sums_step text (Branch u from to) m n ts ss us h = h
-sums_step text Comment m n ts ss us h = h
+sums_step : (text : List ℕ) (all : List Item) (f : Function) (m : Counts) (n : Sizes) (ts : List (List ℕ)) (ss : List Substitution) (us : List (List ℕ)) →
+    Sums m n (length (with_text text f ts)) (length (with_substitution text all f ss)) (length (with_table text f us)) → Sums (counts_with m f) n (length ts) (length ss) (length us)
+sums_step text all (Text u from to) m n ts ss us h = (omega (arith, h.0), h.1, h.2)
+sums_step text all (Substitute s e f) m n ts ss us h = (h.0, omega (arith, h.1), h.2)
+sums_step text all (Transliterate s) m n ts ss us h = (h.0, h.1, omega (arith, h.2))
+sums_step text all f m n ts ss us h = h
 
-commands_within : (text : List ℕ) (all before is : List Item) (m : Counts) (n : Sizes) → commands_in all ≡ n.commands → commands_in before + commands_in is ≡ n.commands → Sums m n (length (texts_of text is)) (length (substitutions_of text is)) (length (tables_of text is)) →
-    ItemsWithin n.expressions is → AllWithin n (commands_of text all before m is)
-commands_within text all before [] m n whole count long h = tt
-commands_within text all before (i ∷ is) m n whole count long h =
+commands_within : (text : List ℕ) (all before is : List Item) (m : Counts) (n : Sizes) → commands_in all ≡ n.commands → commands_in before + commands_in is ≡ n.commands → Sums m n (length (texts_of text is)) (length (substitutions_of text all is)) (length (tables_of text is)) →
+    ItemsWithin n.expressions is → AllFilesWithin text all n is → AllWithin n (commands_of text all before m is)
+commands_within text all before [] m n whole count long h files = tt
+commands_within text all before (i ∷ is) m n whole count long h files =
     with_within n i.addresses (action_of text all before m is i.function) (commands_of text all (before ++ i ∷ []) (counts_with m i.function) is) h.0.0
-    (may_act text all before is m n i.function whole count long)
+    (may_act text all before is m n i.function files.0 whole count long)
     (commands_within text all (before ++ i ∷ []) is (counts_with m i.function) n whole
     (ap (λ (m : ℕ). m + commands_in is) (commands_snoc before i) ∙ (counted_in (commands_in before) i is ∙ count))
-    (sums_step text i.function m n (texts_of text is) (substitutions_of text is) (tables_of text is) long) h.1)
+    (sums_step text all i.function m n (texts_of text is) (substitutions_of text all is) (tables_of text is) long) h.1 files.1)
 
 leaf_length : (text : List ℕ) (all before after : List Item) (m : Counts) (n : ℕ) (a : Addresses) (f : Function) (cs : List Command) → length cs ≡ n →
     length (with_action a (action_of text all before m after f) cs) ≡ (if leaves f then suc n else n)
@@ -491,6 +511,7 @@ leaf_length text all before after m n a (Plain s) cs h = omega (arith, h)
 leaf_length text all before after m n a Open cs h = omega (arith, h)
 leaf_length text all before after m n a (Branch u from to) cs h = omega (arith, h)
 leaf_length text all before after m n a (Text u from to) cs h = omega (arith, h)
+leaf_length text all before after m n a (File u from to) cs h = omega (arith, h)
 leaf_length text all before after m n a (Substitute s e f) cs h = omega (arith, h)
 leaf_length text all before after m n a (Transliterate s) cs h = omega (arith, h)
 leaf_length text all before after m n a Close cs h = h
@@ -534,23 +555,16 @@ from_none n m e = omega (arith, e)
 no_item : {A B : Type 0} (x : A) → ◌≡◌ {A = Option A} None (Some x) → B
 no_item x h = cc
 
-substitution_at : (n : ℕ) (text : List ℕ) (is : List Item) (k : ℕ) (t : Substitution) → ItemsWithin n is → slice_get (substitutions_of text is) k ≡ Some t → SubstitutionWithin n t
-substitution_at n text [] k t h g = no_item t g
-substitution_at n text (i ∷ is) k t h g = by_function i.function h.0.1 k g (λ k g. substitution_at n text is k t h.1 g)
+substitution_at : (n : Sizes) (text : List ℕ) (all is : List Item) (k : ℕ) (t : Substitution) → ItemsWithin n.expressions is → AllFilesWithin text all n is → slice_get (substitutions_of text all is) k ≡ Some t → SubstitutionWithin n t
+substitution_at n text all [] k t h files g = no_item t g
+substitution_at n text all (i ∷ is) k t h files g = by_function i.function h.0.1 files.0 k g (λ k g. substitution_at n text all is k t h.1 files.1 g)
   where
-    by_function : (f : Function) → FunctionWithin n f → (k : ℕ) → slice_get (with_substitution text f (substitutions_of text is)) k ≡ Some t →
-        ((k : ℕ) → slice_get (substitutions_of text is) k ≡ Some t → SubstitutionWithin n t) → SubstitutionWithin n t
-    by_function (Substitute s e f) w zero g rest =
-        let same : substitution_of text s e f ≡ t = cc in subst (SubstitutionWithin n) same (record { expression = w.0; number = w.1 })
-    by_function (Substitute s e f) w (suc k) g rest = rest k g
-    by_function (Transliterate s) w k g rest = rest k g
-    by_function (Text u from to) w k g rest = rest k g
-    by_function Open w k g rest = rest k g
-    by_function Close w k g rest = rest k g
-    by_function Comment w k g rest = rest k g
-    by_function (Plain a) w k g rest = rest k g
-    by_function (Label from to) w k g rest = rest k g
-    by_function (Branch u from to) w k g rest = rest k g
+    by_function : (f : Function) → FunctionWithin n.expressions f → FilesWithin text all n f → (k : ℕ) → slice_get (with_substitution text all f (substitutions_of text all is)) k ≡ Some t →
+        ((k : ℕ) → slice_get (substitutions_of text all is) k ≡ Some t → SubstitutionWithin n t) → SubstitutionWithin n t
+    by_function (Substitute s e f) w v zero g rest =
+        let same : substitution_of text all s e f ≡ t = cc in subst (SubstitutionWithin n) same (record { expression = w.0; number = w.1; file = v })
+    by_function (Substitute s e f) w v (suc k) g rest = rest k g
+    by_function f w v k g rest = rest k g
 
 table_whole : (source target : List ℕ) → length (table_of source target) ≡ 256
 unfolding table_of
@@ -563,14 +577,76 @@ table_at text (i ∷ is) k t g = by_function i.function k g (λ k g. table_at te
     by_function : (f : Function) (k : ℕ) → slice_get (with_table text f (tables_of text is)) k ≡ Some t → ((k : ℕ) → slice_get (tables_of text is) k ≡ Some t → length t ≡ 256) → length t ≡ 256
     by_function (Transliterate s) zero g rest = let same : table_between text s ≡ t = cc in subst (λ (t : List ℕ). length t ≡ 256) same (table_whole _ _)
     by_function (Transliterate s) (suc k) g rest = rest k g
-    by_function (Substitute s e f) k g rest = rest k g
-    by_function (Text u from to) k g rest = rest k g
-    by_function Open k g rest = rest k g
-    by_function Close k g rest = rest k g
-    by_function Comment k g rest = rest k g
-    by_function (Plain a) k g rest = rest k g
-    by_function (Label from to) k g rest = rest k g
-    by_function (Branch u from to) k g rest = rest k g
+    by_function f k g rest = rest k g
+
+-- files
+
+abbrev names_in : FileUse → List ℕ → List Item → List (List ℕ)
+names_in u text is = filter_map (λ i. file_at u text (name_in u i.function)) is
+
+-- a number among so many that are counted from the first
+number_below : (name : List ℕ) (first : ℕ) (ns : List (List ℕ)) → has name ns ≡ true → unwrap_or (position_from (bytes_eq name) first ns) 0 < first + length ns
+number_below name first [] h = let bad : false ≡ true = h in cc
+number_below name first (n ∷ ns) h = by_same (λ h. number_below name (first + 1) ns h) (bytes_eq name n) h
+  where
+    by_same : (has name ns ≡ true → unwrap_or (position_from (bytes_eq name) (first + 1) ns) 0 < first + 1 + length ns) → (b : Bool) → (b || has name ns) ≡ true →
+        unwrap_or (cond b (Some first) (position_from (bytes_eq name) (first + 1) ns)) 0 < first + suc (length ns)
+    by_same rest true h = omega arith
+    by_same rest false h = omega (arith, rest h)
+
+-- a file that a function of the items names is one of those
+file_number : (u : FileUse) (text : List ℕ) (all : List Item) (n : Sizes) (name : List ℕ) → n.rfiles ≡ length (files_in Read text all) → n.wfiles ≡ length (files_in Write text all) →
+    (is_file u name ≡ true → has name (files_in u text all) ≡ true) → FileWithin n u (number_in u text all name)
+file_number Read text all n name r w h = omega (arith, r, number_below name 0 (files_in Read text all) (h refl))
+file_number Write text all n name r w h = by_output (is_standard_output name) refl
+  where
+    by_output : (b : Bool) → is_standard_output name ≡ b → (if b then 0 else unwrap_or (position_from (bytes_eq name) 1 (files_in Write text all)) 0) ≤ n.wfiles
+    by_output true e = omega arith
+    by_output false e = omega (arith, w, number_below name 1 (files_in Write text all) (h (ap not e)))
+
+-- the items' names are among these
+abbrev Among : FileUse → List ℕ → List (List ℕ) → List Item → Type 0
+Among u text ns is = (name : List ℕ) → has name (names_in u text is) ≡ true → has name ns ≡ true
+
+-- a name that stands at these places
+file_there : (u : FileUse) (text : List ℕ) (span : ℕ × ℕ) (rest : List (List ℕ)) → is_file u (part text span.0 span.1) ≡ true → has (part text span.0 span.1) (cons_option (file_at u text (Some span)) rest) ≡ true
+file_there u text span rest h =
+    let name : List ℕ = part text span.0 span.1 in
+    ap (λ (b : Bool). has name (cons_option (if b then Some name else None) rest)) h
+    ∙ ap (λ (b : Bool). b || has name rest) ((bytes_eq-Decides name name).1 refl)
+
+has_more : (name : List ℕ) (o : Option (List ℕ)) (rest : List (List ℕ)) → has name rest ≡ true → has name (cons_option o rest) ≡ true
+has_more name None rest h = h
+has_more name (Some n) rest h = by_same (bytes_eq name n)
+  where
+    by_same : (b : Bool) → (b || has name rest) ≡ true
+    by_same true = refl
+    by_same false = h
+
+files_within : (text : List ℕ) (all : List Item) (n : Sizes) (is : List Item) → n.rfiles ≡ length (files_in Read text all) → n.wfiles ≡ length (files_in Write text all) →
+    Among Read text (files_in Read text all) is → Among Write text (files_in Write text all) is → AllFilesWithin text all n is
+files_within text all n [] r w a b = tt
+files_within text all n (i ∷ is) r w a b = (
+  by_function i.function
+      (λ name h. a name h)
+      (λ name h. b name h),
+  files_within text all n is r w
+      (λ name h. a name (has_more name (file_at Read text (name_in Read i.function)) (names_in Read text is) h))
+      (λ name h. b name (has_more name (file_at Write text (name_in Write i.function)) (names_in Write text is) h)),
+)
+  where
+    by_flag : (o : Option (ℕ × ℕ)) → ((name : List ℕ) → has name (cons_option (file_at Write text o) (names_in Write text is)) ≡ true → has name (files_in Write text all) ≡ true) → SinkWithin n.wfiles (sink_of text all o)
+    by_flag None b = tt
+    by_flag (Some span) b = file_number Write text all n (part text span.0 span.1) r w (λ h. b (part text span.0 span.1) (file_there Write text span (names_in Write text is) h))
+
+    by_function : (f : Function) →
+        ((name : List ℕ) → has name (cons_option (file_at Read text (name_in Read f)) (names_in Read text is)) ≡ true → has name (files_in Read text all) ≡ true) →
+        ((name : List ℕ) → has name (cons_option (file_at Write text (name_in Write f)) (names_in Write text is)) ≡ true → has name (files_in Write text all) ≡ true) →
+        FilesWithin text all n f
+    by_function (File Read from to) a b = file_number Read text all n (part text from to) r w (λ h. a (part text from to) (file_there Read text (from, to) (names_in Read text is) h))
+    by_function (File Write from to) a b = file_number Write text all n (part text from to) r w (λ h. b (part text from to) (file_there Write text (from, to) (names_in Write text is) h))
+    by_function (Substitute s e f) a b = by_flag f.file b
+    by_function f a b = tt
 
 -- what a text means is in range
 pub means_in_range : (text : List ℕ) (kind : Kind) (m : ℕ) (s : Program) → Means text kind m s → InRange s
@@ -579,16 +655,19 @@ means_in_range text kind m s h =
     let long : length s.commands ≡ commands_in is = ap (λ (xs : List Command). length xs) h.commands ∙ commands_length text is [] is none_counted in
     let items : ItemsWithin (length s.expressions) is = cut_within text kind m 0 0 h.to (length s.expressions) is s.expressions h.judged.cut (omega arith) in
     let texts : 0 + length (texts_of text is) ≡ length s.texts = from_none _ _ (ap (λ (xs : List (List ℕ)). length xs) h.texts) in
-    let substitutions : 0 + length (substitutions_of text is) ≡ length s.substitutions = from_none _ _ (ap (λ (xs : List Substitution). length xs) h.substitutions) in
+    let substitutions : 0 + length (substitutions_of text is is) ≡ length s.substitutions = from_none _ _ (ap (λ (xs : List Substitution). length xs) h.substitutions) in
     let tables : 0 + length (tables_of text is) ≡ length s.tables = from_none _ _ (ap (λ (xs : List (List ℕ)). length xs) h.tables) in
+    let files : AllFilesWithin text is (sizes_of s) is =
+    files_within text is (sizes_of s) is (ap (λ (xs : List (List ℕ)). length xs) h.rfiles) (ap (λ (xs : List (List ℕ)). length xs) h.wfiles)
+    (λ name g. has_distinct name (names_in Read text is) g) (λ name g. has_distinct name (names_in Write text is) g) in
     let all : AllWithin (sizes_of s) s.commands =
     subst (AllWithin (sizes_of s)) (sym h.commands)
     (commands_within text is [] is none_counted (sizes_of s) (sym long) (omega (arith, long)) (texts, substitutions, tables)
-    items) in
+    items files) in
     record {
       each = λ i x g. all_at (sizes_of s) s.commands i x all g;
       nodes = λ k e g. subst (λ (n : ℕ). length e.nodes ≤ n) (sym h.nodes) (fit_at m s.expressions k e (cut_fit text kind m 0 0 h.to is s.expressions h.judged.cut) g);
-      substitutions = λ k t g. substitution_at (length s.expressions) text is k t items (subst (λ (ss : List Substitution). slice_get ss k ≡ Some t) h.substitutions g);
+      substitutions = λ k t g. substitution_at (sizes_of s) text is is k t items files (subst (λ (ss : List Substitution). slice_get ss k ≡ Some t) h.substitutions g);
       tables = λ k t g. table_at text is k t (subst (λ (ts : List (List ℕ)). slice_get ts k ≡ Some t) h.tables g);
     }
 
@@ -602,8 +681,10 @@ means_named text kind m to is es cs named quiet j c same n q =
       judged = subst (λ (es : List Written). Judged text kind m is es to) (sym n.exprs) j;
       commands = c;
       texts = n.texts ∙ ap (texts_of text) same;
-      substitutions = n.substitutions ∙ ap (substitutions_of text) same;
+      substitutions = n.substitutions ∙ ap (λ (is : List Item). substitutions_of text is is) same;
       tables = n.tables ∙ ap (tables_of text) same;
+      rfiles = n.rfiles ∙ ap (files_in Read text) same;
+      wfiles = n.wfiles ∙ ap (files_in Write text) same;
       quiet = q;
       nodes = refl;
     })

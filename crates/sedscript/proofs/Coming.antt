@@ -23,9 +23,13 @@ use Rattle.sedscript.specs.Reading.{Pattern, Reading, plainly, expression, ◌>>
 use Rattle.sedscript.specs.Addresses.{Addressed, found, headed, match_at, match_to, own_match, addresses_at, behind_first, address_at, address_of, line_of}
 use Rattle.sedscript.specs.declared.items.Strings.{Strings}
 use Rattle.sedscript.specs.declared.items.Function.{Function}
-use Rattle.sedscript.specs.Between.{own_delimiter, substitute_strings, substituted, transliterate_at}
-use Rattle.sedscript.specs.Items.{item_at, item_from, function_behind, substitute_with, substitute_at, function_with, function_at, item_with}
-use Rattle.sedscript.specs.Functions.{function_of, allowed, most_addresses, item_of}
+use Rattle.sedscript.specs.Between.{own_delimiter, substitute_strings, substituted}
+use Rattle.sedscript.specs.Letters.{verb_of}
+use Rattle.sedscript.specs.declared.letters.Verb.{Verb}
+use Rattle.sedscript.specs.declared.letters.Verb.TheVariants.{Reads}
+use Rattle.sedscript.specs.declared.letters.Shape.{Shape}
+use Rattle.sedscript.specs.Items.{item_at, item_from, function_behind, substitute_with, substitute_at, function_of, function_with, function_at, item_with}
+use Rattle.sedscript.specs.Functions.{allowed, item_of}
 use Rattle.sedscript.specs.declared.items.Addresses.{Addresses}
 use Rattle.sedscript.specs.Expressions.{IsRead, Gives, value, behind, Fails, own, no_expression, later, in_script}
 use Rattle.sedscript.specs.Answers.{as_here, as_function, as_groups, as_addressed, Comes, Agrees, IsBehind, IsHere, is_no_memory, fault_of}
@@ -233,35 +237,30 @@ substitute_goes text kind m old new at s result e h =
 
 -- functions
 
-pub function_plain : (text : List ℕ) (count letter at : ℕ) → letter ≢ 115 → letter ≢ 121 → function_with text count letter at ≡ plainly (function_of text letter at)
-function_plain text count letter at s y = if_false _ _ (letter == 115) (not_equal letter 115 s) ∙ if_false _ _ (letter == 121) (not_equal letter 121 y)
-
-pub function_y : (text : List ℕ) (count letter at : ℕ) → letter ≡ 121 → function_with text count letter at ≡ plainly (transliterate_at text at)
-function_y text count letter at e = ap (λ (l : ℕ). function_with text count l at) e
-
 -- a function without an expression
-pub function_comes : (text : List ℕ) (kind : Kind) (m letter at : ℕ) (old : List Written) (result r : Result (Function × ℕ) ScriptFault) → result ≡ r → function_with text (length old) letter at ≡ plainly r →
-    Comes text kind m old old as_function result (function_with text (length old) letter at)
-function_comes text kind m letter at old result r is e =
-    subst (λ (z : Reading (Function × ℕ)). Comes text kind m old old as_function result z) (sym e) (comes_plain text kind m old old as_function result r refl (functions_agree (length old) result r is))
+pub function_comes : (text : List ℕ) (kind : Kind) (m at : ℕ) (old : List Written) (verb : Verb) (shape : Shape) (result : Result (Function × ℕ) ScriptFault) → verb ≡ Reads shape → result ≡ function_of text shape at →
+    Comes text kind m old old as_function result (function_with text (length old) verb at)
+function_comes text kind m at old verb shape result is e =
+    subst (λ (v : Verb). Comes text kind m old old as_function result (function_with text (length old) v at)) (sym is)
+    (comes_plain text kind m old old as_function result (function_of text shape at) refl (functions_agree (length old) result (function_of text shape at) e))
 
 -- the item of a function whose letter may not stand there
-pub item_fault : (text : List ℕ) (kind : Kind) (m count letter at : ℕ) (a : Addresses) (f : ScriptFault) → slice_get text at ≡ Some letter → allowed a letter at (most_addresses letter) ≡ Err f →
+pub item_fault : (text : List ℕ) (kind : Kind) (m count letter at : ℕ) (a : Addresses) (f : ScriptFault) → slice_get text at ≡ Some letter → allowed a at (verb_of letter) ≡ Err f →
     Fails text kind m (function_at text count a at) f ⊎ (f ≡ NO_MEMORY)
 unfolding function_at
 item_fault text kind m count letter at a f there e =
     subst (λ (o : Option ℕ). Fails text kind m (item_with text count a at o) f ⊎ (f ≡ NO_MEMORY)) (sym there)
-    (inl (subst (λ (r : Result ℕ ScriptFault). Fails text kind m (plainly r >>= λ (b : ℕ). function_with text count b at >>= λ (found : Function × ℕ). plainly (Ok (item_of a at found))) f) (sym e) own))
+    (inl (subst (λ (r : Result Verb ScriptFault). Fails text kind m (plainly r >>= λ (v : Verb). function_with text count v at >>= λ (found : Function × ℕ). plainly (Ok (item_of a at found))) f) (sym e) own))
 
 -- the item of a function that may stand there
-pub item_goes : (text : List ℕ) (kind : Kind) (m letter other at : ℕ) (a : Addresses) (old new : List Written) (result : Result Here ScriptFault) → slice_get text at ≡ Some letter →
-    allowed a letter at (most_addresses letter) ≡ Ok other → other ≡ letter →
-    Comes text kind m old new as_here result (function_with text (length old) letter at >>= λ (found : Function × ℕ). plainly (Ok (item_of a at found))) →
+pub item_goes : (text : List ℕ) (kind : Kind) (m letter at : ℕ) (verb : Verb) (a : Addresses) (old new : List Written) (result : Result Here ScriptFault) → slice_get text at ≡ Some letter →
+    allowed a at (verb_of letter) ≡ Ok verb →
+    Comes text kind m old new as_here result (function_with text (length old) verb at >>= λ (found : Function × ℕ). plainly (Ok (item_of a at found))) →
     Comes text kind m old new as_here result (function_at text (length old) a at)
 unfolding function_at
-item_goes text kind m letter other at a old new result there e same h =
+item_goes text kind m letter at verb a old new result there e h =
     subst (λ (o : Option ℕ). Comes text kind m old new as_here result (item_with text (length old) a at o)) (sym there)
-    (subst (λ (r : Result ℕ ScriptFault). Comes text kind m old new as_here result (plainly r >>= λ (b : ℕ). function_with text (length old) b at >>= λ (found : Function × ℕ). plainly (Ok (item_of a at found)))) (sym (e ∙ ap (λ (b : ℕ). Ok b) same)) h)
+    (subst (λ (r : Result Verb ScriptFault). Comes text kind m old new as_here result (plainly r >>= λ (v : Verb). function_with text (length old) v at >>= λ (found : Function × ℕ). plainly (Ok (item_of a at found)))) (sym e) h)
 
 pub no_function : (text : List ℕ) (kind : Kind) (m count at : ℕ) (a : Addresses) → slice_get text at ≡ None →
     Fails text kind m (function_at text count a at) (record { place = at; reason = UnknownCommand }) ⊎ (◌≡◌ {A = ScriptFault} (record { place = at; reason = UnknownCommand }) NO_MEMORY)
@@ -269,9 +268,9 @@ unfolding function_at
 no_function text kind m count at a e =
     inl (subst (λ (o : Option ℕ). Fails text kind m (item_with text count a at o) (record { place = at; reason = UnknownCommand })) (sym e) own)
 
-pub item_comes : (text : List ℕ) (kind : Kind) (m letter at : ℕ) (a : Addresses) (old new : List Written) (found : Function × ℕ) (h : Here) → h ≡ item_of a at found →
-    Comes text kind m old new as_function (Ok found) (function_with text (length old) letter at) →
-    Comes text kind m old new as_here (Ok h) (function_with text (length old) letter at >>= λ (found : Function × ℕ). plainly (Ok (item_of a at found)))
-item_comes text kind m letter at a old new found h is k =
-    comes_then text kind m old new new (function_with text (length old) letter at) (λ (found : Function × ℕ). plainly (Ok (item_of a at found))) found as_here (Ok h) k
+pub item_comes : (text : List ℕ) (kind : Kind) (m at : ℕ) (verb : Verb) (a : Addresses) (old new : List Written) (found : Function × ℕ) (h : Here) → h ≡ item_of a at found →
+    Comes text kind m old new as_function (Ok found) (function_with text (length old) verb at) →
+    Comes text kind m old new as_here (Ok h) (function_with text (length old) verb at >>= λ (found : Function × ℕ). plainly (Ok (item_of a at found)))
+item_comes text kind m at verb a old new found h is k =
+    comes_then text kind m old new new (function_with text (length old) verb at) (λ (found : Function × ℕ). plainly (Ok (item_of a at found))) found as_here (Ok h) k
     (comes_plain text kind m new new as_here (Ok h) (Ok (item_of a at found)) refl (ap (λ (x : Here). Ok x) (sym is)))

@@ -1,7 +1,7 @@
 -- The table of labels.
 use Rattle.std.proofs.Common.{◌≡◌, ℕ, zero, suc, ◌+◌, ◌<◌, ◌≤◌, Bool, true, false, cond, List, [], ◌∷◌, ◌++◌, length, take, get_or, not, ◌==◌, Option, Some, None, is_some, refl, sym, ap, ◌∙◌, arith, inl, inr, length-take-le, if◌then◌else◌, slice_get, Bor}
 use Rattle.std.specs.Str.{bytes_eq}
-use Rattle.std.specs.BTreeMap.{BTreeMap, get_by, UpdatesBy}
+use Rattle.std.specs.BTreeMap.{BTreeMap, UpdatesBy}
 use Rattle.std.specs.Cmp.Lexicographic.{slice_cmp}
 use Rattle.std.specs.Option.{option_or}
 use Rattle.std.specs.Ordering.{nat_cmp}
@@ -15,13 +15,10 @@ use Rattle.sedscript.specs.declared.items.Function.{Function}
 use Rattle.sedscript.specs.declared.items.Function.TheVariants.{Label}
 use Rattle.sedscript.specs.Bytes.{part}
 use Rattle.sedscript.specs.Targets.{is_label, counted, commands_in, label_in, leaves}
-use Rattle.sedscript.specs.Tables.{first_label, LabelsAre, is_earlier, number}
+use Rattle.sedscript.specs.Tables.{labelled, first_label, LabelsAre, is_earlier, number}
 
 abbrev Labels : Type 0
 Labels = BTreeMap (Bor (List ℕ)) FirstLabel
-
-abbrev label_of : Labels → List ℕ → Option FirstLabel
-label_of m name = get_by (λ x. slice_cmp nat_cmp name x.now) m
 
 pub commands_snoc : (is : List Item) (i : Item) → commands_in (is ++ i ∷ []) ≡ counted (commands_in is) i
 commands_snoc [] i = by_leaf (leaves i.function)
@@ -70,7 +67,7 @@ counted_in n i is = by_leaf (leaves i.function)
     by_leaf true = omega arith
     by_leaf false = refl
 
-option_or_if : {A : Type 0} (b : Bool) (p : A) (x y z : Option A) → x ≡ option_or y z → (if b then Some p else x) ≡ option_or (if b then Some p else y) z
+pub option_or_if : {A : Type 0} (b : Bool) (p : A) (x y z : Option A) → x ≡ option_or y z → (if b then Some p else x) ≡ option_or (if b then Some p else y) z
 option_or_if true p x y z e = refl
 option_or_if false p x y z e = e
 
@@ -88,7 +85,7 @@ first_label_snoc text name k n a b (j ∷ is) i e f =
     (first_label_snoc text name (suc k) (counted n j) a b is i (e ∙ omega arith) (f ∙ sym (counted_in n j is)))
 
 pub labels_step : (text : List ℕ) (items : List Item) (k n : ℕ) (d : Item) (old new : Labels) → k < length items → n ≡ commands_in (take k items) → LabelsAre text (take k items) old →
-    ((name : List ℕ) → label_of new name ≡ option_or (label_of old name) (if is_label text name (get_or items k d).function then Some (record { item = k; number = n }) else None)) →
+    ((name : List ℕ) → labelled new name ≡ option_or (labelled old name) (if is_label text name (get_or items k d).function then Some (record { item = k; number = n }) else None)) →
     LabelsAre text (take (k + 1) items) new
 labels_step text items k n d old new h e are added = λ name.
     let i : Item = get_or items k d in
@@ -130,38 +127,38 @@ earlier_label text name (suc k) j n m t (x ∷ is) i e l f =
     by_label true y z h = ap not (ap (λ (u : ℕ). j == u) f ∙ eq_more j k)
     by_label false y z h = h
 
-right_none : (o : Option FirstLabel) → o ≡ option_or o None
+right_none : {A : Type 0} (o : Option A) → o ≡ option_or o None
 right_none None = refl
 right_none (Some x) = refl
 
 -- a label is added where none has its name
-pub label_added : (bs : List ℕ) (v : FirstLabel) (old new : Labels) → UpdatesBy (λ x y. slice_cmp nat_cmp x.now y.now) (λ x. slice_cmp nat_cmp bs x.now) old new (Some v) → label_of old bs ≡ None →
-    (name : List ℕ) → label_of new name ≡ option_or (label_of old name) (if bytes_eq bs name then Some v else None)
+pub label_added : {A : Type 0} (bs : List ℕ) (v : A) (old new : BTreeMap (Bor (List ℕ)) A) → UpdatesBy (λ x y. slice_cmp nat_cmp x.now y.now) (λ x. slice_cmp nat_cmp bs x.now) old new (Some v) → labelled old bs ≡ None →
+    (name : List ℕ) → labelled new name ≡ option_or (labelled old name) (if bytes_eq bs name then Some v else None)
 label_added bs v old new u none name =
     btree_map_updates_str bs old new (Some v) u name ∙ by_name (bytes_eq bs name) refl
   where
-    by_name : (b : Bool) → bytes_eq bs name ≡ b → cond b (Some v) (label_of old name) ≡ option_or (label_of old name) (if b then Some v else None)
+    by_name : (b : Bool) → bytes_eq bs name ≡ b → cond b (Some v) (labelled old name) ≡ option_or (labelled old name) (if b then Some v else None)
     by_name true e = let same : bs ≡ name = (bytes_eq-Decides bs name).0 e in
-        rw (sym (ap (label_of old) same) ∙ none) refl
-    by_name false e = right_none (label_of old name)
+        rw (sym (ap (labelled old) same) ∙ none) refl
+    by_name false e = right_none (labelled old name)
 
-none_of : {A : Type 0} (o : Option A) (b : Bool) → b ≡ is_some o → b ≡ false → o ≡ None
+pub none_of : {A : Type 0} (o : Option A) (b : Bool) → b ≡ is_some o → b ≡ false → o ≡ None
 none_of None b e f = refl
 none_of (Some x) b e f = let g : true ≡ false = sym e ∙ f in cc
 
 pub label_inserted : (text bs : List ℕ) (from to k n : ℕ) (f : Function) (b : Bool) (old new : Labels) → f ≡ Label from to → bs ≡ part text from to →
-    UpdatesBy (λ x y. slice_cmp nat_cmp x.now y.now) (λ x. slice_cmp nat_cmp bs x.now) old new (Some (record { item = k; number = n })) → b ≡ is_some (label_of old bs) → b ≡ false →
-    (name : List ℕ) → label_of new name ≡ option_or (label_of old name) (if is_label text name f then Some (record { item = k; number = n }) else None)
+    UpdatesBy (λ x y. slice_cmp nat_cmp x.now y.now) (λ x. slice_cmp nat_cmp bs x.now) old new (Some (record { item = k; number = n })) → b ≡ is_some (labelled old bs) → b ≡ false →
+    (name : List ℕ) → labelled new name ≡ option_or (labelled old name) (if is_label text name f then Some (record { item = k; number = n }) else None)
 label_inserted text bs from to k n f b old new is name_is u found absent = λ name.
-    label_added bs (record { item = k; number = n }) old new u (none_of (label_of old bs) b found absent) name
-    ∙ ap (λ (c : Bool). option_or (label_of old name) (if c then Some (record { item = k; number = n }) else None))
+    label_added bs (record { item = k; number = n }) old new u (none_of (labelled old bs) b found absent) name
+    ∙ ap (λ (c : Bool). option_or (labelled old name) (if c then Some (record { item = k; number = n }) else None))
     (ap (λ (z : List ℕ). bytes_eq z name) name_is ∙ sym (ap (is_label text name) is))
 
 -- what the table says of a name
-pub label_found : (text name : List ℕ) (items : List Item) (m : Labels) (o : Option FirstLabel) → LabelsAre text items m → o ≡ label_of m name → number o ≡ label_in text name 0 items
+pub label_found : (text name : List ℕ) (items : List Item) (m : Labels) (o : Option FirstLabel) → LabelsAre text items m → o ≡ labelled m name → number o ≡ label_in text name 0 items
 label_found text name items m o are is = ap number (is ∙ are name) ∙ sym (label_of_first text name 0 0 items)
 
-pub label_repeated : (text name : List ℕ) (items : List Item) (m : Labels) (o : Option FirstLabel) (k : ℕ) (i : Item) → LabelsAre text items m → o ≡ label_of m name →
+pub label_repeated : (text name : List ℕ) (items : List Item) (m : Labels) (o : Option FirstLabel) (k : ℕ) (i : Item) → LabelsAre text items m → o ≡ labelled m name →
     slice_get items k ≡ Some i → is_label text name i.function ≡ true → is_earlier k o ≡ is_some (label_in text name 0 (take k items))
 label_repeated text name items m o k i are is e l = ap (is_earlier k) (is ∙ are name) ∙ earlier_label text name k 0 0 0 k items i e l (omega arith)
 

@@ -6,6 +6,7 @@ pub mod ByteTables
 pub mod Cuts
 pub mod Exclusive
 pub mod Labels
+pub mod FileTables
 pub mod Blocks
 pub mod LateFaults
 pub mod Bounds

@@ -56,7 +56,7 @@ transliterate_at text at =
 -- the flags of `s`, and its end
 abbrev pub flagged : List ℕ → Strings → Option ℕ → Result (Function × ℕ) ScriptFault
 flagged text s e =
-    flags_from no_flags 0 (s.to + 1) (drop (s.to + 1) text) >>= λ found. ended text (Substitute s e found.0) found.1
+    flags_from text no_flags 0 (s.to + 1) (drop (s.to + 1) text) >>= λ found. ended text (Substitute s e found.0) found.1
 
 -- what stands behind the regular expression of `s`, which has this number in the script: a replacement, where no group
 -- may have a greater number than this, and flags

@@ -5,8 +5,8 @@ use Rattle.sedscript.specs.declared.types.Reason.TheVariants.{UnknownCommand, To
 use Rattle.sedscript.specs.declared.types.Reason.TheVariants.{OpenDelimiter, BadDelimiter, UnknownFlag, RepeatedFlag}
 use Rattle.sedscript.specs.declared.types.Reason.TheVariants.{BadNumber, UnknownLabel, RepeatedLabel}
 use Rattle.sedscript.specs.declared.types.Reason.TheVariants.{MissingLabel, OpenBlock, StrayClose, TrailingBytes}
-use Rattle.sedscript.specs.declared.types.Reason.TheVariants.{LengthsDiffer, RepeatedByte, BadEscape, GroupAbsent}
-use Rattle.sedscript.specs.declared.types.Reason.TheVariants.{Expression, NoMemory}
+use Rattle.sedscript.specs.declared.types.Reason.TheVariants.{LengthsDiffer, RepeatedByte, BadEscape, MissingName}
+use Rattle.sedscript.specs.declared.types.Reason.TheVariants.{GroupAbsent, Expression, NoMemory}
 
 abbrev pub number_of : Reason → ℕ
 number_of UnknownCommand = 1
@@ -27,6 +27,7 @@ number_of TrailingBytes = 15
 number_of LengthsDiffer = 16
 number_of RepeatedByte = 17
 number_of BadEscape = 18
+number_of MissingName = 19
 number_of GroupAbsent = 20
 number_of (Expression f) = 21
 number_of NoMemory = 22
@@ -50,6 +51,7 @@ name_of TrailingBytes = codes "TrailingBytes"
 name_of LengthsDiffer = codes "LengthsDiffer"
 name_of RepeatedByte = codes "RepeatedByte"
 name_of BadEscape = codes "BadEscape"
+name_of MissingName = codes "MissingName"
 name_of GroupAbsent = codes "GroupAbsent"
 name_of (Expression f) = codes "Expression"
 name_of NoMemory = codes "NoMemory"

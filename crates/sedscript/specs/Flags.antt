@@ -1,15 +1,15 @@
 -- The flags of `s` (XCU sed, "Editing Commands in sed").
-use Rattle.std.specs.Prelude.{ℕ, zero, suc, List, [], ◌∷◌, take, Bool, true, false, ◌||◌, Option, Some, None, is_some}
+use Rattle.std.specs.Prelude.{ℕ, zero, suc, ◌+◌, List, [], ◌∷◌, take, Bool, true, false, ◌||◌, Option, Some, None, is_some}
 use Rattle.std.specs.Prelude.{if◌then◌else◌, ◌==◌, Result, Ok}
 use Rattle.sedscript.specs.declared.bytes.Sort.TheVariants.{Digit}
 use Rattle.sedscript.specs.declared.types.ScriptFault.{ScriptFault}
-use Rattle.sedscript.specs.declared.types.Reason.TheVariants.{UnknownFlag, RepeatedFlag, BadNumber}
+use Rattle.sedscript.specs.declared.types.Reason.TheVariants.{UnknownFlag, RepeatedFlag, BadNumber, MissingName}
 use Rattle.sedscript.specs.declared.items.Flags.{Flags}
 use Rattle.sedscript.specs.Bytes.{is_blank, is_digit, run_of, with_digits}
-use Rattle.sedscript.specs.Functions.{fault, may_end, ◌>>=◌}
+use Rattle.sedscript.specs.Functions.{fault, may_end, name_from, ◌>>=◌}
 
 abbrev pub no_flags : Flags
-no_flags = record { number = None; global = false; print = false }
+no_flags = record { number = None; global = false; print = false; file = None }
 
 -- whether flags end before this byte: a blank, or what ends a command
 abbrev pub ends_flags : ℕ → Bool
@@ -19,7 +19,7 @@ ends_flags b = is_blank b || may_end (Some b)
 abbrev pub numbered : Flags → ℕ → Option ℕ → Result Flags ScriptFault
 numbered f at None = fault BadNumber at
 numbered f at (Some zero) = fault BadNumber at
-numbered f at (Some (suc n)) = Ok (record { number = Some (suc n); global = f.global; print = f.print })
+numbered f at (Some (suc n)) = Ok (record f { number = Some (suc n) })
 
 -- the same with its digits. No second number may stand there (this project's own)
 abbrev pub with_number : Flags → ℕ → List ℕ → Result Flags ScriptFault
@@ -31,18 +31,25 @@ abbrev pub with_flag : Flags → ℕ → ℕ → Result Flags ScriptFault
 with_flag f at b =
     if b == 103
     then if f.global then fault RepeatedFlag at
-    else Ok (record { number = f.number; global = true; print = f.print })
+    else Ok (record f { global = true })
     else if b == 112
     then if f.print then fault RepeatedFlag at
-    else Ok (record { number = f.number; global = f.global; print = true })
+    else Ok (record f { print = true })
     else fault UnknownFlag at
 
--- the flags from a place on, in any order, and the place behind them. So many bytes are digits that were read
-abbrev pub flags_from : Flags → ℕ → ℕ → List ℕ → Result (Flags × ℕ) ScriptFault
-flags_from f skip at [] = Ok (f, at)
-flags_from f (suc skip) at (b ∷ bs) = flags_from f skip (suc at) bs
-flags_from f zero at (b ∷ bs) =
+-- the flags with the file of the `w` at a place, and the place after its name
+abbrev pub with_file : Flags → ℕ → Option (ℕ × ℕ) → Result (Flags × ℕ) ScriptFault
+with_file f at None = fault MissingName at
+with_file f at (Some name) = Ok (record f { file = Some name }, name.1)
+
+-- the flags from a place on, in any order, and the place after them. `w` is the last, since the rest of its line is a
+-- file's name. So many bytes are digits that were read
+abbrev pub flags_from : List ℕ → Flags → ℕ → ℕ → List ℕ → Result (Flags × ℕ) ScriptFault
+flags_from text f skip at [] = Ok (f, at)
+flags_from text f (suc skip) at (b ∷ bs) = flags_from text f skip (suc at) bs
+flags_from text f zero at (b ∷ bs) =
     if is_digit b
-    then (with_number f at (b ∷ take (run_of Digit bs) bs) >>= λ g. flags_from g (run_of Digit bs) (suc at) bs)
+    then (with_number f at (b ∷ take (run_of Digit bs) bs) >>= λ g. flags_from text g (run_of Digit bs) (suc at) bs)
     else if ends_flags b then Ok (f, at)
-    else (with_flag f at b >>= λ g. flags_from g zero (suc at) bs)
+    else if b == 119 then with_file f at (name_from text (at + 1))
+    else (with_flag f at b >>= λ g. flags_from text g zero (suc at) bs)

@@ -1,14 +1,23 @@
 -- The items of a script: functions with their addresses (XCU sed, "Extended Description").
-use Rattle.std.specs.Prelude.{ℕ, ◌+◌, List, Option, Some, None, if◌then◌else◌, ◌==◌, slice_get, Ok}
-use Rattle.sedscript.specs.declared.bytes.Sort.TheVariants.{Separator}
+use Rattle.std.specs.Prelude.{ℕ, ◌+◌, List, Option, Some, None, if◌then◌else◌, ◌==◌, slice_get, Result, Ok}
+use Rattle.sedscript.specs.declared.bytes.Sort.TheVariants.{Separator, Blank, Line}
+use Rattle.sedscript.specs.declared.types.ScriptFault.{ScriptFault}
 use Rattle.sedscript.specs.declared.types.Reason.TheVariants.{UnknownCommand}
 use Rattle.sedscript.specs.declared.items.Strings.{Strings}
 use Rattle.sedscript.specs.declared.items.Function.{Function}
+use Rattle.sedscript.specs.declared.items.Function.TheVariants.{Plain, Open, Close, Comment}
+use Rattle.sedscript.specs.declared.letters.Verb.{Verb}
+use Rattle.sedscript.specs.declared.letters.Verb.TheVariants.{ReadsExpression, Reads}
+use Rattle.sedscript.specs.declared.letters.Shape.{Shape}
+use Rattle.sedscript.specs.declared.letters.Shape.TheVariants.{Alone, OpensBlock, ClosesBlock, Remark, NamesLabel, GoesTo}
+use Rattle.sedscript.specs.declared.letters.Shape.TheVariants.{TakesText, NamesFile, TakesStrings}
 use Rattle.sedscript.specs.declared.items.Addresses.{Addresses}
 use Rattle.sedscript.specs.declared.items.Here.{Here}
 use Rattle.sedscript.specs.declared.items.Here.TheVariants.{Ends}
 use Rattle.sedscript.specs.Bytes.{past}
-use Rattle.sedscript.specs.Functions.{fault, function_of, most_addresses, allowed, item_of}
+use Rattle.sedscript.specs.Functions.{fault, ended, label_of, branch_of, text_of, text_from, file_of, name_from}
+use Rattle.sedscript.specs.Functions.{allowed, item_of}
+use Rattle.sedscript.specs.Letters.{verb_of}
 use Rattle.sedscript.specs.Between.{own_delimiter, substitute_strings, substituted, transliterate_at}
 use Rattle.sedscript.specs.Reading.{Reading, plainly, expression, ◌>>=◌}
 use Rattle.sedscript.specs.Addresses.{Headed, addresses_at, with_bang}
@@ -26,20 +35,29 @@ unfoldable pub substitute_at : List ℕ → ℕ → ℕ → Reading (Function ×
 substitute_at text count at =
     plainly (substitute_strings text (at + 1) (own_delimiter (slice_get text (at + 1)))) >>= substitute_with text count
 
+-- the function of a letter that stands at a place and is not `s`, and the place after it
+abbrev pub function_of : List ℕ → Shape → ℕ → Result (Function × ℕ) ScriptFault
+function_of text OpensBlock at = Ok (Open, at + 1)
+function_of text ClosesBlock at = ended text Close (at + 1)
+function_of text Remark at = Ok (Comment, past Line text (at + 1))
+function_of text NamesLabel at = label_of text at (past Blank text (at + 1))
+function_of text (GoesTo u) at = branch_of text u (past Blank text (at + 1))
+function_of text (TakesText t) at = text_of t at (text_from text (past Blank text (at + 1)))
+function_of text (NamesFile u) at = file_of u at (name_from text (at + 1))
+function_of text TakesStrings at = transliterate_at text at
+function_of text (Alone s) at = ended text (Plain s) (at + 1)
+
 -- the function of a letter that stands at a place, and the place behind it
-abbrev pub function_with : List ℕ → ℕ → ℕ → ℕ → Reading (Function × ℕ)
-function_with text count letter at =
-    -- `s` `y`
-    if letter == 115 then substitute_at text count at
-    else if letter == 121 then plainly (transliterate_at text at)
-    else plainly (function_of text letter at)
+abbrev pub function_with : List ℕ → ℕ → Verb → ℕ → Reading (Function × ℕ)
+function_with text count ReadsExpression at = substitute_at text count at
+function_with text count (Reads shape) at = plainly (function_of text shape at)
 
 -- the item of a function that is expected at a place, behind these addresses
 abbrev pub item_with : List ℕ → ℕ → Addresses → ℕ → Option ℕ → Reading Here
 item_with text count addresses at None = plainly (fault UnknownCommand at)
 item_with text count addresses at (Some letter) =
-    plainly (allowed addresses letter at (most_addresses letter)) >>= λ b.
-    function_with text count b at >>= λ found. plainly (Ok (item_of addresses at found))
+    plainly (allowed addresses at (verb_of letter)) >>= λ verb.
+    function_with text count verb at >>= λ found. plainly (Ok (item_of addresses at found))
 
 unfoldable pub function_at : List ℕ → ℕ → Addresses → ℕ → Reading Here
 function_at text count addresses at = item_with text count addresses at (slice_get text at)

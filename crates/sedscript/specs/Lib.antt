@@ -1,5 +1,6 @@
 pub mod Bytes
 pub mod Faults
+pub mod Letters
 pub mod Functions
 pub mod Replacement
 pub mod Strings
@@ -11,6 +12,7 @@ pub mod Addresses
 pub mod Items
 pub mod Expressions
 pub mod Targets
+pub mod Files
 pub mod Script
 pub mod Ranges
 pub mod Parts

@@ -4,6 +4,8 @@ use Rattle.sedre.specs.Arena.{Written}
 use Rattle.sedscript.specs.declared.items.Item.{Item}
 use Rattle.sedscript.specs.declared.types.Command.{Command}
 use Rattle.sedscript.specs.declared.script.Named.{Named}
+use Rattle.sedscript.specs.declared.items.FileUse.TheVariants.{Read, Write}
+use Rattle.sedscript.specs.Files.{files_in}
 use Rattle.sedscript.specs.Script.{Program, texts_of, substitutions_of, tables_of}
 
 -- the script of these parts
@@ -14,6 +16,8 @@ program_of commands named quiet max_nodes = record {
   texts = map (λ t. t.items) named.texts.items;
   substitutions = named.substitutions.items;
   tables = map (λ t. t.items) named.tables.items;
+  rfiles = map (λ n. n.items) named.rfiles.items;
+  wfiles = map (λ n. n.items) named.wfiles.items;
   quiet = quiet;
   max_nodes = max_nodes;
 }
@@ -22,5 +26,7 @@ program_of commands named quiet max_nodes = record {
 pub record IsNamed (text : List ℕ) (items : List Item) (expressions : List Written) (named : Named) : Type 0 where
   pub exprs : named.exprs.items ≡ expressions
   pub texts : map (λ t. t.items) named.texts.items ≡ texts_of text items
-  pub substitutions : named.substitutions.items ≡ substitutions_of text items
+  pub substitutions : named.substitutions.items ≡ substitutions_of text items items
   pub tables : map (λ t. t.items) named.tables.items ≡ tables_of text items
+  pub rfiles : map (λ n. n.items) named.rfiles.items ≡ files_in Read text items
+  pub wfiles : map (λ n. n.items) named.wfiles.items ≡ files_in Write text items

@@ -7,6 +7,8 @@ use Rattle.sedscript.specs.declared.types.Action.{Action}
 use Rattle.sedscript.specs.declared.types.Action.TheVariants.{Block, Branch, Change, Delete, Insert, Print, Quit}
 use Rattle.sedscript.specs.declared.types.Action.TheVariants.{LineNumber, Substitute, Test, Transliterate}
 use Rattle.sedscript.specs.declared.types.Action.TheVariants.{AppendHold, CopyHold, Exchange, Hold, HoldMore, PrintFirst}
+use Rattle.sedscript.specs.declared.types.Action.TheVariants.{Append, AppendNext, DeleteFirst, NextLine, ReadFile}
+use Rattle.sedscript.specs.declared.types.Action.TheVariants.{List as ListSpace, WriteFile}
 use Rattle.sedscript.specs.declared.types.Command.{Command}
 use Rattle.sedscript.specs.declared.substitution.Substitution.{Substitution}
 use Rattle.sedscript.specs.Script.{Program}
@@ -18,6 +20,8 @@ pub record Sizes : Type 0 where
   pub texts : ℕ
   pub substitutions : ℕ
   pub tables : ℕ
+  pub rfiles : ℕ
+  pub wfiles : ℕ
 
 abbrev pub sizes_of : Program → Sizes
 sizes_of p = record {
@@ -26,6 +30,8 @@ sizes_of p = record {
   texts = length p.texts;
   substitutions = length p.substitutions;
   tables = length p.tables;
+  rfiles = length p.rfiles;
+  wfiles = length p.wfiles;
 }
 
 -- the empty expression, or one of so many
@@ -40,15 +46,23 @@ AddressWithin expressions (Some (Line n)) = 1 ≤ n
 AddressWithin expressions (Some Last) = Unit {0}
 AddressWithin expressions (Some (Match e)) = IsOneOf expressions e
 
--- an action leads to a command or the end, and has one of the texts, substitutions or tables
+-- a sink is the standard output, or one of so many files that are written
+abbrev pub SinkWithin : ℕ → Option ℕ → Type 0
+SinkWithin wfiles None = Unit {0}
+SinkWithin wfiles (Some sink) = sink ≤ wfiles
+
+-- an action leads to a command or the end, and has one of the texts, substitutions, tables or files
 abbrev pub ActionWithin : Sizes → Action → Type 0
 ActionWithin n (Block to) = to ≤ n.commands
 ActionWithin n (Branch to) = to ≤ n.commands
 ActionWithin n (Test to) = to ≤ n.commands
+ActionWithin n (Append k) = k < n.texts
 ActionWithin n (Change k) = k < n.texts
 ActionWithin n (Insert k) = k < n.texts
 ActionWithin n (Substitute k) = k < n.substitutions
 ActionWithin n (Transliterate k) = k < n.tables
+ActionWithin n (ReadFile k) = k < n.rfiles
+ActionWithin n (WriteFile sink) = sink ≤ n.wfiles
 ActionWithin n Delete = Unit {0}
 ActionWithin n Print = Unit {0}
 ActionWithin n Quit = Unit {0}
@@ -59,16 +73,22 @@ ActionWithin n AppendHold = Unit {0}
 ActionWithin n Hold = Unit {0}
 ActionWithin n HoldMore = Unit {0}
 ActionWithin n Exchange = Unit {0}
+ActionWithin n AppendNext = Unit {0}
+ActionWithin n DeleteFirst = Unit {0}
+ActionWithin n ListSpace = Unit {0}
+ActionWithin n NextLine = Unit {0}
 
 pub record CommandWithin (n : Sizes) (c : Command) : Type 0 where
   pub first : AddressWithin n.expressions c.first
   pub second : AddressWithin n.expressions c.second
   pub action : ActionWithin n c.action
 
--- a substitution has one of so many expressions, and replaces from the first occurrence on or a later one
-pub record SubstitutionWithin (expressions : ℕ) (s : Substitution) : Type 0 where
-  pub expression : IsOneOf expressions s.expression
+-- a substitution has one of the expressions, replaces from the first occurrence on or a later one, and has one of the
+-- sinks
+pub record SubstitutionWithin (n : Sizes) (s : Substitution) : Type 0 where
+  pub expression : IsOneOf n.expressions s.expression
   pub number : 1 ≤ s.number
+  pub file : SinkWithin n.wfiles s.file
 
 -- each command and each substitution is in range, no expression has more nodes than allowed, and each table has
 -- all bytes
@@ -76,5 +96,5 @@ pub record InRange (p : Program) : Type 0 where
   pub each : (i : ℕ) (c : Command) → slice_get p.commands i ≡ Some c → CommandWithin (sizes_of p) c
   pub nodes : (k : ℕ) (e : Written) → slice_get p.expressions k ≡ Some e → length e.nodes ≤ p.max_nodes
   pub substitutions : (k : ℕ) (s : Substitution) → slice_get p.substitutions k ≡ Some s →
-      SubstitutionWithin (length p.expressions) s
+      SubstitutionWithin (sizes_of p) s
   pub tables : (k : ℕ) (t : List ℕ) → slice_get p.tables k ≡ Some t → length t ≡ 256

@@ -17,13 +17,16 @@ use Rattle.sedscript.specs.declared.substitution.Substitution.{Substitution}
 use Rattle.sedscript.specs.declared.items.Simple.{Simple}
 use Rattle.sedscript.specs.declared.items.Simple.TheVariants.{AppendHold, CopyHold, Delete, Exchange, Hold, HoldMore}
 use Rattle.sedscript.specs.declared.items.Simple.TheVariants.{LineNumber, Print, PrintFirst, Quit}
+use Rattle.sedscript.specs.declared.items.Simple.TheVariants.{AppendNext, DeleteFirst, List as ListSpace, NextLine}
 use Rattle.sedscript.specs.declared.types.Action.TheVariants as a
 use Rattle.sedscript.specs.declared.items.TextUse.{TextUse}
-use Rattle.sedscript.specs.declared.items.TextUse.TheVariants.{Insert, Change}
+use Rattle.sedscript.specs.declared.items.TextUse.TheVariants.{Append, Insert, Change}
 use Rattle.sedscript.specs.declared.items.BranchUse.{BranchUse}
 use Rattle.sedscript.specs.declared.items.BranchUse.TheVariants.{Always, IfReplaced}
+use Rattle.sedscript.specs.declared.items.FileUse.{FileUse}
+use Rattle.sedscript.specs.declared.items.FileUse.TheVariants.{Read, Write}
 use Rattle.sedscript.specs.declared.items.Function.{Function}
-use Rattle.sedscript.specs.declared.items.Function.TheVariants.{Plain, Open, Close, Label, Branch, Text, Comment}
+use Rattle.sedscript.specs.declared.items.Function.TheVariants.{Plain, Open, Branch, Text, File}
 use Rattle.sedscript.specs.declared.items.Function.TheVariants.{Substitute, Transliterate}
 use Rattle.sedscript.specs.declared.items.Addresses.{Addresses}
 use Rattle.sedscript.specs.declared.items.Item.{Item}
@@ -36,6 +39,7 @@ use Rattle.sedscript.specs.Items.{item_at}
 use Rattle.sedscript.specs.Expressions.{Gives, Fails}
 use Rattle.sedscript.specs.Replacement.{pieces_of}
 use Rattle.sedscript.specs.Transliteration.{chars_of, bytes_of, table_of}
+use Rattle.sedscript.specs.Files.{files_in, number_in}
 use Rattle.sedscript.specs.Targets.{commands_in, label_in, block_end, late}
 
 -- a script as its callers see it
@@ -45,6 +49,8 @@ pub record Program : Type 0 where
   pub texts : List (List ℕ)
   pub substitutions : List Substitution
   pub tables : List (List ℕ)
+  pub rfiles : List (List ℕ)
+  pub wfiles : List (List ℕ)
   pub quiet : Bool
   pub max_nodes : ℕ
 
@@ -67,16 +73,9 @@ unescaped_from escaped (b ∷ bs) = if not escaped && b == 92 then unescaped_fro
 
 abbrev pub with_text : List ℕ → Function → List (List ℕ) → List (List ℕ)
 with_text text (Text t from to) ts = unescaped_from false (part text from to) ∷ ts
-with_text text Open ts = ts
-with_text text Close ts = ts
-with_text text Comment ts = ts
-with_text text (Plain a) ts = ts
-with_text text (Label from to) ts = ts
-with_text text (Branch u from to) ts = ts
-with_text text (Substitute s e f) ts = ts
-with_text text (Transliterate s) ts = ts
+with_text text f ts = ts
 
--- the texts of `i` and `c`, in order
+-- the texts of `a`, `i` and `c`, in order
 abbrev pub texts_of : List ℕ → List Item → List (List ℕ)
 texts_of text [] = []
 texts_of text (i ∷ is) = with_text text i.function (texts_of text is)
@@ -84,31 +83,30 @@ texts_of text (i ∷ is) = with_text text i.function (texts_of text is)
 abbrev pub none_counted : Counts
 none_counted = record { texts = 0; substitutions = 0; tables = 0 }
 
--- the substitution of an `s`. Without a number it begins with the first occurrence
-abbrev pub substitution_of : List ℕ → Strings → Option ℕ → Flags → Substitution
-substitution_of text s e f = record {
+-- the sink that the flag `w` names, where it stands
+abbrev pub sink_of : List ℕ → List Item → Option (ℕ × ℕ) → Option ℕ
+sink_of text all None = None
+sink_of text all (Some name) = Some (number_in Write text all (part text name.0 name.1))
+
+-- the substitution of an `s` among all items. Without a number it begins with the first occurrence
+abbrev pub substitution_of : List ℕ → List Item → Strings → Option ℕ → Flags → Substitution
+substitution_of text all s e f = record {
   expression = e;
   replacement = pieces_of s.delimiter (part text (s.middle + 1) s.to);
   number = unwrap_or f.number 1;
   global = f.global;
   print = f.print;
+  file = sink_of text all f.file;
 }
 
-abbrev pub with_substitution : List ℕ → Function → List Substitution → List Substitution
-with_substitution text (Substitute s e f) ss = substitution_of text s e f ∷ ss
-with_substitution text (Transliterate s) ss = ss
-with_substitution text (Text t from to) ss = ss
-with_substitution text Open ss = ss
-with_substitution text Close ss = ss
-with_substitution text Comment ss = ss
-with_substitution text (Plain a) ss = ss
-with_substitution text (Label from to) ss = ss
-with_substitution text (Branch u from to) ss = ss
+abbrev pub with_substitution : List ℕ → List Item → Function → List Substitution → List Substitution
+with_substitution text all (Substitute s e f) ss = substitution_of text all s e f ∷ ss
+with_substitution text all f ss = ss
 
--- the substitutions of `s`, in order
-abbrev pub substitutions_of : List ℕ → List Item → List Substitution
-substitutions_of text [] = []
-substitutions_of text (i ∷ is) = with_substitution text i.function (substitutions_of text is)
+-- the substitutions of `s` among all items, in order
+abbrev pub substitutions_of : List ℕ → List Item → List Item → List Substitution
+substitutions_of text all [] = []
+substitutions_of text all (i ∷ is) = with_substitution text all i.function (substitutions_of text all is)
 
 -- the table of a `y`
 abbrev pub table_between : List ℕ → Strings → List ℕ
@@ -118,14 +116,7 @@ table_between text s =
 
 abbrev pub with_table : List ℕ → Function → List (List ℕ) → List (List ℕ)
 with_table text (Transliterate s) ts = table_between text s ∷ ts
-with_table text (Substitute s e f) ts = ts
-with_table text (Text t from to) ts = ts
-with_table text Open ts = ts
-with_table text Close ts = ts
-with_table text Comment ts = ts
-with_table text (Plain a) ts = ts
-with_table text (Label from to) ts = ts
-with_table text (Branch u from to) ts = ts
+with_table text f ts = ts
 
 -- the tables of `y`, in order
 abbrev pub tables_of : List ℕ → List Item → List (List ℕ)
@@ -135,14 +126,9 @@ tables_of text (i ∷ is) = with_table text i.function (tables_of text is)
 -- how many texts, substitutions and tables there are with a function, with so many before it
 abbrev pub counts_with : Counts → Function → Counts
 counts_with n (Text t from to) = record n { texts = suc n.texts }
-counts_with n Open = n
-counts_with n Close = n
-counts_with n Comment = n
-counts_with n (Plain a) = n
-counts_with n (Label from to) = n
-counts_with n (Branch u from to) = n
 counts_with n (Substitute s e f) = record n { substitutions = suc n.substitutions }
 counts_with n (Transliterate s) = record n { tables = suc n.tables }
+counts_with n f = n
 
 abbrev pub simple_action : Simple → Action
 simple_action Delete = DeleteSpace
@@ -155,14 +141,23 @@ simple_action AppendHold = a.AppendHold
 simple_action Hold = a.Hold
 simple_action HoldMore = a.HoldMore
 simple_action Exchange = a.Exchange
+simple_action NextLine = a.NextLine
+simple_action AppendNext = a.AppendNext
+simple_action DeleteFirst = a.DeleteFirst
+simple_action ListSpace = a.List
 
 abbrev pub text_action : TextUse → ℕ → Action
+text_action Append k = a.Append k
 text_action Insert k = InsertText k
 text_action Change k = ChangeText k
 
 abbrev pub branch_action : BranchUse → ℕ → Action
 branch_action Always to = BranchTo to
 branch_action IfReplaced to = TestTo to
+
+abbrev pub file_action : FileUse → ℕ → Action
+file_action Read k = a.ReadFile k
+file_action Write sink = a.WriteFile sink
 
 -- what a function does among all items, with those before it, which have so many texts, substitutions and tables, and
 -- the items behind it
@@ -173,11 +168,11 @@ action_of text all before n after (Branch u from to) =
     Some (branch_action u
     (if from == to then commands_in all else unwrap_or (label_in text (part text from to) 0 all) 0))
 action_of text all before n after (Text t from to) = Some (text_action t n.texts)
+action_of text all before n after (File u from to) =
+    Some (file_action u (number_in u text all (part text from to)))
 action_of text all before n after (Substitute s e f) = Some (SubstituteNow n.substitutions)
 action_of text all before n after (Transliterate s) = Some (TransliterateNow n.tables)
-action_of text all before n after Close = None
-action_of text all before n after (Label from to) = None
-action_of text all before n after Comment = None
+action_of text all before n after f = None
 
 abbrev pub with_action : Addresses → Option Action → List Command → List Command
 with_action a None cs = cs
@@ -211,8 +206,10 @@ pub record Means (text : List ℕ) (kind : Kind) (max_nodes : ℕ) (s : Program)
   pub judged : Judged text kind max_nodes items s.expressions to
   pub commands : s.commands ≡ commands_of text items [] none_counted items
   pub texts : s.texts ≡ texts_of text items
-  pub substitutions : s.substitutions ≡ substitutions_of text items
+  pub substitutions : s.substitutions ≡ substitutions_of text items items
   pub tables : s.tables ≡ tables_of text items
+  pub rfiles : s.rfiles ≡ files_in Read text items
+  pub wfiles : s.wfiles ≡ files_in Write text items
   pub quiet : s.quiet ≡ is_quiet text
   pub nodes : s.max_nodes ≡ max_nodes
 

@@ -1,14 +1,21 @@
--- The tables by which labels and blocks are found without searching anew. Private machinery of the reader.
-use Rattle.std.specs.Prelude.{◌≡◌, ◌≤◌, ℕ, suc, ◌+◌, List, [], ◌∷◌, ◌++◌, length, Bool, true, false, not, ◌==◌, Option}
-use Rattle.std.specs.Prelude.{Some, None, if◌then◌else◌, take, drop, slice_get}
+-- The tables by which labels, blocks and files are found without searching anew. Private machinery of the reader.
+use Rattle.std.specs.Prelude.{◌≡◌, ◌≤◌, ℕ, suc, ◌+◌, List, [], ◌∷◌, ◌++◌, length, Bool, true, false, not, ◌||◌, ◌==◌, Option}
+use Rattle.std.specs.Prelude.{Some, None, if◌then◌else◌, map, take, drop, slice_get}
 use Rattle.std.specs.Borrow.{Bor}
 use Rattle.std.specs.BTreeMap.{BTreeMap, get_by}
 use Rattle.std.specs.Cmp.Lexicographic.{slice_cmp}
+use Rattle.std.specs.List.{position_from}
 use Rattle.std.specs.Ordering.{nat_cmp}
+use Rattle.std.specs.Str.{bytes_eq}
 use Rattle.sedscript.specs.declared.targets.FirstLabel.{FirstLabel}
+use Rattle.sedscript.specs.declared.files.Files.{Files}
+use Rattle.sedscript.specs.declared.files.NumberedFiles.{NumberedFiles}
+use Rattle.sedscript.specs.declared.items.FileUse.{FileUse}
+use Rattle.sedscript.specs.declared.items.FileUse.TheVariants.{Read, Write}
 use Rattle.sedscript.specs.declared.items.Item.{Item}
 use Rattle.sedscript.specs.declared.items.Counts.{Counts}
 use Rattle.sedscript.specs.declared.items.Function.{Function}
+use Rattle.sedscript.specs.Files.{files_in}
 use Rattle.sedscript.specs.Targets.{is_label, counted, commands_in, is_open, is_close, close_in}
 
 -- the first item with a label of this name, and the number of the command behind it
@@ -29,7 +36,7 @@ is_earlier k None = false
 is_earlier k (Some l) = not (l.item == k)
 
 -- what the map has of a name
-abbrev pub labelled : BTreeMap (Bor (List ℕ)) FirstLabel → List ℕ → Option FirstLabel
+abbrev pub labelled : {V : Type 0} → BTreeMap (Bor (List ℕ)) V → List ℕ → Option V
 labelled m name = get_by (λ x. slice_cmp nat_cmp name x.now) m
 
 -- the map has the first label of each name
@@ -64,6 +71,35 @@ abbrev pub EndsFrom : List Item → ℕ → List (Option ℕ) → Type 0
 EndsFrom items from ends = (k : ℕ) (i : Item) →
     from ≤ k → slice_get items k ≡ Some i → is_open i.function ≡ true →
     slice_get ends k ≡ Some (close_in 0 (commands_in (take (k + 1) items)) (drop (k + 1) items))
+
+-- whether a name is one of these
+abbrev pub has : List ℕ → List (List ℕ) → Bool
+has name [] = false
+has name (n ∷ ns) = bytes_eq name n || has name ns
+
+-- the names with one more, where it is new
+abbrev pub with_name : List (List ℕ) → Option (List ℕ) → List (List ℕ)
+with_name names None = names
+with_name names (Some name) = if has name names then names else names ++ name ∷ []
+
+-- the map has the number of each of the names, counted from the first
+abbrev pub NumbersAre : ℕ → List (List ℕ) → BTreeMap (Bor (List ℕ)) ℕ → Type 0
+NumbersAre first names m = (name : List ℕ) → labelled m name ≡ position_from (bytes_eq name) first names
+
+-- where the numbers of files begin
+abbrev pub first_number : FileUse → ℕ
+first_number Read = 0
+first_number Write = 1
+
+-- the files that the items read, or write, and their numbers
+pub record AreNumbered (u : FileUse) (text : List ℕ) (items : List Item) (f : NumberedFiles) : Type 0 where
+  pub names : map (λ n. n.items) f.names.items ≡ files_in u text items
+  pub numbers : NumbersAre (first_number u) (files_in u text items) f.numbers
+
+-- the files that the items name
+pub record FilesAre (text : List ℕ) (items : List Item) (f : Files) : Type 0 where
+  pub read : AreNumbered Read text items f.read
+  pub written : AreNumbered Write text items f.written
 
 -- at most so many of each
 abbrev pub AtMost : ℕ → Counts → Type 0

@@ -9,8 +9,7 @@ use Rattle.sedscript.specs.declared.types.ScriptFault.{ScriptFault}
 use Rattle.sedscript.specs.declared.types.Reason.{Reason}
 use Rattle.sedscript.specs.declared.types.Reason.TheVariants.{UnknownLabel, RepeatedLabel, OpenBlock, StrayClose}
 use Rattle.sedscript.specs.declared.items.Function.{Function}
-use Rattle.sedscript.specs.declared.items.Function.TheVariants.{Plain, Open, Close, Label, Branch, Text, Comment}
-use Rattle.sedscript.specs.declared.items.Function.TheVariants.{Substitute, Transliterate}
+use Rattle.sedscript.specs.declared.items.Function.TheVariants.{Open, Close, Label, Branch, Comment}
 use Rattle.sedscript.specs.declared.items.Item.{Item}
 use Rattle.sedscript.specs.Bytes.{part}
 
@@ -19,12 +18,7 @@ abbrev pub leaves : Function → Bool
 leaves Close = false
 leaves (Label from to) = false
 leaves Comment = false
-leaves (Plain a) = true
-leaves Open = true
-leaves (Branch u from to) = true
-leaves (Text t from to) = true
-leaves (Substitute s e f) = true
-leaves (Transliterate s) = true
+leaves f = true
 
 -- how many commands there are with this item, with so many before it
 abbrev pub counted : ℕ → Item → ℕ
@@ -38,14 +32,7 @@ commands_in (i ∷ is) = if leaves i.function then suc (commands_in is) else com
 -- whether the function is a label of this name
 abbrev pub is_label : List ℕ → List ℕ → Function → Bool
 is_label text name (Label from to) = bytes_eq (part text from to) name
-is_label text name Open = false
-is_label text name Close = false
-is_label text name Comment = false
-is_label text name (Plain a) = false
-is_label text name (Branch u from to) = false
-is_label text name (Text t from to) = false
-is_label text name (Substitute s e f) = false
-is_label text name (Transliterate s) = false
+is_label text name f = false
 
 -- the number of the command behind the first label of this name, with so many commands before the items
 abbrev pub label_in : List ℕ → List ℕ → ℕ → List Item → Option ℕ
@@ -54,25 +41,11 @@ label_in text name n (i ∷ is) = if is_label text name i.function then Some n e
 
 abbrev pub is_open : Function → Bool
 is_open Open = true
-is_open Close = false
-is_open Comment = false
-is_open (Plain a) = false
-is_open (Label from to) = false
-is_open (Branch u from to) = false
-is_open (Text t from to) = false
-is_open (Substitute s e f) = false
-is_open (Transliterate s) = false
+is_open f = false
 
 abbrev pub is_close : Function → Bool
 is_close Close = true
-is_close Open = false
-is_close Comment = false
-is_close (Plain a) = false
-is_close (Label from to) = false
-is_close (Branch u from to) = false
-is_close (Text t from to) = false
-is_close (Substitute s e f) = false
-is_close (Transliterate s) = false
+is_close f = false
 
 -- how many blocks are open behind a function, with so many before it
 abbrev pub depth_behind : ℕ → Function → ℕ
@@ -102,11 +75,7 @@ late_at text all before depth after place (Label from to) =
     fault_if (is_some (label_in text (part text from to) 0 before)) RepeatedLabel place
 late_at text all before depth after place (Branch u from to) =
     fault_if (not (from == to) && is_none (label_in text (part text from to) 0 all)) UnknownLabel place
-late_at text all before depth after place (Plain a) = None
-late_at text all before depth after place (Text t from to) = None
-late_at text all before depth after place (Substitute s e f) = None
-late_at text all before depth after place (Transliterate s) = None
-late_at text all before depth after place Comment = None
+late_at text all before depth after place f = None
 
 abbrev pub late_in : List ℕ → List Item → List Item → ℕ → List Item → Option ScriptFault
 late_in text all before depth [] = None

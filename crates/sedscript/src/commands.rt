@@ -1,16 +1,20 @@
 //! The commands and texts that the items leave.
 
-ghost use Rattle.std.specs.Prelude.{◌≡◌, ◌<◌, ◌≤◌, ◌+◌, ◌-◌, ◌++◌, ℕ, [], Some, false, map, length, drop, take};
+ghost use Rattle.std.specs.Prelude.{◌≡◌, ◌<◌, ◌≤◌, ◌+◌, ◌-◌, ◌++◌, ℕ, List, [], Some, false, map, length, drop, take};
 ghost use Rattle.std.specs.Prelude.{slice_get, IfOk, OnOk};
 ghost use Rattle.sedscript.specs.Bytes.{part};
-ghost use Rattle.sedscript.specs.Tables.{TargetsAre, AtMost};
-ghost use Rattle.sedscript.specs.Script.{none_counted, counts_with, simple_action, text_action, branch_action};
+ghost use Rattle.sedscript.specs.Tables.{TargetsAre, FilesAre, AtMost};
+ghost use Rattle.sedscript.specs.Script.{none_counted, counts_with, simple_action, text_action, branch_action, file_action, sink_of};
 ghost use Rattle.sedscript.specs.Script.{action_of, with_action};
 ghost use Rattle.sedscript.specs.Script.{commands_of, texts_of, substitution_of, substitutions_of, tables_of};
 ghost use Rattle.sedscript.specs.Script.{unescaped_from, is_quiet};
+ghost use Rattle.sedscript.specs.declared.items.Item.{Item};
 
 use crate::bytes::part;
-use crate::items::{Addresses, BranchUse, Counts, Flags, Function, Item, Simple, Strings, TextUse};
+use crate::files::Files;
+use crate::items::{
+    Addresses, BranchUse, Counts, FileUse, Flags, Function, Item, Simple, Strings, TextUse,
+};
 use crate::replacement::parts_of;
 use crate::strings::second_of;
 use crate::substitution::{Replacement, Substitution};
@@ -57,6 +61,10 @@ fn simple_action(simple: Simple) -> Action
         Simple::Hold => Action::Hold,
         Simple::HoldMore => Action::HoldMore,
         Simple::Exchange => Action::Exchange,
+        Simple::NextLine => Action::NextLine,
+        Simple::AppendNext => Action::AppendNext,
+        Simple::DeleteFirst => Action::DeleteFirst,
+        Simple::List => Action::List,
     }
 }
 
@@ -64,6 +72,7 @@ fn text_action(text_use: TextUse, k: usize) -> Action
     ensures { result ≡ text_action text_use k }
 {
     match text_use {
+        TextUse::Append => Action::Append(k),
         TextUse::Insert => Action::Insert(k),
         TextUse::Change => Action::Change(k),
     }
@@ -78,17 +87,28 @@ fn branch_action(branch_use: BranchUse, to: usize) -> Action
     }
 }
 
+fn file_action(file_use: FileUse, number: usize) -> Action
+    ensures { result ≡ file_action file_use number }
+{
+    match file_use {
+        FileUse::Read => Action::ReadFile(number),
+        FileUse::Write => Action::WriteFile(number),
+    }
+}
+
 /// What the item of an index does, with what is counted before it. None where it leaves no command.
 fn action_of<'a>(
     text: &'a [u8],
     items: &[Item],
     targets: &Targets<'a>,
+    files: &Files<'a>,
     k: usize,
     counts: Counts,
     item: Item,
 ) -> Option<Action>
     requires item { slice_get items.now k ≡ Some item }
     requires targets { TargetsAre text.now items.now targets.now.labels targets.now.ends.items targets.now.commands }
+    requires files { FilesAre text.now items.now files.now }
     ensures { result ≡ action_of text.now items.now (take k items.now) counts (drop (k + 1) items.now) item.function }
 {
     match item.function {
@@ -102,6 +122,9 @@ fn action_of<'a>(
             }
         }
         Function::Text(text_use, _, _) => Some(text_action(text_use, counts.texts)),
+        Function::File(file_use, from, to) => {
+            Some(file_action(file_use, files.number(file_use, part(text, from, to))))
+        }
         Function::Substitute(..) => Some(Action::Substitute(counts.substitutions)),
         Function::Transliterate(_) => Some(Action::Transliterate(counts.tables)),
         Function::Close | Function::Label(..) | Function::Comment => None,
@@ -138,8 +161,10 @@ pub fn commands_of<'a>(
     text: &'a [u8],
     items: &[Item],
     targets: &Targets<'a>,
+    files: &Files<'a>,
 ) -> Result<Vec<Command>, AllocError>
     requires targets { TargetsAre text.now items.now targets.now.labels targets.now.ends.items targets.now.commands }
+    requires files { FilesAre text.now items.now files.now }
     ensures { IfOk result (λ v. v.items ≡ commands_of text.now items.now [] none_counted items.now) }
 {
     let mut commands = Vec::new(alloc);
@@ -154,7 +179,7 @@ pub fn commands_of<'a>(
         add_command(
             &mut commands,
             item,
-            action_of(text, items, targets, k, counts, item),
+            action_of(text, items, targets, files, k, counts, item),
         )?;
         counts = counts_with(counts, item.function);
         k += 1;
@@ -197,15 +222,28 @@ pub fn texts_of(alloc: Global, text: &[u8], items: &[Item]) -> Result<Vec<Vec<u8
     Ok(texts)
 }
 
+/// The sink that the flag `w` names, where it stands.
+fn sink_of<'a>(text: &'a [u8], files: &Files<'a>, name: Option<(usize, usize)>) -> Option<usize>
+    ensures { (items : List Item) →
+        FilesAre text.now items files.now → result ≡ sink_of text.now items name }
+{
+    match name {
+        None => None,
+        Some((from, to)) => Some(files.number(FileUse::Write, part(text, from, to))),
+    }
+}
+
 /// The substitution of an `s`.
-fn substitution_of(
+fn substitution_of<'a>(
     alloc: Global,
-    text: &[u8],
+    text: &'a [u8],
+    files: &Files<'a>,
     strings: Strings,
     expression: Option<usize>,
     flags: Flags,
 ) -> Result<Substitution, AllocError>
-    ensures { IfOk result (λ s. s ≡ substitution_of text.now strings expression flags) }
+    ensures { IfOk result (λ s. (items : List Item) →
+        FilesAre text.now items files.now → s ≡ substitution_of text.now items strings expression flags) }
 {
     let parts = parts_of(alloc, second_of(text, strings), strings.delimiter)?;
     Ok(Substitution {
@@ -214,22 +252,25 @@ fn substitution_of(
         number: flags.number.unwrap_or(1),
         global: flags.global,
         print: flags.print,
+        file: sink_of(text, files, flags.file),
     })
 }
 
 /// The substitutions of the items, in their order.
-pub fn substitutions_of(
+pub fn substitutions_of<'a>(
     alloc: Global,
-    text: &[u8],
+    text: &'a [u8],
     items: &[Item],
+    files: &Files<'a>,
 ) -> Result<Vec<Substitution>, AllocError>
-    ensures { IfOk result (λ v. v.items ≡ substitutions_of text.now items.now) }
+    requires { FilesAre text.now items.now files.now }
+    ensures { IfOk result (λ v. v.items ≡ substitutions_of text.now items.now items.now) }
 {
     let mut substitutions = Vec::new(alloc);
     let mut k = 0;
     'items: while k < items.len() {
         if let Function::Substitute(strings, expression, flags) = items[k].function {
-            substitutions.push(substitution_of(alloc, text, strings, expression, flags)?)?;
+            substitutions.push(substitution_of(alloc, text, files, strings, expression, flags)?)?;
         }
         k += 1;
     }

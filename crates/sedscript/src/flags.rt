@@ -1,11 +1,12 @@
 //! The flags of `s`.
 
-ghost use Rattle.std.specs.Prelude.{◌≡◌, ◌≤◌, ◌<◌, length, drop, false, slice_index, IfOk};
-ghost use Rattle.sedscript.specs.Flags.{no_flags, ends_flags, with_number, with_flag, flags_from};
+ghost use Rattle.std.specs.Prelude.{◌≡◌, ◌≤◌, ◌<◌, ◌+◌, length, drop, false, slice_index, IfOk};
+ghost use Rattle.sedscript.specs.Flags.{no_flags, ends_flags, with_number, with_flag, with_file, flags_from};
+ghost use Rattle.sedscript.specs.Functions.{name_from};
 ghost use Rattle.sedscript.specs.Answers.{with_rest};
 
 use crate::bytes::{Sort, is_blank, is_digit, number_of, part, past};
-use crate::functions::may_end;
+use crate::functions::{may_end, name_from};
 use crate::items::Flags;
 use crate::types::{Reason, ScriptFault};
 
@@ -59,17 +60,40 @@ fn with_flag(flags: Flags, at: usize, b: u8) -> Result<Flags, ScriptFault>
     }
 }
 
+/// The flags with the file of the `w` at a place, and the place after its name.
+fn with_file(text: &[u8], flags: Flags, at: usize) -> Result<(Flags, usize), ScriptFault>
+    requires { at < length text.now }
+    ensures is { result ≡ with_file flags at (name_from text.now (at + 1)) }
+    ensures within { IfOk result (λ next. (at < next.1) × (next.1 ≤ length text.now)) }
+{
+    match name_from(text, at + 1) {
+        None => Err(ScriptFault {
+            place: at,
+            reason: Reason::MissingName,
+        }),
+        Some(name) => Ok((
+            Flags {
+                file: Some(name),
+                ..flags
+            },
+            name.1,
+        )),
+    }
+}
+
 /// The flags with the one that begins at a place, and the place behind it.
 fn flag_at(text: &[u8], flags: Flags, at: usize) -> Result<(Flags, usize), ScriptFault>
     requires inside { at < length text.now }
     requires flag { ends_flags (slice_index text.now at) ≡ false }
-    ensures is { flags_from flags 0 at (drop at text.now) ≡ with_rest text.now result }
+    ensures is { flags_from text.now flags 0 at (drop at text.now) ≡ with_rest text.now result }
     ensures within { IfOk result (λ next. (at < next.1) × (next.1 ≤ length text.now)) }
 {
     let b = text[at];
     if is_digit(b) {
         let to = past(Sort::Digit, text, at);
         Ok((with_number(flags, at, part(text, at, to))?, to))
+    } else if b == b'w' {
+        with_file(text, flags, at)
     } else {
         Ok((with_flag(flags, at, b)?, at + 1))
     }
@@ -78,13 +102,14 @@ fn flag_at(text: &[u8], flags: Flags, at: usize) -> Result<(Flags, usize), Scrip
 /// The flags from a place on, and the place behind them.
 pub fn flags_at(text: &[u8], from: usize) -> Result<(Flags, usize), ScriptFault>
     requires { from ≤ length text.now }
-    ensures is { result ≡ flags_from no_flags 0 from (drop from text.now) }
+    ensures is { result ≡ flags_from text.now no_flags 0 from (drop from text.now) }
     ensures within { IfOk result (λ found. (from ≤ found.1) × (found.1 ≤ length text.now)) }
 {
     let mut flags = Flags {
         number: None,
         global: false,
         print: false,
+        file: None,
     };
     let mut at = from;
     'flags: while at < text.len() && !ends_flags(text[at]) {

@@ -1,12 +1,14 @@
-//! Functions: a letter and what follows it.
+//! What follows the letters of all functions but `s` and `y`.
 
-ghost use Rattle.std.specs.Prelude.{◌≡◌, ◌≤◌, ◌<◌, ◌+◌, length, slice_get, Some, IfOk};
+ghost use Rattle.std.specs.Prelude.{◌≡◌, ◌≤◌, ◌<◌, ◌+◌, length, IfOk, IfSome};
 ghost use Rattle.sedscript.specs.Bytes.{past};
-ghost use Rattle.sedscript.specs.Functions.{may_end, ended, most_addresses, label_of, branch_of, function_of, text_of};
-ghost use Rattle.sedscript.specs.Functions.{text_from, given, allowed};
+ghost use Rattle.sedscript.specs.Letters.{verb_of};
+ghost use Rattle.sedscript.specs.Functions.{may_end, ended, label_of, branch_of, text_of, text_from, name_from, file_of};
+ghost use Rattle.sedscript.specs.Functions.{given, allowed};
 
 use crate::bytes::{Sort, byte_at, past};
-use crate::items::{Addresses, BranchUse, Function, Simple, TextUse};
+use crate::items::{Addresses, BranchUse, FileUse, Function, TextUse};
+use crate::letters::{Verb, most_addresses, verb_of};
 use crate::texts::text_from;
 use crate::types::{Address, Reason, ScriptFault};
 
@@ -38,7 +40,7 @@ pub fn ended(text: &[u8], function: Function, at: usize) -> Result<(Function, us
 }
 
 /// The label whose `:` stands at a place and whose name begins at another.
-fn label_of(text: &[u8], place: usize, from: usize) -> Result<(Function, usize), ScriptFault>
+pub fn label_of(text: &[u8], place: usize, from: usize) -> Result<(Function, usize), ScriptFault>
     requires { from ≤ length text.now }
     ensures is { result ≡ label_of text.now place from }
     ensures within { IfOk result (λ found. (from ≤ found.1) × (found.1 ≤ length text.now)) }
@@ -55,7 +57,7 @@ fn label_of(text: &[u8], place: usize, from: usize) -> Result<(Function, usize),
 }
 
 /// The branch whose label begins at a place.
-fn branch_of(
+pub fn branch_of(
     text: &[u8],
     branch_use: BranchUse,
     from: usize,
@@ -69,7 +71,7 @@ fn branch_of(
 }
 
 /// The function whose letter stands at a place and whose text follows.
-fn text_of(text: &[u8], text_use: TextUse, at: usize) -> Result<(Function, usize), ScriptFault>
+pub fn text_of(text: &[u8], text_use: TextUse, at: usize) -> Result<(Function, usize), ScriptFault>
     requires { at < length text.now }
     ensures is { result ≡ text_of text_use at (text_from text.now (past Sort.Blank text.now (at + 1))) }
     ensures within { IfOk result (λ found. (at < found.1) × (found.1 ≤ length text.now)) }
@@ -83,63 +85,30 @@ fn text_of(text: &[u8], text_use: TextUse, at: usize) -> Result<(Function, usize
     }
 }
 
-/// The function of a letter that stands at a place, and the place behind it.
-#[tactic(auto, unfolding(crate::specs::Functions::function_of))]
-pub fn function_of(text: &[u8], letter: u8, at: usize) -> Result<(Function, usize), ScriptFault>
-    requires { slice_get text.now at ≡ Some letter }
-    ensures is { result ≡ function_of text.now letter at }
-    ensures within { IfOk result (λ found. (at < found.1) × (found.1 ≤ length text.now)) }
+/// Where the name of a file begins and ends, from the place after its letter on. None where it is missing.
+#[tactic(auto, unfolding(crate::specs::Functions::name_from))]
+pub fn name_from(text: &[u8], at: usize) -> Option<(usize, usize)>
+    requires { at ≤ length text.now }
+    ensures is { result ≡ name_from text.now at }
+    ensures bounds { IfSome result (λ name. (at ≤ name.0) × (name.0 ≤ name.1) × (name.1 ≤ length text.now)) }
 {
-    match letter {
-        b'{' => Ok((Function::Open, at + 1)),
-        b'}' => ended(text, Function::Close, at + 1),
-        b'#' => Ok((Function::Comment, past(Sort::Line, text, at + 1))),
-        b':' => label_of(text, at, past(Sort::Blank, text, at + 1)),
-        b'b' => branch_of(text, BranchUse::Always, past(Sort::Blank, text, at + 1)),
-        b't' => branch_of(text, BranchUse::IfReplaced, past(Sort::Blank, text, at + 1)),
-        b'i' => text_of(text, TextUse::Insert, at),
-        b'c' => text_of(text, TextUse::Change, at),
-        b'=' => ended(text, Function::Plain(Simple::LineNumber), at + 1),
-        b'd' => ended(text, Function::Plain(Simple::Delete), at + 1),
-        b'p' => ended(text, Function::Plain(Simple::Print), at + 1),
-        b'P' => ended(text, Function::Plain(Simple::PrintFirst), at + 1),
-        b'q' => ended(text, Function::Plain(Simple::Quit), at + 1),
-        b'g' => ended(text, Function::Plain(Simple::CopyHold), at + 1),
-        b'G' => ended(text, Function::Plain(Simple::AppendHold), at + 1),
-        b'h' => ended(text, Function::Plain(Simple::Hold), at + 1),
-        b'H' => ended(text, Function::Plain(Simple::HoldMore), at + 1),
-        b'x' => ended(text, Function::Plain(Simple::Exchange), at + 1),
-        _ => Err(ScriptFault {
-            place: at,
-            reason: Reason::UnknownCommand,
-        }),
-    }
+    let from = past(Sort::Blank, text, at);
+    let to = past(Sort::Line, text, from);
+    if to == from { None } else { Some((from, to)) }
 }
 
-/// The most addresses of a letter's function, none where the letter has no function.
-fn most_addresses(letter: u8) -> Option<usize>
-    ensures { result ≡ most_addresses letter }
+/// The function whose letter stands at a place and that reads or writes the file whose name follows.
+pub fn file_of(text: &[u8], file_use: FileUse, at: usize) -> Result<(Function, usize), ScriptFault>
+    requires { at < length text.now }
+    ensures is { result ≡ file_of file_use at (name_from text.now (at + 1)) }
+    ensures within { IfOk result (λ found. (at < found.1) × (found.1 ≤ length text.now)) }
 {
-    match letter {
-        b':' | b'}' | b'#' => Some(0),
-        b'q' => Some(1),
-        b'='
-        | b'b'
-        | b'c'
-        | b'd'
-        | b'g'
-        | b'G'
-        | b'h'
-        | b'H'
-        | b'i'
-        | b'p'
-        | b'P'
-        | b's'
-        | b't'
-        | b'x'
-        | b'y'
-        | b'{' => Some(2),
-        _ => None,
+    match name_from(text, at + 1) {
+        None => Err(ScriptFault {
+            place: at,
+            reason: Reason::MissingName,
+        }),
+        Some((from, to)) => Ok((Function::File(file_use, from, to), to)),
     }
 }
 
@@ -152,17 +121,17 @@ fn given(address: Option<Address>) -> usize
     }
 }
 
-/// The letter at a place, where it may stand behind these addresses.
-pub fn allowed(addresses: Addresses, letter: u8, at: usize) -> Result<u8, ScriptFault>
-    ensures is { result ≡ allowed addresses letter at (most_addresses letter) }
-    ensures same { IfOk result (λ b. b ≡ letter) }
+/// The function of a letter at a place, where it may stand after these addresses.
+pub fn allowed(addresses: Addresses, letter: u8, at: usize) -> Result<Verb, ScriptFault>
+    ensures { result ≡ allowed addresses at (verb_of letter) }
 {
-    match most_addresses(letter) {
+    match verb_of(letter) {
         None => Err(ScriptFault {
             place: at,
             reason: Reason::UnknownCommand,
         }),
-        Some(most) => {
+        Some(verb) => {
+            let most = most_addresses(verb);
             if addresses.negate && most == 0 {
                 Err(ScriptFault {
                     place: at,
@@ -174,7 +143,7 @@ pub fn allowed(addresses: Addresses, letter: u8, at: usize) -> Result<u8, Script
                     reason: Reason::TooManyAddresses,
                 })
             } else {
-                Ok(letter)
+                Ok(verb)
             }
         }
     }

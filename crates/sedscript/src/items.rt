@@ -25,24 +25,29 @@ pub struct Addresses {
     pub negate: bool,
 }
 
-/// The flags of `s`: a number where one stands, `g` and `p`.
+/// The flags of `s`: a number where one stands, `g` and `p`, and where the name stands that follows `w`.
 #[derive(Clone, Copy)]
 pub struct Flags {
     pub number: Option<u64>,
     pub global: bool,
     pub print: bool,
+    pub file: Option<(usize, usize)>,
 }
 
 /// The commands of one letter that need nothing more.
 #[derive(Clone, Copy)]
 pub enum Simple {
     AppendHold,
+    AppendNext,
     CopyHold,
     Delete,
+    DeleteFirst,
     Exchange,
     Hold,
     HoldMore,
     LineNumber,
+    List,
+    NextLine,
     Print,
     PrintFirst,
     Quit,
@@ -51,8 +56,18 @@ pub enum Simple {
 /// The commands that have a text.
 #[derive(Clone, Copy)]
 pub enum TextUse {
+    Append,
     Insert,
     Change,
+}
+
+/// What is done with a file.
+#[derive(Clone, Copy)]
+pub enum FileUse {
+    /// `r`
+    Read,
+    /// `w`
+    Write,
 }
 
 /// When a command that has a label goes there.
@@ -77,7 +92,7 @@ pub struct Strings {
 /// A function, as its letter and what follows say.
 #[derive(Clone, Copy)]
 pub enum Function {
-    /// `=`, `d`, `g`, `G`, `h`, `H`, `p`, `P`, `q` or `x`
+    /// `=`, `d`, `D`, `g`, `G`, `h`, `H`, `l`, `n`, `N`, `p`, `P`, `q` or `x`
     Plain(Simple),
     /// `{`
     Open,
@@ -87,8 +102,10 @@ pub enum Function {
     Label(usize, usize),
     /// `b` or `t` and a name, which is empty where there is none.
     Branch(BranchUse, usize, usize),
-    /// `i` or `c` and a text as it is written.
+    /// `a`, `i` or `c` and a text as it is written.
     Text(TextUse, usize, usize),
+    /// `r` or `w` and a name.
+    File(FileUse, usize, usize),
     /// `s`: its regular expression and its replacement, the number of the expression in the script (none for the empty
     /// one), and its flags.
     Substitute(Strings, Option<usize>, Flags),

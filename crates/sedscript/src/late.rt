@@ -53,6 +53,7 @@ fn late_at<'a>(
         }
         Function::Plain(_)
         | Function::Text(..)
+        | Function::File(..)
         | Function::Substitute(..)
         | Function::Transliterate(_)
         | Function::Comment => None,

@@ -16,12 +16,13 @@ pub fn no_fault()
     reads_as_one();
 }
 
-/// A text means the same commands, texts, substitutions and tables whenever it means a script, and is quiet or not.
+/// A text means the same commands, texts, substitutions, tables and files whenever it means a script, and is quiet or
+/// not.
 pub fn one_meaning()
     ensures { (text : List ℕ) (kind : Kind) (max_nodes : ℕ) (s t : Program) →
         Means text kind max_nodes s → Means text kind max_nodes t →
         (s.commands ≡ t.commands) × (s.texts ≡ t.texts) × (s.substitutions ≡ t.substitutions) × (s.tables ≡ t.tables)
-        × (s.quiet ≡ t.quiet) × (s.max_nodes ≡ t.max_nodes) }
+        × (s.rfiles ≡ t.rfiles) × (s.wfiles ≡ t.wfiles) × (s.quiet ≡ t.quiet) × (s.max_nodes ≡ t.max_nodes) }
 {
     reads_as_one();
 }

@@ -4,11 +4,12 @@ ghost use Rattle.std.specs.Prelude.{◌≡◌, ◌≤◌, ◌⊎◌, [], IfOk, I
 ghost use Rattle.sedscript.specs.Script.{Means, Faulty};
 ghost use Rattle.sedscript.specs.Answers.{IsJudged};
 ghost use Rattle.sedscript.specs.Parts.{IsNamed};
-ghost use Rattle.sedscript.specs.Tables.{TargetsAre};
+ghost use Rattle.sedscript.specs.Tables.{TargetsAre, FilesAre};
 ghost use Rattle.sedscript.specs.declared.types.ScriptFault.{ScriptFault};
 
 use crate::commands::{commands_of, is_quiet, substitutions_of, tables_of, texts_of};
 use crate::cut::cut;
+use crate::files::{Files, files_of};
 use crate::items::{Item, Source};
 use crate::late::late;
 use crate::script::{Named, Script};
@@ -45,19 +46,27 @@ fn judge<'a>(
 }
 
 /// What the commands of the items name by numbers.
-fn named_of(
+fn named_of<'a>(
     alloc: Global,
-    text: &[u8],
+    text: &'a [u8],
     items: &[Item],
     exprs: Vec<Expr>,
+    files: Files<'a>,
 ) -> Result<Named, AllocError>
+    requires { FilesAre text.now items.now files }
     ensures { IfOk result (IsNamed text.now items.now exprs.items) }
 {
+    let texts = texts_of(alloc, text, items)?;
+    let substitutions = substitutions_of(alloc, text, items, &files)?;
+    let tables = tables_of(alloc, text, items)?;
+    let Files { read, written } = files;
     Ok(Named {
         exprs,
-        texts: texts_of(alloc, text, items)?,
-        substitutions: substitutions_of(alloc, text, items)?,
-        tables: tables_of(alloc, text, items)?,
+        texts,
+        substitutions,
+        tables,
+        rfiles: read.names,
+        wfiles: written.names,
     })
 }
 
@@ -66,7 +75,7 @@ fn named_of(
 /// The work and the memory grow with the text, and for its regular expressions with `max_nodes`.
 ///
 /// # Errors
-/// The first fault from left to right (S1 to S9, S12, S15 to S18, S20 or S21, with its place). Where there is none, the
+/// The first fault from left to right (S1 to S9, S12 or S15 to S21, with its place). Where there is none, the
 /// fault of labels and blocks with the least place (S10, S11, S13 or S14). S22 at 0 where a request for memory was
 /// refused.
 pub fn read(alloc: Global, text: &[u8], kind: Kind, max_nodes: usize) -> Result<Script, ScriptFault>
@@ -89,11 +98,14 @@ pub fn read(alloc: Global, text: &[u8], kind: Kind, max_nodes: usize) -> Result<
     };
     match judge(&source, &mut items, &mut exprs) {
         Err(fault) => Err(fault),
-        Ok(targets) => match commands_of(alloc, text, &items, &targets) {
+        Ok(targets) => match files_of(alloc, text, &items) {
             Err(_) => Err(NO_MEMORY),
-            Ok(commands) => match named_of(alloc, text, &items, exprs) {
+            Ok(files) => match commands_of(alloc, text, &items, &targets, &files) {
                 Err(_) => Err(NO_MEMORY),
-                Ok(named) => Ok(Script::of(commands, named, is_quiet(text), max_nodes)),
+                Ok(commands) => match named_of(alloc, text, &items, exprs, files) {
+                    Err(_) => Err(NO_MEMORY),
+                    Ok(named) => Ok(Script::of(commands, named, is_quiet(text), max_nodes)),
+                },
             },
         },
     }

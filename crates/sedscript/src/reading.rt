@@ -1,8 +1,8 @@
 //! The items of a script: functions with their addresses.
 
 ghost use Rattle.std.specs.Prelude.{◌≡◌, ◌≤◌, ◌<◌, ◌+◌, Some, length, slice_get, IfOk};
-ghost use Rattle.sedscript.specs.Items.{substitute_at, substitute_with, function_with, function_at, function_behind};
-ghost use Rattle.sedscript.specs.Items.{item_at};
+ghost use Rattle.sedscript.specs.Items.{substitute_at, substitute_with, function_of, function_with, function_at};
+ghost use Rattle.sedscript.specs.Items.{function_behind, item_at};
 ghost use Rattle.sedscript.specs.Functions.{item_of};
 ghost use Rattle.sedscript.specs.Answers.{as_function, as_headed, as_here, ComesFrom, AreStrings, IsBehind, IsHere};
 
@@ -10,8 +10,9 @@ use crate::addresses::{addresses_at, with_bang};
 use crate::between::{substitute_strings, substituted, transliterate_at};
 use crate::bytes::{Sort, byte_at, past};
 use crate::expressions::expression_at;
-use crate::functions::{allowed, function_of};
+use crate::functions::{allowed, branch_of, ended, file_of, label_of, text_of};
 use crate::items::{Addresses, Function, Here, Item, Source, Strings};
+use crate::letters::{Shape, Verb};
 use crate::types::{Reason, ScriptFault};
 use sedre::Expr;
 
@@ -59,22 +60,42 @@ fn substitute_at(
     }
 }
 
+/// The function of a letter that stands at a place and is not `s`, and the place after it.
+fn function_of(text: &[u8], shape: Shape, at: usize) -> Result<(Function, usize), ScriptFault>
+    requires { at < length text.now }
+    ensures is { result ≡ function_of text.now shape at }
+    ensures within { IfOk result (λ found. (at < found.1) × (found.1 ≤ length text.now)) }
+{
+    match shape {
+        Shape::OpensBlock => Ok((Function::Open, at + 1)),
+        Shape::ClosesBlock => ended(text, Function::Close, at + 1),
+        Shape::Remark => Ok((Function::Comment, past(Sort::Line, text, at + 1))),
+        Shape::NamesLabel => label_of(text, at, past(Sort::Blank, text, at + 1)),
+        Shape::GoesTo(branch_use) => {
+            branch_of(text, branch_use, past(Sort::Blank, text, at + 1))
+        }
+        Shape::TakesText(text_use) => text_of(text, text_use, at),
+        Shape::NamesFile(file_use) => file_of(text, file_use, at),
+        Shape::TakesStrings => transliterate_at(text, at),
+        Shape::Alone(simple) => ended(text, Function::Plain(simple), at + 1),
+    }
+}
+
 /// The function of a letter that stands at a place, and the place behind it.
 fn function_with(
     source: &Source,
     exprs: &mut Vec<Expr>,
-    letter: u8,
+    verb: Verb,
     at: usize,
 ) -> Result<(Function, usize), ScriptFault>
-    requires { slice_get source.now.text.now at ≡ Some letter }
+    requires { at < length source.now.text.now }
     ensures comes { ComesFrom source.now exprs.old.items exprs.new.items as_function result
-        (function_with source.now.text.now (length exprs.old.items) letter at) }
+        (function_with source.now.text.now (length exprs.old.items) verb at) }
     ensures within { IfOk result (λ found. (at < found.1) × (found.1 ≤ length source.now.text.now)) }
 {
-    match letter {
-        b's' => substitute_at(source, exprs, at),
-        b'y' => transliterate_at(source.text, at),
-        _ => function_of(source.text, letter, at),
+    match verb {
+        Verb::ReadsExpression => substitute_at(source, exprs, at),
+        Verb::Reads(shape) => function_of(source.text, shape, at),
     }
 }
 
@@ -106,7 +127,7 @@ fn item_with(
 {
     match allowed(addresses, letter, at) {
         Err(fault) => Err(fault),
-        Ok(_) => match function_with(source, exprs, letter, at) {
+        Ok(verb) => match function_with(source, exprs, verb, at) {
             Err(fault) => Err(fault),
             Ok((function, next)) => Ok(item_of(addresses, at, function, next)),
         },

@@ -12,12 +12,16 @@ use std::marker::Model;
 pub(crate) struct Named {
     /// The regular expressions.
     pub exprs: Vec<Expr>,
-    /// The texts of `i` and `c`.
+    /// The texts of `a`, `i` and `c`.
     pub texts: Vec<Vec<u8>>,
     /// The substitutions of `s`.
     pub substitutions: Vec<Substitution>,
     /// The tables of `y`.
     pub tables: Vec<Vec<u8>>,
+    /// The names of the files that `r` reads.
+    pub rfiles: Vec<Vec<u8>>,
+    /// The names of the files that `w` and the flag `w` write.
+    pub wfiles: Vec<Vec<u8>>,
 }
 
 /// A script: its commands in order, and what they name by numbers.
@@ -103,7 +107,7 @@ impl Script {
     pub fn substitution(&self, k: usize) -> &Substitution
         requires { k < length self.now.substitutions }
         ensures is { slice_get self.now.substitutions k ≡ Some result.now }
-        ensures within { SubstitutionWithin (length self.now.expressions) result.now }
+        ensures within { SubstitutionWithin (sizes_of self.now) result.now }
     {
         &self.named.substitutions[k]
     }
@@ -115,6 +119,21 @@ impl Script {
         ensures whole { length result.now ≡ 256 }
     {
         &self.named.tables[k]
+    }
+
+    /// The names of the files that `r` reads: each once, in the order in which they first stand in the text.
+    pub fn rfiles(&self) -> &[Vec<u8>]
+        ensures { map (λ n. n.items) result.now ≡ self.now.rfiles }
+    {
+        &self.named.rfiles
+    }
+
+    /// The names of the files that `w` and the flag `w` write: each once, in the order in which they first stand in the
+    /// text. `/dev/stdout` isn't among them, since it is the standard output.
+    pub fn wfiles(&self) -> &[Vec<u8>]
+        ensures { map (λ n. n.items) result.now ≡ self.now.wfiles }
+    {
+        &self.named.wfiles
     }
 
     /// Whether the default output is suppressed.

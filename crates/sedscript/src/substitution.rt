@@ -77,4 +77,7 @@ pub struct Substitution {
     pub global: bool,
     /// `p`: the pattern space is written if a replacement was made.
     pub print: bool,
+    /// `w`: the sink that it is written to, after `p`, if a replacement was made: 0 is the standard output, and the files
+    /// that are written follow from 1 on.
+    pub file: Option<usize>,
 }

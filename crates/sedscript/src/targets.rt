@@ -33,6 +33,7 @@ pub fn leaves(function: Function) -> bool
             | Function::Open
             | Function::Branch(..)
             | Function::Text(..)
+            | Function::File(..)
             | Function::Substitute(..)
             | Function::Transliterate(_)
     )

@@ -1,4 +1,4 @@
-//! The texts of `i` and `c` as they are written.
+//! The texts of `a`, `i` and `c` as they are written.
 
 ghost use Rattle.std.specs.Prelude.{◌≡◌, ◌≤◌, ◌<◌, ◌+◌, length, drop, IfSome};
 ghost use Rattle.sedscript.specs.Functions.{text_end, stops, behind, text_from, ends_line};

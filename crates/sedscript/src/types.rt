@@ -20,6 +20,10 @@ pub enum Address {
 /// What a command does (XCU sed, "Editing Commands in sed"). `}`, `:` and `#` leave no command.
 #[derive(Clone, Copy, Debug, PartialEq, Eq)]
 pub enum Action {
+    /// `a`: queues the script's text of this number, counted from 0.
+    Append(usize),
+    /// `N`: appends a newline and the next line to the pattern space.
+    AppendNext,
     /// `{`: where it isn't selected, goes to the command of this number, which stands behind the closing brace.
     Block(usize),
     /// `b`: goes to the command of this number. The number of commands is the end of the script.
@@ -38,16 +42,26 @@ pub enum Action {
     Exchange,
     /// `d`: deletes the pattern space and starts the next cycle.
     Delete,
+    /// `D`: deletes the pattern space up to its first newline, and starts the next cycle without reading a line. Without
+    /// a newline it is `d`.
+    DeleteFirst,
     /// `i`: writes the script's text of this number, counted from 0.
     Insert(usize),
     /// `=`: writes the line number.
     LineNumber,
+    /// `l`: writes the pattern space in a form that shows each byte.
+    List,
+    /// `n`: writes the pattern space unless the default output is suppressed, and goes on with the next line in its
+    /// place.
+    NextLine,
     /// `p`: writes the pattern space.
     Print,
     /// `P`: writes the pattern space up to its first newline.
     PrintFirst,
     /// `q`: goes to the end of the script and quits.
     Quit,
+    /// `r`: queues the contents of the script's file of this number, counted from 0 among those that are read.
+    ReadFile(usize),
     /// `s`: makes the script's substitution of this number, counted from 0.
     Substitute(usize),
     /// `t`: goes to the command of this number if a substitution was made. The number of commands is the end of the
@@ -55,6 +69,9 @@ pub enum Action {
     Test(usize),
     /// `y`: replaces bytes by the script's table of this number, counted from 0.
     Transliterate(usize),
+    /// `w`: writes the pattern space to the sink of this number: 0 is the standard output, and the files that are
+    /// written follow from 1 on.
+    WriteFile(usize),
 }
 
 /// A command of a script.
@@ -109,6 +126,8 @@ pub enum Reason {
     RepeatedByte,
     /// S18: this backslash and the byte behind it stand for nothing.
     BadEscape,
+    /// S19: the name of a file is missing.
+    MissingName,
     /// S20: the regular expression has no group of this number.
     GroupAbsent,
     /// S21: a regular expression has this fault, with its place in the expression.
@@ -141,6 +160,7 @@ impl Reason {
             Reason::LengthsDiffer => 16,
             Reason::RepeatedByte => 17,
             Reason::BadEscape => 18,
+            Reason::MissingName => 19,
             Reason::GroupAbsent => 20,
             Reason::Expression(_) => 21,
             Reason::NoMemory => 22,
@@ -170,6 +190,7 @@ impl Reason {
             Reason::LengthsDiffer => "LengthsDiffer",
             Reason::RepeatedByte => "RepeatedByte",
             Reason::BadEscape => "BadEscape",
+            Reason::MissingName => "MissingName",
             Reason::GroupAbsent => "GroupAbsent",
             Reason::Expression(_) => "Expression",
             Reason::NoMemory => "NoMemory",

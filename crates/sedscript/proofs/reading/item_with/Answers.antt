@@ -3,16 +3,16 @@ use Rattle.sedscript.proofs.Coming.{item_fault, item_goes, item_comes, comes_err
 use Rattle.sedscript.proofs.reading.item_with.Goals as goal
 
 pub returns-in-Err-clause-comes : goal.returns-in-Err-clause-comes
-returns-in-Err-clause-comes c = item_fault c.args.source.now.text.now c.args.source.now.kind c.args.source.now.max_nodes (length c.args.exprs.now.items) c.args.letter c.args.at c.args.addresses c.in-Err.fault c.requires (sym c.in-Err.ensures.is)
+returns-in-Err-clause-comes c = item_fault c.args.source.now.text.now c.args.source.now.kind c.args.source.now.max_nodes (length c.args.exprs.now.items) c.args.letter c.args.at c.args.addresses c.in-Err.fault c.requires (sym c.in-Err.ensures)
 
 pub returns-in-Err-function_with-clause-comes : goal.returns-in-Err-function_with-clause-comes
 returns-in-Err-function_with-clause-comes c =
-    item_goes c.args.source.now.text.now c.args.source.now.kind c.args.source.now.max_nodes c.args.letter c.in-Ok.field-0 c.args.at c.args.addresses c.args.exprs.now.items c.function_with.new.exprs.items (Err c.in-Err-function_with.fault) c.requires
-    (sym c.in-Ok.ensures.is) c.in-Ok.ensures.same (comes_err c.args.source.now.text.now c.args.source.now.kind c.args.source.now.max_nodes _ _ c.in-Err-function_with.fault c.in-Err-function_with.ensures.comes)
+    item_goes c.args.source.now.text.now c.args.source.now.kind c.args.source.now.max_nodes c.args.letter c.args.at c.in-Ok.verb c.args.addresses c.args.exprs.now.items c.function_with.new.exprs.items (Err c.in-Err-function_with.fault) c.requires
+    (sym c.in-Ok.ensures) (comes_err c.args.source.now.text.now c.args.source.now.kind c.args.source.now.max_nodes _ _ c.in-Err-function_with.fault c.in-Err-function_with.ensures.comes)
 
 pub returns-in-Ok-function_with-clause-comes : goal.returns-in-Ok-function_with-clause-comes
 returns-in-Ok-function_with-clause-comes c =
-    item_goes c.args.source.now.text.now c.args.source.now.kind c.args.source.now.max_nodes c.args.letter c.in-Ok.field-0 c.args.at c.args.addresses c.args.exprs.now.items c.function_with.new.exprs.items (Ok c.item_of.result) c.requires
-    (sym c.in-Ok.ensures.is) c.in-Ok.ensures.same
-    (item_comes c.args.source.now.text.now c.args.source.now.kind c.args.source.now.max_nodes c.args.letter c.args.at c.args.addresses c.args.exprs.now.items c.function_with.new.exprs.items (c.in-Ok-function_with.function, c.in-Ok-function_with.next) c.item_of.result c.item_of.ensures
+    item_goes c.args.source.now.text.now c.args.source.now.kind c.args.source.now.max_nodes c.args.letter c.args.at c.in-Ok.verb c.args.addresses c.args.exprs.now.items c.function_with.new.exprs.items (Ok c.item_of.result) c.requires
+    (sym c.in-Ok.ensures)
+    (item_comes c.args.source.now.text.now c.args.source.now.kind c.args.source.now.max_nodes c.args.at c.in-Ok.verb c.args.addresses c.args.exprs.now.items c.function_with.new.exprs.items (c.in-Ok-function_with.function, c.in-Ok-function_with.next) c.item_of.result c.item_of.ensures
     c.in-Ok-function_with.ensures.comes)

@@ -1,0 +1,185 @@
+//! The files that a script names: tables that are made once, so that no name is compared with all earlier ones.
+
+ghost use Rattle.std.specs.Prelude.{◌≡◌, ◌≤◌, ◌<◌, ◌+◌, ℕ, List, Some, map, length, unwrap_or, is_some, IfOk, OnOk};
+ghost use Rattle.sedscript.specs.Files.{is_standard_output, is_file, name_in, file_at, number_in};
+ghost use Rattle.sedscript.specs.Tables.{labelled, with_name, first_number, NumbersAre, AreNumbered, FilesAre};
+ghost use Rattle.sedscript.specs.declared.items.Item.{Item};
+
+use crate::bytes::part;
+use crate::items::{FileUse, Function, Item};
+use std::alloc::{AllocError, Global};
+use std::collections::BTreeMap;
+
+/// The files that a script reads, or writes.
+#[derive(Drop)]
+pub struct NumberedFiles<'a> {
+    /// Their names, each once, in the order in which they first stand in the text.
+    pub names: Vec<Vec<u8>>,
+    /// The number of each.
+    pub numbers: BTreeMap<&'a [u8], usize>,
+}
+
+/// The files that a script names.
+#[derive(Drop)]
+pub struct Files<'a> {
+    /// Those of `r`.
+    pub read: NumberedFiles<'a>,
+    /// Those of `w` and of the flag `w`.
+    pub written: NumberedFiles<'a>,
+}
+
+/// What is written to this name goes to the standard output.
+const STANDARD_OUTPUT: &[u8] = b"/dev/stdout";
+
+/// Whether what is written to a name goes to the standard output.
+fn is_standard_output(name: &[u8]) -> bool
+    ensures { result ≡ is_standard_output name.now }
+{
+    name == STANDARD_OUTPUT
+}
+
+/// Whether a name is one of a file.
+fn is_file(file_use: FileUse, name: &[u8]) -> bool
+    ensures { result ≡ is_file file_use name.now }
+{
+    match file_use {
+        FileUse::Read => true,
+        FileUse::Write => !is_standard_output(name),
+    }
+}
+
+/// Where the name stands by which a function reads, or writes.
+fn name_in(file_use: FileUse, function: Function) -> Option<(usize, usize)>
+    ensures { result ≡ name_in file_use function }
+{
+    match (file_use, function) {
+        (FileUse::Read, Function::File(FileUse::Read, from, to)) => Some((from, to)),
+        (FileUse::Write, Function::File(FileUse::Write, from, to)) => Some((from, to)),
+        (FileUse::Write, Function::Substitute(_, _, flags)) => flags.file,
+        _ => None,
+    }
+}
+
+/// Where the numbers of files begin: 0 of those that are written is the standard output.
+fn first_number(file_use: FileUse) -> usize
+    ensures { result ≡ first_number file_use }
+{
+    match file_use {
+        FileUse::Read => 0,
+        FileUse::Write => 1,
+    }
+}
+
+/// Whether a name has a number.
+fn is_numbered<'a>(numbers: &BTreeMap<&'a [u8], usize>, name: &'a [u8]) -> bool
+    ensures { result ≡ is_some (labelled numbers.now name.now) }
+{
+    numbers.contains_key(&name)
+}
+
+/// Adds a name, where it is new.
+fn add_name<'a>(
+    alloc: Global,
+    names: &mut Vec<Vec<u8>>,
+    numbers: &mut BTreeMap<&'a [u8], usize>,
+    first: usize,
+    name: &'a [u8],
+) -> Result<(), AllocError>
+    requires { first + length names.old.items < usize.MAX }
+    ensures few { OnOk result (length names.new.items ≤ length names.old.items + 1) }
+    ensures added { OnOk result ((ns : List (List ℕ)) → map (λ n. n.items) names.old.items ≡ ns →
+        NumbersAre first ns numbers.old →
+        (map (λ n. n.items) names.new.items ≡ with_name ns (Some name.now))
+        × NumbersAre first (with_name ns (Some name.now)) numbers.new) }
+{
+    if is_numbered(numbers, name) {
+        return Ok(());
+    }
+    let number = first + names.len();
+    names.push(name.to_vec(alloc)?)?;
+    match numbers.insert(name, number) {
+        Ok(_) => Ok(()),
+        Err(_) => Err(AllocError),
+    }
+}
+
+/// Adds the name of a file between two places, where it is new.
+fn add_file<'a>(
+    alloc: Global,
+    text: &'a [u8],
+    file_use: FileUse,
+    names: &mut Vec<Vec<u8>>,
+    numbers: &mut BTreeMap<&'a [u8], usize>,
+    found: Option<(usize, usize)>,
+) -> Result<(), AllocError>
+    requires { first_number file_use + length names.old.items < usize.MAX }
+    ensures few { OnOk result (length names.new.items ≤ length names.old.items + 1) }
+    ensures added { OnOk result ((ns : List (List ℕ)) → map (λ n. n.items) names.old.items ≡ ns →
+        NumbersAre (first_number file_use) ns numbers.old →
+        (map (λ n. n.items) names.new.items ≡ with_name ns (file_at file_use text.now found))
+        × NumbersAre (first_number file_use) (with_name ns (file_at file_use text.now found)) numbers.new) }
+{
+    let Some((from, to)) = found else {
+        return Ok(());
+    };
+    let name = part(text, from, to);
+    if !is_file(file_use, name) {
+        return Ok(());
+    }
+    add_name(alloc, names, numbers, first_number(file_use), name)
+}
+
+/// The files that the items read, or write.
+fn numbered<'a>(
+    alloc: Global,
+    text: &'a [u8],
+    file_use: FileUse,
+    items: &[Item],
+) -> Result<NumberedFiles<'a>, AllocError>
+    ensures { IfOk result (λ files. AreNumbered file_use text.now items.now files) }
+{
+    let mut names = Vec::new(alloc);
+    let mut numbers = BTreeMap::new(alloc);
+    let mut k = 0;
+    'items: while k < items.len() {
+        let found = name_in(file_use, items[k].function);
+        add_file(alloc, text, file_use, &mut names, &mut numbers, found)?;
+        k += 1;
+    }
+    Ok(NumberedFiles { names, numbers })
+}
+
+/// The files that the items name.
+pub fn files_of<'a>(alloc: Global, text: &'a [u8], items: &[Item]) -> Result<Files<'a>, AllocError>
+    ensures { IfOk result (λ files. FilesAre text.now items.now files) }
+{
+    let read = numbered(alloc, text, FileUse::Read, items)?;
+    let written = numbered(alloc, text, FileUse::Write, items)?;
+    Ok(Files { read, written })
+}
+
+impl<'a> NumberedFiles<'a> {
+    /// The number of a file, 0 where it isn't one of these.
+    fn number(&self, name: &'a [u8]) -> usize
+        ensures { result ≡ unwrap_or (labelled self.now.numbers name.now) 0 }
+    {
+        self.numbers.get(&name).copied().unwrap_or(0)
+    }
+}
+
+impl<'a> Files<'a> {
+    /// The number of what is read, or written, by a name.
+    pub fn number(&self, file_use: FileUse, name: &'a [u8]) -> usize
+        ensures { (text : List ℕ) (items : List Item) →
+            FilesAre text items self.now → result ≡ number_in file_use text items name.now }
+    {
+        match file_use {
+            FileUse::Read => self.read.number(name),
+            FileUse::Write => if is_standard_output(name) {
+                0
+            } else {
+                self.written.number(name)
+            },
+        }
+    }
+}
