@@ -23,8 +23,3 @@ pub use counted::{Marks, Text};
 pub use laws::{found_law, groups_law, spans_law};
 pub use matcher::{Found, find, find_span, is_match};
 pub use scratch::Scratch;
-
-#[cfg(test)]
-mod cases;
-#[cfg(test)]
-mod tests;
