@@ -1,35 +1,38 @@
 -- What commands do are moves.
-use Rattle.std.proofs.Common.{◌≡◌, ℕ, ◌<◌, Bool, true, false, cond, List, [], ◌∷◌, ◌++◌, length, map, Option, Some, None, Result, Ok, Err, refl, subst, sym, ap, ◌∙◌, arith, length-append}
-use Rattle.std.specs.Prelude.{slice_get, slice_set, option_and_then}
+use Rattle.std.proofs.Common.{◌≡◌, ℕ, ◌<◌, ◌≤◌, Bool, true, false, cond, List, [], ◌∷◌, ◌++◌, length, map, Option, Some, None, Result, Ok, Err, refl, subst, sym, ap, ◌∙◌, arith, length-append}
+use Rattle.std.specs.Prelude.{slice_get, slice_set, option_and_then, ◌||◌}
+use Rattle.std.proofs.lemmas.Bool.{false≢true}
 use Rattle.std.proofs.lemmas.List.{length-map}
 use Rattle.sedscript.specs.declared.types.Command.{Command}
 use Rattle.sedscript.specs.declared.types.Action.{Action}
-use Rattle.sedscript.specs.declared.types.Action.TheVariants.{Block, Branch, Change, Delete, Insert, LineNumber, Print, Quit, Substitute, Test, Transliterate}
-use Rattle.sedscript.specs.declared.types.Action.TheVariants.{AppendHold, CopyHold, Exchange, Hold, HoldMore, PrintFirst}
+use Rattle.sedscript.specs.declared.types.Action.TheVariants.{Block}
 use Rattle.sedspace.specs.Stream.{Stream, TakesAtMost, left, lines_left}
 use Rattle.sedengine.specs.Limits.{Limits}
-use Rattle.sedengine.specs.State.{Task, begin, do_at, flush, State, Move, Setting}
+use Rattle.sedengine.specs.State.{Entry, Task, do_at, State, Move, Setting}
 use Rattle.sedengine.specs.Select.{Choice, selects}
-use Rattle.sedengine.specs.Move.{move, comes_to, performs, acts, passes, writing, quietly, then_do, none_left, in_table, is_active, tells_at}
-use Rattle.sedengine.specs.Ends.{Fits, comes, reads, asks_last}
+use Rattle.sedengine.specs.Move.{move, comes_to, performs, acts, passes, writing, quietly, queueing, then_do, none_left, in_table, is_active, tells_at}
+use Rattle.sedengine.specs.Ends.{Fits, comes, reads, asks_last, is_next, names_last}
 use Rattle.sedengine.specs.Held.{SameLengths}
 use Rattle.sedengine.specs.Devices.{Gained}
 use Rattle.sedengine.specs.Calls.{Puts}
 use Rattle.sedengine.specs.Run.{Run, at_lines, setting, size_of, starts_cycle}
 use Rattle.sedengine.specs.Choose.{Judges, as_choice, come_with, current}
-use Rattle.sedengine.specs.Steps.{ComesTo, Moves, Performs, Steps, TakesLines}
-use Rattle.sedengine.specs.Inside.{run_of, IsRun}
+use Rattle.sedengine.specs.Queueing.{QueuesOrFull, queued_more}
+use Rattle.sedengine.specs.Steps.{ComesTo, HasAction, Moves, Performs, PerformsSteps, Steps, TakesLines}
+use Rattle.sedengine.specs.Inside.{run_of, entry_by, entry_for, IsRun}
 use Rattle.sedengine.specs.declared.engine.Engine.TheInside.{Inside}
 use Rattle.sedengine.specs.declared.select.Chosen.{Chosen}
 use Rattle.sedengine.specs.declared.ends.Ended.{Ended}
-use Rattle.sedengine.specs.declared.ends.Ended.TheVariants.{Done, PatternFull, HoldFull, TurnsSpent, NoPrevious, InputBroken, OutputBroken}
-use Rattle.sedengine.proofs.Streams.{TakesAtMost-more}
-use Rattle.sedengine.proofs.Moves.{move_at, ran_once, ran_quietly, stopped_writing, moves_writing, Moves-then}
+use Rattle.sedengine.specs.declared.ends.Ended.TheVariants.{Done, PatternFull, HoldFull, QueueFull, TurnsSpent, NoPrevious, InputBroken, OutputBroken}
+use Rattle.sedengine.proofs.Streams.{TakesAtMost-more, lines_same}
+use Rattle.sedengine.proofs.Moves.{move_at, ran_quietly, stopped_here, moves_writing}
+use Rattle.sedengine.proofs.NextLines.{looked_moves, looked_then, none_taken}
 use Rattle.sedengine.proofs.Tasks.{fits_of, halts_here, comes_spent, steps_by_moves}
 
--- the engine whose pattern space is deleted, and which has these tasks
-abbrev pub deleted : Run → List Task → Run
-deleted e ts = record e { state = record e.state { pattern = []; tasks = ts } }
+-- what a command that takes no line does leaves the lines
+pub acts_here : {R : Type 0} (remaining : R → Option (List ℕ)) (old : Stream R) (ls : List (List ℕ)) (l : Limits) (g : Setting) (o : Option Move) (asks : Bool) (e e' : Run) (P : List (ℕ × ℕ) → Type 0) (r : Result Unit Ended) → lines_left remaining old ≡ Some ls →
+    Performs l g o (at_lines e ls) (at_lines e' ls) P r → PerformsSteps remaining old old ls l g o asks (at_lines e ls) e' P r
+acts_here {R} remaining old ls l g o asks e e' P r known h = λ s c asked first. looked_moves remaining old old ls l g s e' P r (lines_same remaining old ls known) c.lines (h s c first)
 
 -- the engine that goes on with these tasks
 abbrev pub going : Run → List Task → Run
@@ -42,12 +45,6 @@ tested e target goes = record e { state = cond goes (record e.state { tasks = do
 -- the engine whose pattern space was replaced by a table
 abbrev pub translated : Run → Option (List ℕ) → Run
 translated e table = record e { state = record e.state { pattern = map (in_table table) e.state.pattern } }
-
-deletes : (l : Limits) (g : Setting) (s m now : State) (old new : ℕ → Option (List ℕ)) (out : List (ℕ × ℕ)) (r : Result Unit Ended) → Fits l s → move g s ≡ writing out m → m.tasks ≡ flush ∷ begin ∷ [] → move g m ≡ quietly now →
-    Fits l m → Fits l now → SameLengths m now → s.lines ≡ now.lines → Puts (Gained old new) out r → Moves l g s now (Gained old new) r
-deletes l g s m now old new out (Ok u) f first tasks then f' f'' same lines put =
-    Moves-then l g s m now old new new (Ok tt) (ran_once l g s m old new out f first f' put) (ap starts_cycle tasks) (ran_quietly l g m now new f' then f'')
-deletes l g s m now old new out (Err end) f first tasks then f' f'' same lines put = stopped_writing l g s m now old new out end f first f' same lines put
 
 -- A command of an engine with the fields a that is seen as e.
 module _ (a : Inside) (e : Run) (seen : run_of a ≡ e) (i : IsRun a) (ls : List (List ℕ)) (g : Setting) (old new : ℕ → Option (List ℕ)) (o : Option Move) where
@@ -92,36 +89,22 @@ module _ (a : Inside) (e : Run) (seen : run_of a ≡ e) (i : IsRun a) (ls : List
       let long : length (map (in_table table) e.state.pattern) ≡ length e.state.pattern = length-map e.state.pattern (in_table table) in
       subst Q (sym same) (acts_leading (translated e table) (record { pattern = rw long fits.pattern; hold = fits.hold; queue = fits.queue; turns = fits.turns }) is)
 
-  -- one that deletes the pattern space
-  pub acts_deleting : (out : List (ℕ × ℕ)) (r : Result Unit Ended) (e' : Run) → e' ≡ deleted e (begin ∷ []) → o ≡ writing out (at_lines (deleted e (flush ∷ begin ∷ [])) ls) → Puts (Gained old new) out r →
-      Performs e.limits g o (at_lines e ls) (at_lines e' ls) (Gained old new) r
-  acts_deleting out r e' same is put =
-      let Q : Run → Type 0 = λ e'. Performs e.limits g o (at_lines e ls) (at_lines e' ls) (Gained old new) r in
-      let S : Run → Type 0 = λ e. o ≡ writing out (at_lines (deleted e (flush ∷ begin ∷ [])) ls) → Performs e.limits g o (at_lines e ls) (at_lines (deleted e (begin ∷ [])) ls) (Gained old new) r in
-      let f' : Fits a.limits (at_lines (deleted (run_of a) (flush ∷ begin ∷ [])) ls) = record { pattern = omega arith; hold = i.hold; queue = omega arith; turns = i.turns } in
-      let f'' : Fits a.limits (at_lines (deleted (run_of a) (begin ∷ [])) ls) = record { pattern = omega arith; hold = i.hold; queue = omega arith; turns = i.turns } in
-      subst Q (sym same) (subst S seen (λ is s c first. deletes a.limits g s (at_lines (deleted (run_of a) (flush ∷ begin ∷ [])) ls) (at_lines (deleted (run_of a) (begin ∷ [])) ls) old new out r c.fits (first ∙ is) refl
-      (move_at g _ (flush ∷ begin ∷ []) refl) f' f'' (record { pattern = refl; hold = refl; queue = refl }) c.lines put) is)
+  -- `a` and `r`: an entry is put into the queue, or there is no room for it
+  pub acts_queueing : (entry : Entry) (e' : Run) (r : Result Unit Ended) → o ≡ quietly (queueing entry (at_lines e ls)) → QueuesOrFull e e' entry r → Performs e.limits g o (at_lines e ls) (at_lines e' ls) (Gained old old) r
+  acts_queueing entry e' (Ok u) is (same, room) =
+      let Q : Run → Type 0 = λ e'. Performs e.limits g o (at_lines e ls) (at_lines e' ls) (Gained old old) (Ok tt) in
+      let more : length (e.state.queue ++ entry ∷ []) ≤ e.limits.queue = omega (arith, length-append e.state.queue (entry ∷ [])) in
+      subst Q (sym same) (acts_leading (queued_more e entry) (record { pattern = fits.pattern; hold = fits.hold; queue = more; turns = fits.turns }) is)
+  acts_queueing entry e' (Err (QueueFull n)) is (same, number, full) =
+      let Q : Run → Type 0 = λ e'. Performs e.limits g o (at_lines e ls) (at_lines e' ls) (Gained old old) (Err (QueueFull n)) in
+      let more : e.limits.queue < length (e.state.queue ++ entry ∷ []) = omega (arith, length-append e.state.queue (entry ∷ [])) in
+      subst Q (sym same) (λ s c first. stopped_here e.limits g s (at_lines e ls) old (QueueFull n) c.fits refl (number ∙ sym c.number, c.turn, (_, first ∙ is, more)) c.same c.lines)
+  acts_queueing entry e' (Err other) is h = absurd h
 
 -- what no `{` does that doesn't apply
 pub passes_other : (s : State) (action : Action) → ((behind : ℕ) → action ≡ Block behind → ⊥) → passes s action ≡ quietly s
 passes_other s (Block behind) h = absurd (h behind refl)
-passes_other s (Branch target) h = refl
-passes_other s (Change k) h = refl
-passes_other s Delete h = refl
-passes_other s (Insert k) h = refl
-passes_other s LineNumber h = refl
-passes_other s Print h = refl
-passes_other s Quit h = refl
-passes_other s (Substitute k) h = refl
-passes_other s (Test target) h = refl
-passes_other s (Transliterate k) h = refl
-passes_other s CopyHold h = refl
-passes_other s AppendHold h = refl
-passes_other s Hold h = refl
-passes_other s HoldMore h = refl
-passes_other s Exchange h = refl
-passes_other s PrintFirst h = refl
+passes_other s other h = refl
 
 -- a turn is left
 pub turn_left : (a : Inside) (e : Run) → run_of a ≡ e → IsRun a → (a.turns ≡ a.limits.turns → ⊥) → e.state.turns < e.limits.turns
@@ -141,10 +124,14 @@ pub steps_spent : {R : Type 0} (remaining : R → Option (List ℕ)) (old : Stre
 steps_spent {R} remaining old a e seen i files ls known sinks k t there spent =
     steps_by_moves remaining old ls e.limits (setting e files) e e (Gained sinks sinks) (Err TurnsSpent) known (comes_spent a e seen i files ls k t sinks there spent)
 
--- no line was taken where all are left
-none_taken : (xs ls : List (List ℕ)) → ls ≡ xs ++ ls → size_of xs ≡ 0
-none_taken [] ls h = refl
-none_taken (x ∷ xs) ls h = absurd (omega (arith, ap length h, length-append (x ∷ xs) ls))
+or_else : (x y : Bool) → y ≡ true → x || y ≡ true
+or_else true y h = refl
+or_else false y h = h
+
+-- an address `$` is one of the two that ask for the last line
+either : (x y : Bool) → x ≡ true → x || y ≡ true
+either true y h = refl
+either false y h = absurd (false≢true h)
 
 -- Coming to the command c, of number k, with a turn left; a are the fields of the engine, which is seen as e.
 module _ {R : Type 0} (remaining : R → Option (List ℕ)) (old new : Stream R) (a : Inside) (e : Run) (seen : run_of a ≡ e) (i : IsRun a) (files : ℕ → List ℕ) (ls : List (List ℕ)) (k : ℕ) (c : Command)
@@ -170,15 +157,11 @@ module _ {R : Type 0} (remaining : R → Option (List ℕ)) (old new : Stream R)
       stops : (end : Ended) → Judges (current e (none_left ls)) (is_active e.state k) c used (Err end) → Steps remaining old new ls e.limits (setting e files) e e (Gained sinks sinks) (Err end)
       stops (NoPrevious n) (without, number) =
           halts_here remaining old new e.limits (setting e files) (at_lines e ls) e sinks (NoPrevious n) here refl
-          (number, (λ _. turn_left a e seen i more), ap comes t, come_as None without) (record { pattern = refl; hold = refl; queue = refl }) (bytes_stay _)
+          (number, (λ _. turn_left a e seen i more), ap comes t, come_as None without) (record { pattern = refl; hold = refl; queue = λ _. refl; entries = omega arith }) (bytes_stay _)
       stops InputBroken h =
           halts_here remaining old new e.limits (setting e files) (at_lines e ls) e sinks InputBroken here refl
-          (ap (reads (setting e files)) t ∙ ap asks_last (command_seen a e k c seen is) ∙ h) (record { pattern = refl; hold = refl; queue = refl }) (bytes_stay _)
-      stops Done h = absurd h
-      stops (PatternFull n) h = absurd h
-      stops (HoldFull n) h = absurd h
-      stops TurnsSpent h = absurd h
-      stops (OutputBroken k) h = absurd h
+          (ap (reads (setting e files)) t ∙ ap asks_last (command_seen a e k c seen is) ∙ either (names_last c) (is_next c.action) h) (record { pattern = refl; hold = refl; queue = λ _. refl; entries = omega arith }) (bytes_stay _)
+      stops other h = absurd h
 
   -- The addresses chose.
   module _ (choice : Chosen) (used : Option ℕ) (e1 e2 : Run) (chose : selects (current e (none_left ls)) (is_active e.state k) c ≡ Some (as_choice choice used)) (came : e1 ≡ come_with e k (slice_set e.state.ranges k choice.active) used) where
@@ -199,18 +182,18 @@ module _ {R : Type 0} (remaining : R → Option (List ℕ)) (old new : Stream R)
       turn = λ _. turn_left a e seen i more;
       lines = refl;
       number = refl;
-      same = record { pattern = refl; hold = refl; queue = refl };
+      same = record { pattern = refl; hold = refl; queue = λ _. refl; entries = omega arith };
     }
 
-    -- the command applies
-    pub comes_acting : (P : List (ℕ × ℕ) → Type 0) (r : Result Unit Ended) (tells : Bool) → choice.yes ≡ true → tells ≡ tells_at c choice.end →
-        Performs e1.limits (setting e1 files) (acts (setting e1 files) (at_lines e1 ls) tells c.action) (at_lines e1 ls) (at_lines e2 ls) P r → Steps remaining old new ls e.limits (setting e files) e e2 P r
-    comes_acting P r tells chosen tells_is h =
-        let Q : Run → Type 0 = λ e1. Performs e1.limits (setting e1 files) (acts (setting e1 files) (at_lines e1 ls) tells c.action) (at_lines e1 ls) (at_lines e2 ls) P r in
+    -- the command applies; `to` is where the lines then stand
+    pub comes_acting : (to : Stream R) (P : List (ℕ × ℕ) → Type 0) (r : Result Unit Ended) (tells : Bool) → choice.yes ≡ true → tells ≡ tells_at c choice.end →
+        PerformsSteps remaining new to ls e1.limits (setting e1 files) (acts (setting e1 files) (at_lines e1 ls) tells c.action) (is_next c.action) (at_lines e1 ls) e2 P r → Steps remaining old to ls e.limits (setting e files) e e2 P r
+    comes_acting to P r tells chosen tells_is h =
+        let Q : Run → Type 0 = λ e1. PerformsSteps remaining new to ls e1.limits (setting e1 files) (acts (setting e1 files) (at_lines e1 ls) tells c.action) (is_next c.action) (at_lines e1 ls) e2 P r in
         let now : State = at_lines (come_with e k (slice_set e.state.ranges k choice.active) used) ls in
-        let S : Bool → Type 0 = λ b. Performs e.limits (setting e files) (acts (setting e files) now b c.action) now (at_lines e2 ls) P r in
+        let S : Bool → Type 0 = λ b. PerformsSteps remaining new to ls e.limits (setting e files) (acts (setting e files) now b c.action) (is_next c.action) now e2 P r in
         let there = subst S tells_is (subst Q came h) in
-        acted P r (there (at_lines e ls) here_comes (moves_as true chosen))
+        looked_then remaining old new to ls e.limits (setting e files) (at_lines e ls) e2 P r taken (there (at_lines e ls) here_comes (λ asks. ap (reads (setting e files)) t ∙ ap asks_last (command_seen a e k c seen is) ∙ or_else (names_last c) (is_next c.action) asks) (moves_as true chosen))
 
     -- it doesn't
     pub comes_passing : (sinks : ℕ → Option (List ℕ)) → choice.yes ≡ false →
@@ -219,3 +202,8 @@ module _ {R : Type 0} (remaining : R → Option (List ℕ)) (old new : Stream R)
         let Q : Run → Type 0 = λ e1. Performs e1.limits (setting e1 files) (passes (at_lines e1 ls) c.action) (at_lines e1 ls) (at_lines e2 ls) (Gained sinks sinks) (Ok tt) in
         let there = subst Q came h in
         acted (Gained sinks sinks) (Ok tt) (there (at_lines e ls) here_comes (moves_as false passed))
+
+-- the entry of a command that has this action
+pub entry_is : (texts : List (List ℕ)) (o : Option Command) (action : Action) → HasAction o action → entry_by texts o ≡ entry_for texts action
+entry_is texts None action h = absurd h
+entry_is texts (Some c) action h = ap (entry_for texts) h

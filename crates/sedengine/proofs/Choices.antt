@@ -13,7 +13,7 @@ use Rattle.sedengine.specs.Select.{Current, Answer, Choice, answer, on_idle, on_
 use Rattle.sedengine.specs.Choose.{deciding, deciding_in, decides, chosen, chosen_idle, chosen_active, as_choice, is_over, turned, yes_by_number, Answers, Judges}
 use Rattle.sedengine.specs.Ends.{is_dollar}
 use Rattle.sedengine.specs.declared.ends.Ended.{Ended}
-use Rattle.sedengine.specs.declared.ends.Ended.TheVariants.{Done, PatternFull, HoldFull, TurnsSpent, NoPrevious, InputBroken, OutputBroken}
+use Rattle.sedengine.specs.declared.ends.Ended.TheVariants.{Done, PatternFull, HoldFull, QueueFull, TurnsSpent, NoPrevious, InputBroken, OutputBroken}
 use Rattle.sedengine.specs.Run.{has_match, finds_in}
 use Rattle.sedengine.specs.declared.select.Chosen.{Chosen}
 
@@ -132,6 +132,7 @@ judges_err c a active command number used InputBroken same_active same h = decid
 judges_err c a active command number used Done same_active same h = h
 judges_err c a active command number used (PatternFull n) same_active same h = h
 judges_err c a active command number used (HoldFull n) same_active same h = h
+judges_err c a active command number used (QueueFull n) same_active same h = h
 judges_err c a active command number used TurnsSpent same_active same h = h
 judges_err c a active command number used (OutputBroken k) same_active same h = h
 

@@ -12,7 +12,7 @@ use Rattle.sedengine.specs.Holding.{BecomesOrFull}
 use Rattle.sedengine.specs.Inside.{run_of, IsRun}
 use Rattle.sedengine.specs.declared.engine.Engine.TheInside.{Inside}
 use Rattle.sedengine.specs.declared.ends.Ended.{Ended}
-use Rattle.sedengine.specs.declared.ends.Ended.TheVariants.{Done, PatternFull, HoldFull, TurnsSpent, NoPrevious, InputBroken, OutputBroken}
+use Rattle.sedengine.specs.declared.ends.Ended.TheVariants.{Done, PatternFull, HoldFull, QueueFull, TurnsSpent, NoPrevious, InputBroken, OutputBroken}
 use Rattle.sedengine.proofs.Moves.{stopped_here}
 use Rattle.sedengine.proofs.Tasks.{fits_of}
 use Rattle.sedengine.proofs.Acts.{acts_leading}
@@ -74,8 +74,4 @@ module _ (a : Inside) (e : Run) (seen : run_of a ≡ e) (i : IsRun a) (ls : List
       let Q : Run → Type 0 = λ e'. Performs e.limits g o (at_lines e ls) (at_lines e' ls) (Gained sinks sinks) (Err (HoldFull n)) in
       subst Q (sym same) (λ s c first. stopped_here e.limits g s (at_lines e ls) sinks (HoldFull n) c.fits refl
       (number ∙ sym c.number, c.turn, (_, first ∙ is, more)) c.same c.lines)
-  acts_growing pattern hold e' (Err Done) h is = absurd h
-  acts_growing pattern hold e' (Err TurnsSpent) h is = absurd h
-  acts_growing pattern hold e' (Err (NoPrevious n)) h is = absurd h
-  acts_growing pattern hold e' (Err InputBroken) h is = absurd h
-  acts_growing pattern hold e' (Err (OutputBroken k)) h is = absurd h
+  acts_growing pattern hold e' (Err other) h is = absurd h

@@ -3,7 +3,13 @@ pub mod Writing
 pub mod Streams
 pub mod Moves
 pub mod Runs
+pub mod Copies
+pub mod Entries
 pub mod Tasks
+pub mod Queueing
+pub mod Ending
+pub mod NextLines
+pub mod Deleting
 pub mod Substituting
 pub mod Choices
 pub mod Acts
@@ -11,5 +17,9 @@ pub mod Holding
 pub mod Occurrences
 pub mod Replacements
 pub mod Due
+pub mod ListingLemmas
 pub mod Examples
 pub mod OccurrenceExamples
+pub mod ListingExamples
+pub mod ListingLines
+pub mod ListingTokens

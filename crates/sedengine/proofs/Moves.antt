@@ -19,6 +19,10 @@ pub move_at : (g : Setting) (s : State) (ts : List Task) → s.tasks ≡ ts → 
 unfolding move
 move_at g s ts h = ap (first_task g s) h
 
+-- a state tells its own lengths
+pub same_self : (s : State) → SameLengths s s
+same_self s = record { pattern = refl; hold = refl; queue = λ goes. refl; entries = omega arith }
+
 -- no move, and one
 pub after_none : (g : Setting) (s : State) → after g s 0 ≡ s
 unfolding after
@@ -115,7 +119,7 @@ HoldsAt-add g s now t u (Some k) (inr h) =
     let at : after g s (suc (t + u)) ≡ after g (after g s t) (suc u) = rw (← add-suc) (after-add g s t (suc u)) in inr (rw at h)
 
 -- what a call does after the first t moves
-chain : (l : Limits) (g : Setting) (s now : State) (old mid new : ℕ → Option (List ℕ)) (t : ℕ) (r : Result Unit Ended) → Within l g s t → InOneCycle g s (t + 1) → Gained old mid (written g s t) →
+pub chain : (l : Limits) (g : Setting) (s now : State) (old mid new : ℕ → Option (List ℕ)) (t : ℕ) (r : Result Unit Ended) → Within l g s t → InOneCycle g s (t + 1) → Gained old mid (written g s t) →
     Moves l g (after g s t) now (Gained mid new) r → Moves l g s now (Gained old new) r
 chain l g s now old mid new t (Ok u) within one gained b = let some = b.some in record {
   t = t + b.t;
@@ -188,7 +192,7 @@ stopped_writing l g s next now old new out end f is n same lines (k, b, byte, en
 pub moves_writing : (l : Limits) (g : Setting) (s now : State) (old new : ℕ → Option (List ℕ)) (out : List (ℕ × ℕ)) (r : Result Unit Ended) → Fits l s → move g s ≡ writing out now → Fits l now → s.lines ≡ now.lines → Puts (Gained old new) out r →
     Moves l g s now (Gained old new) r
 moves_writing l g s now old new out (Ok u) f is n lines put = ran_once l g s now old new out f is n put
-moves_writing l g s now old new out (Err end) f is n lines put = stopped_writing l g s now now old new out end f is n (record { pattern = refl; hold = refl; queue = refl }) lines put
+moves_writing l g s now old new out (Err end) f is n lines put = stopped_writing l g s now now old new out end f is n (same_self now) lines put
 
 -- the end has come
 pub stopped_here : (l : Limits) (g : Setting) (s now : State) (sinks : ℕ → Option (List ℕ)) (end : Ended) → Fits l s → broken_sink end ≡ None → IsCause l g s end → SameLengths s now → s.lines ≡ now.lines → Stopped l g s now (Gained sinks sinks) end
@@ -198,3 +202,62 @@ stopped_here l g s now sinks end f none cause same lines =
     let here : SameLengths (after g s 0) now = rw after_none same in
     let H : Option ℕ → Type 0 = λ o. HoldsAt g s 0 now o in
     record { t = 0; cause = subst C (sym none) whole; holds = subst H (sym none) here; one = one_single g s; lines = ap (λ (x : State). x.lines) (after_none g s) ∙ lines }
+
+-- what is told of a state is told of one with the same spaces and the same queue
+same_as : (s m now : State) → m.pattern ≡ now.pattern → m.hold ≡ now.hold → m.queue ≡ now.queue → SameLengths s m → SameLengths s now
+same_as s m now p h q w =
+    let entries = w.entries in
+    let same = ap length q in
+    record {
+      pattern = ap length (sym p) ∙ w.pattern;
+      hold = ap length (sym h) ∙ w.hold;
+      queue = λ goes. ap length (sym q) ∙ w.queue goes;
+      entries = omega arith;
+    }
+
+holds_as : (g : Setting) (s : State) (t : ℕ) (m now : State) (o : Option ℕ) → m.pattern ≡ now.pattern → m.hold ≡ now.hold → m.queue ≡ now.queue → HoldsAt g s t m o → HoldsAt g s t now o
+holds_as g s t m now None p h q w = same_as (after g s t) m now p h q w
+holds_as g s t m now (Some k) p h q (inl w) = inl (same_as (after g s t) m now p h q w)
+holds_as g s t m now (Some k) p h q (inr w) = inr (same_as (after g s (suc t)) m now p h q w)
+
+pub Stopped-as : (l : Limits) (g : Setting) (s m now : State) (P : List (ℕ × ℕ) → Type 0) (end : Ended) → m.pattern ≡ now.pattern → m.hold ≡ now.hold → m.queue ≡ now.queue → m.lines ≡ now.lines →
+    Stopped l g s m P end → Stopped l g s now P end
+Stopped-as l g s m now P end p h q lines w = record {
+  t = w.t;
+  cause = w.cause;
+  holds = holds_as g s w.t m now (broken_sink end) p h q w.holds;
+  one = w.one;
+  lines = w.lines ∙ lines;
+}
+
+-- a move, and what a call does after it
+pub moves_then : (l : Limits) (g : Setting) (s m now : State) (old mid new : ℕ → Option (List ℕ)) (out : List (ℕ × ℕ)) (r : Result Unit Ended) → Fits l s → move g s ≡ writing out m → Fits l m → Gained old mid out → starts_cycle m.tasks ≡ false →
+    Moves l g m now (Gained mid new) r → Moves l g s now (Gained old new) r
+moves_then l g s m now old mid new out r f is f' gained goes h = Moves-then l g s m now old mid new r (ran_once l g s m old mid out f is f' gained) goes h
+
+pub quietly_then : (l : Limits) (g : Setting) (s m now : State) (old new : ℕ → Option (List ℕ)) (r : Result Unit Ended) → Fits l s → move g s ≡ quietly m → Fits l m → starts_cycle m.tasks ≡ false →
+    Moves l g m now (Gained old new) r → Moves l g s now (Gained old new) r
+quietly_then l g s m now old new r f is f' goes h = moves_then l g s m now old old new [] r f is f' (Gained-none old) goes h
+
+-- the states at which moves began, and to which they led, are within the limits
+fits_first : (l : Limits) (g : Setting) (s : State) (t : ℕ) → Within l g s t → Fits l s
+unfolding Within after
+fits_first l g s t w = w 0 (omega arith)
+
+fits_last : (l : Limits) (g : Setting) (s : State) (t : ℕ) → Within l g s t → Fits l (after g s t)
+unfolding Within
+fits_last l g s t w = w t (omega arith)
+
+pub ran_fits : (l : Limits) (g : Setting) (s now : State) (P : List (ℕ × ℕ) → Type 0) → Ran l g s now P → Fits l s
+ran_fits l g s now P h = fits_first l g s h.t h.within
+
+pub ran_fits_now : (l : Limits) (g : Setting) (s now : State) (P : List (ℕ × ℕ) → Type 0) → Ran l g s now P → Fits l now
+ran_fits_now l g s now P h = let Q : State → Type 0 = λ s. Fits l s in subst Q h.is (fits_last l g s h.t h.within)
+
+stopped_within : (l : Limits) (g : Setting) (s : State) (P : List (ℕ × ℕ) → Type 0) (end : Ended) (t : ℕ) (o : Option ℕ) → WholeOrCut l g s P end t o → Fits l s
+stopped_within l g s P end t None h = fits_first l g s t h.within
+stopped_within l g s P end t (Some k) h = fits_first l g s (suc t) h.within
+
+pub moves_fits : (l : Limits) (g : Setting) (s now : State) (P : List (ℕ × ℕ) → Type 0) (r : Result Unit Ended) → Moves l g s now P r → Fits l s
+moves_fits l g s now P (Ok u) h = ran_fits l g s now P h
+moves_fits l g s now P (Err end) h = stopped_within l g s P end h.t (broken_sink end) h.cause

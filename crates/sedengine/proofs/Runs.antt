@@ -11,13 +11,13 @@ use Rattle.sedengine.specs.Held.{HoldsAt, SameLengths}
 use Rattle.sedengine.specs.Run.{Run, setting, setting_of, at_lines, size_of, more_at, Takes, Ending, EndingInCycle, Cycled, InOneCycle, starts_cycle}
 use Rattle.sedengine.specs.Steps.{Ran, TakesLines, Halted, Steps, lost, KeepsRun}
 use Rattle.sedengine.specs.declared.ends.Ended.{Ended}
-use Rattle.sedengine.specs.declared.ends.Ended.TheVariants.{Done, PatternFull, HoldFull, TurnsSpent, NoPrevious, InputBroken, OutputBroken}
+use Rattle.sedengine.specs.declared.ends.Ended.TheVariants.{Done, PatternFull, HoldFull, QueueFull, TurnsSpent, NoPrevious, InputBroken, OutputBroken}
 use Rattle.sedengine.proofs.Gains.{Gained-append, Gained-none}
 use Rattle.sedengine.proofs.Streams.{TakesLines-then, TakesAtMost-then, TakesAtMost-more, source_takes, lines_same, size_of-append}
 use Rattle.sedengine.proofs.Moves.{after-add, written-add, Within-add, Cause-add, HoldsAt-add, InOneCycle-add, within_none, after_none, written_none}
 
 same_without : (s : State) (e : Run) (ls : List (List ℕ)) → SameLengths s (at_lines e ls) → SameLengths s e.state
-same_without s e ls h = record { pattern = h.pattern; hold = h.hold; queue = h.queue }
+same_without s e ls h = record { pattern = h.pattern; hold = h.hold; queue = h.queue; entries = h.entries }
 
 -- the lengths don't tell the lines
 pub without_lines : (g : Setting) (s : State) (t : ℕ) (e : Run) (ls : List (List ℕ)) (o : Option ℕ) → HoldsAt g s t (at_lines e ls) o → HoldsAt g s t e.state o
@@ -62,13 +62,9 @@ takes_of {R} remaining from to l g s t n m lines are gone shrinks ahead most = r
 }
 
 pub lost_more : (l : Limits) (end : Ended) → lost l end + l.look ≤ more_at l end
-lost_more l Done = omega arith
 lost_more l (PatternFull n) = omega arith
-lost_more l (HoldFull n) = omega arith
-lost_more l TurnsSpent = omega arith
-lost_more l (NoPrevious n) = omega arith
 lost_more l InputBroken = omega arith
-lost_more l (OutputBroken k) = omega arith
+lost_more l other = omega arith
 
 -- The run that began with the engine a and the lines `from`, and came to the engine e.
 module _ {R : Type 0} (remaining : R → Option (List ℕ)) (from at to : Stream R) (files : ℕ → List ℕ) (a : Run) (s : State) (e : Run) (old mid new : ℕ → Option (List ℕ)) (same : KeepsRun a e)

@@ -14,7 +14,7 @@ use Rattle.sedengine.specs.Ends.{any_left}
 use Rattle.sedengine.specs.Run.{size_of}
 use Rattle.sedengine.specs.Steps.{TakesLines}
 use Rattle.sedengine.specs.declared.ends.Ended.{Ended}
-use Rattle.sedengine.specs.declared.ends.Ended.TheVariants.{Done, PatternFull, HoldFull, TurnsSpent, NoPrevious, InputBroken, OutputBroken}
+use Rattle.sedengine.specs.declared.ends.Ended.TheVariants.{Done, PatternFull, HoldFull, QueueFull, TurnsSpent, NoPrevious, InputBroken, OutputBroken}
 
 -- there is no line only where there is no byte
 some_piece : (b : ℕ) (ps : List (List ℕ)) → 0 < length ps → without_empty_last (onto_first b ps) ≡ [] → ⊥
@@ -162,12 +162,7 @@ Reads-none {R} remaining failures reference a = record {
 unread : {T : Type 0} (n : ℕ) (r : Result T Ended) → (r ≡ Err InputBroken → ⊥) → FailedSource n n r
 unread {T} n (Ok x) h = refl
 unread {T} n (Err InputBroken) h = absurd (h refl)
-unread {T} n (Err Done) h = tt
-unread {T} n (Err (PatternFull k)) h = tt
-unread {T} n (Err (HoldFull k)) h = tt
-unread {T} n (Err TurnsSpent) h = tt
-unread {T} n (Err (NoPrevious k)) h = tt
-unread {T} n (Err (OutputBroken k)) h = tt
+unread {T} n (Err other) h = tt
 
 -- a call that reads nothing
 pub Reads-unread : {R T : Type 0} (remaining : R → Option (List ℕ)) (failures : R → ℕ) (reference : R → GName) (a : Stream R) (r : Result T Ended) → (r ≡ Err InputBroken → ⊥) → Reads remaining failures reference a a r
@@ -216,3 +211,7 @@ some_told (Some ms) ls last known told is =
     none_or_any : (ms : List (List ℕ)) (last : Bool) → TellsLast (Some ms) last → last ≡ false → any_left ms ≡ true
     none_or_any [] last told is = grind (arith, told)
     none_or_any (m ∷ ms) last told is = refl
+
+-- a call that may read, whatever it told
+pub Reads-told : {R T : Type 0} (remaining : R → Option (List ℕ)) (failures : R → ℕ) (reference : R → GName) (a b : Stream R) (x : T) → Reads remaining failures reference a b (Ok x) → Reads {T = Unit} remaining failures reference a b (Ok tt)
+Reads-told {R} {T} remaining failures reference a b x h = record { same_look = h.same_look; same_reference = h.same_reference; ahead = h.ahead; shrinks = h.shrinks; sound = h.sound; failed = h.failed }

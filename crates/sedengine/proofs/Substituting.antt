@@ -10,7 +10,7 @@ use Rattle.sedengine.specs.Limits.{Limits}
 use Rattle.sedengine.specs.State.{Task, begin, rebegin, do_at, print_pattern, empty_pattern, flush, copy, fetch, join, State, Move, Setting}
 use Rattle.sedengine.specs.Substitute.{Match, chosen, occurrences, replaced_from}
 use Rattle.sedengine.specs.Select.{stands_for}
-use Rattle.sedengine.specs.Move.{move, chosen_in, line_to, replaces, substitutes}
+use Rattle.sedengine.specs.Move.{move, chosen_in, line_to, line_to_file, replaces, substitutes, written_by}
 use Rattle.sedengine.specs.Ends.{Fits, Leads, comes, line_at}
 use Rattle.sedengine.specs.Held.{SameLengths}
 use Rattle.sedengine.specs.Devices.{Gained}
@@ -23,13 +23,15 @@ use Rattle.sedengine.specs.declared.engine.Engine.TheInside.{Inside}
 use Rattle.sedengine.specs.declared.place.Place.{Place}
 use Rattle.sedengine.specs.declared.place.Place.TheVariants as p
 use Rattle.sedengine.specs.declared.ends.Ended.{Ended}
-use Rattle.sedengine.specs.declared.ends.Ended.TheVariants.{Done, PatternFull, HoldFull, TurnsSpent, NoPrevious, InputBroken, OutputBroken}
+use Rattle.sedengine.specs.declared.ends.Ended.TheVariants.{Done, PatternFull, HoldFull, QueueFull, TurnsSpent, NoPrevious, InputBroken, OutputBroken}
+use Rattle.sedengine.proofs.Writing.{Puts-append, Puts-left}
 use Rattle.sedengine.proofs.Moves.{moves_writing, ran_quietly, stopped_here}
 use Rattle.sedengine.proofs.Tasks.{fits_of}
 
 -- Where a command is come to the pattern space needn't be empty.
 may_hold : (p : Place) (bytes : List ℕ) → comes (tasks_of p) ≡ true → IsEmptied p bytes
 may_hold p.Begin bytes h = cc
+may_hold p.Rebegin bytes h = tt
 may_hold (p.Do k) bytes h = tt
 may_hold p.Quit bytes h = tt
 may_hold p.Ended bytes h = tt
@@ -48,6 +50,7 @@ replaced_is_run a pattern build scratch e replaced i at within limit fits limit'
   build_limit = limit' ∙ i.build_limit;
   queue_limit = i.queue_limit;
   queue = i.queue;
+  queued = i.queued;
   empty = may_hold a.place pattern.bytes at;
   ranges = i.ranges;
   used = within;
@@ -65,9 +68,9 @@ leads_full s t (m ∷ ms) space some more = (_, refl, more)
 pub makes_full : (a : Inside) (r : Run) (seen : run_of a ≡ r) (k e : ℕ) (files : ℕ → List ℕ) (ls : List (List ℕ)) (t : Substitution) (new : Contents) (now : State) (f : Full) → a.pattern.limit ≡ a.limits.space →
     slice_get r.script.substitutions k ≡ Some t →
     ((t : Substitution) → slice_get a.script.substitutions k ≡ Some t → ReplacesIn t (chosen t.number t.global (occurrences (search_in a.script.expressions e a.pattern.bytes) (length a.pattern.bytes))) a.pattern new (Err f)) →
-    Makes r.limits (replaces (record (at_lines r ls) { used = Some e }) t (chosen_in (setting r files) t e r.state.pattern)) t.print (at_lines r ls) now (Err (PatternFull a.number))
+    Makes r.limits (replaces (record (at_lines r ls) { used = Some e }) t (chosen_in (setting r files) t e r.state.pattern)) t (at_lines r ls) now (Err (PatternFull a.number))
 makes_full a r seen k e files ls t new now f limit is h =
-    let Q : Run → Type 0 = λ r. slice_get r.script.substitutions k ≡ Some t → Makes r.limits (replaces (record (at_lines r ls) { used = Some e }) t (chosen_in (setting r files) t e r.state.pattern)) t.print (at_lines r ls) now (Err (PatternFull a.number)) in
+    let Q : Run → Type 0 = λ r. slice_get r.script.substitutions k ≡ Some t → Makes r.limits (replaces (record (at_lines r ls) { used = Some e }) t (chosen_in (setting r files) t e r.state.pattern)) t (at_lines r ls) now (Err (PatternFull a.number)) in
     subst Q seen
     (λ is.
     let made = h t is in
@@ -89,9 +92,9 @@ stands a r k e t t' seen is is' h =
     subst Q seen (λ is. let same : t' ≡ t = some_of t' t (sym is' ∙ is) in sym (standing t.expression a.used) ∙ ap (λ (t : Substitution). option_or t.expression a.used) (sym same) ∙ sym h) is
 
 pub makes_standing : (l : Limits) (g : Setting) (s now : State) (t : Substitution) (e : ℕ) (told : Result Bool Ended) → stands_for t.expression s.used ≡ Some e →
-    Makes l (replaces (record s { used = Some e }) t (chosen_in g t e s.pattern)) t.print s now told → Makes l (substitutes g s (Some t)) t.print s now told
+    Makes l (replaces (record s { used = Some e }) t (chosen_in g t e s.pattern)) t s now told → Makes l (substitutes g s (Some t)) t s now told
 makes_standing l g s now t e told is h =
-    let Q : Option ℕ → Type 0 = λ o. Makes l (option_and_then (λ e. replaces (record s { used = Some e }) t (chosen_in g t e s.pattern)) o) t.print s now told in
+    let Q : Option ℕ → Type 0 = λ o. Makes l (option_and_then (λ e. replaces (record s { used = Some e }) t (chosen_in g t e s.pattern)) o) t s now told in
     subst Q (sym is) h
 
 -- there is an element at each place
@@ -114,7 +117,7 @@ comes_line s (empty_pattern ∷ rest) h = cc
 comes_line s (flush ∷ rest) h = cc
 
 -- The engine with the fields a, which is seen as r, was led to the engine r' by a call that makes the move o of a substitution.
-module _ (a : Inside) (r r' : Run) (seen : run_of a ≡ r) (i : IsRun a) (same : r' ≡ same_but_replaced r r'.state) (within : length r'.state.pattern ≤ r'.limits.space) (ls : List (List ℕ)) (g : Setting) (old new : ℕ → Option (List ℕ)) (o : Option Move) (print : Bool) where
+module _ (a : Inside) (r r' : Run) (seen : run_of a ≡ r) (i : IsRun a) (same : r' ≡ same_but_replaced r r'.state) (within : length r'.state.pattern ≤ r'.limits.space) (ls : List (List ℕ)) (g : Setting) (old new : ℕ → Option (List ℕ)) (o : Option Move) (t : Substitution) where
   before : Fits r.limits (at_lines r ls)
   before = let Q : Run → Type 0 = λ r. Fits r.limits (at_lines r ls) in subst Q seen (fits_of a ls i)
 
@@ -127,16 +130,16 @@ module _ (a : Inside) (r r' : Run) (seen : run_of a ≡ r) (i : IsRun a) (same :
       record { pattern = rw limits at within; hold = rw hold before.hold; queue = rw queue before.queue; turns = rw turns before.turns }
 
   -- nothing was replaced
-  pub replaced_nothing : Makes r.limits o print (at_lines r ls) (at_lines r' ls) (Ok false) → Performs r.limits g o (at_lines r ls) (at_lines r' ls) (Gained old old) (Ok tt)
+  pub replaced_nothing : Makes r.limits o t (at_lines r ls) (at_lines r' ls) (Ok false) → Performs r.limits g o (at_lines r ls) (at_lines r' ls) (Gained old old) (Ok tt)
   replaced_nothing is = λ s c first. ran_quietly r.limits g s (at_lines r' ls) old c.fits (first ∙ is) there
 
   -- something was, and is written where the flag `p` stands
-  pub replaced_some : (told : Result Unit Ended) → Makes r.limits o print (at_lines r ls) (at_lines r' ls) (Ok true) → Puts (Gained old new) (cond print (line_to 0 r'.state.pattern) []) told →
+  pub replaced_some : (told : Result Unit Ended) → Makes r.limits o t (at_lines r ls) (at_lines r' ls) (Ok true) → Puts (Gained old new) (written_by t r'.state.pattern) told →
       Performs r.limits g o (at_lines r ls) (at_lines r' ls) (Gained old new) told
-  replaced_some told is put = λ s c first. moves_writing r.limits g s (at_lines r' ls) old new (cond print (line_to 0 r'.state.pattern) []) told c.fits (first ∙ is) there c.lines put
+  replaced_some told is put = λ s c first. moves_writing r.limits g s (at_lines r' ls) old new (written_by t r'.state.pattern) told c.fits (first ∙ is) there c.lines put
 
   -- the end comes
-  pub replaced_not : (end : Ended) → r'.state.pattern ≡ r.state.pattern → Makes r.limits o print (at_lines r ls) (at_lines r' ls) (Err end) → Performs r.limits g o (at_lines r ls) (at_lines r' ls) (Gained old old) (Err end)
+  pub replaced_not : (end : Ended) → r'.state.pattern ≡ r.state.pattern → Makes r.limits o t (at_lines r ls) (at_lines r' ls) (Err end) → Performs r.limits g o (at_lines r ls) (at_lines r' ls) (Gained old old) (Err end)
   replaced_not end kept is = λ s c first. stops s c first end is
     where
       lengths : (s : State) → ComesTo r.limits g s (at_lines r ls) → SameLengths s (at_lines r' ls)
@@ -145,16 +148,20 @@ module _ (a : Inside) (r r' : Run) (seen : run_of a ≡ r) (i : IsRun a) (same :
           record {
             pattern = ap (λ (x : List ℕ). length x) kept ∙ w.pattern;
             hold = ap (λ (r : Run). length r.state.hold) same ∙ w.hold;
-            queue = ap (λ (r : Run). length r.state.queue) same ∙ w.queue;
+            queue = λ goes. ap (λ (r : Run). length r.state.queue) same ∙ w.queue goes;
+            entries = let more = w.entries in let queue = ap (λ (r : Run). length r.state.queue) same in omega arith;
           }
 
-      stops : (s : State) (c : ComesTo r.limits g s (at_lines r ls)) → move g s ≡ o → (end : Ended) → Makes r.limits o print (at_lines r ls) (at_lines r' ls) (Err end) → Moves r.limits g s (at_lines r' ls) (Gained old old) (Err end)
+      stops : (s : State) (c : ComesTo r.limits g s (at_lines r ls)) → move g s ≡ o → (end : Ended) → Makes r.limits o t (at_lines r ls) (at_lines r' ls) (Err end) → Moves r.limits g s (at_lines r' ls) (Gained old old) (Err end)
       stops s c first (NoPrevious n) (without, number) =
           stopped_here r.limits g s (at_lines r' ls) old (NoPrevious n) c.fits refl (number ∙ sym c.number, c.turn, c.comes, first ∙ without) (lengths s c) c.lines
       stops s c first (PatternFull n) ((m, is, more), number) =
           stopped_here r.limits g s (at_lines r' ls) old (PatternFull n) c.fits refl (number ∙ sym c.number ∙ sym (comes_line s s.tasks c.comes), c.turn, (m, first ∙ is, more)) (lengths s c) c.lines
-      stops s c first (HoldFull n) h = absurd h
-      stops s c first Done h = absurd h
-      stops s c first TurnsSpent h = absurd h
-      stops s c first InputBroken h = absurd h
-      stops s c first (OutputBroken k) h = absurd h
+      stops s c first other h = absurd h
+
+-- what the flag `p` writes, and then the flag `w`
+pub puts_both : (t : Substitution) (w : List ℕ) (old mid new : ℕ → Option (List ℕ)) (r : Result Unit Ended) → Puts (Gained old mid) (cond t.print (line_to 0 w) []) (Ok tt) → Puts (Gained mid new) (line_to_file t.file w) r → Puts (Gained old new) (written_by t w) r
+puts_both t w old mid new r a h = Puts-append old mid new (cond t.print (line_to 0 w) []) (line_to_file t.file w) r a h
+
+pub puts_first : (t : Substitution) (w : List ℕ) (old new : ℕ → Option (List ℕ)) (end : Ended) → Puts (Gained old new) (cond t.print (line_to 0 w) []) (Err end) → Puts (Gained old new) (written_by t w) (Err end)
+puts_first t w old new end h = Puts-left old new (cond t.print (line_to 0 w) []) (line_to_file t.file w) end h

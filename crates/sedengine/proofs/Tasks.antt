@@ -2,7 +2,7 @@
 use Rattle.std.proofs.Common.{◌≡◌, ℕ, suc, zero, ◌<◌, ◌+◌, ◌-◌, ◌≤◌, Bool, true, false, cond, List, [], ◌∷◌, ◌++◌, length, map, Option, Some, None, Result, Ok, Err, refl, subst, sym, ap, ◌∙◌, arith, zero-add}
 use Rattle.std.specs.Prelude.{slice_get, is_some}
 use Rattle.std.specs.Io.KnownBytes.{Keeps}
-use Rattle.std.proofs.lemmas.Option.{slice_get_past}
+use Rattle.std.proofs.lemmas.List.{length-map}
 use Rattle.sedscript.specs.Script.{Program}
 use Rattle.sedspace.specs.Spaces.{Contents}
 use Rattle.sedspace.specs.Stream.{Stream, left, lines_left, TakesLine, GivesLine, NoneLeft, FirstIsLonger, KeepsLines, TakesAtMost}
@@ -15,7 +15,7 @@ use Rattle.sedengine.specs.Devices.{Gained}
 use Rattle.sedengine.specs.Calls.{Puts}
 use Rattle.sedengine.specs.Run.{Run, at_lines, setting}
 use Rattle.sedengine.specs.Steps.{Ran, Stopped, Moves, TakesLines, Halted, Steps, lost}
-use Rattle.sedengine.specs.Inside.{run_of, tasks_of, IsRun, IsEmptied}
+use Rattle.sedengine.specs.Inside.{run_of, tasks_of, entries_of, IsRun, IsEmptied}
 use Rattle.sedengine.specs.declared.engine.Engine.TheInside.{Inside}
 use Rattle.sedengine.specs.declared.place.Place.{Place}
 use Rattle.sedengine.specs.declared.place.Place.TheVariants as p
@@ -24,13 +24,13 @@ use Rattle.sedengine.specs.declared.ends.Ended.TheVariants.{Done, PatternFull, T
 use Rattle.sedengine.proofs.Streams.{line_taken, lines_end, lines_stay, lines_same, TakesAtMost-more, TakesAtMost-none, TakesAtMost-kept}
 use Rattle.sedengine.proofs.Moves.{move_at, ran_once, ran_quietly, stopped_here, stopped_writing, Moves-then}
 
-pub fits_at : (a : Inside) (ls : List (List ℕ)) → length a.pattern.bytes ≤ a.limits.space → length a.hold.bytes ≤ a.limits.space → a.turns ≤ a.limits.turns → Fits a.limits (at_lines (run_of a) ls)
-fits_at a ls pattern hold turns = record { pattern = pattern; hold = hold; queue = omega arith; turns = turns }
+pub fits_at : (a : Inside) (ls : List (List ℕ)) → length a.pattern.bytes ≤ a.limits.space → length a.hold.bytes ≤ a.limits.space → length a.queue.items ≤ a.limits.queue → a.turns ≤ a.limits.turns → Fits a.limits (at_lines (run_of a) ls)
+fits_at a ls pattern hold queue turns = record { pattern = pattern; hold = hold; queue = rw length-map queue; turns = turns }
 
 pub fits_of : (a : Inside) (ls : List (List ℕ)) → IsRun a → Fits a.limits (at_lines (run_of a) ls)
-fits_of a ls i = fits_at a ls i.pattern i.hold i.turns
+fits_of a ls i = fits_at a ls i.pattern i.hold i.queue i.turns
 
-fits_tasks : (l : Limits) (s : State) (ts : List Task) → Fits l s → Fits l (then_do ts s)
+pub fits_tasks : (l : Limits) (s : State) (ts : List Task) → Fits l s → Fits l (then_do ts s)
 fits_tasks l s ts f = record { pattern = f.pattern; hold = f.hold; queue = f.queue; turns = f.turns }
 
 -- What holds of the fields holds of the value.
@@ -51,7 +51,7 @@ pub halts_here : {R : Type 0} (remaining : R → Option (List ℕ)) (old new : S
     TakesAtMost (left remaining old) (left remaining new) (lost l end) → Halted remaining old new l g s e (Gained sinks sinks) end
 halts_here {R} remaining old new l g s e sinks end f none cause same gone = record {
   rest = s.lines;
-  stopped = stopped_here l g s (at_lines e s.lines) sinks end f none cause (record { pattern = same.pattern; hold = same.hold; queue = same.queue }) refl;
+  stopped = stopped_here l g s (at_lines e s.lines) sinks end f none cause (record { pattern = same.pattern; hold = same.hold; queue = same.queue; entries = same.entries }) refl;
   lines = [];
   are = refl;
   bytes = rw zero-add gone;
@@ -65,6 +65,7 @@ emptied_at (p.Do k) bytes t h = absurd (let e : do_at k ≡ begin = cc in other 
     other : (k : ℕ) → do_at k ≡ begin → ⊥
     other k e = cc
 emptied_at p.Quit bytes t h = cc
+emptied_at p.Rebegin bytes t h = cc
 emptied_at p.Ended bytes t h = cc
 
 -- The fields a of an engine that stands before a cycle; `sinks` are what sinks hold, of which none gains anything.
@@ -79,7 +80,7 @@ module _ {R : Type 0} (remaining : R → Option (List ℕ)) (old new : Stream R)
 
   ends : (pattern : Contents) → ls ≡ [] → pattern ≡ a.pattern → tasks_of a.place ≡ begin ∷ [] → Ran a.limits (setting (run_of a) files) (at_lines (run_of a) ls) (at_lines (run_of (without pattern)) []) (Gained sinks sinks)
   ends pattern none same t =
-      let f : Fits a.limits (at_lines (run_of (without a.pattern)) []) = fits_at (without a.pattern) [] i.pattern i.hold i.turns in
+      let f : Fits a.limits (at_lines (run_of (without a.pattern)) []) = fits_at (without a.pattern) [] i.pattern i.hold i.queue i.turns in
       rw same (ran_quietly a.limits (setting (run_of a) files) (at_lines (run_of a) ls) (at_lines (run_of (without a.pattern)) []) sinks (fits_of a ls i) (rw none (move_at _ _ _ t)) f)
 
   takes : (line : List ℕ) (rest : List (List ℕ)) (pattern : Contents) → ls ≡ line ∷ rest → pattern.bytes ≡ line → tasks_of a.place ≡ begin ∷ [] →
@@ -116,7 +117,7 @@ module _ {R : Type 0} (remaining : R → Option (List ℕ)) (old new : Stream R)
         r.0,
         r.2,
         ran_quietly a.limits (setting (run_of a) files) (at_lines (run_of a) ls) (at_lines (run_of (with pattern)) r.0) sinks (fits_of a ls i) (takes line r.0 pattern r.1 bytes t)
-            (fits_at (with pattern) r.0 (omega arith) i.hold (omega arith)),
+            (fits_at (with pattern) r.0 (omega arith) i.hold i.queue (omega arith)),
       ))
 
   longer : {n : ℕ} (ls : List (List ℕ)) → FirstIsLonger (Some ls) n → (line : List ℕ) × (rest : List (List ℕ)) × (ls ≡ line ∷ rest) × (n < length line)
@@ -136,7 +137,7 @@ module _ {R : Type 0} (remaining : R → Option (List ℕ)) (old new : Stream R)
       let none : length a.pattern.bytes ≡ 0 = ap length (emptied_at a.place a.pattern.bytes t i.empty) in
       halts_here remaining old new a.limits (setting (run_of a) files) (at_lines (run_of a) ls) (run_of (record a { pattern = pattern })) sinks (PatternFull (a.number + 1)) (fits_of a ls i) refl
       (ap (line_at (at_lines (run_of a) ls)) (sym t), (λ _. omega arith), (record { next = at_lines (run_of (with made)) r.1; writes = [] }, takes r.0 r.1 made r.2 refl t, omega (arith, r.3)))
-      (record { pattern = ap (λ (c : Contents). length c.bytes) same; hold = refl; queue = refl }) (rw i.pattern_limit at gone))
+      (record { pattern = ap (λ (c : Contents). length c.bytes) same; hold = refl; queue = λ _. refl; entries = omega arith }) (rw i.pattern_limit at gone))
 
   -- A line is left, and no turn.
   pub begins_spent : any_left ls ≡ true → a.turns ≡ a.limits.turns → Keeps (left remaining old) (left remaining new) →
@@ -144,7 +145,7 @@ module _ {R : Type 0} (remaining : R → Option (List ℕ)) (old new : Stream R)
   begins_spent some spent kept =
       let Q : Run → Type 0 = λ e. e.state.tasks ≡ begin ∷ [] → Steps remaining old new ls e.limits (setting e files) e e (Gained sinks sinks) (Err TurnsSpent) in
       subst Q seen (λ t. halts_here remaining old new a.limits (setting (run_of a) files) (at_lines (run_of a) ls) (run_of a) sinks TurnsSpent (fits_of a ls i) refl
-      (spent, ap (takes_turn (setting (run_of a) files) (at_lines (run_of a) ls)) t ∙ some) (record { pattern = refl; hold = refl; queue = refl }) (TakesAtMost-kept _ _ kept)) at
+      (spent, ap (takes_turn (setting (run_of a) files) (at_lines (run_of a) ls)) t ∙ some) (record { pattern = refl; hold = refl; queue = λ _. refl; entries = omega arith }) (TakesAtMost-kept _ _ kept)) at
 
   -- The source failed.
   pub begins_broken : (pattern : Contents) → pattern ≡ a.pattern → TakesAtMost (left remaining old) (left remaining new) a.limits.space →
@@ -152,94 +153,23 @@ module _ {R : Type 0} (remaining : R → Option (List ℕ)) (old new : Stream R)
   begins_broken pattern same gone =
       seen_steps remaining old new a e (run_of (record a { pattern = pattern })) (begin ∷ []) files ls (Gained sinks sinks) (Err InputBroken) seen at
       (λ t. halts_here remaining old new a.limits (setting (run_of a) files) (at_lines (run_of a) ls) (run_of (record a { pattern = pattern })) sinks InputBroken (fits_of a ls i) refl
-      (ap (reads (setting (run_of a) files)) t) (record { pattern = ap (λ (c : Contents). length c.bytes) same; hold = refl; queue = refl }) gone)
+      (ap (reads (setting (run_of a) files)) t) (record { pattern = ap (λ (c : Contents). length c.bytes) same; hold = refl; queue = λ _. refl; entries = omega arith }) gone)
 
   pub begins_failed : Keeps (left remaining old) (left remaining new) → Steps remaining old new ls e.limits (setting e files) e e (Gained sinks sinks) (Err InputBroken)
   begins_failed kept =
       let Q : Run → Type 0 = λ e. e.state.tasks ≡ begin ∷ [] → Steps remaining old new ls e.limits (setting e files) e e (Gained sinks sinks) (Err InputBroken) in
       subst Q seen (λ t. halts_here remaining old new a.limits (setting (run_of a) files) (at_lines (run_of a) ls) (run_of a) sinks InputBroken (fits_of a ls i) refl
-      (ap (reads (setting (run_of a) files)) t) (record { pattern = refl; hold = refl; queue = refl }) (TakesAtMost-more _ _ 0 _ (omega arith) (TakesAtMost-kept _ _ kept))) at
+      (ap (reads (setting (run_of a) files)) t) (record { pattern = refl; hold = refl; queue = λ _. refl; entries = omega arith }) (TakesAtMost-more _ _ 0 _ (omega arith) (TakesAtMost-kept _ _ kept))) at
 
--- The end of a cycle at the state s, where command k isn't there.
-module _ (l : Limits) (g : Setting) (s : State) (f : Fits l s) (k : ℕ) (t : s.tasks ≡ do_at k ∷ []) (past : slice_get g.commands k ≡ None) (none : s.queue ≡ []) where
-  ending_ran : (sinks : ℕ → Option (List ℕ)) → Ran l g s (then_do at_end s) (Gained sinks sinks)
-  ending_ran sinks = ran_quietly l g s (then_do at_end s) sinks f (move_at _ _ _ t ∙ ap (comes_to g s k) past) (fits_tasks l s at_end f)
-
-  pub finished : (old new : ℕ → Option (List ℕ)) → Gained old new (cond g.quiet [] (line_to 0 s.pattern)) → Ran l g s (record s { pattern = []; tasks = begin ∷ [] }) (Gained old new)
-  finished old new gained =
-      let flushing : State = then_do (flush ∷ empty_pattern ∷ begin ∷ []) s in
-      let emptying : State = then_do (empty_pattern ∷ begin ∷ []) s in
-      let over : State = record s { pattern = []; tasks = begin ∷ [] } in
-      let over_fits : Fits l over = record { pattern = omega arith; hold = f.hold; queue = f.queue; turns = f.turns } in
-      let flushed : move g flushing ≡ quietly emptying = move_at g flushing (flush ∷ empty_pattern ∷ begin ∷ []) refl ∙ ap (flushes flushing (empty_pattern ∷ begin ∷ [])) none in
-      Moves-then l g s (then_do at_end s) over old old new (Ok tt) (ending_ran old) refl
-      (Moves-then l g (then_do at_end s) flushing over old new new (Ok tt) (ran_once l g (then_do at_end s) flushing old new (cond g.quiet [] (line_to 0 s.pattern)) (fits_tasks l s _ f) (move_at _ _ _ refl) (fits_tasks l s _ f) gained) refl
-      (Moves-then l g flushing emptying over new new new (Ok tt) (ran_quietly l g flushing emptying new (fits_tasks l s _ f) flushed (fits_tasks l s _ f)) refl
-      (ran_quietly l g emptying over new (fits_tasks l s _ f) (move_at _ _ _ refl) over_fits)))
-
-  pub finish_stopped : (old new : ℕ → Option (List ℕ)) (now : State) (end : Ended) → SameLengths s now → s.lines ≡ now.lines → Puts (Gained old new) (cond g.quiet [] (line_to 0 s.pattern)) (Err end) → Stopped l g s now (Gained old new) end
-  finish_stopped old new now end same lines put =
-      let flushing : State = then_do (flush ∷ empty_pattern ∷ begin ∷ []) s in
-      Moves-then l g s (then_do at_end s) now old old new (Err end) (ending_ran old) refl
-      (stopped_writing l g (then_do at_end s) flushing now old new (cond g.quiet [] (line_to 0 s.pattern)) end (fits_tasks l s _ f) (move_at _ _ _ refl) (fits_tasks l s _ f)
-      (record { pattern = same.pattern; hold = same.hold; queue = same.queue }) lines put)
-
--- The end of the run at the state s.
-module _ (l : Limits) (g : Setting) (s : State) (f : Fits l s) (t : s.tasks ≡ print_pattern ∷ flush ∷ []) (none : s.queue ≡ []) where
-  printed : move g s ≡ writing (cond g.quiet [] (line_to 0 s.pattern)) (then_do (flush ∷ []) s)
-  printed = move_at _ _ _ t
-
-  pub quitted : (old new : ℕ → Option (List ℕ)) → Gained old new (cond g.quiet [] (line_to 0 s.pattern)) → Ran l g s (then_do [] s) (Gained old new)
-  quitted old new gained =
-      let flushing : State = then_do (flush ∷ []) s in
-      let flushed : move g flushing ≡ quietly (then_do [] s) = move_at g flushing (flush ∷ []) refl ∙ ap (flushes flushing []) none in
-      Moves-then l g s flushing (then_do [] s) old new new (Ok tt) (ran_once l g s flushing old new (cond g.quiet [] (line_to 0 s.pattern)) f printed (fits_tasks l s _ f) gained) refl
-      (ran_quietly l g flushing (then_do [] s) new (fits_tasks l s _ f) flushed (fits_tasks l s _ f))
-
-  pub quit_stopped : (old new : ℕ → Option (List ℕ)) (now : State) (end : Ended) → SameLengths s now → s.lines ≡ now.lines → Puts (Gained old new) (cond g.quiet [] (line_to 0 s.pattern)) (Err end) → Stopped l g s now (Gained old new) end
-  quit_stopped old new now end same lines put =
-      stopped_writing l g s (then_do (flush ∷ []) s) now old new (cond g.quiet [] (line_to 0 s.pattern)) end f printed (fits_tasks l s _ f) (record { pattern = same.pattern; hold = same.hold; queue = same.queue }) lines put
-
--- The same for an engine with the fields a.
-module _ (a : Inside) (e : Run) (seen : run_of a ≡ e) (i : IsRun a) (files : ℕ → List ℕ) (ls : List (List ℕ)) (at : e.state.tasks ≡ print_pattern ∷ flush ∷ []) where
-  pub quits : (old new : ℕ → Option (List ℕ)) → Gained old new (cond a.script.quiet [] (line_to 0 a.pattern.bytes)) →
-      Moves e.limits (setting e files) (at_lines e ls) (at_lines (run_of (record a { place = p.Ended })) ls) (Gained old new) (Ok tt)
-  quits old new gained =
-      seen_moves a e (print_pattern ∷ flush ∷ []) files ls (at_lines (run_of (record a { place = p.Ended })) ls) (Gained old new) (Ok tt) seen at
-      (λ t. quitted a.limits (setting (run_of a) files) (at_lines (run_of a) ls) (fits_of a ls i) t refl old new gained)
-
-  pub quit_stops : (old new : ℕ → Option (List ℕ)) (end : Ended) → Puts (Gained old new) (cond a.script.quiet [] (line_to 0 a.pattern.bytes)) (Err end) →
-      Moves e.limits (setting e files) (at_lines e ls) (at_lines e ls) (Gained old new) (Err end)
-  quit_stops old new end put =
-      let Q : Run → Type 0 = λ e. e.state.tasks ≡ print_pattern ∷ flush ∷ [] → Moves e.limits (setting e files) (at_lines e ls) (at_lines e ls) (Gained old new) (Err end) in
-      subst Q seen (λ t. quit_stopped a.limits (setting (run_of a) files) (at_lines (run_of a) ls) (fits_of a ls i) t refl old new (at_lines (run_of a) ls) end
-      (record { pattern = refl; hold = refl; queue = refl }) refl put) at
-
--- The same for an engine with the fields a.
+-- An engine with the fields a that stands before command k, or before the end of the script.
 module _ (a : Inside) (e : Run) (seen : run_of a ≡ e) (i : IsRun a) (files : ℕ → List ℕ) (ls : List (List ℕ)) (k : ℕ) (at : e.state.tasks ≡ do_at k ∷ []) where
-  past : length e.script.commands ≤ k → slice_get a.script.commands k ≡ None
-  past h = let same = ap (λ (e : Run). length e.script.commands) seen in slice_get_past a.script.commands k (omega arith)
-
-  pub finishes : (old new : ℕ → Option (List ℕ)) (pattern : Contents) → length e.script.commands ≤ k → pattern ≡ record a.pattern { bytes = [] } → Gained old new (cond a.script.quiet [] (line_to 0 a.pattern.bytes)) →
-      Moves e.limits (setting e files) (at_lines e ls) (at_lines (run_of (record a { pattern = pattern; place = p.Begin })) ls) (Gained old new) (Ok tt)
-  finishes old new pattern end is gained =
-      seen_moves a e (do_at k ∷ []) files ls (at_lines (run_of (record a { pattern = pattern; place = p.Begin })) ls) (Gained old new) (Ok tt) seen at
-      (λ t. rw is (finished a.limits (setting (run_of a) files) (at_lines (run_of a) ls) (fits_of a ls i) k t (past end) refl old new gained))
-
-  pub finish_stops : (old new : ℕ → Option (List ℕ)) (end : Ended) → length e.script.commands ≤ k → Puts (Gained old new) (cond a.script.quiet [] (line_to 0 a.pattern.bytes)) (Err end) →
-      Moves e.limits (setting e files) (at_lines e ls) (at_lines e ls) (Gained old new) (Err end)
-  finish_stops old new end over put =
-      let Q : Run → Type 0 = λ e. e.state.tasks ≡ do_at k ∷ [] → Moves e.limits (setting e files) (at_lines e ls) (at_lines e ls) (Gained old new) (Err end) in
-      subst Q seen (λ t. finish_stopped a.limits (setting (run_of a) files) (at_lines (run_of a) ls) (fits_of a ls i) k t (past over) refl old new (at_lines (run_of a) ls) end
-      (record { pattern = refl; hold = refl; queue = refl }) refl put) at
-
   -- a command with no turn left
   pub comes_spent : (sinks : ℕ → Option (List ℕ)) → k < length a.script.commands → a.turns ≡ a.limits.turns →
       Moves e.limits (setting e files) (at_lines e ls) (at_lines e ls) (Gained sinks sinks) (Err TurnsSpent)
   comes_spent sinks there spent =
       let Q : Run → Type 0 = λ e. e.state.tasks ≡ do_at k ∷ [] → Moves e.limits (setting e files) (at_lines e ls) (at_lines e ls) (Gained sinks sinks) (Err TurnsSpent) in
       subst Q seen (λ t. stopped_here a.limits (setting (run_of a) files) (at_lines (run_of a) ls) (at_lines (run_of a) ls) sinks TurnsSpent (fits_of a ls i) refl
-      (spent, ap (takes_turn (setting (run_of a) files) (at_lines (run_of a) ls)) t ∙ is_there a.script.commands k there) (record { pattern = refl; hold = refl; queue = refl }) refl) at
+      (spent, ap (takes_turn (setting (run_of a) files) (at_lines (run_of a) ls)) t ∙ is_there a.script.commands k there) (record { pattern = refl; hold = refl; queue = λ _. refl; entries = omega arith }) refl) at
     where
       is_there : {A : Type 0} (xs : List A) (k : ℕ) → k < length xs → is_some (slice_get xs k) ≡ true
       is_there [] k h = absurd (omega arith)
@@ -251,7 +181,7 @@ pub ends_here : {R : Type 0} (remaining : R → Option (List ℕ)) (old : Stream
     Steps remaining old old ls e.limits (setting e files) e e (Gained sinks sinks) (Err Done)
 ends_here {R} remaining old a e seen i ls files sinks over =
     let Q : Run → Type 0 = λ e. Steps remaining old old ls e.limits (setting e files) e e (Gained sinks sinks) (Err Done) in
-    subst Q seen (halts_here remaining old old a.limits (setting (run_of a) files) (at_lines (run_of a) ls) (run_of a) sinks Done (fits_of a ls i) refl (ap tasks_of over) (record { pattern = refl; hold = refl; queue = refl }) (TakesAtMost-none _))
+    subst Q seen (halts_here remaining old old a.limits (setting (run_of a) files) (at_lines (run_of a) ls) (run_of a) sinks Done (fits_of a ls i) refl (ap tasks_of over) (record { pattern = refl; hold = refl; queue = λ _. refl; entries = omega arith }) (TakesAtMost-none _))
 
 -- What takes no lines keeps those that are left.
 pub steps_by_moves : {R : Type 0} (remaining : R → Option (List ℕ)) (old : Stream R) (ls : List (List ℕ)) (l : Limits) (g : Setting) (e e' : Run) (P : List (ℕ × ℕ) → Type 0) (r : Result Unit Ended) → lines_left remaining old ≡ Some ls →
@@ -265,15 +195,15 @@ steps_by_moves {R} remaining old ls l g e e' P (Err end) known stopped = record 
   bytes = TakesAtMost-more _ _ 0 _ (omega arith) (TakesAtMost-none _);
 }
 
--- an engine at the start, with this pattern space, hold space and ranges
-abbrev pub starting : Program → Limits → List ℕ → List ℕ → List Bool → Run
-starting script l pattern hold ranges = record {
+-- an engine at the start, with this pattern space, hold space, queue and ranges
+abbrev pub starting : Program → Limits → List ℕ → List ℕ → List ℕ → List Bool → Run
+starting script l pattern hold queue ranges = record {
   script = script;
   limits = l;
-  state = record { lines = []; number = 0; pattern = pattern; hold = hold; replaced = false; queue = []; ranges = ranges; used = None; tasks = begin ∷ []; turns = 0 };
+  state = record { lines = []; number = 0; pattern = pattern; hold = hold; replaced = false; queue = entries_of script queue; ranges = ranges; used = None; tasks = begin ∷ []; turns = 0 };
   ended = None;
 }
 
-pub opened : (seen script : Program) (l : Limits) (pattern hold : List ℕ) (ranges : List Bool) → seen ≡ script → pattern ≡ [] → hold ≡ [] → ranges ≡ map (λ _. false) script.commands →
-    starting seen l pattern hold ranges ≡ record { script = script; limits = l; state = start script.commands []; ended = None }
-opened seen script l pattern hold ranges same none none' idle = cc
+pub opened : (seen script : Program) (l : Limits) (pattern hold queue : List ℕ) (ranges : List Bool) → seen ≡ script → pattern ≡ [] → hold ≡ [] → queue ≡ [] → ranges ≡ map (λ _. false) script.commands →
+    starting seen l pattern hold queue ranges ≡ record { script = script; limits = l; state = start script.commands []; ended = None }
+opened seen script l pattern hold queue ranges same none none' none'' idle = rw (same, none, none', none'', idle) refl

@@ -8,7 +8,7 @@ use Rattle.std.specs.Prelude.{slice_get}
 use Rattle.sedengine.specs.Devices.{Gained, FailedSink}
 use Rattle.sedengine.specs.Calls.{Puts, Writes, NoSinkFailed}
 use Rattle.sedengine.specs.declared.ends.Ended.{Ended}
-use Rattle.sedengine.specs.declared.ends.Ended.TheVariants.{Done, PatternFull, HoldFull, TurnsSpent, NoPrevious, InputBroken, OutputBroken}
+use Rattle.sedengine.specs.declared.ends.Ended.TheVariants.{OutputBroken}
 use Rattle.sedengine.proofs.Gains.{Gained-append, same_or_not}
 
 pub slice_get-append_add : {A : Type 0} (xs ys : List A) (n : ℕ) → slice_get (xs ++ ys) (length xs + n) ≡ slice_get ys n
@@ -18,12 +18,7 @@ slice_get-append_add (x ∷ xs) ys n = rw suc-add (slice_get-append_add xs ys n)
 FailedSink-then : (a b c : ℕ → ℕ) (r : Result Unit Ended) → ((k : ℕ) → b k ≡ a k) → FailedSink b c r → FailedSink a c r
 FailedSink-then a b c (Ok u) h i = λ k. i k ∙ h k
 FailedSink-then a b c (Err (OutputBroken k)) h i = let e = h k in rw e at i
-FailedSink-then a b c (Err Done) h i = tt
-FailedSink-then a b c (Err (PatternFull n)) h i = tt
-FailedSink-then a b c (Err (HoldFull n)) h i = tt
-FailedSink-then a b c (Err TurnsSpent) h i = tt
-FailedSink-then a b c (Err (NoPrevious n)) h i = tt
-FailedSink-then a b c (Err InputBroken) h i = tt
+FailedSink-then a b c (Err other) h i = tt
 
 -- one call after another
 pub Writes-then : {O : Type 0} (failures : O → ℕ → ℕ) (count : O → ℕ) (a b c : O) (r : Result Unit Ended) → Writes failures count a b (Ok tt) → Writes failures count b c r → Writes failures count a c r
@@ -61,12 +56,7 @@ Puts-append old mid new xs ys (Err end) a (k, b, byte, is, due, gained) =
 
 unwritten : (f : ℕ → ℕ) (end : Ended) → NoSinkFailed {T = Unit {0}} (Err end) → FailedSink f f (Err end)
 unwritten f (OutputBroken k) h = absurd h
-unwritten f Done h = tt
-unwritten f (PatternFull n) h = tt
-unwritten f (HoldFull n) h = tt
-unwritten f TurnsSpent h = tt
-unwritten f (NoPrevious n) h = tt
-unwritten f InputBroken h = tt
+unwritten f other h = tt
 
 -- an end that comes without a write
 pub Writes-unwritten : {O : Type 0} (failures : O → ℕ → ℕ) (count : O → ℕ) (a : O) (end : Ended) → NoSinkFailed {T = Unit {0}} (Err end) → Writes failures count a a (Err end)

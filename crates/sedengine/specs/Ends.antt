@@ -3,11 +3,13 @@ use Rattle.std.specs.Prelude.{◌≡◌, ℕ, suc, ◌+◌, ◌<◌, ◌≤◌, 
 use Rattle.sedscript.specs.declared.types.Address.{Address}
 use Rattle.sedscript.specs.declared.types.Address.TheVariants.{Line, Last, Match}
 use Rattle.sedscript.specs.declared.types.Command.{Command}
+use Rattle.sedscript.specs.declared.types.Action.{Action}
+use Rattle.sedscript.specs.declared.types.Action.TheVariants.{NextLine}
 use Rattle.sedengine.specs.State.{Task, begin, rebegin, do_at, print_pattern, empty_pattern, flush, copy, fetch, join, State, Move, Setting}
 use Rattle.sedengine.specs.Move.{move, after, written}
 use Rattle.sedengine.specs.declared.limits.Limits.{Limits}
 use Rattle.sedengine.specs.declared.ends.Ended.{Ended}
-use Rattle.sedengine.specs.declared.ends.Ended.TheVariants.{Done, PatternFull, HoldFull, TurnsSpent, NoPrevious, InputBroken, OutputBroken}
+use Rattle.sedengine.specs.declared.ends.Ended.TheVariants.{Done, PatternFull, HoldFull, QueueFull, TurnsSpent, NoPrevious, InputBroken, OutputBroken}
 
 -- a state within the limits
 pub record Fits (l : Limits) (s : State) : Type 0 where
@@ -31,11 +33,7 @@ takes_turn g s (begin ∷ rest) = any_left s.lines
 takes_turn g s (rebegin ∷ rest) = true
 takes_turn g s (do_at k ∷ rest) = is_some (slice_get g.commands k)
 takes_turn g s (copy k o ∷ rest) = is_some (slice_get (g.files k) o)
-takes_turn g s (print_pattern ∷ rest) = false
-takes_turn g s (empty_pattern ∷ rest) = false
-takes_turn g s (flush ∷ rest) = false
-takes_turn g s (fetch ∷ rest) = false
-takes_turn g s (join ∷ rest) = false
+takes_turn g s (other ∷ rest) = false
 
 -- a first task that takes a turn has one left
 abbrev pub HasTurn : Limits → Setting → State → Type 0
@@ -47,12 +45,7 @@ line_at s [] = s.number
 line_at s (begin ∷ rest) = s.number + 1
 line_at s (fetch ∷ rest) = s.number + 1
 line_at s (join ∷ rest) = s.number + 1
-line_at s (rebegin ∷ rest) = s.number
-line_at s (do_at k ∷ rest) = s.number
-line_at s (copy k o ∷ rest) = s.number
-line_at s (print_pattern ∷ rest) = s.number
-line_at s (empty_pattern ∷ rest) = s.number
-line_at s (flush ∷ rest) = s.number
+line_at s (other ∷ rest) = s.number
 
 -- whether an address is `$`
 abbrev pub is_dollar : Option Address → Bool
@@ -65,35 +58,29 @@ is_dollar (Some (Match e)) = false
 abbrev pub names_last : Command → Bool
 names_last c = is_dollar c.first || is_dollar c.second
 
+-- whether it is the function `n`, which does one thing or another by whether a line is left
+abbrev pub is_next : Action → Bool
+is_next NextLine = true
+is_next other = false
+
 abbrev pub asks_last : Option Command → Bool
 asks_last None = false
-asks_last (Some c) = names_last c
+asks_last (Some c) = names_last c || is_next c.action
 
--- whether the first task may look at the input: it fetches a line, or comes to a command with an address `$`
+-- whether the first task may look at the input: it fetches a line, or comes to a command with an address `$` or to an `n`
 abbrev pub reads : Setting → List Task → Bool
 reads g [] = false
 reads g (begin ∷ rest) = true
 reads g (fetch ∷ rest) = true
 reads g (join ∷ rest) = true
-reads g (rebegin ∷ rest) = false
 reads g (do_at k ∷ rest) = asks_last (slice_get g.commands k)
-reads g (copy k o ∷ rest) = false
-reads g (print_pattern ∷ rest) = false
-reads g (empty_pattern ∷ rest) = false
-reads g (flush ∷ rest) = false
+reads g (other ∷ rest) = false
 
 -- whether the first task comes to a command, or to the end of the script
 abbrev pub comes : List Task → Bool
 comes [] = false
 comes (do_at k ∷ rest) = true
-comes (begin ∷ rest) = false
-comes (rebegin ∷ rest) = false
-comes (fetch ∷ rest) = false
-comes (join ∷ rest) = false
-comes (copy k o ∷ rest) = false
-comes (print_pattern ∷ rest) = false
-comes (empty_pattern ∷ rest) = false
-comes (flush ∷ rest) = false
+comes (other ∷ rest) = false
 
 -- there is a move, and what it leads to is so
 abbrev pub Leads : Option Move → (Move → Type 0) → Type 0
@@ -102,12 +89,7 @@ Leads o P = (m : Move) × (o ≡ Some m) × P m
 -- the sink that an end names as broken
 abbrev pub broken_sink : Ended → Option ℕ
 broken_sink (OutputBroken k) = Some k
-broken_sink Done = None
-broken_sink (PatternFull n) = None
-broken_sink (HoldFull n) = None
-broken_sink TurnsSpent = None
-broken_sink (NoPrevious n) = None
-broken_sink InputBroken = None
+broken_sink other = None
 
 -- The cause of an end, at the state where it comes. For a broken output it is in what the sinks hold.
 abbrev pub IsCause : Limits → Setting → State → Ended → Type 0
@@ -116,6 +98,8 @@ IsCause l g s (PatternFull n) =
     (n ≡ line_at s s.tasks) × HasTurn l g s × Leads (move g s) (λ m. l.space < length m.next.pattern)
 IsCause l g s (HoldFull n) =
     (n ≡ s.number) × HasTurn l g s × Leads (move g s) (λ m. l.space < length m.next.hold)
+IsCause l g s (QueueFull n) =
+    (n ≡ s.number) × HasTurn l g s × Leads (move g s) (λ m. l.queue < length m.next.queue)
 IsCause l g s TurnsSpent = (s.turns ≡ l.turns) × (takes_turn g s s.tasks ≡ true)
 IsCause l g s (NoPrevious n) = (n ≡ s.number) × HasTurn l g s × (comes s.tasks ≡ true) × (move g s ≡ None)
 IsCause l g s InputBroken = reads g s.tasks ≡ true

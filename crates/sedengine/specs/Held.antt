@@ -1,7 +1,7 @@
 -- What an engine holds (this project's own).
-use Rattle.std.specs.Prelude.{◌≡◌, ℕ, suc, ◌+◌, ◌*◌, ◌⊎◌, Option, Some, None, length}
+use Rattle.std.specs.Prelude.{◌≡◌, ℕ, suc, ◌+◌, ◌*◌, ◌≤◌, ◌⊎◌, Bool, true, false, Option, Some, None, List, ◌∷◌, length}
 use Rattle.sedengine.specs.Limits.{Limits}
-use Rattle.sedengine.specs.State.{State, Setting}
+use Rattle.sedengine.specs.State.{Task, flush, copy, State, Setting}
 use Rattle.sedengine.specs.Move.{after}
 use Rattle.sedengine.specs.declared.ends.Held.{Held}
 
@@ -13,11 +13,19 @@ total_of h = h.pattern + h.hold + h.build + h.look + 8 * h.queue
 abbrev pub bound_of : Limits → ℕ
 bound_of l = 3 * l.space + l.look + 8 * l.queue
 
--- the same number of bytes in the pattern space and the hold space, and of entries in the queue
+-- whether the first task writes the queue, or an entry of it
+abbrev pub is_flushing : List Task → Bool
+is_flushing (flush ∷ rest) = true
+is_flushing (copy k o ∷ rest) = true
+is_flushing other = false
+
+-- What the state s' tells of the state s: as many bytes in the pattern space and the hold space, and as many entries in the
+-- queue. While the queue is written, entries that were written already may still count.
 pub record SameLengths (s s' : State) : Type 0 where
   pub pattern : length s'.pattern ≡ length s.pattern
   pub hold : length s'.hold ≡ length s.hold
-  pub queue : length s'.queue ≡ length s.queue
+  pub queue : is_flushing s.tasks ≡ false → length s'.queue ≡ length s.queue
+  pub entries : length s.queue ≤ length s'.queue
 
 -- At an end the lengths are those of the state after t moves. Where a sink broke, the move in which it did may have
 -- been made already.

@@ -1,6 +1,11 @@
 -- The fields of the engine, and what they stand for.
-use Rattle.std.specs.Prelude.{◌≡◌, ℕ, ◌<◌, ◌≤◌, Option, Some, None, List, [], ◌∷◌, length}
-use Rattle.sedengine.specs.State.{Task, begin, do_at, print_pattern, flush}
+use Rattle.std.specs.Prelude.{◌≡◌, ℕ, ◌<◌, ◌≤◌, Bool, true, false, Option, Some, None, List, [], ◌∷◌, length, map, slice_get}
+use Rattle.sedscript.specs.declared.types.Command.{Command}
+use Rattle.sedscript.specs.declared.types.Action.{Action}
+use Rattle.sedscript.specs.declared.types.Action.TheVariants.{Append, ReadFile}
+use Rattle.sedscript.specs.Script.{Program}
+use Rattle.sedengine.specs.State.{Entry, text, file, Task, begin, rebegin, do_at, print_pattern, flush}
+use Rattle.sedengine.specs.Move.{text_of}
 use Rattle.sedengine.specs.Run.{Run}
 use Rattle.sedengine.specs.declared.place.Place.{Place}
 use Rattle.sedengine.specs.declared.place.Place.TheVariants as p
@@ -9,9 +14,24 @@ use Rattle.sedengine.specs.declared.engine.Engine.TheInside.{Inside}
 -- the tasks that a place stands for
 abbrev pub tasks_of : Place → List Task
 tasks_of p.Begin = begin ∷ []
+tasks_of p.Rebegin = rebegin ∷ []
 tasks_of (p.Do k) = do_at k ∷ []
 tasks_of p.Quit = print_pattern ∷ flush ∷ []
 tasks_of p.Ended = []
+
+-- the entry that an action puts into the queue: `a` a text, `r` a file, and no other any
+abbrev pub entry_for : List (List ℕ) → Action → Entry
+entry_for texts (Append k) = text (text_of (slice_get texts k))
+entry_for texts (ReadFile k) = file k
+entry_for texts other = text []
+
+abbrev pub entry_by : List (List ℕ) → Option Command → Entry
+entry_by texts None = text []
+entry_by texts (Some c) = entry_for texts c.action
+
+-- the entries that commands of these numbers put into the queue
+abbrev pub entries_of : Program → List ℕ → List Entry
+entries_of p is = map (λ i. entry_by p.texts (slice_get p.commands i)) is
 
 abbrev pub run_of : Inside → Run
 run_of a = record {
@@ -23,7 +43,7 @@ run_of a = record {
     pattern = a.pattern.bytes;
     hold = a.hold.bytes;
     replaced = a.replaced;
-    queue = [];
+    queue = entries_of a.script a.queue.items;
     ranges = a.ranges.items;
     used = a.used;
     tasks = tasks_of a.place;
@@ -35,9 +55,22 @@ run_of a = record {
 -- The pattern space is empty where the next line is to replace it.
 abbrev pub IsEmptied : Place → List ℕ → Type 0
 IsEmptied p.Begin bytes = bytes ≡ []
-IsEmptied (p.Do k) bytes = Unit {0}
-IsEmptied p.Quit bytes = Unit {0}
-IsEmptied p.Ended bytes = Unit {0}
+IsEmptied other bytes = Unit {0}
+
+-- whether an action puts an entry into the queue
+abbrev pub queues : Action → Bool
+queues (Append k) = true
+queues (ReadFile k) = true
+queues other = false
+
+abbrev pub Queues : Option Command → Type 0
+Queues None = ⊥
+Queues (Some c) = queues c.action ≡ true
+
+-- each of these numbers is one of a command that puts an entry into the queue
+abbrev pub AllQueue : Program → List ℕ → Type 0
+AllQueue p [] = Unit {0}
+AllQueue p (i ∷ is) = Queues (slice_get p.commands i) × AllQueue p is
 
 -- the expression last used is one of so many
 abbrev pub IsOneOf : ℕ → Option ℕ → Type 0
@@ -53,7 +86,8 @@ pub record IsRun (a : Inside) : Type 0 where
   pub hold : length a.hold.bytes ≤ a.limits.space
   pub build_limit : a.build.limit ≡ a.limits.space
   pub queue_limit : a.queue.limit ≡ a.limits.queue
-  pub queue : a.queue.items ≡ []
+  pub queue : length a.queue.items ≤ a.limits.queue
+  pub queued : AllQueue a.script a.queue.items
   pub empty : IsEmptied a.place a.pattern.bytes
   pub ranges : length a.ranges.items ≡ length a.script.commands
   pub used : IsOneOf (length a.script.expressions) a.used

@@ -1,12 +1,17 @@
+pub mod Bringing
 pub mod Calls
 pub mod Choose
 pub mod Devices
 pub mod Ends
+pub mod Flushing
 pub mod Held
 pub mod Holding
 pub mod Inside
 pub mod Limits
+pub mod Listing
+pub mod ListingParts
 pub mod Move
+pub mod Queueing
 pub mod Run
 pub mod Select
 pub mod State

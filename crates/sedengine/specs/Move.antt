@@ -1,12 +1,17 @@
 -- How the editor moves from one state to the next (XCU sed, Extended Description). Nothing is limited here.
 use Rattle.std.specs.Prelude.{ℕ, suc, zero, ◌+◌, Bool, true, false, ◌||◌, Option, Some, None, List, [], ◌∷◌, ◌++◌, map, decimal, is_none, length, slice_get, slice_set, slice_index_or, if◌then◌else◌, ◌==◌}
+use Rattle.std.specs.List.{after_first}
+use Rattle.sedspace.specs.Lines.{is_newline}
 use Rattle.sedscript.specs.declared.types.Command.{Command}
 use Rattle.sedscript.specs.declared.types.Action.{Action}
 use Rattle.sedscript.specs.declared.types.Action.TheVariants.{Block, Branch, Change, Delete, Insert, LineNumber, Print, Quit}
 use Rattle.sedscript.specs.declared.types.Action.TheVariants.{Substitute, Test, Transliterate}
 use Rattle.sedscript.specs.declared.types.Action.TheVariants.{AppendHold, CopyHold, Exchange, Hold, HoldMore, PrintFirst}
+use Rattle.sedscript.specs.declared.types.Action.TheVariants.{Append, AppendNext, DeleteFirst, NextLine, ReadFile, WriteFile}
+use Rattle.sedscript.specs.declared.types.Action.TheVariants.{List as listing}
 use Rattle.sedscript.specs.declared.substitution.Substitution.{Substitution}
 use Rattle.sedengine.specs.Select.{◌>>=◌, Current, Choice, selects, stands_for}
+use Rattle.sedengine.specs.Listing.{listed}
 use Rattle.sedengine.specs.Substitute.{Match, occurrences, chosen, replaced_from}
 use Rattle.sedengine.specs.State.{Entry, text, file, Task, begin, rebegin, do_at, print_pattern, empty_pattern, flush, copy, fetch, join, State, Move, Setting}
 
@@ -66,7 +71,7 @@ abbrev pub joins : State → List Task → List (List ℕ) → Option Move
 joins s rest [] = quietly (then_do [] s)
 joins s rest (line ∷ lines) = quietly (then_do rest (with_line (s.pattern ++ newline ∷ line) lines s))
 
--- the text of a number, as `i` and `c` have it
+-- the text of a number, as `a`, `i` and `c` have it
 abbrev pub text_of : Option (List ℕ) → List ℕ
 text_of None = []
 text_of (Some bytes) = bytes
@@ -75,9 +80,19 @@ text_of (Some bytes) = bytes
 abbrev pub chosen_in : Setting → Substitution → ℕ → List ℕ → List Match
 chosen_in g t e w = chosen t.number t.global (occurrences (g.search e w) (length w))
 
--- the state in which the pattern space became a text by a substitution; with its flag `p` the text is written
+-- the text with a newline for the sink of a flag `w`, where the flag is given
+abbrev pub line_to_file : Option ℕ → List ℕ → List (ℕ × ℕ)
+line_to_file None w = []
+line_to_file (Some k) w = line_to k w
+
+-- what a substitution that made the text w writes: with its flag `p` the text, and then, with its flag `w`, the text to
+-- the file (the order of the two: this project's own)
+abbrev pub written_by : Substitution → List ℕ → List (ℕ × ℕ)
+written_by t w = (if t.print then line_to 0 w else []) ++ line_to_file t.file w
+
+-- the state in which the pattern space became a text by a substitution
 abbrev pub becomes : State → Substitution → List ℕ → Option Move
-becomes s t w = writing (if t.print then line_to 0 w else []) (record s { pattern = w; replaced = true })
+becomes s t w = writing (written_by t w) (record s { pattern = w; replaced = true })
 
 -- these occurrences are replaced, if there are any
 abbrev pub replaces : State → Substitution → List Match → Option Move
@@ -102,11 +117,27 @@ abbrev pub first_line : List ℕ → List ℕ
 first_line [] = []
 first_line (b ∷ bs) = if b == newline then [] else b ∷ first_line bs
 
+-- whether a text has a newline
+abbrev pub has_newline : List ℕ → Bool
+has_newline [] = false
+has_newline (b ∷ bs) = is_newline b || has_newline bs
+
+-- whether no line of input is left
+abbrev pub none_left : List (List ℕ) → Bool
+none_left [] = true
+none_left (line ∷ lines) = false
+
+-- the queue with a further entry
+abbrev pub queueing : Entry → State → State
+queueing entry s = record s { queue = s.queue ++ entry ∷ [] }
+
 -- What a command does that applies (XCU sed, "Editing Commands in sed"). The state has taken the turn, and goes on
 -- behind the command unless a case says otherwise. `tells` says whether `c` writes its text here.
 abbrev pub acts : Setting → State → Bool → Action → Option Move
 -- `{`: "Execute a list of sed editing commands only when the pattern space is selected", so they come next
 acts g s tells (Block behind) = quietly s
+-- `a`: "Write text to standard output as described previously": it waits in the queue
+acts g s tells (Append k) = quietly (queueing (text (text_of (slice_get g.texts k))) s)
 -- `b`: "Branch to the ':' command verb bearing the label"
 acts g s tells (Branch target) = quietly (then_do (do_at target ∷ []) s)
 -- `c`: "Delete the pattern space. With a 0 or 1 address or at the end of a 2-address range, place text on the output
@@ -116,6 +147,12 @@ acts g s tells (Change k) =
     (record s { pattern = []; tasks = flush ∷ begin ∷ [] })
 -- `d`: "Delete the pattern space and start the next cycle."
 acts g s tells Delete = quietly (record s { pattern = []; tasks = flush ∷ begin ∷ [] })
+-- `D`: "If the pattern space contains no <newline>, start a normal new cycle as if the d command was issued. Otherwise,
+-- delete the initial segment of the pattern space through the first <newline> and start the next cycle with the resultant
+-- pattern space and without reading any new input."
+acts g s tells DeleteFirst = quietly (
+    if has_newline s.pattern then record s { pattern = after_first is_newline s.pattern; tasks = flush ∷ rebegin ∷ [] }
+    else record s { pattern = []; tasks = flush ∷ begin ∷ [] })
 -- `i`: "Write text to standard output."
 acts g s tells (Insert k) = writing (line_to 0 (text_of (slice_get g.texts k))) s
 -- `g`: "Replace the contents of the pattern space by the contents of the hold space."
@@ -128,6 +165,18 @@ acts g s tells Hold = quietly (record s { hold = s.pattern })
 acts g s tells HoldMore = quietly (record s { hold = s.hold ++ newline ∷ s.pattern })
 -- `x`: "Exchange the contents of the pattern and hold spaces."
 acts g s tells Exchange = quietly (record s { pattern = s.hold; hold = s.pattern })
+-- `l`: "Write the pattern space to standard output in a visually unambiguous form."
+acts g s tells listing = writing (to_sink 0 (listed s.pattern)) s
+-- `n`: "Write the pattern space to standard output if the default output has not been suppressed, and replace the pattern
+-- space with the next line of input, less its terminating <newline>. If there is no next line of input, the n command verb
+-- shall branch to the end of the script and quit without starting a new cycle."
+acts g s tells NextLine = quietly (
+    if none_left s.lines then then_do (print_pattern ∷ flush ∷ []) s
+    else then_do (print_pattern ∷ flush ∷ empty_pattern ∷ fetch ∷ s.tasks) s)
+-- `N`: "Append the next line of input, less its terminating <newline>, to the pattern space, using an embedded <newline>
+-- to separate the appended material from the original material." Where no line is left, `joins` ends the run: "quit
+-- without starting a new cycle or copying the pattern space to standard output".
+acts g s tells AppendNext = quietly (then_do (flush ∷ join ∷ s.tasks) s)
 -- `=`: writes the line number and a newline
 acts g s tells LineNumber = writing (line_to 0 (decimal s.number)) s
 -- `p`: "Write the pattern space to standard output."
@@ -136,37 +185,22 @@ acts g s tells Print = writing (line_to 0 s.pattern) s
 acts g s tells PrintFirst = writing (line_to 0 (first_line s.pattern)) s
 -- `q`: "Branch to the end of the script and quit without starting a new cycle."
 acts g s tells Quit = quietly (then_do (print_pattern ∷ flush ∷ []) s)
+-- `r`: "Copy the contents of rfile to standard output as described previously": its entry waits in the queue
+acts g s tells (ReadFile k) = quietly (queueing (file k) s)
 -- `s`: "Substitute the replacement string for instances of the BRE in the pattern space."
 acts g s tells (Substitute k) = substitutes g s (slice_get g.substitutions k)
 -- `t`: "Branch to the ':' command verb bearing the label if any substitutions have been made since the most recent reading
 -- of an input line or execution of a t"
 acts g s tells (Test target) = quietly (if s.replaced then then_do (do_at target ∷ []) (record s { replaced = false }) else s)
+-- `w`: "Append (write) the pattern space to wfile."
+acts g s tells (WriteFile k) = writing (line_to k s.pattern) s
 -- `y`: "Replace all occurrences of characters in string1 with the corresponding characters in string2."
 acts g s tells (Transliterate k) = quietly (record s { pattern = map (in_table (slice_get g.tables k)) s.pattern })
 
 -- What a command does that doesn't apply: `{` passes over its block.
 abbrev pub passes : State → Action → Option Move
 passes s (Block behind) = quietly (then_do (do_at behind ∷ []) s)
-passes s (Branch target) = quietly s
-passes s (Change k) = quietly s
-passes s Delete = quietly s
-passes s (Insert k) = quietly s
-passes s LineNumber = quietly s
-passes s Print = quietly s
-passes s Quit = quietly s
-passes s (Substitute k) = quietly s
-passes s (Test target) = quietly s
-passes s (Transliterate k) = quietly s
-passes s CopyHold = quietly s
-passes s AppendHold = quietly s
-passes s Hold = quietly s
-passes s HoldMore = quietly s
-passes s Exchange = quietly s
-passes s PrintFirst = quietly s
-
-abbrev pub none_left : List (List ℕ) → Bool
-none_left [] = true
-none_left (line ∷ lines) = false
+passes s other = quietly s
 
 -- what addresses are judged by in this state
 abbrev pub current_of : Setting → State → Current

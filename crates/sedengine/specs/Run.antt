@@ -1,5 +1,5 @@
 -- The engine as its callers see it, and what a run of it comes to (this project's own).
-use Rattle.std.specs.Prelude.{◌≡◌, ℕ, ◌+◌, ◌<◌, Bool, true, false, Option, Some, None, Result, Ok, Err, unwrap_or, List, [], ◌∷◌, ◌++◌, length, is_some, slice_get}
+use Rattle.std.specs.Prelude.{◌≡◌, ℕ, ◌+◌, ◌<◌, Bool, true, false, Option, Some, None, Result, Ok, Err, List, [], ◌∷◌, ◌++◌, length, is_some, slice_get}
 use Rattle.sedre.specs.Arena.{Written, tree}
 use Rattle.sedmatch.specs.Matching.{found, report}
 use Rattle.sedscript.specs.Script.{Program}
@@ -11,7 +11,7 @@ use Rattle.sedengine.specs.Move.{after, written}
 use Rattle.sedengine.specs.Ends.{Within, Cause, broken_sink}
 use Rattle.sedengine.specs.Held.{HoldsAt}
 use Rattle.sedengine.specs.declared.ends.Ended.{Ended}
-use Rattle.sedengine.specs.declared.ends.Ended.TheVariants.{Done, PatternFull, HoldFull, TurnsSpent, NoPrevious, InputBroken, OutputBroken}
+use Rattle.sedengine.specs.declared.ends.Ended.TheVariants.{PatternFull, InputBroken}
 use Rattle.sedengine.specs.declared.ends.Progress.{Progress}
 use Rattle.sedengine.specs.declared.ends.Progress.TheVariants as progress
 
@@ -64,9 +64,9 @@ setting_of p files = record {
 abbrev pub setting : Run → (ℕ → List ℕ) → Setting
 setting e files = setting_of e.script files
 
--- the files, by what their texts tell
-abbrev pub files_in : (ℕ → Option (List ℕ)) → ℕ → List ℕ
-files_in texts k = unwrap_or (texts k) []
+-- the texts tell these files
+abbrev pub TellsFiles : (ℕ → Option (List ℕ)) → (ℕ → List ℕ) → Type 0
+TellsFiles texts files = (k : ℕ) → texts k ≡ Some (files k)
 
 -- the bytes of lines, a newline counted with each
 abbrev pub size_of : List (List ℕ) → ℕ
@@ -83,11 +83,7 @@ pub record Takes (g : Setting) (s : State) (old new : Option (List ℕ)) (more :
 abbrev pub more_at : Limits → Ended → ℕ
 more_at l (PatternFull n) = l.space + 1 + l.look
 more_at l InputBroken = l.space + 1 + l.look
-more_at l Done = l.look
-more_at l TurnsSpent = l.look
-more_at l (HoldFull n) = l.look
-more_at l (NoPrevious n) = l.look
-more_at l (OutputBroken k) = l.look
+more_at l other = l.look
 
 -- A run from the state s came to this end: after some moves, which took lines from the source and led to the state
 -- `now`. `gained` says what the sinks gained, and `old` and `new` what the source had still to give.
@@ -103,13 +99,7 @@ abbrev pub starts_cycle : List Task → Bool
 starts_cycle [] = false
 starts_cycle (begin ∷ rest) = true
 starts_cycle (rebegin ∷ rest) = true
-starts_cycle (do_at k ∷ rest) = false
-starts_cycle (print_pattern ∷ rest) = false
-starts_cycle (empty_pattern ∷ rest) = false
-starts_cycle (flush ∷ rest) = false
-starts_cycle (copy k o ∷ rest) = false
-starts_cycle (fetch ∷ rest) = false
-starts_cycle (join ∷ rest) = false
+starts_cycle (other ∷ rest) = false
 
 -- no cycle starts between the first of t moves and the last
 abbrev pub InOneCycle : Setting → State → ℕ → Type 0

@@ -1,14 +1,17 @@
 -- Moves of the engine: what its private calls promise one another.
-use Rattle.std.specs.Prelude.{◌≡◌, ℕ, true, ◌+◌, ◌*◌, ◌-◌, ◌<◌, Option, Some, Result, Ok, Err, List, [], ◌∷◌, ◌++◌}
+use Rattle.std.specs.Prelude.{◌≡◌, ℕ, true, ◌+◌, ◌*◌, ◌-◌, ◌<◌, Bool, false, Option, Some, None, Result, Ok, Err, List, [], ◌∷◌, ◌++◌}
 use Rattle.sedspace.specs.Stream.{Stream, left, lines_left, TakesAtMost}
+use Rattle.sedscript.specs.declared.types.Command.{Command}
+use Rattle.sedscript.specs.declared.types.Action.{Action}
+use Rattle.sedscript.specs.declared.types.Action.TheVariants.{NextLine, AppendNext}
 use Rattle.sedengine.specs.Limits.{Limits}
 use Rattle.sedengine.specs.State.{Task, begin, rebegin, do_at, print_pattern, empty_pattern, flush, copy, fetch, join, State, Move, Setting}
 use Rattle.sedengine.specs.Move.{move, after, written}
-use Rattle.sedengine.specs.Ends.{Fits, HasTurn, Within, Cause, broken_sink, comes}
+use Rattle.sedengine.specs.Ends.{Fits, HasTurn, Within, Cause, broken_sink, comes, reads}
 use Rattle.sedengine.specs.Held.{HoldsAt, SameLengths}
 use Rattle.sedengine.specs.Run.{Run, InOneCycle, at_lines, size_of}
 use Rattle.sedengine.specs.declared.ends.Ended.{Ended}
-use Rattle.sedengine.specs.declared.ends.Ended.TheVariants.{Done, PatternFull, HoldFull, TurnsSpent, NoPrevious, InputBroken, OutputBroken}
+use Rattle.sedengine.specs.declared.ends.Ended.TheVariants.{PatternFull, InputBroken}
 
 -- Moves were made, which led to this state. Only the last of them may have led to the start of a cycle.
 pub record Ran (l : Limits) (g : Setting) (s now : State) (gained : List (ℕ × ℕ) → Type 0) : Type 0 where
@@ -47,6 +50,17 @@ abbrev pub Performs : Limits → Setting → Option Move → State → State →
     Result Unit Ended → Type 0
 Performs l g o there now gained r = (s : State) → ComesTo l g s there → move g s ≡ o → Moves l g s now gained r
 
+-- a command that has this action
+abbrev pub HasAction : Option Command → Action → Type 0
+HasAction None action = ⊥
+HasAction (Some c) action = c.action ≡ action
+
+-- whether a command takes a further line
+abbrev pub takes_line : Action → Bool
+takes_line NextLine = true
+takes_line AppendNext = true
+takes_line other = false
+
 -- Lines were taken, and no more bytes than theirs are gone.
 pub record TakesLines {R : Type 0} (remaining : R → Option (List ℕ)) (old new : Stream R)
     (ls rest : List (List ℕ)) : Type 0 where
@@ -59,11 +73,7 @@ pub record TakesLines {R : Type 0} (remaining : R → Option (List ℕ)) (old ne
 abbrev pub lost : Limits → Ended → ℕ
 lost l (PatternFull n) = l.space
 lost l InputBroken = l.space
-lost l Done = 0
-lost l TurnsSpent = 0
-lost l (HoldFull n) = 0
-lost l (NoPrevious n) = 0
-lost l (OutputBroken k) = 0
+lost l other = 0
 
 -- Moves were made that took these lines, and then the end came.
 pub record Halted {R : Type 0} (remaining : R → Option (List ℕ)) (old new : Stream R) (l : Limits) (g : Setting)
@@ -74,24 +84,30 @@ pub record Halted {R : Type 0} (remaining : R → Option (List ℕ)) (old new : 
   pub are : s.lines ≡ lines ++ rest
   pub bytes : TakesAtMost (left remaining old) (left remaining new) (size_of lines + lost l end)
 
--- What a call that makes moves and may take lines answers, where ls are left before.
+-- What a call that makes moves from the state s and may take lines answers, where ls are left before.
+abbrev pub StepsFrom : {R : Type 0} → (R → Option (List ℕ)) → Stream R → Stream R → List (List ℕ) → Limits → Setting →
+    State → Run → (List (ℕ × ℕ) → Type 0) → Result Unit Ended → Type 0
+StepsFrom remaining old new ls l g s e' gained (Ok u) =
+    (rest : List (List ℕ)) × TakesLines remaining old new ls rest × Ran l g s (at_lines e' rest) gained
+StepsFrom remaining old new ls l g s e' gained (Err end) = Halted remaining old new l g s e' gained end
+
+-- the same from the state of an engine
 abbrev pub Steps : {R : Type 0} → (R → Option (List ℕ)) → Stream R → Stream R → List (List ℕ) → Limits → Setting →
     Run → Run → (List (ℕ × ℕ) → Type 0) → Result Unit Ended → Type 0
-Steps remaining old new ls l g e e' gained (Ok u) =
-    (rest : List (List ℕ)) × TakesLines remaining old new ls rest × Ran l g (at_lines e ls) (at_lines e' rest) gained
-Steps remaining old new ls l g e e' gained (Err end) = Halted remaining old new l g (at_lines e ls) e' gained end
+Steps remaining old new ls l g e e' gained r = StepsFrom remaining old new ls l g (at_lines e ls) e' gained r
+
+-- What a call answers that makes the move o, perhaps moves after it, and may take lines, from whichever state has that move
+-- and comes to the command that acts in the state `there`; `asks` says whether that command asks if a line is left.
+abbrev pub PerformsSteps : {R : Type 0} → (R → Option (List ℕ)) → Stream R → Stream R → List (List ℕ) → Limits →
+    Setting → Option Move → Bool → State → Run → (List (ℕ × ℕ) → Type 0) → Result Unit Ended → Type 0
+PerformsSteps remaining old new ls l g o asks there e' gained r =
+    (s : State) → ComesTo l g s there → (asks ≡ true → reads g s.tasks ≡ true) → move g s ≡ o →
+    StepsFrom remaining old new ls l g s e' gained r
 
 -- A number that falls with each move: the turns left, and then what the tasks may do without one.
 abbrev pub cost : Task → ℕ
 cost (do_at k) = 2
-cost begin = 1
-cost rebegin = 1
-cost print_pattern = 1
-cost empty_pattern = 1
-cost flush = 1
-cost (copy k o) = 1
-cost fetch = 1
-cost join = 1
+cost other = 1
 
 abbrev pub costs : List Task → ℕ
 costs [] = 0

@@ -1,12 +1,12 @@
 -- Private to this crate: what the engine's calls for a substitution promise one another.
-use Rattle.std.specs.Prelude.{◌≡◌, ◌<◌, Bool, true, false, Option, None, Result, Ok, Err, List, [], length, if◌then◌else◌}
+use Rattle.std.specs.Prelude.{◌≡◌, ◌<◌, Bool, true, false, Option, None, Result, Ok, Err, List, [], length}
 use Rattle.sedscript.specs.declared.substitution.Substitution.{Substitution}
 use Rattle.sedspace.specs.declared.errors.Full.{Full}
 use Rattle.sedspace.specs.Spaces.{Contents}
 use Rattle.sedengine.specs.Limits.{Limits}
 use Rattle.sedengine.specs.State.{State, Move}
 use Rattle.sedengine.specs.Substitute.{Match, replaced_from}
-use Rattle.sedengine.specs.Move.{line_to, quietly, writing}
+use Rattle.sedengine.specs.Move.{quietly, writing, written_by}
 use Rattle.sedengine.specs.Ends.{Leads}
 use Rattle.sedengine.specs.Run.{Run}
 use Rattle.sedengine.specs.declared.ends.Ended.{Ended}
@@ -22,12 +22,12 @@ ReplacesIn t ms old new (Err f) =
     (0 < length ms) × (old.limit < length (replaced_from old.bytes t.replacement 0 ms))
 
 -- What a call answers that makes the move o of a substitution, but for its writing: whether anything was replaced.
-abbrev pub Makes : Limits → Option Move → Bool → State → State → Result Bool Ended → Type 0
-Makes l o print s now (Ok false) = o ≡ quietly now
-Makes l o print s now (Ok true) = o ≡ writing (if print then line_to 0 now.pattern else []) now
-Makes l o print s now (Err (NoPrevious n)) = (o ≡ None) × (n ≡ s.number)
-Makes l o print s now (Err (PatternFull n)) = Leads o (λ m. l.space < length m.next.pattern) × (n ≡ s.number)
-Makes l o print s now (Err _) = ⊥
+abbrev pub Makes : Limits → Option Move → Substitution → State → State → Result Bool Ended → Type 0
+Makes l o t s now (Ok false) = o ≡ quietly now
+Makes l o t s now (Ok true) = o ≡ writing (written_by t now.pattern) now
+Makes l o t s now (Err (NoPrevious n)) = (o ≡ None) × (n ≡ s.number)
+Makes l o t s now (Err (PatternFull n)) = Leads o (λ m. l.space < length m.next.pattern) × (n ≡ s.number)
+Makes l o t s now (Err _) = ⊥
 
 -- the engine with nothing changed but what a substitution may change
 abbrev pub same_but_replaced : Run → State → Run

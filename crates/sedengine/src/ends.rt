@@ -12,6 +12,8 @@ pub enum Ended {
     PatternFull(u64),
     /// F2: what a command makes on this line is longer than the hold space may be.
     HoldFull(u64),
+    /// F3: the queue may hold no further entry, and a command on this line has one.
+    QueueFull(u64),
     /// F4: all turns were taken, and a further one is due.
     TurnsSpent,
     /// F5: on this line an empty regular expression stands for the one last used, and none was.

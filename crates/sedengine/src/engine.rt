@@ -7,12 +7,15 @@ ghost use Rattle.sedspace.specs.Stream.{lines_left};
 ghost use Rattle.sedengine.specs.Move.{start};
 ghost use Rattle.sedengine.specs.Devices.{Gained, FailedSink, FailedSource};
 ghost use Rattle.sedengine.specs.Held.{total_of, bound_of};
-ghost use Rattle.sedengine.specs.Run.{outcome, Cycles, Ending, SameRun, at_lines, end_of, files_in, setting};
+ghost use Rattle.sedengine.specs.Run.{outcome, Cycles, Ending, SameRun, TellsFiles, at_lines, end_of, setting};
 
 mod addresses;
 mod commands;
+mod deleting;
 mod holding;
 mod moves;
+mod next;
+mod queueing;
 mod substituting;
 mod tasks;
 
@@ -118,8 +121,9 @@ impl Engine {
     /// Runs one cycle: the next line is read, the script runs over it, and the pattern space is written.
     ///
     /// All calls of a run get the same lines, outputs and texts; the lines read ahead as much as the limits say, and
-    /// sink 0 is the standard output. No command reads a text yet. An engine whose run has ended answers the same end
-    /// again, and touches no device.
+    /// sink 0 is the standard output, and there is one for each of the script's files to write, sink 1 for the first
+    /// of `wfiles`; text 0 is the first of `rfiles`. An engine whose run has ended answers the same end again, and
+    /// touches no device.
     pub fn cycle<R: ByteSource, O: Outputs, T: Texts>(
         &mut self,
         lines: &mut Lines<R>,
@@ -127,12 +131,13 @@ impl Engine {
         texts: &mut T,
     ) -> Progress
         requires look { lines.old.look ≡ self.old.limits.look }
-        requires sink { 0 < O.count outputs.old }
+        requires sinks { length self.old.script.wfiles < O.count outputs.old }
         // The moves of one cycle were made, or the end came with its cause; this is what the sinks gained and what
         // was taken from the source.
         ensures cycles { IsNone self.old.ended → lines.old.fault ≡ None →
             ForSome (lines_left R.remaining lines.old) (λ ls.
-            Cycles self.old.limits (setting self.old (files_in (T.text texts.old))) (at_lines self.old ls)
+            (files : ℕ → List ℕ) → TellsFiles (T.text texts.old) files →
+            Cycles self.old.limits (setting self.old files) (at_lines self.old ls)
             (Gained (O.contents outputs.old) (O.contents outputs.new))
             (R.remaining lines.old.source) (R.remaining lines.new.source)
             self.new (lines_left R.remaining lines.new) result) }
@@ -154,7 +159,7 @@ impl Engine {
         if let Some(end) = self.ended {
             return Progress::Ended(end);
         }
-        let progress = self.moves_of_cycle(lines, outputs);
+        let progress = self.moves_of_cycle(lines, outputs, texts);
         if let Progress::Ended(end) = progress {
             self.ended = Some(end);
         }
@@ -171,12 +176,13 @@ impl Engine {
         texts: &mut T,
     ) -> Ended
         requires look { lines.old.look ≡ self.old.limits.look }
-        requires sink { 0 < O.count outputs.old }
+        requires sinks { length self.old.script.wfiles < O.count outputs.old }
         // The end has its cause after some moves, from the engine's state and the lines left; the sinks have gained
         // what these moves write, and this was taken from the source.
         ensures ends { IsNone self.old.ended → lines.old.fault ≡ None →
             ForSome (lines_left R.remaining lines.old) (λ ls.
-            Ending self.old.limits (setting self.old (files_in (T.text texts.old))) (at_lines self.old ls)
+            (files : ℕ → List ℕ) → TellsFiles (T.text texts.old) files →
+            Ending self.old.limits (setting self.old files) (at_lines self.old ls)
             (Gained (O.contents outputs.old) (O.contents outputs.new))
             (R.remaining lines.old.source) (R.remaining lines.new.source) self.new.state result) }
         // The device that the end names has failed in this run.
@@ -196,7 +202,7 @@ impl Engine {
         if let Some(end) = self.ended {
             return end;
         }
-        let end = self.moves(lines, outputs);
+        let end = self.moves(lines, outputs, texts);
         self.ended = Some(end);
         end
     }

@@ -15,7 +15,10 @@
 
 mod ends;
 mod engine;
+mod flushing;
+pub mod laws;
 mod limits;
+mod listing;
 mod place;
 mod select;
 mod substitute;
@@ -24,6 +27,3 @@ mod write;
 pub use ends::{Ended, Held, Progress};
 pub use engine::Engine;
 pub use limits::Limits;
-
-#[cfg(test)]
-mod tests;

@@ -5,6 +5,8 @@
 pub(crate) enum Place {
     /// A cycle starts.
     Begin,
+    /// A cycle starts with the pattern space as it is.
+    Rebegin,
     /// The command of this number is come to, or the end of the script.
     Do(usize),
     /// The pattern space and the queue are written for the last time.

@@ -21,8 +21,9 @@ use crate::select::{Chosen, choose, deciding, finds, yes_by_number};
 use sedscript::{Address, Command};
 use sedspace::{ByteSource, Lines};
 
-/// Whether the line given last was the last one of the input. Only an address `$` asks this.
-fn is_last<R: ByteSource>(lines: &mut Lines<R>) -> Result<bool, Ended>
+/// Whether the line given last was the last one of the input. Only an address `$`, `n`, and an `N` that has no room ask
+/// this.
+pub(super) fn is_last<R: ByteSource>(lines: &mut Lines<R>) -> Result<bool, Ended>
     ensures last { lines.old.fault ≡ None → ForSome (lines_left R.remaining lines.old) (λ ls.
         TellsLine (none_left ls) result) }
     ensures left { ForSome (lines_left R.remaining lines.old) (λ ls.

@@ -1,23 +1,27 @@
 //! The commands (XCU sed, "Editing Commands in sed"): each has a case in `act` and a function of its own.
-ghost use Rattle.std.specs.Prelude.{◌≡◌, ◌<◌, ◌≤◌, ◌+◌, [], ◌∷◌, None, Some, Ok, Err, OnOk, ℕ, Option, List, true, decimal, length, slice_get, if◌then◌else◌};
+ghost use Rattle.std.specs.Prelude.{◌≡◌, ◌<◌, ◌≤◌, ◌+◌, [], ◌∷◌, None, Some, Ok, Err, OnOk, ℕ, Option, List, true, false, decimal, length, slice_get};
 ghost use Rattle.std.specs.Option.{ForSome};
+ghost use Rattle.std.specs.Io.KnownBytes.{Keeps};
 ghost use Rattle.sedscript.specs.Ranges.{ActionWithin, sizes_of};
+ghost use Rattle.sedscript.specs.declared.types.Action.TheVariants.{Change, Delete, DeleteFirst};
 ghost use Rattle.sedspace.specs.Stream.{lines_left};
-ghost use Rattle.sedengine.specs.State.{do_at, begin, print_pattern, flush};
-ghost use Rattle.sedengine.specs.Move.{acts, first_line, passes, line_to, tells_at, text_of};
-ghost use Rattle.sedengine.specs.Ends.{comes};
+ghost use Rattle.sedengine.specs.State.{do_at, print_pattern, flush};
+ghost use Rattle.sedengine.specs.Listing.{listed};
+ghost use Rattle.sedengine.specs.Move.{acts, first_line, passes, line_to, tells_at, text_of, to_sink};
+ghost use Rattle.sedengine.specs.Ends.{comes, is_next};
 ghost use Rattle.sedengine.specs.Devices.{Gained};
 ghost use Rattle.sedengine.specs.Calls.{Puts, Reads, Writes};
-ghost use Rattle.sedengine.specs.Run.{Run, at_lines, setting};
-ghost use Rattle.sedengine.specs.Steps.{KeepsRun, Performs, Steps, weight};
+ghost use Rattle.sedengine.specs.Run.{TellsFiles, at_lines, setting};
+ghost use Rattle.sedengine.specs.Steps.{HasAction, KeepsRun, Performs, PerformsSteps, Steps, takes_line, weight};
 
 use super::Engine;
 use crate::ends::Ended;
+use crate::listing::write_listing;
 use crate::place::Place;
 use crate::write::{write_all, write_line};
 use itoa::Buffer;
 use sedscript::{Action, Command};
-use sedspace::{ByteSource, Lines, Outputs};
+use sedspace::{ByteSource, Lines, Outputs, Texts};
 
 /// Whether `c` writes its text: without a range, at a range's end, and with `!`.
 fn tells(command: &Command, end: bool) -> bool
@@ -28,25 +32,27 @@ fn tells(command: &Command, end: bool) -> bool
 
 impl Engine {
     /// Comes to a command, or to the end of the script.
-    pub(super) fn come_to<R: ByteSource, O: Outputs>(
+    pub(super) fn come_to<R: ByteSource, O: Outputs, T: Texts>(
         &mut self,
         k: usize,
         lines: &mut Lines<R>,
         outputs: &mut O,
+        texts: &mut T,
     ) -> Result<(), Ended>
         requires at { self.old.state.tasks ≡ do_at k ∷ [] }
-        requires sink { 0 < O.count outputs.old }
+        requires sinks { length self.old.script.wfiles < O.count outputs.old }
         ensures steps { lines.old.fault ≡ None → ForSome (lines_left R.remaining lines.old) (λ ls.
-            (files : ℕ → List ℕ) →
+            (files : ℕ → List ℕ) → TellsFiles (T.text texts.old) files →
             Steps R.remaining lines.old lines.new ls self.old.limits (setting self.old files) self.old self.new
             (Gained (O.contents outputs.old) (O.contents outputs.new)) result) }
         ensures input { Reads R.remaining R.failures R.reference lines.old lines.new result }
         ensures output { Writes O.failures O.count outputs.old outputs.new result }
         ensures falls { OnOk result (weight self.new < weight self.old) }
         ensures same { KeepsRun self.old self.new }
+        ensures kept { (j : ℕ) → Keeps (T.text texts.old j) (T.text texts.new j) }
     {
         if k >= self.script.len() {
-            return self.finish(k, outputs);
+            return self.finish(k, outputs, texts);
         }
         if self.turns == self.limits.turns() {
             return Err(Ended::TurnsSpent);
@@ -57,19 +63,68 @@ impl Engine {
             Err(end) => return Err(end),
         };
         if choice.yes {
-            self.act(command.action, tells(&command, choice.end), outputs)
+            self.act(
+                k,
+                command.action,
+                tells(&command, choice.end),
+                lines,
+                outputs,
+                texts,
+            )
         } else {
             self.pass(command.action);
             Ok(())
         }
     }
 
-    /// What a command does that applies. `tells` says whether `c` writes its text.
-    fn act<O: Outputs>(&mut self, action: Action, tells: bool, outputs: &mut O) -> Result<(), Ended>
+    /// What command `k` does that applies. `tells` says whether `c` writes its text.
+    fn act<R: ByteSource, O: Outputs, T: Texts>(
+        &mut self,
+        k: usize,
+        action: Action,
+        tells: bool,
+        lines: &mut Lines<R>,
+        outputs: &mut O,
+        texts: &mut T,
+    ) -> Result<(), Ended>
+        requires at { comes self.old.state.tasks ≡ true }
+        requires number { self.old.state.number < self.old.state.turns }
+        requires within { ActionWithin (sizes_of self.old.script) action }
+        requires action { HasAction (slice_get self.old.script.commands k) action }
+        requires sinks { length self.old.script.wfiles < O.count outputs.old }
+        ensures acts { lines.old.fault ≡ None → ForSome (lines_left R.remaining lines.old) (λ ls.
+            (files : ℕ → List ℕ) → TellsFiles (T.text texts.old) files →
+            PerformsSteps R.remaining lines.old lines.new ls self.old.limits (setting self.old files)
+            (acts (setting self.old files) (at_lines self.old ls) tells action) (is_next action) (at_lines self.old ls) self.new
+            (Gained (O.contents outputs.old) (O.contents outputs.new)) result) }
+        ensures input { Reads R.remaining R.failures R.reference lines.old lines.new result }
+        ensures output { Writes O.failures O.count outputs.old outputs.new result }
+        ensures falls { weight self.new ≤ weight self.old + 8 }
+        ensures same { KeepsRun self.old self.new }
+        ensures kept { (j : ℕ) → Keeps (T.text texts.old j) (T.text texts.new j) }
+    {
+        match action {
+            Action::AppendNext => self.act_append_next(lines, outputs, texts),
+            Action::NextLine => self.act_next_line(lines, outputs, texts),
+            _ => self.act_here(k, action, tells, outputs, texts),
+        }
+    }
+
+    /// The same for a command that takes no line.
+    fn act_here<O: Outputs, T: Texts>(
+        &mut self,
+        k: usize,
+        action: Action,
+        tells: bool,
+        outputs: &mut O,
+        texts: &mut T,
+    ) -> Result<(), Ended>
         requires at { comes self.old.state.tasks ≡ true }
         requires within { ActionWithin (sizes_of self.old.script) action }
-        requires sink { 0 < O.count outputs.old }
-        ensures acts { (files : ℕ → List ℕ) (ls : List (List ℕ)) →
+        requires action { HasAction (slice_get self.old.script.commands k) action }
+        requires here { takes_line action ≡ false }
+        requires sinks { length self.old.script.wfiles < O.count outputs.old }
+        ensures acts { (files : ℕ → List ℕ) → TellsFiles (T.text texts.old) files → (ls : List (List ℕ)) →
             Performs self.old.limits (setting self.old files)
             (acts (setting self.old files) (at_lines self.old ls) tells action) (at_lines self.old ls) (at_lines self.new ls)
             (Gained (O.contents outputs.old) (O.contents outputs.new)) result }
@@ -77,16 +132,20 @@ impl Engine {
         ensures input { result ≡ Err Ended.InputBroken → ⊥ }
         ensures falls { weight self.new ≤ weight self.old + 8 }
         ensures same { KeepsRun self.old self.new }
+        ensures kept { (j : ℕ) → Keeps (T.text texts.old j) (T.text texts.new j) }
     {
         // The engine is open from here on, so its state is known to be within the limits.
         let _ = &self.turns;
         match action {
+            Action::Append(_) => self.act_queue(k),
+            Action::ReadFile(_) => self.act_queue(k),
+            Action::AppendNext | Action::NextLine => unreachable!(),
             Action::Block(_) => Ok(()),
             Action::Branch(target) => {
                 self.act_branch(target);
                 Ok(())
             }
-            Action::Change(text) => self.act_change(text, tells, outputs),
+            Action::Change(text) => self.act_change(text, tells, outputs, texts),
             Action::CopyHold => {
                 self.act_copy_hold();
                 Ok(())
@@ -101,13 +160,12 @@ impl Engine {
                 self.act_exchange();
                 Ok(())
             }
-            Action::Delete => {
-                self.act_delete();
-                Ok(())
-            }
+            Action::Delete => self.act_delete(outputs, texts),
+            Action::DeleteFirst => self.act_delete_first(outputs, texts),
             Action::Insert(text) => self.act_insert(text, outputs),
             Action::LineNumber => self.act_line_number(outputs),
-            Action::Print => self.act_print(outputs),
+            Action::List => self.act_list(outputs),
+            Action::Print => self.act_write(0, outputs),
             Action::PrintFirst => self.act_print_first(outputs),
             Action::Quit => {
                 self.act_quit();
@@ -122,6 +180,7 @@ impl Engine {
                 self.act_transliterate(k);
                 Ok(())
             }
+            Action::WriteFile(sink) => self.act_write(sink, outputs),
         }
     }
 
@@ -143,41 +202,6 @@ impl Engine {
         ensures { self.new ≡ record self.old { state = record self.old.state { tasks = do_at target ∷ [] } } }
     {
         self.place = Place::Do(target);
-    }
-
-    /// The command `c`: deletes the pattern space, writes its text where it tells, writes the queue, which is empty, and
-    /// the next cycle starts.
-    fn act_change<O: Outputs>(
-        &mut self,
-        text: usize,
-        tells: bool,
-        outputs: &mut O,
-    ) -> Result<(), Ended>
-        requires text { text < length self.old.script.texts }
-        requires sink { 0 < O.count outputs.old }
-        ensures puts { Puts (Gained (O.contents outputs.old) (O.contents outputs.new))
-            (if tells then line_to 0 (text_of (slice_get self.old.script.texts text)) else []) result }
-        ensures output { Writes O.failures O.count outputs.old outputs.new result }
-        ensures deleted { self.new ≡ record self.old {
-          state = record self.old.state {
-            pattern = [];
-            tasks = begin ∷ [];
-          };
-        } }
-    {
-        self.act_delete();
-        if !tells {
-            return Ok(());
-        }
-        write_line(outputs, 0, self.script.text(text))
-    }
-
-    /// The command `d`: deletes the pattern space, writes the queue, which is empty, and the next cycle starts.
-    fn act_delete(&mut self)
-        ensures { self.new ≡ record self.old { state = record self.old.state { pattern = []; tasks = begin ∷ [] } } }
-    {
-        self.pattern.clear();
-        self.place = Place::Begin;
     }
 
     /// The command `i`: writes its text.
@@ -202,14 +226,24 @@ impl Engine {
         write_line(outputs, 0, buffer.format(self.number).as_bytes())
     }
 
-    /// The command `p`: writes the pattern space.
-    pub(super) fn act_print<O: Outputs>(&self, outputs: &mut O) -> Result<(), Ended>
+    /// The command `l`: writes the listing of the pattern space.
+    fn act_list<O: Outputs>(&self, outputs: &mut O) -> Result<(), Ended>
         requires { 0 < O.count outputs.old }
         ensures puts { Puts (Gained (O.contents outputs.old) (O.contents outputs.new))
-            (line_to 0 self.now.state.pattern) result }
+            (to_sink 0 (listed self.now.state.pattern)) result }
         ensures output { Writes O.failures O.count outputs.old outputs.new result }
     {
-        write_all(outputs, 0, self.pattern.line())
+        write_listing(outputs, self.pattern.bytes())
+    }
+
+    /// The commands `p` and `w`: writes the pattern space to a sink.
+    pub(super) fn act_write<O: Outputs>(&self, sink: usize, outputs: &mut O) -> Result<(), Ended>
+        requires { sink < O.count outputs.old }
+        ensures puts { Puts (Gained (O.contents outputs.old) (O.contents outputs.new))
+            (line_to sink self.now.state.pattern) result }
+        ensures output { Writes O.failures O.count outputs.old outputs.new result }
+    {
+        write_all(outputs, sink, self.pattern.line())
     }
 
     /// The command `P`: writes the pattern space up to its first newline.
@@ -222,7 +256,7 @@ impl Engine {
         write_all(outputs, 0, self.pattern.first_line())
     }
 
-    /// The command `q`: the pattern space and the queue, which is empty, are written for the last time.
+    /// The command `q`: the pattern space and the queue are written for the last time.
     fn act_quit(&mut self)
         ensures { self.new ≡ record self.old {
           state = record self.old.state { tasks = print_pattern ∷ flush ∷ [] };

@@ -4,7 +4,7 @@ ghost use Rattle.std.specs.Prelude.{◌≡◌, ◌<◌, ◌≤◌, [], ◌∷◌
 ghost use Rattle.sedscript.specs.declared.substitution.Substitution.{Substitution};
 ghost use Rattle.sedengine.specs.State.{do_at};
 ghost use Rattle.sedengine.specs.Substitute.{chosen, occurrences};
-ghost use Rattle.sedengine.specs.Move.{chosen_in, in_table, line_to, replaces, substitutes};
+ghost use Rattle.sedengine.specs.Move.{chosen_in, in_table, line_to, line_to_file, replaces, substitutes, written_by};
 ghost use Rattle.sedengine.specs.Ends.{comes};
 ghost use Rattle.sedengine.specs.Devices.{Gained};
 ghost use Rattle.sedengine.specs.Calls.{NoSinkFailed, Puts, Writes};
@@ -57,7 +57,7 @@ fn replace_in(
 }
 
 impl Engine {
-    /// The command `s`: replaces occurrences in the pattern space, and with its flag `p` writes it if it did.
+    /// The command `s`: replaces occurrences in the pattern space, and writes it as its flags `p` and `w` say if it did.
     #[inline(never)]
     pub(super) fn act_substitute<O: Outputs>(
         &mut self,
@@ -66,7 +66,7 @@ impl Engine {
     ) -> Result<(), Ended>
         requires at { comes self.old.state.tasks ≡ true }
         requires number { k < length self.old.script.substitutions }
-        requires sink { 0 < O.count outputs.old }
+        requires sinks { length self.old.script.wfiles < O.count outputs.old }
         ensures acts { (files : ℕ → List ℕ) (ls : List (List ℕ)) →
             Performs self.old.limits (setting self.old files)
             (substitutes (setting self.old files) (at_lines self.old ls) (slice_get self.old.script.substitutions k))
@@ -80,7 +80,7 @@ impl Engine {
         // The engine is open from here on, so its state is known to be within the limits.
         let _ = &self.turns;
         match self.replace(k) {
-            Ok(true) => self.print_replaced(k, outputs),
+            Ok(true) => self.write_replaced(k, outputs),
             Ok(false) => Ok(()),
             Err(end) => Err(end),
         }
@@ -92,7 +92,7 @@ impl Engine {
         requires number { k < length self.old.script.substitutions }
         ensures makes { (t : Substitution) → slice_get self.old.script.substitutions k ≡ Some t →
             (files : ℕ → List ℕ) (ls : List (List ℕ)) →
-            Makes self.old.limits (substitutes (setting self.old files) (at_lines self.old ls) (Some t)) t.print
+            Makes self.old.limits (substitutes (setting self.old files) (at_lines self.old ls) (Some t)) t
             (at_lines self.old ls) (at_lines self.new ls) result }
         ensures err { OnErr result (self.new.state.pattern ≡ self.old.state.pattern) }
         ensures output { NoSinkFailed result }
@@ -115,7 +115,7 @@ impl Engine {
             (files : ℕ → List ℕ) (ls : List (List ℕ)) →
             Makes self.old.limits
             (replaces (record (at_lines self.old ls) { used = Some e }) t
-            (chosen_in (setting self.old files) t e self.old.state.pattern)) t.print
+            (chosen_in (setting self.old files) t e self.old.state.pattern)) t
             (at_lines self.old ls) (at_lines self.new ls) result }
         ensures err { OnErr result (self.new.state.pattern ≡ self.old.state.pattern) }
         ensures output { NoSinkFailed result }
@@ -141,6 +141,21 @@ impl Engine {
         }
     }
 
+    /// Writes the pattern space as the flags `p` and `w` of the substitution of number `k` say.
+    fn write_replaced<O: Outputs>(&self, k: usize, outputs: &mut O) -> Result<(), Ended>
+        requires number { k < length self.now.script.substitutions }
+        requires sinks { length self.now.script.wfiles < O.count outputs.old }
+        ensures puts { (t : Substitution) → slice_get self.now.script.substitutions k ≡ Some t →
+            Puts (Gained (O.contents outputs.old) (O.contents outputs.new)) (written_by t self.now.state.pattern) result }
+        ensures output { Writes O.failures O.count outputs.old outputs.new result }
+        ensures input { result ≡ Err Ended.InputBroken → ⊥ }
+    {
+        match self.print_replaced(k, outputs) {
+            Ok(()) => self.file_replaced(k, outputs),
+            Err(end) => Err(end),
+        }
+    }
+
     /// Writes the pattern space if the substitution of number `k` has the flag `p`.
     fn print_replaced<O: Outputs>(&self, k: usize, outputs: &mut O) -> Result<(), Ended>
         requires number { k < length self.now.script.substitutions }
@@ -154,7 +169,23 @@ impl Engine {
         if !self.script.substitution(k).print {
             return Ok(());
         }
-        self.act_print(outputs)
+        self.act_write(0, outputs)
+    }
+
+    /// Writes the pattern space to the file if the substitution of number `k` has the flag `w`.
+    fn file_replaced<O: Outputs>(&self, k: usize, outputs: &mut O) -> Result<(), Ended>
+        requires number { k < length self.now.script.substitutions }
+        requires sinks { length self.now.script.wfiles < O.count outputs.old }
+        ensures puts { (t : Substitution) → slice_get self.now.script.substitutions k ≡ Some t →
+            Puts (Gained (O.contents outputs.old) (O.contents outputs.new))
+            (line_to_file t.file self.now.state.pattern) result }
+        ensures output { Writes O.failures O.count outputs.old outputs.new result }
+        ensures input { result ≡ Err Ended.InputBroken → ⊥ }
+    {
+        match self.script.substitution(k).file {
+            Some(sink) => self.act_write(sink, outputs),
+            None => Ok(()),
+        }
     }
 
     /// The command `t`: goes on at its target if a substitution was made, which is then forgotten.

@@ -1,38 +1,18 @@
 //! The start of a cycle, and its end.
-ghost use Rattle.std.specs.Prelude.{◌≡◌, ◌<◌, ◌≤◌, [], ◌∷◌, None, Some, Ok, Err, OnOk, ℕ, Option, List, length, if◌then◌else◌};
+ghost use Rattle.std.specs.Prelude.{◌≡◌, ◌<◌, ◌≤◌, [], ◌∷◌, None, Err, OnOk, ℕ, Option, List, length};
 ghost use Rattle.std.specs.Option.{ForSome};
+ghost use Rattle.std.specs.Io.KnownBytes.{Keeps};
 ghost use Rattle.sedspace.specs.Stream.{lines_left};
-ghost use Rattle.sedengine.specs.State.{begin, do_at, print_pattern, flush};
-ghost use Rattle.sedengine.specs.Move.{line_to};
+ghost use Rattle.sedengine.specs.State.{begin, rebegin, do_at, print_pattern, flush};
 ghost use Rattle.sedengine.specs.Devices.{Gained};
-ghost use Rattle.sedengine.specs.Calls.{Puts, Reads, Writes};
-ghost use Rattle.sedengine.specs.Run.{at_lines, setting};
+ghost use Rattle.sedengine.specs.Calls.{NoSinkFailed, Reads, Writes};
+ghost use Rattle.sedengine.specs.Run.{TellsFiles, at_lines, setting};
 ghost use Rattle.sedengine.specs.Steps.{KeepsRun, Moves, Steps, weight};
 
 use super::Engine;
 use crate::ends::Ended;
 use crate::place::Place;
-use crate::write::write_all;
-use sedscript::Script;
-use sedspace::{ByteSource, Got, LineFault, Lines, Outputs, Space};
-
-/// Writes the pattern space, unless default output is suppressed.
-fn print_by_default<O: Outputs>(
-    script: &Script,
-    pattern: &Space,
-    outputs: &mut O,
-) -> Result<(), Ended>
-    requires { 0 < O.count outputs.old }
-    ensures puts { Puts (Gained (O.contents outputs.old) (O.contents outputs.new))
-        (if script.now.quiet then [] else line_to 0 pattern.now.bytes) result }
-    ensures output { Writes O.failures O.count outputs.old outputs.new result }
-    ensures input { result ≡ Err Ended.InputBroken → ⊥ }
-{
-    if script.quiet() {
-        return Ok(());
-    }
-    write_all(outputs, 0, pattern.line())
-}
+use sedspace::{ByteSource, Got, LineFault, Lines, Outputs, Texts};
 
 impl Engine {
     /// Starts a cycle with the next line.
@@ -74,40 +54,77 @@ impl Engine {
         }
     }
 
-    /// Ends a cycle at the end of the script: writes the pattern space and the queue, which is empty, and empties
-    /// the pattern space.
-    pub(super) fn finish<O: Outputs>(&mut self, k: usize, outputs: &mut O) -> Result<(), Ended>
-        requires at { self.old.state.tasks ≡ do_at k ∷ [] }
-        requires end { length self.old.script.commands ≤ k }
-        requires sink { 0 < O.count outputs.old }
-        ensures moves { (files : ℕ → List ℕ) (ls : List (List ℕ)) →
+    /// Starts a cycle with the pattern space as it is.
+    pub(super) fn rebegin(&mut self) -> Result<(), Ended>
+        requires { self.old.state.tasks ≡ rebegin ∷ [] }
+        ensures moves { (files : ℕ → List ℕ) (ls : List (List ℕ)) (sinks : ℕ → Option (List ℕ)) →
             Moves self.old.limits (setting self.old files) (at_lines self.old ls)
-            (at_lines self.new ls) (Gained (O.contents outputs.old) (O.contents outputs.new)) result }
-        ensures output { Writes O.failures O.count outputs.old outputs.new result }
+            (at_lines self.new ls) (Gained sinks sinks) result }
+        ensures output { NoSinkFailed result }
         ensures input { result ≡ Err Ended.InputBroken → ⊥ }
         ensures falls { OnOk result (weight self.new < weight self.old) }
         ensures same { KeepsRun self.old self.new }
     {
-        print_by_default(&self.script, &self.pattern, outputs)?;
-        self.pattern.clear();
-        self.place = Place::Begin;
+        if self.turns == self.limits.turns() {
+            return Err(Ended::TurnsSpent);
+        }
+        self.turns += 1;
+        self.place = Place::Do(0);
         Ok(())
     }
 
-    /// Ends the run: writes the pattern space and the queue, which is empty, for the last time.
-    pub(super) fn quit<O: Outputs>(&mut self, outputs: &mut O) -> Result<(), Ended>
-        requires at { self.old.state.tasks ≡ print_pattern ∷ flush ∷ [] }
+    /// Ends a cycle at the end of the script: writes the pattern space and the queue, and empties the pattern space.
+    pub(super) fn finish<O: Outputs, T: Texts>(
+        &mut self,
+        k: usize,
+        outputs: &mut O,
+        texts: &mut T,
+    ) -> Result<(), Ended>
+        requires at { self.old.state.tasks ≡ do_at k ∷ [] }
+        requires end { length self.old.script.commands ≤ k }
         requires sink { 0 < O.count outputs.old }
-        ensures moves { (files : ℕ → List ℕ) (ls : List (List ℕ)) →
+        ensures moves { (files : ℕ → List ℕ) → TellsFiles (T.text texts.old) files → (ls : List (List ℕ)) →
             Moves self.old.limits (setting self.old files) (at_lines self.old ls)
             (at_lines self.new ls) (Gained (O.contents outputs.old) (O.contents outputs.new)) result }
         ensures output { Writes O.failures O.count outputs.old outputs.new result }
         ensures input { result ≡ Err Ended.InputBroken → ⊥ }
         ensures falls { OnOk result (weight self.new < weight self.old) }
         ensures same { KeepsRun self.old self.new }
+        ensures kept { (j : ℕ) → Keeps (T.text texts.old j) (T.text texts.new j) }
     {
-        print_by_default(&self.script, &self.pattern, outputs)?;
-        self.place = Place::Ended;
-        Ok(())
+        match self.print_and_flush(outputs, texts) {
+            Ok(()) => {
+                self.pattern.clear();
+                self.place = Place::Begin;
+                Ok(())
+            }
+            Err(end) => Err(end),
+        }
+    }
+
+    /// Ends the run: writes the pattern space and the queue for the last time.
+    pub(super) fn quit<O: Outputs, T: Texts>(
+        &mut self,
+        outputs: &mut O,
+        texts: &mut T,
+    ) -> Result<(), Ended>
+        requires at { self.old.state.tasks ≡ print_pattern ∷ flush ∷ [] }
+        requires sink { 0 < O.count outputs.old }
+        ensures moves { (files : ℕ → List ℕ) → TellsFiles (T.text texts.old) files → (ls : List (List ℕ)) →
+            Moves self.old.limits (setting self.old files) (at_lines self.old ls)
+            (at_lines self.new ls) (Gained (O.contents outputs.old) (O.contents outputs.new)) result }
+        ensures output { Writes O.failures O.count outputs.old outputs.new result }
+        ensures input { result ≡ Err Ended.InputBroken → ⊥ }
+        ensures falls { OnOk result (weight self.new < weight self.old) }
+        ensures same { KeepsRun self.old self.new }
+        ensures kept { (j : ℕ) → Keeps (T.text texts.old j) (T.text texts.new j) }
+    {
+        match self.print_and_flush(outputs, texts) {
+            Ok(()) => {
+                self.place = Place::Ended;
+                Ok(())
+            }
+            Err(end) => Err(end),
+        }
     }
 }

@@ -1,8 +1,7 @@
-use Rattle.sedengine.specs.Run.{files_in}
 use Rattle.sedengine.specs.Inside.{run_of}
 use Rattle.sedengine.proofs.Runs.{cycle_seen}
 use Rattle.sedengine.proofs.engine.Engine.cycle.Goals as goal
 
 pub returns-in-Ended-clause-cycles : goal.returns-in-Ended-clause-cycles
-returns-in-Ended-clause-cycles g c = λ fresh sound ls known.
-    cycle_seen c.moves_of_cycle-progress.new.self (run_of c.self-2.inside) c.self-2.view_is (c.in-Ended.ensures.cycles sound ls known (files_in (g.T.Texts.text c.args.texts.now)))
+returns-in-Ended-clause-cycles g c = λ fresh sound ls known files told.
+    cycle_seen c.moves_of_cycle-progress.new.self (run_of c.self-2.inside) c.self-2.view_is (c.in-Ended.ensures.cycles sound ls known files told)

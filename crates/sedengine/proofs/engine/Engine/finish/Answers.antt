@@ -1,12 +1,15 @@
-use Rattle.std.proofs.lemmas.Result.{err_from_is_err_and}
-use Rattle.sedengine.proofs.Tasks.{finishes, finish_stops}
+use Rattle.std.proofs.Common.{◌∷◌, [], ap}
+use Rattle.sedengine.specs.State.{begin, empty_pattern}
+use Rattle.sedengine.specs.Inside.{run_of}
+use Rattle.sedengine.specs.declared.place.Place.TheVariants as p
+use Rattle.sedengine.proofs.Ending.{emptied, finished, finish_stopped}
 use Rattle.sedengine.proofs.engine.Engine.finish.Goals as goal
 
-pub returns-in_err-print_by_default-clause-moves : goal.returns-in_err-print_by_default-clause-moves
-returns-in_err-print_by_default-clause-moves g c = λ files ls.
-    let p = err_from_is_err_and c.from_residual.result c.from_residual.ensures.1 in
-    rw (p.1, p.2) (finish_stops c.self.inside _ c.self.view_is c.self.invariant files ls c.args.k c.requires.at _ _ _ c.requires.end c.in_err-print_by_default.ensures.puts)
+pub returns-in-Ok-clause-moves : goal.returns-in-Ok-clause-moves
+returns-in-Ok-clause-moves g c = λ files told ls.
+    finished c.args.self.now c.print_and_flush.new.self (run_of (record c.self.inside { pattern = c.clear.new.self; place = p.Begin })) files ls c.args.k _ _ c.requires.at c.requires.end (c.in-Ok.ensures.moves files told ls (empty_pattern ∷ begin ∷ []))
+    (rw c.clear.ensures (ap emptied c.self.view_is))
 
-pub returns-clause-moves : goal.returns-clause-moves
-returns-clause-moves g c = λ files ls.
-    finishes c.self.inside _ c.self.view_is c.self.invariant files ls c.args.k c.requires.at _ _ c.clear.new.self c.requires.end c.clear.ensures c.in_ok-print_by_default.ensures.puts
+pub returns-in-Err-clause-moves : goal.returns-in-Err-clause-moves
+returns-in-Err-clause-moves g c = λ files told ls.
+    finish_stopped c.args.self.now c.print_and_flush.new.self files ls c.args.k (empty_pattern ∷ begin ∷ []) _ _ c.in-Err.end c.requires.at c.requires.end (c.in-Err.ensures.moves files told ls (empty_pattern ∷ begin ∷ []))

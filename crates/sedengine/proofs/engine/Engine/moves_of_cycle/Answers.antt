@@ -7,6 +7,8 @@ use Rattle.sedengine.proofs.Streams.{Reads-none, Reads-then}
 use Rattle.sedengine.proofs.Moves.{InOneCycle-more}
 use Rattle.sedengine.proofs.Runs.{Reached, Reached-none, KeepsRun-then, step_on, stop_on, one_on, some_on, one_stop, cycled}
 use Rattle.sedengine.proofs.Tasks.{fits_of}
+use Rattle.std.proofs.KnownBytes.{Keeps-refl, Keeps-trans}
+use Rattle.sedengine.proofs.Entries.{tells_on}
 use Rattle.sedengine.proofs.engine.Engine.moves_of_cycle.Goals as goal
 
 pub moves-init : goal.moves-init
@@ -14,7 +16,8 @@ moves-init g c = record {
   same = record { script = refl; limits = refl; ended = refl };
   input = Reads-none _ _ _ _;
   output = Writes-none _ _ _;
-  reached = λ sound ls known files.
+  kept = λ j. Keeps-refl _;
+  reached = λ sound ls known files told.
       let P : Run → Type 0 = λ e. Fits e.limits (at_lines e ls) in
       (Reached-none _ _ _ _ c.args.self.now ls _ known (subst P c.self.view_is (fits_of c.self.inside ls c.self.invariant)), λ k some lt. absurd (omega arith));
 }
@@ -23,12 +26,12 @@ pub returns-in-Err-clause-input : goal.returns-in-Err-clause-input
 returns-in-Err-clause-input g c = Reads-then _ _ _ _ _ _ _ c.moves.invariant.input c.in-Err.ensures.input
 
 pub returns-in-Err-clause-cycles : goal.returns-in-Err-clause-cycles
-returns-in-Err-clause-cycles g c = λ sound ls known files.
+returns-in-Err-clause-cycles g c = λ sound ls known files told.
     let h = c.moves.invariant in
-    let reached = h.reached sound ls known files in
+    let reached = h.reached sound ls known files told in
     let r = reached.0 in
     let input = Reads-then _ _ _ _ _ _ _ h.input c.in-Err.ensures.input in
-    let stop = c.in-Err.ensures.steps (h.input.sound sound) r.rest r.taken.known files in
+    let stop = c.in-Err.ensures.steps (h.input.sound sound) r.rest r.taken.known files (tells_on _ _ files told h.kept) in
     record {
       ending = stop_on g.R.ByteSource.remaining c.args.lines.now c.moves.lines c.step.new.lines files c.args.self.now _ c.moves.self _ _ _ h.same r c.step.new.self c.in-Err.end stop input.shrinks input.ahead c.requires.look;
       one = one_stop g.R.ByteSource.remaining c.args.lines.now c.moves.lines c.step.new.lines files c.args.self.now _ c.moves.self _ _ _ h.same r c.step.new.self c.in-Err.end stop reached.1;
@@ -38,12 +41,12 @@ pub returns-then-at_start-clause-input : goal.returns-then-at_start-clause-input
 returns-then-at_start-clause-input g c = Reads-then _ _ _ _ _ _ _ c.moves.invariant.input c.in_default.ensures.input
 
 pub returns-then-at_start-clause-cycles : goal.returns-then-at_start-clause-cycles
-returns-then-at_start-clause-cycles g c = λ sound ls known files.
+returns-then-at_start-clause-cycles g c = λ sound ls known files told.
     let h = c.moves.invariant in
-    let reached = h.reached sound ls known files in
+    let reached = h.reached sound ls known files told in
     let r = reached.0 in
     let input = Reads-then _ _ _ _ _ _ _ h.input c.in_default.ensures.input in
-    let ran = c.in_default.ensures.steps (h.input.sound sound) r.rest r.taken.known files in
+    let ran = c.in_default.ensures.steps (h.input.sound sound) r.rest r.taken.known files (tells_on _ _ files told h.kept) in
     let next : Reached g.R.ByteSource.remaining c.args.lines.now c.step.new.lines _ (setting c.args.self.now files) (at_lines c.args.self.now ls) c.step.new.self _ _ =
     step_on g.R.ByteSource.remaining c.args.lines.now c.moves.lines c.step.new.lines files c.args.self.now _ c.moves.self _ _ _ h.same r c.step.new.self ran in
     let one = one_on g.R.ByteSource.remaining c.args.lines.now c.moves.lines c.step.new.lines files c.args.self.now _ c.moves.self _ _ _ h.same r c.step.new.self ran reached.1 in
@@ -58,10 +61,11 @@ moves-preserved g c =
       same = KeepsRun-then h.same c.step.ensures.same;
       input = Reads-then _ _ _ _ _ _ _ h.input c.in_default.ensures.input;
       output = Writes-then _ _ _ _ _ _ h.output c.in_default.ensures.output;
-      reached = λ sound ls known files.
-          let reached = h.reached sound ls known files in
+      kept = λ j. Keeps-trans _ _ _ (h.kept j) (c.in_default.ensures.kept j);
+      reached = λ sound ls known files told.
+          let reached = h.reached sound ls known files told in
           let r = reached.0 in
-          let ran = c.in_default.ensures.steps (h.input.sound sound) r.rest r.taken.known files in
+          let ran = c.in_default.ensures.steps (h.input.sound sound) r.rest r.taken.known files (tells_on _ _ files told h.kept) in
           let next : Reached g.R.ByteSource.remaining c.args.lines.now c.step.new.lines _ (setting c.args.self.now files) (at_lines c.args.self.now ls) c.step.new.self _ _ =
           step_on g.R.ByteSource.remaining c.args.lines.now c.moves.lines c.step.new.lines files c.args.self.now _ c.moves.self _ _ _ h.same r c.step.new.self ran in
           let one = one_on g.R.ByteSource.remaining c.args.lines.now c.moves.lines c.step.new.lines files c.args.self.now _ c.moves.self _ _ _ h.same r c.step.new.self ran reached.1 in

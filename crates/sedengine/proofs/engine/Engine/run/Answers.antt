@@ -1,8 +1,7 @@
-use Rattle.sedengine.specs.Run.{files_in}
 use Rattle.sedengine.specs.Inside.{run_of}
 use Rattle.sedengine.proofs.Runs.{ending_seen}
 use Rattle.sedengine.proofs.engine.Engine.run.Goals as goal
 
 pub returns-clause-ends : goal.returns-clause-ends
-returns-clause-ends g c = λ fresh sound ls known.
-    ending_seen c.moves-end.new.self (run_of c.self-2.inside) c.self-2.view_is (c.moves-end.ensures.ends sound ls known (files_in (g.T.Texts.text c.args.texts.now)))
+returns-clause-ends g c = λ fresh sound ls known files told.
+    ending_seen c.moves-end.new.self (run_of c.self-2.inside) c.self-2.view_is (c.moves-end.ensures.ends sound ls known files told)

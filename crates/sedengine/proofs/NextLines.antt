@@ -1,0 +1,258 @@
+-- Further lines come within a cycle.
+use Rattle.std.proofs.Common.{◌≡◌, ℕ, ◌+◌, ◌-◌, ◌<◌, ◌≤◌, Bool, true, false, List, [], ◌∷◌, ◌++◌, length, Option, Some, None, Result, Ok, Err, refl, subst, sym, ap, ◌∙◌, arith, length-append, append_assoc}
+use Rattle.std.specs.Prelude.{OnOk, OnErr}
+use Rattle.std.proofs.lemmas.Bool.{false≢true}
+use Rattle.sedspace.specs.Spaces.{Contents}
+use Rattle.sedspace.specs.Stream.{Stream, left, lines_left, GivesLine, NoneLeft, TakesAtMost, TakesLine}
+use Rattle.sedspace.specs.declared.lines.Got.{Got}
+use Rattle.sedspace.specs.declared.lines.Got.TheVariants.{Line, End}
+use Rattle.sedengine.specs.Limits.{Limits}
+use Rattle.sedscript.specs.declared.types.Action.TheVariants.{NextLine}
+use Rattle.sedengine.specs.State.{Task, print_pattern, flush, empty_pattern, fetch, join, State, Move, Setting}
+use Rattle.sedengine.specs.Move.{move, acts, newline, none_left, quietly, then_do, with_line}
+use Rattle.sedengine.specs.Ends.{Fits, IsCause, broken_sink, line_at, reads, takes_turn}
+use Rattle.sedengine.specs.Held.{SameLengths}
+use Rattle.sedengine.specs.Devices.{Gained}
+use Rattle.sedengine.specs.Run.{Run, at_lines, setting, size_of, starts_cycle}
+use Rattle.sedengine.specs.Steps.{ComesTo, Halted, Moves, PerformsSteps, Ran, StepsFrom, TakesLines, lost}
+use Rattle.sedengine.specs.Bringing.{Brings, brought}
+use Rattle.sedengine.specs.Choose.{TellsLine}
+use Rattle.sedengine.specs.declared.place.Place.TheVariants as p
+use Rattle.sedengine.specs.declared.ends.Ended.{Ended}
+use Rattle.sedengine.specs.declared.ends.Ended.TheVariants.{PatternFull, InputBroken}
+use Rattle.sedengine.specs.Inside.{run_of, IsRun}
+use Rattle.sedengine.specs.declared.engine.Engine.TheInside.{Inside}
+use Rattle.sedengine.proofs.Streams.{TakesAtMost-more, TakesAtMost-then, TakesLines-then, line_taken, lines_end}
+use Rattle.sedengine.specs.Queueing.{flushed}
+use Rattle.sedengine.proofs.Moves.{Moves-then, move_at, moves_fits, ran_fits, ran_quietly, stopped_here}
+use Rattle.sedengine.proofs.Tasks.{fits_of, fits_tasks, halts_here}
+
+-- moves, and then a call that may take lines
+pub steps_then : {R : Type 0} (remaining : R → Option (List ℕ)) (o n : Stream R) (ls : List (List ℕ)) (l : Limits) (g : Setting) (s m : State) (e' : Run) (old mid new : ℕ → Option (List ℕ)) (r : Result Unit Ended) →
+    Ran l g s m (Gained old mid) → starts_cycle m.tasks ≡ false → s.lines ≡ m.lines → StepsFrom remaining o n ls l g m e' (Gained mid new) r → StepsFrom remaining o n ls l g s e' (Gained old new) r
+steps_then {R} remaining o n ls l g s m e' old mid new (Ok u) ran goes same (rest, taken, h) = (rest, taken, Moves-then l g s m (at_lines e' rest) old mid new (Ok tt) ran goes h)
+steps_then {R} remaining o n ls l g s m e' old mid new (Err end) ran goes same h = record {
+  rest = h.rest;
+  stopped = Moves-then l g s m (at_lines e' h.rest) old mid new (Err end) ran goes h.stopped;
+  lines = h.lines;
+  are = same ∙ h.are;
+  bytes = h.bytes;
+}
+
+pub none_taken : (xs ls : List (List ℕ)) → ls ≡ xs ++ ls → size_of xs ≡ 0
+none_taken [] ls h = refl
+none_taken (x ∷ xs) ls h = absurd (omega (arith, ap length h, length-append (x ∷ xs) ls))
+
+-- a call that looks at the input and takes no line, and then moves
+pub looked_moves : {R : Type 0} (remaining : R → Option (List ℕ)) (o n : Stream R) (ls : List (List ℕ)) (l : Limits) (g : Setting) (s : State) (e' : Run) (P : List (ℕ × ℕ) → Type 0) (r : Result Unit Ended) →
+    TakesLines remaining o n ls ls → s.lines ≡ ls → Moves l g s (at_lines e' ls) P r → StepsFrom remaining o n ls l g s e' P r
+looked_moves {R} remaining o n ls l g s e' P (Ok u) taken are h = (ls, taken, h)
+looked_moves {R} remaining o n ls l g s e' P (Err end) taken are h = record {
+  rest = ls;
+  stopped = h;
+  lines = [];
+  are = are;
+  bytes = TakesAtMost-more _ _ _ _ (omega arith) (rw (none_taken taken.lines ls taken.are) at taken.bytes);
+}
+
+-- a call that looks at the input and takes no line, and then one that may take lines
+pub looked_then : {R : Type 0} (remaining : R → Option (List ℕ)) (a b c : Stream R) (ls : List (List ℕ)) (l : Limits) (g : Setting) (s : State) (e' : Run) (P : List (ℕ × ℕ) → Type 0) (r : Result Unit Ended) →
+    TakesLines remaining a b ls ls → StepsFrom remaining b c ls l g s e' P r → StepsFrom remaining a c ls l g s e' P r
+looked_then {R} remaining a b c ls l g s e' P (Ok u) taken (rest, more, h) = (rest, TakesLines-then remaining a b c ls ls rest taken more, h)
+looked_then {R} remaining a b c ls l g s e' P (Err end) taken h = record {
+  rest = h.rest;
+  stopped = h.stopped;
+  lines = h.lines;
+  are = h.are;
+  bytes = TakesAtMost-more _ _ _ _ (omega arith) (TakesAtMost-then _ _ _ 0 _ (TakesAtMost-more _ _ _ _ (omega arith) (rw (none_taken taken.lines ls taken.are) at taken.bytes)) h.bytes);
+}
+
+-- the engine with these bytes in its pattern space
+abbrev pub with_pattern : Run → List ℕ → Run
+with_pattern e bytes = record e { state = record e.state { pattern = bytes } }
+
+-- what a call that brings a line tells, without whether there was one
+abbrev pub told : Result Got Ended → Result Unit Ended
+told (Ok got) = Ok tt
+told (Err end) = Err end
+
+-- how such a call leaves the engine
+abbrev pub AfterBringing : Run → Contents → Run → Result Got Ended → Type 0
+AfterBringing e c e' (Ok got) = e' ≡ brought (with_pattern e c.bytes) got
+AfterBringing e c e' (Err end) = e' ≡ with_pattern e c.bytes
+
+-- The next line is brought to the pattern space of the engine e, in place of it or behind it and a newline; s is the state
+-- at which this is due. Its move is `one` where a line is left, and `none` where there is none.
+module _ {R : Type 0} (remaining : R → Option (List ℕ)) (old new : Stream R) (ls : List (List ℕ)) (g : Setting) (e e' : Run) (sinks : ℕ → Option (List ℕ)) (before : List ℕ) (c c' : Contents)
+    (f : Fits e.limits (at_lines e ls)) (limit : c.limit ≡ e.limits.space) (pattern : c.bytes ≡ e.state.pattern) (s : State) (same_lines : s.lines ≡ ls) (fits : Fits e.limits s)
+    (hold : s.hold ≡ e.state.hold) (spaces : s.pattern ≡ e.state.pattern) (queue : s.queue ≡ e.state.queue)
+    (line_is : line_at s s.tasks ≡ e.state.number + 1) (no_turn : takes_turn g s s.tasks ≡ false) (may_read : reads g s.tasks ≡ true)
+    (one : (line : List ℕ) (rest : List (List ℕ)) → ls ≡ line ∷ rest → move g s ≡ quietly (with_line (before ++ line) rest (at_lines e ls)))
+    (none : ls ≡ [] → move g s ≡ quietly (then_do [] (at_lines e ls))) where
+  here : SameLengths s e.state
+  here = record { pattern = ap length (sym spaces); hold = ap length (sym hold); queue = λ _. ap length (sym queue); entries = let q = ap length queue in omega arith }
+
+  -- the end comes where nothing was brought
+  halts : (end : Ended) → e' ≡ with_pattern e c'.bytes → c' ≡ c → broken_sink end ≡ None → lost e.limits end ≡ c.limit → TakesAtMost (left remaining old) (left remaining new) c.limit → IsCause e.limits g s end →
+      StepsFrom remaining old new ls e.limits g s e' (Gained sinks sinks) (Err end)
+  halts end after is no_sink loses gone cause =
+      let bytes : c'.bytes ≡ e.state.pattern = ap (λ (c : Contents). c.bytes) is ∙ pattern in
+      let Q : Run → Type 0 = λ e'. StepsFrom remaining old new ls e.limits g s e' (Gained sinks sinks) (Err end) in
+      let B : List ℕ → Type 0 = λ bytes. StepsFrom remaining old new ls e.limits g s (with_pattern e bytes) (Gained sinks sinks) (Err end) in
+      let T : ℕ → Type 0 = λ n. TakesAtMost (left remaining old) (left remaining new) n in
+      subst Q (sym after) (subst B (sym bytes) (halts_here remaining old new e.limits g s e sinks end fits no_sink cause here (subst T (sym loses) gone)))
+
+  pub brings_steps : (r : Result Got Ended) → AfterBringing e c' e' r → Brings remaining old new ls before (e.state.number + 1) c c' r → StepsFrom remaining old new ls e.limits g s e' (Gained sinks sinks) (told r)
+  brings_steps (Ok Line) after (line, rest, are, taken, is, fit) =
+      let Q : Run → Type 0 = λ e'. StepsFrom remaining old new ls e.limits g s e' (Gained sinks sinks) (Ok tt) in
+      let bytes : c'.bytes ≡ before ++ line = ap (λ (c : Contents). c.bytes) is in
+      let B : List ℕ → Type 0 = λ bytes. StepsFrom remaining old new ls e.limits g s (brought (with_pattern e bytes) Line) (Gained sinks sinks) (Ok tt) in
+      subst Q (sym after) (subst B (sym bytes) (
+        rest,
+        taken,
+        ran_quietly e.limits g s (at_lines (brought (with_pattern e (before ++ line)) Line) rest) sinks fits (one line rest are)
+            (record { pattern = omega (arith, fit, limit); hold = f.hold; queue = f.queue; turns = f.turns }),
+      ))
+  brings_steps (Ok End) after (are, taken, is) =
+      let Q : Run → Type 0 = λ e'. StepsFrom remaining old new ls e.limits g s e' (Gained sinks sinks) (Ok tt) in
+      let bytes : c'.bytes ≡ e.state.pattern = ap (λ (c : Contents). c.bytes) is ∙ pattern in
+      let B : List ℕ → Type 0 = λ bytes. StepsFrom remaining old new ls e.limits g s (brought (with_pattern e bytes) End) (Gained sinks sinks) (Ok tt) in
+      let over : State = then_do [] (at_lines e []) in
+      subst Q (sym after) (subst B (sym bytes) ([], taken, ran_quietly e.limits g s over sinks fits (none are ∙ ap (λ ls. quietly (then_do [] (at_lines e ls))) are) (record { pattern = f.pattern; hold = f.hold; queue = f.queue; turns = f.turns })))
+  brings_steps (Err (PatternFull n)) after (number, (line, rest, are, more), is, gone) =
+      halts (PatternFull n) after is refl (sym limit) gone (number ∙ sym line_is, (λ h. absurd (false≢true (sym no_turn ∙ h))), (_, one line rest are, omega (arith, more, limit)))
+  brings_steps (Err InputBroken) after (is, gone) = halts InputBroken after is refl (sym limit) gone may_read
+  brings_steps (Err other) after h = absurd h
+
+-- `n`, `fetch`: the pattern space is emptied, and the next line comes in its place.
+pub fetch_steps : {R : Type 0} (remaining : R → Option (List ℕ)) (old new : Stream R) (ls : List (List ℕ)) (files : ℕ → List ℕ) (e e' : Run) (sinks : ℕ → Option (List ℕ)) (c c' : Contents) (r : Result Got Ended) →
+    Fits e.limits (at_lines e ls) → c.limit ≡ e.limits.space → c.bytes ≡ [] → AfterBringing (with_pattern e []) c' e' r → Brings remaining old new ls c.bytes (e.state.number + 1) c c' r →
+    StepsFrom remaining old new ls e.limits (setting e files) (then_do (empty_pattern ∷ fetch ∷ e.state.tasks) (at_lines e ls)) e' (Gained sinks sinks) (told r)
+fetch_steps {R} remaining old new ls files e e' sinks c c' r f limit none after brings =
+    let g : Setting = setting e files in
+    let e1 : Run = with_pattern e [] in
+    let s : State = then_do (fetch ∷ e.state.tasks) (at_lines e1 ls) in
+    let empty : length e1.state.pattern ≤ e.limits.space = omega arith in
+    let f1 : Fits e.limits (at_lines e1 ls) = record { pattern = empty; hold = f.hold; queue = f.queue; turns = f.turns } in
+    let fs : Fits e.limits s = record { pattern = empty; hold = f.hold; queue = f.queue; turns = f.turns } in
+    let B : List ℕ → Type 0 = λ before. Brings remaining old new ls before (e.state.number + 1) c c' r in
+    steps_then remaining old new ls e.limits g (then_do (empty_pattern ∷ fetch ∷ e.state.tasks) (at_lines e ls)) s e' sinks sinks sinks (told r)
+    (ran_quietly e.limits g (then_do (empty_pattern ∷ fetch ∷ e.state.tasks) (at_lines e ls)) s sinks (fits_tasks _ (at_lines e ls) _ f) (move_at _ _ _ refl) fs) refl refl
+    (brings_steps remaining old new ls g e1 e' sinks [] c c' f1 limit none s refl fs refl refl refl refl refl refl
+    (λ line rest are. rw are (move_at _ _ _ refl)) (λ are. rw are (move_at _ _ _ refl)) r after (subst B none brings))
+
+-- `N`, `join`: a newline and the next line come behind the pattern space.
+pub join_steps : {R : Type 0} (remaining : R → Option (List ℕ)) (old new : Stream R) (ls : List (List ℕ)) (files : ℕ → List ℕ) (e e' : Run) (sinks : ℕ → Option (List ℕ)) (c c' : Contents) (r : Result Got Ended) →
+    Fits e.limits (at_lines e ls) → c.limit ≡ e.limits.space → c.bytes ≡ e.state.pattern → AfterBringing e c' e' r → Brings remaining old new ls (c.bytes ++ newline ∷ []) (e.state.number + 1) c c' r →
+    StepsFrom remaining old new ls e.limits (setting e files) (then_do (join ∷ e.state.tasks) (at_lines e ls)) e' (Gained sinks sinks) (told r)
+join_steps {R} remaining old new ls files e e' sinks c c' r f limit same after brings =
+    let g : Setting = setting e files in
+    let s : State = then_do (join ∷ e.state.tasks) (at_lines e ls) in
+    let B : List ℕ → Type 0 = λ bytes. Brings remaining old new ls (bytes ++ newline ∷ []) (e.state.number + 1) c c' r in
+    brings_steps remaining old new ls g e e' sinks (e.state.pattern ++ newline ∷ []) c c' f limit same s refl (fits_tasks _ (at_lines e ls) _ f) refl refl refl refl refl refl
+    (λ line rest are. rw (are, append_assoc) (move_at _ _ _ refl)) (λ are. rw are (move_at _ _ _ refl)) r after (subst B same brings)
+
+-- The same for an engine with the fields a.
+module _ {R : Type 0} (remaining : R → Option (List ℕ)) (old new : Stream R) (ls : List (List ℕ)) (files : ℕ → List ℕ) (sinks : ℕ → Option (List ℕ)) (a : Inside) (e e' : Run) (seen : run_of a ≡ e) (i : IsRun a) (c' : Contents) (r : Result Got Ended) where
+  pub fetches_next : (c : Contents) → c ≡ record a.pattern { bytes = [] } → AfterBringing (run_of a) c' e' r → Brings remaining old new ls c.bytes (a.number + 1) c c' r →
+      StepsFrom remaining old new ls e.limits (setting e files) (then_do (empty_pattern ∷ fetch ∷ e.state.tasks) (at_lines e ls)) e' (Gained sinks sinks) (told r)
+  fetches_next c is after brings =
+      let Q : Run → Type 0 = λ e. StepsFrom remaining old new ls e.limits (setting e files) (then_do (empty_pattern ∷ fetch ∷ e.state.tasks) (at_lines e ls)) e' (Gained sinks sinks) (told r) in
+      subst Q seen (fetch_steps remaining old new ls files (run_of a) e' sinks c c' r (fits_of a ls i) (ap (λ (c : Contents). c.limit) is ∙ i.pattern_limit) (ap (λ (c : Contents). c.bytes) is) after brings)
+
+  pub joins_next : AfterBringing (run_of a) c' e' r → Brings remaining old new ls (a.pattern.bytes ++ newline ∷ []) (a.number + 1) a.pattern c' r →
+      StepsFrom remaining old new ls e.limits (setting e files) (then_do (join ∷ e.state.tasks) (at_lines e ls)) e' (Gained sinks sinks) (told r)
+  joins_next after brings =
+      let Q : Run → Type 0 = λ e. StepsFrom remaining old new ls e.limits (setting e files) (then_do (join ∷ e.state.tasks) (at_lines e ls)) e' (Gained sinks sinks) (told r) in
+      subst Q seen (join_steps remaining old new ls files (run_of a) e' sinks a.pattern c' r (fits_of a ls i) i.pattern_limit refl after brings)
+
+-- A call for a line has brought it, or there is none.
+pub brings_got : {R : Type 0} (remaining : R → Option (List ℕ)) (old new : Stream R) (ls : List (List ℕ)) (number n : ℕ) (s s' : Contents) (got : Got) → lines_left remaining old ≡ Some ls →
+    (got ≡ Line → (line : List ℕ) × (s' ≡ record s { bytes = s.bytes ++ line }) × TakesLine (left remaining old) (left remaining new) line × GivesLine (lines_left remaining old) (lines_left remaining new) line) →
+    length s'.bytes ≤ s'.limit → (got ≡ End → (s' ≡ s) × NoneLeft (lines_left remaining old) × NoneLeft (lines_left remaining new)) → TakesAtMost (remaining old.source) (remaining new.source) n →
+    Brings remaining old new ls s.bytes number s s' (Ok got)
+brings_got {R} remaining old new ls number n s s' Line known line fits end taken =
+    let (l, is, bytes, given) = line refl in
+    let r = line_taken remaining old new ls l known bytes given in
+    let limit : s'.limit ≡ s.limit = ap (λ (c : Contents). c.limit) is in
+    let same = ap (λ (c : Contents). length c.bytes) is in
+    (l, r.0, r.1, r.2, is, omega arith)
+brings_got {R} remaining old new ls number n s s' End known line fits end taken =
+    let (is, none, none') = end refl in
+    let r = lines_end remaining old new n ls known taken none none' in
+    (r.0, r.1, is)
+
+-- Whether a line is left.
+pub none_is : (ls : List (List ℕ)) → none_left ls ≡ true → ls ≡ []
+none_is [] h = refl
+none_is (line ∷ rest) h = cc
+
+pub one_is : (ls : List (List ℕ)) → none_left ls ≡ false → (line : List ℕ) × (rest : List (List ℕ)) × (ls ≡ line ∷ rest)
+one_is [] h = cc
+one_is (line ∷ rest) h = (line, rest, refl)
+
+-- A full space: it is asked whether a line is left.
+pub brings_none : {R : Type 0} (remaining : R → Option (List ℕ)) (old new : Stream R) (ls : List (List ℕ)) (before : List ℕ) (number : ℕ) (s : Contents) (last : Bool) → TakesLines remaining old new ls ls → last ≡ none_left ls → last ≡ true →
+    Brings remaining old new ls before number s s (Ok End)
+brings_none {R} remaining old new ls before number s last taken told is =
+    let none = none_is ls (sym told ∙ is) in
+    let T : List (List ℕ) → Type 0 = λ ms. TakesLines remaining old new ls ms in
+    (none, subst T none taken, refl)
+
+taken_none : {R : Type 0} (remaining : R → Option (List ℕ)) (old new : Stream R) (ls : List (List ℕ)) (n : ℕ) → TakesLines remaining old new ls ls → TakesAtMost (left remaining old) (left remaining new) n
+taken_none {R} remaining old new ls n taken = TakesAtMost-more _ _ _ _ (omega arith) (rw (none_taken taken.lines ls taken.are) at taken.bytes)
+
+pub brings_too_long : {R : Type 0} (remaining : R → Option (List ℕ)) (old new : Stream R) (ls : List (List ℕ)) (before : List ℕ) (number : ℕ) (s : Contents) (last : Bool) → TakesLines remaining old new ls ls → last ≡ none_left ls → last ≡ false → s.limit < length before →
+    Brings remaining old new ls before number s s (Err (PatternFull number))
+brings_too_long {R} remaining old new ls before number s last taken told is more =
+    let (line, rest, are) = one_is ls (sym told ∙ is) in
+    (refl, (line, rest, are, omega (arith, length-append before line)), refl, taken_none remaining old new ls s.limit taken)
+
+pub brings_broken : {R : Type 0} (remaining : R → Option (List ℕ)) (old new : Stream R) (ls : List (List ℕ)) (before : List ℕ) (number : ℕ) (s : Contents) (end : Ended) → TakesLines remaining old new ls ls → TellsLine (none_left ls) (Err end) →
+    Brings remaining old new ls before number s s (Err end)
+brings_broken {R} remaining old new ls before number s InputBroken taken told = (refl, taken_none remaining old new ls s.limit taken)
+brings_broken {R} remaining old new ls before number s other taken told = absurd told
+
+-- `n`: by whether a line is left
+pub next_quits : (e e' : Run) (files : ℕ → List ℕ) (ls : List (List ℕ)) (last : Bool) → last ≡ none_left ls → last ≡ true → acts (setting e files) (at_lines e ls) true NextLine ≡ quietly (then_do (print_pattern ∷ flush ∷ []) (at_lines e ls))
+next_quits e e' files ls last told is = rw (sym told ∙ is) refl
+
+pub next_goes : (e e' : Run) (files : ℕ → List ℕ) (ls : List (List ℕ)) (last : Bool) → last ≡ none_left ls → last ≡ false →
+    acts (setting e files) (at_lines e ls) true NextLine ≡ quietly (then_do (print_pattern ∷ flush ∷ empty_pattern ∷ fetch ∷ e.state.tasks) (at_lines e ls))
+next_goes e e' files ls last told is = rw (sym told ∙ is) refl
+
+-- What is left of the tasks after the queue was written: F tells them by those of the engine.
+pub flushed_steps : {R : Type 0} (remaining : R → Option (List ℕ)) (o n : Stream R) (ls : List (List ℕ)) (files : ℕ → List ℕ) (F : List Task → List Task) (s : State) (e e1 e' : Run) (turns : ℕ) (old mid new : ℕ → Option (List ℕ)) (r : Result Unit Ended) →
+    e1 ≡ flushed e turns → starts_cycle (F e.state.tasks) ≡ false → s.lines ≡ ls → Ran e.limits (setting e files) s (then_do (F e.state.tasks) (at_lines e1 ls)) (Gained old mid) →
+    StepsFrom remaining o n ls e1.limits (setting e1 files) (then_do (F e1.state.tasks) (at_lines e1 ls)) e' (Gained mid new) r → StepsFrom remaining o n ls e.limits (setting e files) s e' (Gained old new) r
+flushed_steps {R} remaining o n ls files F s e e1 e' turns old mid new r is goes lines =
+    let Q : Run → Type 0 = λ e1. Ran e.limits (setting e files) s (then_do (F e.state.tasks) (at_lines e1 ls)) (Gained old mid) → StepsFrom remaining o n ls e1.limits (setting e1 files) (then_do (F e1.state.tasks) (at_lines e1 ls)) e' (Gained mid new) r →
+    StepsFrom remaining o n ls e.limits (setting e files) s e' (Gained old new) r in
+    subst Q (sym is) (λ ran h. steps_then remaining o n ls e.limits (setting e files) s (then_do (F e.state.tasks) (at_lines (flushed e turns) ls)) e' old mid new r ran goes lines h)
+
+steps_fits : {R : Type 0} (remaining : R → Option (List ℕ)) (o n : Stream R) (ls : List (List ℕ)) (l : Limits) (g : Setting) (s : State) (e' : Run) (P : List (ℕ × ℕ) → Type 0) (r : Result Unit Ended) → StepsFrom remaining o n ls l g s e' P r → Fits l s
+steps_fits {R} remaining o n ls l g s e' P (Ok u) (rest, taken, h) = ran_fits l g s (at_lines e' rest) P h
+steps_fits {R} remaining o n ls l g s e' P (Err end) h = moves_fits l g s (at_lines e' h.rest) P (Err end) h.stopped
+
+-- A command makes a quiet move, and then what h says.
+pub performs_then : {R : Type 0} (remaining : R → Option (List ℕ)) (o n : Stream R) (ls : List (List ℕ)) (l : Limits) (g : Setting) (first : Option Move) (asks : Bool) (there m : State) (e' : Run) (old new : ℕ → Option (List ℕ)) (r : Result Unit Ended) →
+    first ≡ quietly m → starts_cycle m.tasks ≡ false → there.lines ≡ m.lines → StepsFrom remaining o n ls l g m e' (Gained old new) r → PerformsSteps remaining o n ls l g first asks there e' (Gained old new) r
+performs_then {R} remaining o n ls l g first asks there m e' old new r is goes lines h = λ s c asked move_is.
+    steps_then remaining o n ls l g s m e' old old new r (ran_quietly l g s m old c.fits (move_is ∙ is) (steps_fits remaining o n ls l g m e' (Gained old new) r h)) goes (c.lines ∙ lines) h
+
+-- The source failed where `n` asked whether a line is left.
+pub next_broken : {R : Type 0} (remaining : R → Option (List ℕ)) (o n : Stream R) (ls : List (List ℕ)) (g : Setting) (first : Option Move) (e : Run) (sinks : ℕ → Option (List ℕ)) (end : Ended) → TakesLines remaining o n ls ls → TellsLine (none_left ls) (Err end) →
+    PerformsSteps remaining o n ls e.limits g first true (at_lines e ls) e (Gained sinks sinks) (Err end)
+next_broken {R} remaining o n ls g first e sinks InputBroken taken told = λ s c asked move_is.
+    looked_moves remaining o n ls e.limits g s e (Gained sinks sinks) (Err InputBroken) taken c.lines (stopped_here e.limits g s (at_lines e ls) sinks InputBroken c.fits refl (asked refl) c.same c.lines)
+next_broken {R} remaining o n ls g first e sinks other taken told = absurd told
+
+-- `n` where no line is left
+pub next_stops : {R : Type 0} (remaining : R → Option (List ℕ)) (o n : Stream R) (ls : List (List ℕ)) (files : ℕ → List ℕ) (a : Inside) (e : Run) (sinks : ℕ → Option (List ℕ)) (last : Bool) → run_of a ≡ e → IsRun a → TakesLines remaining o n ls ls → last ≡ none_left ls → last ≡ true →
+    PerformsSteps remaining o n ls e.limits (setting e files) (acts (setting e files) (at_lines e ls) true NextLine) true (at_lines e ls) (run_of (record a { place = p.Quit })) (Gained sinks sinks) (Ok tt)
+next_stops {R} remaining o n ls files a e sinks last seen i taken told is =
+    let Q : Run → Type 0 = λ e. PerformsSteps remaining o n ls e.limits (setting e files) (acts (setting e files) (at_lines e ls) true NextLine) true (at_lines e ls) (run_of (record a { place = p.Quit })) (Gained sinks sinks) (Ok tt) in
+    let e0 : Run = run_of a in
+    let now : State = then_do (print_pattern ∷ flush ∷ []) (at_lines e0 ls) in
+    subst Q seen (λ s c asked first. looked_moves remaining o n ls a.limits (setting e0 files) s (run_of (record a { place = p.Quit })) (Gained sinks sinks) (Ok tt) taken c.lines
+    (ran_quietly a.limits (setting e0 files) s now sinks c.fits (first ∙ next_quits e0 e0 files ls last told is) (fits_tasks a.limits (at_lines e0 ls) (print_pattern ∷ flush ∷ []) (fits_of a ls i))))

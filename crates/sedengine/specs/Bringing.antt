@@ -1,0 +1,31 @@
+-- Private to this crate: what calls that bring the next line into a space promise.
+use Rattle.std.specs.Prelude.{◌≡◌, ℕ, false, ◌<◌, ◌≤◌, ◌+◌, Option, Result, Ok, Err, List, [], ◌∷◌, ◌++◌, length}
+use Rattle.sedspace.specs.Spaces.{Contents}
+use Rattle.sedspace.specs.Stream.{Stream, left, TakesAtMost}
+use Rattle.sedspace.specs.declared.lines.Got.{Got}
+use Rattle.sedspace.specs.declared.lines.Got.TheVariants.{Line, End}
+use Rattle.sedengine.specs.Run.{Run}
+use Rattle.sedengine.specs.Steps.{TakesLines}
+use Rattle.sedengine.specs.declared.ends.Ended.{Ended}
+use Rattle.sedengine.specs.declared.ends.Ended.TheVariants.{PatternFull, InputBroken}
+
+-- What a call answers that brings a space to hold the bytes `before` and the next line, whose number is given, where the
+-- lines ls are left. Where there is none, or an end comes, the space stays.
+abbrev pub Brings : {R : Type 0} → (R → Option (List ℕ)) → Stream R → Stream R → List (List ℕ) → List ℕ → ℕ →
+    Contents → Contents → Result Got Ended → Type 0
+Brings remaining old new ls before number s s' (Ok Line) =
+    (line : List ℕ) × (rest : List (List ℕ)) × (ls ≡ line ∷ rest) × TakesLines remaining old new ls rest
+    × (s' ≡ record s { bytes = before ++ line }) × (length (before ++ line) ≤ s.limit)
+Brings remaining old new ls before number s s' (Ok End) = (ls ≡ []) × TakesLines remaining old new ls [] × (s' ≡ s)
+Brings remaining old new ls before number s s' (Err (PatternFull n)) =
+    (n ≡ number) × ((line : List ℕ) × (rest : List (List ℕ)) × (ls ≡ line ∷ rest) × (s.limit < length (before ++ line)))
+    × (s' ≡ s) × TakesAtMost (left remaining old) (left remaining new) s.limit
+Brings remaining old new ls before number s s' (Err InputBroken) =
+    (s' ≡ s) × TakesAtMost (left remaining old) (left remaining new) s.limit
+Brings remaining old new ls before number s s' (Err other) = ⊥
+
+-- the engine that goes on with the line that was brought, or whose run is over where there was none; its pattern space
+-- has the line already
+abbrev pub brought : Run → Got → Run
+brought e Line = record e { state = record e.state { number = e.state.number + 1; replaced = false } }
+brought e End = record e { state = record e.state { tasks = [] } }

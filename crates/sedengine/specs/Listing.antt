@@ -1,0 +1,44 @@
+-- What the function `l` writes (XCU sed, "Write the pattern space to standard output in a visually unambiguous form").
+use Rattle.std.specs.Prelude.{ℕ, ◌+◌, ◌/◌, ◌%◌, List, [], ◌∷◌, ◌++◌, length, nat_lt, nat_le, ◌==◌, ◌&&◌, if◌then◌else◌}
+
+-- a backslash and a byte
+abbrev pub escape : ℕ → List ℕ
+escape b = 92 ∷ b ∷ []
+
+-- "one three-digit octal number (with a preceding <backslash>)"
+abbrev pub octal : ℕ → List ℕ
+octal b = 92 ∷ (48 + b / 64) ∷ (48 + b / 8 % 8) ∷ (48 + b % 8) ∷ []
+
+-- the text of a byte: the escapes of XBD 5 (\\ \a \b \f \r \t \v), for an embedded newline \n (this project's own), the byte
+-- itself where it is printable, and else its octal number
+abbrev pub item : ℕ → List ℕ
+item b =
+    -- `\\` `\a` `\b` `\f` `\r` `\t` `\v` `\n`
+    if b == 92 then escape 92
+    else if b == 7 then escape 97
+    else if b == 8 then escape 98
+    else if b == 12 then escape 102
+    else if b == 13 then escape 114
+    else if b == 9 then escape 116
+    else if b == 11 then escape 118
+    else if b == 10 then escape 110
+    else if nat_le 32 b && nat_le b 126 then b ∷ []
+    else octal b
+
+-- the most bytes of a piece ("Long lines shall be folded, with the point of folding indicated by writing a <backslash>
+-- followed by a <newline>; the length at which folding occurs is unspecified": this length is this project's own)
+abbrev pub most_listed : ℕ
+most_listed = 69
+
+-- The listing of the bytes that are left, where the current piece has so many bytes already: a piece never cuts an item.
+-- "The end of each line shall be marked with a '$'", which is no item and causes no fold.
+abbrev pub listed_from : ℕ → List ℕ → List ℕ
+listed_from column [] = 36 ∷ 10 ∷ []
+listed_from column (b ∷ bs) =
+    if nat_lt most_listed (column + length (item b))
+    then 92 ∷ 10 ∷ item b ++ listed_from (length (item b)) bs
+    else item b ++ listed_from (column + length (item b)) bs
+
+-- the listing of a text
+unfoldable pub listed : List ℕ → List ℕ
+listed bytes = listed_from 0 bytes

@@ -1,0 +1,25 @@
+-- Private to this crate: what the engine's calls for the queue promise one another.
+use Rattle.std.specs.Prelude.{◌≡◌, ℕ, ◌<◌, ◌+◌, Result, Ok, Err, List, [], ◌∷◌, ◌++◌, length}
+use Rattle.sedengine.specs.State.{Entry}
+use Rattle.sedengine.specs.Run.{Run}
+use Rattle.sedengine.specs.declared.ends.Ended.{Ended}
+use Rattle.sedengine.specs.declared.ends.Ended.TheVariants.{QueueFull}
+
+-- the engine with a further entry in its queue
+abbrev pub queued_more : Run → Entry → Run
+queued_more e entry = record e { state = record e.state { queue = e.state.queue ++ entry ∷ [] } }
+
+-- An entry is put into the queue, or there is no room for it and the engine stays.
+abbrev pub QueuesOrFull : Run → Run → Entry → Result Unit Ended → Type 0
+QueuesOrFull old new entry (Ok u) = (new ≡ queued_more old entry) × (length old.state.queue < old.limits.queue)
+QueuesOrFull old new entry (Err (QueueFull n)) =
+    (new ≡ old) × (n ≡ old.state.number) × (length old.state.queue ≡ old.limits.queue)
+QueuesOrFull old new entry (Err other) = ⊥
+
+-- the engine after so many turns
+abbrev pub with_turns : Run → ℕ → Run
+with_turns e turns = record e { state = record e.state { turns = turns } }
+
+-- the engine whose queue was written, after so many turns
+abbrev pub flushed : Run → ℕ → Run
+flushed e turns = record e { state = record e.state { queue = []; turns = turns } }

@@ -1,0 +1,142 @@
+//! Writing the queue, and the files of it.
+ghost use Rattle.std.specs.Prelude.{◌≡◌, ◌<◌, ◌≤◌, [], ◌∷◌, Err, ℕ, List, slice_get};
+ghost use Rattle.std.specs.Io.KnownBytes.{Keeps};
+ghost use Rattle.sedengine.specs.State.{Entry, Task, copy, flush, State, Setting};
+ghost use Rattle.sedengine.specs.Devices.{Gained};
+ghost use Rattle.sedengine.specs.Calls.{Writes};
+ghost use Rattle.sedengine.specs.Ends.{Fits};
+ghost use Rattle.sedengine.specs.Held.{SameLengths};
+ghost use Rattle.sedengine.specs.Run.{TellsFiles};
+ghost use Rattle.sedengine.specs.Inside.{AllQueue, Queues, entries_of, entry_by};
+ghost use Rattle.sedengine.specs.Flushing.{Copies, Flushes};
+
+use crate::ends::Ended;
+use crate::limits::Limits;
+use crate::write::{write_all, write_line};
+use sedscript::{Action, Script};
+use sedspace::{Outputs, Queue, Space, Texts};
+
+/// How many bytes of a file are asked for at once: as many as the build space holds and as turns are left, but at least
+/// one, which tells whether a turn is due.
+fn piece_size(limits: &Limits, left: u64) -> usize
+    ensures least { 1 ≤ result }
+    ensures room { result ≤ limits.now.space }
+    ensures turns { 0 < left → result ≤ left }
+{
+    left.min(limits.space() as u64).max(1) as usize
+}
+
+/// Writes a file's bytes to the standard output as they are, a turn each, through the build space (XCU sed, the command
+/// `r`).
+fn copy_file<O: Outputs, T: Texts>(
+    file: usize,
+    limits: &Limits,
+    turns: &mut u64,
+    build: &mut Space,
+    outputs: &mut O,
+    texts: &mut T,
+) -> Result<(), Ended>
+    requires sink { 0 < O.count outputs.old }
+    requires room { build.old.limit ≡ limits.now.space }
+    requires before { turns.old ≤ limits.now.turns }
+    ensures copies { (g : Setting) → TellsFiles (T.text texts.old) g.files → (s now : State) (rest : List Task) →
+        s.tasks ≡ copy file 0 ∷ rest → s.turns ≡ turns.old → Fits limits.now s →
+        SameLengths s now → s.lines ≡ now.lines →
+        Copies limits.now g s (record s { tasks = rest; turns = turns.new }) now
+        (Gained (O.contents outputs.old) (O.contents outputs.new)) result }
+    ensures output { Writes O.failures O.count outputs.old outputs.new result }
+    ensures input { result ≡ Err Ended.InputBroken → ⊥ }
+    ensures limit { build.new.limit ≡ build.old.limit }
+    ensures later { turns.old ≤ turns.new }
+    ensures turns { turns.new ≤ limits.now.turns }
+    ensures kept { (j : ℕ) → Keeps (T.text texts.old j) (T.text texts.new j) }
+{
+    let mut offset: u64 = 0;
+    'pieces: loop {
+        let left = limits.turns() - *turns;
+        let count = build.fill(texts, file, offset, piece_size(limits, left));
+        if count == 0 {
+            return Ok(());
+        }
+        if left == 0 {
+            return Err(Ended::TurnsSpent);
+        }
+        write_all(outputs, 0, build.bytes())?;
+        *turns += count as u64;
+        offset += count as u64;
+    }
+}
+
+/// Writes an entry of the queue, by the number of its command: a text with a newline, a file as it is.
+fn write_entry<O: Outputs, T: Texts>(
+    script: &Script,
+    entry: u64,
+    limits: &Limits,
+    turns: &mut u64,
+    build: &mut Space,
+    outputs: &mut O,
+    texts: &mut T,
+) -> Result<(), Ended>
+    requires sink { 0 < O.count outputs.old }
+    requires room { build.old.limit ≡ limits.now.space }
+    requires before { turns.old ≤ limits.now.turns }
+    requires queued { Queues (slice_get script.now.commands entry) }
+    ensures writes { (g : Setting) → TellsFiles (T.text texts.old) g.files → (s now : State) (rest : List Task)
+        (later : List Entry) → s.tasks ≡ flush ∷ rest →
+        s.queue ≡ entry_by script.now.texts (slice_get script.now.commands entry) ∷ later → s.turns ≡ turns.old →
+        Fits limits.now s → SameLengths s now → s.lines ≡ now.lines →
+        Copies limits.now g s (record s { queue = later; tasks = flush ∷ rest; turns = turns.new }) now
+        (Gained (O.contents outputs.old) (O.contents outputs.new)) result }
+    ensures output { Writes O.failures O.count outputs.old outputs.new result }
+    ensures input { result ≡ Err Ended.InputBroken → ⊥ }
+    ensures limit { build.new.limit ≡ build.old.limit }
+    ensures later { turns.old ≤ turns.new }
+    ensures turns { turns.new ≤ limits.now.turns }
+    ensures kept { (j : ℕ) → Keeps (T.text texts.old j) (T.text texts.new j) }
+{
+    match script.command(entry as usize).action {
+        Action::Append(text) => write_line(outputs, 0, script.text(text)),
+        Action::ReadFile(file) => copy_file(file, limits, turns, build, outputs, texts),
+        _ => unreachable!(),
+    }
+}
+
+/// Writes the queue: texts with a newline, files as they are.
+pub(crate) fn flush_queue<O: Outputs, T: Texts>(
+    script: &Script,
+    queue: &Queue,
+    limits: &Limits,
+    turns: &mut u64,
+    build: &mut Space,
+    outputs: &mut O,
+    texts: &mut T,
+) -> Result<(), Ended>
+    requires sink { 0 < O.count outputs.old }
+    requires room { build.old.limit ≡ limits.now.space }
+    requires before { turns.old ≤ limits.now.turns }
+    requires queued { AllQueue script.now queue.now.items }
+    ensures flushes { (g : Setting) → TellsFiles (T.text texts.old) g.files → (s : State) (rest : List Task) →
+        s.tasks ≡ flush ∷ rest → s.queue ≡ entries_of script.now queue.now.items → s.turns ≡ turns.old →
+        Fits limits.now s →
+        Flushes limits.now g s (record s { queue = []; tasks = rest; turns = turns.new })
+        (Gained (O.contents outputs.old) (O.contents outputs.new)) result }
+    ensures output { Writes O.failures O.count outputs.old outputs.new result }
+    ensures input { result ≡ Err Ended.InputBroken → ⊥ }
+    ensures limit { build.new.limit ≡ build.old.limit }
+    ensures later { turns.old ≤ turns.new }
+    ensures turns { turns.new ≤ limits.now.turns }
+    ensures kept { (j : ℕ) → Keeps (T.text texts.old j) (T.text texts.new j) }
+{
+    for index in 0..queue.len() {
+        write_entry(
+            script,
+            queue.entry(index),
+            limits,
+            turns,
+            build,
+            outputs,
+            texts,
+        )?;
+    }
+    Ok(())
+}
