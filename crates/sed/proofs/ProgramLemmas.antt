@@ -5,42 +5,26 @@ use Rattle.clap.specs.Words.{Text, kind_of, takes}
 use Rattle.clap.specs.declared.error.Error.{Error}
 use Rattle.clap.specs.declared.error.kind.ErrorKind.TheVariants.{DisplayHelp}
 use Rattle.sedspace.specs.Memory.{text_bytes}
-use Rattle.sedscript.specs.Script.{Program}
 use Rattle.sedengine.specs.Calls.{Puts}
 use Rattle.sedengine.specs.Devices.{Gained}
-use Rattle.sedengine.specs.Ends.{Cause}
-use Rattle.sedengine.specs.Limits.{Limits}
 use Rattle.sedengine.specs.Move.{to_sink}
-use Rattle.sedengine.specs.Run.{files_in, setting_of}
+use Rattle.sedengine.specs.Run.{TellsFiles}
 use Rattle.sedengine.specs.declared.ends.Ended.{Ended}
 use Rattle.sedengine.proofs.Gains.{take-to_sink}
-use Rattle.sed.specs.Editing.{GainsAll, GainsBeginning, start_over}
 use Rattle.sed.specs.CommandLine.{IsRefusal, sed_command}
 use Rattle.sed.specs.Program.{AsksHelp, WritesHelp, no_files}
 use Rattle.sed.specs.declared.asked.Refused.{Refused}
 use Rattle.sed.specs.declared.asked.Refused.TheVariants.{NoMemory, Words}
 
--- a list of no texts gives no files
-pub files_in-nil : {A : Type 0} (texts : List (Vec ℕ A)) → texts ≡ [] → files_in (λ k. Some (text_bytes texts k)) ≡ no_files
-files_in-nil texts is = rw is refl
-
-pub Gains-all-files : (p : Program) (files : ℕ → List ℕ) (bytes : List ℕ) (gained : List (ℕ × ℕ) → Type 0) → files ≡ no_files →
-    GainsAll (setting_of p files) (start_over p bytes) gained → GainsAll (setting_of p no_files) (start_over p bytes) gained
-Gains-all-files p files bytes gained is h = rw is at h
-
-pub Gains-beginning-files : (p : Program) (files : ℕ → List ℕ) (bytes : List ℕ) (gained : List (ℕ × ℕ) → Type 0) → files ≡ no_files →
-    GainsBeginning (setting_of p files) (start_over p bytes) gained → GainsBeginning (setting_of p no_files) (start_over p bytes) gained
-Gains-beginning-files p files bytes gained is h = rw is at h
+-- a list of no texts tells no files
+pub tells_none : {A : Type 0} (texts : List (Vec ℕ A)) → texts ≡ [] → TellsFiles (λ k. Some (text_bytes texts k)) no_files
+tells_none texts is = λ k. rw is refl
 
 -- what was written of a text before its sink failed is a text too
 pub WritesHelp-cut : (old new : ℕ → Option (List ℕ)) (text : List ℕ) (end : Ended) →
     Puts (Gained old new) (to_sink 0 text) (Err end) → WritesHelp (Gained old new)
 WritesHelp-cut old new text end (k, b, byte, is, due, gained) =
     (take b text, rw (sym (take-to_sink 0 b text)) gained)
-
-pub Cause-files : (l : Limits) (p : Program) (files : ℕ → List ℕ) (bytes : List ℕ) (gained : List (ℕ × ℕ) → Type 0) (end : Ended) (t : ℕ) → files ≡ no_files →
-    Cause l (setting_of p files) (start_over p bytes) gained end t → Cause l (setting_of p no_files) (start_over p bytes) gained end t
-Cause-files l p files bytes gained end t is h = rw is at h
 
 not_true : (b : Bool) → (b ≡ true → ⊥) → b ≡ false
 not_true true h = absurd (h refl)

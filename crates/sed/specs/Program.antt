@@ -12,7 +12,7 @@ use Rattle.sedengine.specs.Run.{setting_of}
 use Rattle.sedengine.specs.declared.ends.Ended.{Ended}
 use Rattle.sedengine.specs.declared.ends.Ended.TheVariants.{Done}
 use Rattle.sed.specs.CommandLine.{quiet_in, script_in, sed_command}
-use Rattle.sed.specs.Editing.{GainsAll, GainsBeginning, start_over}
+use Rattle.sededit.specs.Editing.{GainsAll, GainsBeginning, start_over}
 
 -- The text means the script p, but that -n suppresses default output too, as a first line `#n` does
 -- (XCU sed, "Options").

@@ -1,12 +1,11 @@
-//! The stream editor `sed` of POSIX.1-2024 (XCU sed), as a program and as a library.
+//! The stream editor `sed` of POSIX.1-2024 (XCU sed) as a program.
 //!
-//! `script` reads a script, and `edit` runs it over a source, sinks and texts. `stream` is the program over devices
+//! `script` and `edit` are those of the library `sededit`, shown here again. `stream` is the program over devices
 //! that its caller gives, with its words, messages and statuses, and `main` gives it the standard streams.
 #![tactic(auto)]
 
 mod asked;
 mod command_line;
-mod editing;
 mod messages;
 mod program;
 mod standard;
@@ -15,8 +14,8 @@ mod tests;
 
 pub use asked::{Line, Refused};
 pub use command_line::line;
-pub use editing::{edit, script};
 pub use program::stream;
+pub use sededit::{edit, script};
 use std::process::ExitCode;
 
 fn main(rt: HostRuntime) -> ExitCode {

@@ -30,11 +30,19 @@ pub(crate) fn say_end<E: Write>(errors: &mut E, end: Ended) -> io::Result<()> {
         Ended::Done => Ok(()),
         Ended::PatternFull(number) => writeln!(errors, "sed: line {number}: F1 PatternFull"),
         Ended::HoldFull(number) => writeln!(errors, "sed: line {number}: F2 HoldFull"),
+        Ended::QueueFull(number) => writeln!(errors, "sed: line {number}: F3 QueueFull"),
         Ended::TurnsSpent => writeln!(errors, "sed: F4 TurnsSpent"),
         Ended::NoPrevious(number) => writeln!(errors, "sed: line {number}: F5 NoPrevious"),
         Ended::InputBroken => writeln!(errors, "sed: F6 InputBroken"),
         Ended::OutputBroken(sink) => writeln!(errors, "sed: F7 OutputBroken {sink}"),
     }
+}
+
+/// Says that a file can't be opened. The name's bytes are written as they are.
+pub(crate) fn say_cannot_open<E: Write>(errors: &mut E, name: &[u8]) -> io::Result<()> {
+    write!(errors, "sed: cannot open ")?;
+    errors.write_all(name)?;
+    writeln!(errors)
 }
 
 /// Says that a request for memory was refused.

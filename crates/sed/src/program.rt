@@ -1,5 +1,5 @@
 //! The program, over devices that its caller gives.
-ghost use Rattle.std.specs.Prelude.{◌≡◌, ◌≢◌, ◌<◌, ◌≤◌, ◌⊎◌, IfErr, IfOk, map};
+ghost use Rattle.std.specs.Prelude.{◌≡◌, ◌≢◌, ◌<◌, ◌≤◌, ◌⊎◌, IfErr, IfOk, IsNone, length, map};
 ghost use Rattle.sedscript.specs.Script.{Faulty};
 ghost use Rattle.sedengine.specs.Calls.{Puts, Writes};
 ghost use Rattle.sedengine.specs.Devices.{Gained};
@@ -11,9 +11,9 @@ ghost use Rattle.sed.specs.Program.{quiet_of, script_of};
 
 use crate::asked::{Line, Refused};
 use crate::command_line::line;
-use crate::editing::{edit, script};
-use crate::messages::{say_end, say_fault, say_no_memory};
+use crate::messages::{say_cannot_open, say_end, say_fault, say_no_memory};
 use clap::error::ErrorKind;
+use sededit::{edit, script};
 use sedengine::{Ended, Limits};
 use sedscript::{Kind, NO_MEMORY, Script, ScriptFault};
 use sedspace::{Broken, ByteSource, MemoryTexts, Outputs};
@@ -33,14 +33,18 @@ pub(crate) const STOPPED: u8 = 4;
 
 /// Runs the program and gives its exit status (XCU sed, "Exit Status"; which number above 0 is this project's own).
 ///
+/// A file that the script reads is empty, and one that it writes needs a sink of its own among the outputs.
+///
 /// `words` are those after the program's name, `source` is the standard input, sink 0 the standard output, and
 /// `errors` the standard error. Where a message can't be written, it is lost.
 ///
 /// * 0: the script ran over the whole input; or `-h` or `--help` was given, and the help was written
 /// * 1: the words are refused, with the text of `clap`; the script is, as `sed: script byte 4: S1 UnknownCommand` or
-///   `sed: script byte 3: S21 Expression: E5 OpenGroup`; or memory is wanting: `sed: no memory`. Nothing was read.
-/// * 4: the run stopped, as `sed: line 7: F1 PatternFull`, `sed: line 7: F2 HoldFull`, `sed: F4 TurnsSpent`,
-///   `sed: line 7: F5 NoPrevious`, `sed: F6 InputBroken` or `sed: F7 OutputBroken 0`. What was written stands.
+///   `sed: script byte 3: S21 Expression: E5 OpenGroup`; a file that it writes has no sink: `sed: cannot open out`; or a
+///   request for memory was refused: `sed: no memory`. Nothing was read.
+/// * 4: the run stopped, as `sed: line 7: F1 PatternFull`, `sed: line 7: F2 HoldFull`,
+///   `sed: line 7: F3 QueueFull`, `sed: F4 TurnsSpent`, `sed: line 7: F5 NoPrevious`, `sed: F6 InputBroken` or
+///   `sed: F7 OutputBroken 0`. What was written stands.
 pub fn stream<S: AsStr, R: ByteSource + Drop, O: Outputs, E: Write>(
     alloc: Global,
     words: &[S],
@@ -149,6 +153,19 @@ fn read_script(alloc: Global, line: Line<'_>, nodes: usize) -> Result<Script, Sc
     Ok(program)
 }
 
+/// The first name of a file that the script writes and that has no sink.
+fn first_without_sink(program: &Script, sinks: usize) -> Option<&[u8]>
+    requires { 0 < sinks }
+    ensures { IsNone result → length program.now.wfiles < sinks }
+{
+    let names = program.wfiles();
+    if names.len() < sinks {
+        None
+    } else {
+        Some(names[sinks - 1].as_slice())
+    }
+}
+
 /// Runs what a command line asks for.
 fn run_line<R: ByteSource + Drop, O: Outputs, E: Write>(
     alloc: Global,
@@ -176,6 +193,10 @@ fn run_line<R: ByteSource + Drop, O: Outputs, E: Write>(
             return REFUSED;
         }
     };
+    if let Some(name) = first_without_sink(&program, outputs.sinks()) {
+        let _ = say_cannot_open(errors, name);
+        return REFUSED;
+    }
     let mut texts = MemoryTexts::new(Vec::new(alloc));
     match edit(alloc, program, limits, &mut source, outputs, &mut texts) {
         Ok(Ended::Done) => SUCCESS,

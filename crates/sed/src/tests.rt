@@ -1,10 +1,7 @@
-//! Worked rows of the editor and of the program, over memory.
+//! What no row of a table can say: calls of the program with its words and messages, and single calls of the libraries
+//! below it.
 
 mod calls;
 mod devices;
-mod faults;
-mod holding;
-mod hostile;
-mod rows;
-mod run;
-mod substitution;
+mod searches;
+mod spaces;

@@ -1,151 +1,201 @@
-//! Devices that fail, and what is taken from the source.
+//! Devices over memory and over those of std, and faults of lines that are answered again.
+ghost use Rattle.std.specs.Prelude.{◌≡◌, IfOk};
 
-use super::run::{Job, PIECES, run};
-use crate::script;
-use sedengine::{Ended, Engine, Limits, Progress};
-use sedscript::Kind;
-use sedspace::{Lines, MemoryOutputs, MemorySource, MemoryTexts};
+use super::spaces::same;
+use sedspace::{
+    Broken, ByteSource, FromReader, Got, LineFault, Lines, MemoryOutputs, MemorySource,
+    MemoryTexts, Outputs, Space, Texts, ToWriter,
+};
+use std::alloc::Global;
+use std::io;
+use std::process::Abort;
 use std::test::Fail;
 
-/// A script over a source of which read `fails_at` fails and a sink with so much room: what is written, and the end.
-type Failing = (
-    &'static [u8],
-    &'static [u8],
-    u64,
-    usize,
-    &'static [u8],
-    Ended,
-);
-
-/// Each read gives what is left, up to a byte behind the last newline.
-const FAILING: [Failing; 13] = [
-    (b"p", b"a\nb", 2, 99, b"a\na\n", Ended::InputBroken),
-    (b"p", b"ab\n", 0, 3, b"ab\n", Ended::OutputBroken(0)),
-    // No bytes are written: a sink without room is no hindrance.
-    (b"d", b"a\nb\n", 0, 0, b"", Ended::Done),
-    (b"1,2c\\\nT", b"a\n", 0, 0, b"", Ended::Done),
-    (b"i\\\n\n", b"a\n", 0, 0, b"", Ended::OutputBroken(0)),
-    (
-        b"2c\\\nTT",
-        b"a\nb\n",
-        0,
-        4,
-        b"a\nTT",
-        Ended::OutputBroken(0),
-    ),
-    (b"=", b"a\nb\n", 0, 5, b"1\na\n2", Ended::OutputBroken(0)),
-    // The source is asked where `$` is judged, and there alone.
-    (b"$p", b"a\n", 2, 99, b"", Ended::InputBroken),
-    (b"$q;i T", b"a\n", 2, 99, b"", Ended::InputBroken),
-    (b"1q;$p", b"a\n", 2, 99, b"a\n", Ended::Done),
-    (b"2{$p}\n1q", b"a\n", 2, 99, b"a\n", Ended::Done),
-    (b"1,$p;1q", b"a\n", 2, 99, b"a\na\n", Ended::Done),
-    (b"2q", b"a\nb\nc\n", 2, 99, b"a\nb\n", Ended::Done),
-];
-
-#[test]
-fn devices_that_fail(rt: HostRuntime) -> Result<(), Fail> {
-    for (text, input, fails_at, room, written, wanted) in FAILING {
-        let alloc = rt.alloc();
-        let mut source = MemorySource::new(input.to_vec(alloc)?, Vec::new(alloc));
-        source.fail_at(fails_at);
-        let mut outputs = MemoryOutputs::with_room(alloc, 1, room)?;
-        let end = run(alloc, Job::new(text), PIECES[0], &mut source, &mut outputs)?;
-        assert_eq!(rt; end, wanted, "{text:?}");
-        assert_eq!(rt; outputs.bytes(0), written, "{text:?}");
-    }
-    Ok(())
-}
-
-/// An input for `p`, the limits on spaces and turns, whether it comes whole, which read fails, and the end.
-type Cut = (&'static [u8], usize, u64, bool, u64, Ended);
-
-/// A line that is too long or cut by a failure, and a line that follows when no turn is left.
-const CUTS: [Cut; 6] = [
-    (b"ab", 1, 9, false, 3, Ended::PatternFull(1)),
-    (b"ab", 1, 9, false, 2, Ended::InputBroken),
-    (b"ab", 2, 9, false, 3, Ended::InputBroken),
-    // Bytes ahead are enough to see that a line follows.
-    (b"a\nb", 9, 2, true, 2, Ended::TurnsSpent),
-    (b"a\nb", 9, 2, false, 4, Ended::TurnsSpent),
-    (b"a\nb", 9, 2, false, 3, Ended::InputBroken),
-];
-
-#[test]
-fn failures_within_a_line(rt: HostRuntime) -> Result<(), Fail> {
-    for (input, space, turns, is_whole, fails_at, wanted) in CUTS {
-        let alloc = rt.alloc();
-        let mut source = MemorySource::new(input.to_vec(alloc)?, Vec::new(alloc));
-        source.fail_at(fails_at);
-        let mut outputs = MemoryOutputs::new(alloc, 1)?;
-        let job = Job {
-            space,
-            turns,
-            ..Job::new(b"p")
-        };
-        let pieces = if is_whole { PIECES[0] } else { PIECES[1] };
-        let end = run(alloc, job, pieces, &mut source, &mut outputs)?;
-        assert_eq!(rt; end, wanted, "read {fails_at} fails");
-    }
-    Ok(())
-}
-
-/// Scripts over four lines that come one by one: how many lines have been asked for after one cycle, and in all.
-const ASKED: [(&[u8], u64, u64); 6] = [
-    (b"p", 1, 5),
-    (b"/a/,/b/d", 1, 5),
-    (b"2q", 1, 2),
-    (b"2,$d", 1, 5),
-    (b"1q;$d", 1, 1),
-    (b"$d", 2, 5),
-];
-
-/// Nothing is looked at that no command asks for.
-#[test]
-fn looks_ahead_when_asked(rt: HostRuntime) -> Result<(), Fail> {
-    let alloc = rt.alloc();
-    let Some(limits) = Limits::new(16, 0, 16, u64::MAX, 16) else {
-        return Err(Fail::from("a limit is out of its range"));
-    };
-    for (text, first, all) in ASKED {
-        let mut cuts = Vec::new(alloc);
-        for line in 1..5 {
-            cuts.push(2 * line)?;
+// Copies the lines, each with its newline, and asks before each whether there is one.
+fn copied<R: ByteSource>(
+    rt: &impl Abort,
+    alloc: Global,
+    lines: &mut Lines<R>,
+) -> Result<Vec<u8>, Fail> {
+    let mut space = Space::new(alloc, 40)?;
+    let mut found = Vec::new(alloc);
+    for _ in 0..100 {
+        space.clear();
+        let is_last = lines.is_last()?;
+        let got = lines.next_into(&mut space)?;
+        assert!(rt; is_last == (got == Got::End));
+        if is_last {
+            break;
         }
-        let source = MemorySource::new(b"a\nb\nc\nd\n".to_vec(alloc)?, cuts);
-        let Ok(program) = script(alloc, text, Kind::Basic, limits.nodes()) else {
-            return Err(Fail::from("the script isn't accepted"));
-        };
-        let mut engine = Engine::open(alloc, program, limits)?;
-        let mut lines = Lines::new(alloc, source, limits.look())?;
-        let mut outputs = MemoryOutputs::new(alloc, 1)?;
-        let mut texts = MemoryTexts::new(Vec::new(alloc));
-        engine.cycle(&mut lines, &mut outputs, &mut texts);
-        assert_eq!(rt; lines.source().calls(), first, "{text:?}");
-        engine.run(&mut lines, &mut outputs, &mut texts);
-        assert_eq!(rt; lines.source().calls(), all, "{text:?}");
+        found.extend_from_slice(space.line())?;
+    }
+    Ok(found)
+}
+
+// The fault is answered again, without a read, and the space has its old bytes.
+fn stays_at(rt: &impl Abort, lines: &mut Lines<MemorySource>, space: &mut Space, fault: LineFault) {
+    let held = space.len();
+    let calls = lines.source().calls();
+    let line = lines.next_into(space);
+    let last = lines.is_last();
+    assert!(rt; line == Err(fault) && last == Err(fault));
+    assert!(rt; space.len() == held && lines.source().calls() == calls);
+}
+
+#[test]
+fn a_failure_is_answered_again(rt: HostRuntime) -> Result<(), Fail> {
+    let alloc = rt.alloc();
+    let mut source = MemorySource::new(b"ab\ncd".to_vec(alloc)?, Vec::new(alloc));
+    source.give_at_most(1);
+    source.fail_at(4);
+    let mut lines = Lines::new(alloc, source, 64)?;
+    let mut space = Space::new(alloc, 8)?;
+    assert!(rt; lines.next_into(&mut space) == Ok(Got::Line));
+    assert!(rt; lines.next_into(&mut space) == Err(LineFault::Broken));
+    stays_at(&rt, &mut lines, &mut space, LineFault::Broken);
+    assert!(rt; lines.source().calls() == 4 && lines.source().failures() == 1);
+    Ok(())
+}
+
+#[test]
+fn a_long_line_is_answered_again(rt: HostRuntime) -> Result<(), Fail> {
+    let alloc = rt.alloc();
+    for look in [1, 2, 7, 64] {
+        let source = MemorySource::new(b"abc\nabcd\na\n".to_vec(alloc)?, Vec::new(alloc));
+        let mut lines = Lines::new(alloc, source, look)?;
+        let mut space = Space::new(alloc, 6)?;
+        assert!(rt; lines.next_into(&mut space) == Ok(Got::Line));
+        assert!(rt; lines.is_last() == Ok(false));
+        assert!(rt; lines.next_into(&mut space) == Err(LineFault::TooLong));
+        stays_at(&rt, &mut lines, &mut space, LineFault::TooLong);
+        same(&rt, space.bytes(), b"abc");
     }
     Ok(())
 }
 
-/// The least read-ahead: a cycle takes its line, and a byte.
+// A device of std whose first calls a signal interrupts; then it works, or fails.
+#[derive(Drop)]
+struct Interrupted {
+    interrupts: u64,
+    works: bool,
+}
+
+impl Interrupted {
+    fn outcome(&mut self, count: usize) -> io::Result<usize>
+        ensures { IfOk result (λ n. n ≡ count) }
+    {
+        if self.interrupts > 0 {
+            self.interrupts -= 1;
+            return Err(io::Error::from(io::ErrorKind::Interrupted));
+        }
+        if self.works {
+            Ok(count)
+        } else {
+            Err(io::Error::from(io::ErrorKind::TimedOut))
+        }
+    }
+}
+
+impl io::Read for Interrupted {
+    fn read(&mut self, buf: &mut [u8]) -> io::Result<usize> {
+        self.outcome(buf.len().min(2))
+    }
+}
+
+impl io::Write for Interrupted {
+    fn write(&mut self, buf: &[u8]) -> io::Result<usize> {
+        self.outcome(buf.len().min(2))
+    }
+
+    fn flush(&mut self) -> io::Result<()> {
+        Ok(())
+    }
+}
+
 #[test]
-fn one_cycle_takes_one_line(rt: HostRuntime) -> Result<(), Fail> {
+fn interrupts_are_no_failures(rt: HostRuntime) {
+    for (works, wanted, failures) in [(true, Ok(2), 0), (false, Err(Broken), 1)] {
+        let interrupts = 3;
+        let mut source = FromReader::new(Interrupted { interrupts, works });
+        assert!(rt; source.read(&mut [0; 4]) == wanted);
+        assert!(rt; source.failures() == failures && source.reader().interrupts == 0);
+        let mut outputs = ToWriter::new(Interrupted { interrupts, works });
+        assert!(rt; outputs.write(0, b"abc") == wanted);
+        assert!(rt; outputs.failures() == failures && outputs.writer().interrupts == 0);
+    }
+}
+
+#[test]
+fn readers_and_writers_of_std(rt: HostRuntime) -> Result<(), Fail> {
     let alloc = rt.alloc();
-    let Some(limits) = Limits::new(16, 0, 1, u64::MAX, 1) else {
-        return Err(Fail::from("a limit is out of its range"));
-    };
-    let Ok(program) = script(alloc, b"p", Kind::Basic, 1) else {
-        return Err(Fail::from("the script isn't accepted"));
-    };
-    let source = MemorySource::new(b"a\nb\nc\n".to_vec(alloc)?, Vec::new(alloc));
-    let mut engine = Engine::open(alloc, program, limits)?;
-    let mut lines = Lines::new(alloc, source, 1)?;
-    let mut outputs = MemoryOutputs::new(alloc, 1)?;
-    let mut texts = MemoryTexts::new(Vec::new(alloc));
-    let progress = engine.cycle(&mut lines, &mut outputs, &mut texts);
-    assert_eq!(rt; progress, Progress::More);
-    assert_eq!(rt; outputs.bytes(0), b"a\na\n".as_slice());
-    assert!(rt; lines.source().taken() <= 3);
+    let mut lines = Lines::new(alloc, FromReader::new(b"ab\n\ncd".as_slice()), 2)?;
+    let found = copied(&rt, alloc, &mut lines)?;
+    let mut outputs = ToWriter::new(Vec::new(alloc));
+    assert!(rt; outputs.sinks() == 1);
+    assert!(rt; outputs.write(0, found.as_slice()) == Ok(7));
+    assert!(rt; outputs.write(0, b"") == Ok(0));
+    same(&rt, outputs.into_writer().as_slice(), b"ab\n\ncd\n");
+    // A slice that is full takes none.
+    let mut room = [0; 2];
+    let mut short = ToWriter::new(room.as_mut_slice());
+    assert!(rt; short.write(0, b"abc") == Ok(2));
+    assert!(rt; short.write(0, b"c") == Err(Broken));
+    assert!(rt; short.failures() == 1);
+    Ok(())
+}
+
+#[test]
+fn outputs_over_memory(rt: HostRuntime) -> Result<(), Fail> {
+    let mut ample = MemoryOutputs::new(rt.alloc(), 2)?;
+    assert!(rt; ample.sinks() == 2 && ample.write(1, b"abcd") == Ok(4));
+    same(&rt, ample.bytes(1), b"abcd");
+    assert!(rt; ample.bytes(0).is_empty());
+    Ok(())
+}
+
+#[test]
+fn outputs_that_take_short_and_fail(rt: HostRuntime) -> Result<(), Fail> {
+    let mut outputs = MemoryOutputs::with_room(rt.alloc(), 1, 5)?;
+    outputs.take_at_most(3);
+    assert!(rt; outputs.sinks() == 1);
+    outputs.fail_at(0, 2);
+    let rows: [(&[u8], _); 4] = [
+        (b"abcd", Ok(3)),
+        (b"d", Err(Broken)),
+        (b"def", Ok(2)),
+        (b"f", Err(Broken)),
+    ];
+    for (bytes, wanted) in rows {
+        assert!(rt; outputs.sinks() == 1);
+        assert!(rt; outputs.write(0, bytes) == wanted);
+    }
+    assert!(rt; outputs.sinks() == 1);
+    same(&rt, outputs.bytes(0), b"abcde");
+    assert!(rt; outputs.writes(0) == 4 && outputs.failures(0) == 2);
+    Ok(())
+}
+
+#[test]
+fn texts_over_memory(rt: HostRuntime) -> Result<(), Fail> {
+    let alloc = rt.alloc();
+    let list = vec![in alloc; b"hello".to_vec(alloc)?, b"lost".to_vec(alloc)?]?;
+    let mut texts = MemoryTexts::new(list);
+    texts.fail_at(1, 2);
+    let mut space = Space::new(alloc, 4)?;
+    let rows: [(usize, u64, &[u8]); 6] = [
+        (0, 0, b"hell"),
+        (0, 4, b"o"),
+        (0, 5, b""),
+        (0, u64::MAX, b""),
+        (1, 0, b"lo"),
+        (2, 0, b""),
+    ];
+    for (number, offset, wanted) in rows {
+        assert!(rt; space.limit() == 4);
+        let count = space.fill(&mut texts, number, offset, 4);
+        assert!(rt; count == wanted.len());
+        same(&rt, space.bytes(), wanted);
+    }
+    assert!(rt; texts.read_at(0, 3, &mut [0; 9]) == 2);
     Ok(())
 }

@@ -1,14 +1,13 @@
 //! The editor as a library: `script` reads a script, and `edit` runs it over the bytes of a stream.
-ghost use Rattle.std.specs.Prelude.{◌≡◌, ◌<◌, ◌≤◌, ◌⊎◌, ℕ, List, Ok, IfOk, OnOk, OnErr, IfErr};
+ghost use Rattle.std.specs.Prelude.{◌≡◌, ◌<◌, ◌≤◌, ◌⊎◌, ℕ, List, Ok, IfOk, OnOk, OnErr, IfErr, length};
 ghost use Rattle.std.specs.Option.{ForSome};
 ghost use Rattle.std.specs.Io.KnownBytes.{Keeps};
 ghost use Rattle.sedspace.specs.Failures.{Rose};
-ghost use Rattle.sedspace.specs.Lines.{lines};
 ghost use Rattle.sedscript.specs.Script.{Faulty, Means};
 ghost use Rattle.sedscript.specs.declared.types.ScriptFault.{ScriptFault};
 ghost use Rattle.sedengine.specs.Devices.{Gained};
-ghost use Rattle.sedengine.specs.Run.{files_in, more_at, setting_of};
-ghost use Rattle.sed.specs.Editing.{Edits, GainsAll, GainsBeginning, TakesFirstLines, start_over};
+ghost use Rattle.sedengine.specs.Run.{TellsFiles, setting_of};
+ghost use Rattle.sededit.specs.Editing.{Edits, GainsAll, GainsBeginning, start_over};
 
 use sedengine::{Ended, Engine, Limits};
 use sedscript::{Kind, NO_MEMORY, Script, ScriptFault};
@@ -33,7 +32,8 @@ pub fn script(alloc: Global, text: &[u8], kind: Kind, nodes: usize) -> Result<Sc
     sedscript::read(alloc, text, kind, nodes)
 }
 
-/// Runs a script over the source's bytes, from the start of a run to its end. Sink 0 is the standard output.
+/// Runs a script over the source's bytes, from the start of a run to its end. Sink 0 is the standard output, sink 1 the
+/// first of the script's `wfiles` and so on; text 0 is the first of its `rfiles`.
 ///
 /// What the engine holds stays within the limits, whatever the input; what was written stands at every end.
 ///
@@ -47,23 +47,24 @@ pub fn edit<R: ByteSource, O: Outputs, T: Texts>(
     outputs: &mut O,
     texts: &mut T,
 ) -> Result<Ended, AllocError>
-    requires sink { 0 < O.count outputs.old }
+    requires sinks { length script.wfiles < O.count outputs.old }
     requires nodes { script.max_nodes ≤ limits.nodes }
-    // Each end has its cause, in whatever pieces the bytes came.
+    // Each end has its cause, in whatever pieces the bytes came, and no more is read than the lines taken and what is
+    // read ahead.
     ensures ending { IfOk result (λ end. ForSome (R.remaining source.old) (λ bytes.
-        Edits limits (setting_of script (files_in (T.text texts.old))) (start_over script bytes)
+        (files : ℕ → List ℕ) → TellsFiles (T.text texts.old) files →
+        Edits limits (setting_of script files) (start_over script bytes)
         (Gained (O.contents outputs.old) (O.contents outputs.new))
         (R.remaining source.old) (R.remaining source.new) end)) }
     // What was written is a beginning of what the script writes, and at the ordinary end the whole.
     ensures output { OnOk result (ForSome (R.remaining source.old) (λ bytes.
-        GainsBeginning (setting_of script (files_in (T.text texts.old))) (start_over script bytes)
+        (files : ℕ → List ℕ) → TellsFiles (T.text texts.old) files →
+        GainsBeginning (setting_of script files) (start_over script bytes)
         (Gained (O.contents outputs.old) (O.contents outputs.new)))) }
     ensures whole { result ≡ Ok Ended.Done → ForSome (R.remaining source.old) (λ bytes.
-        GainsAll (setting_of script (files_in (T.text texts.old))) (start_over script bytes)
+        (files : ℕ → List ℕ) → TellsFiles (T.text texts.old) files →
+        GainsAll (setting_of script files) (start_over script bytes)
         (Gained (O.contents outputs.old) (O.contents outputs.new))) }
-    // No more is read than the lines taken and what is read ahead.
-    ensures taken { IfOk result (λ end. ForSome (R.remaining source.old) (λ bytes.
-        TakesFirstLines (lines bytes) (R.remaining source.old) (R.remaining source.new) (more_at limits end))) }
     // A device that the end names has failed, whether it tells its bytes or not.
     ensures input { result ≡ Ok Ended.InputBroken → Rose (R.failures source.old) (R.failures source.new) }
     ensures failed { (k : ℕ) → result ≡ Ok (Ended.OutputBroken k) →
@@ -71,7 +72,7 @@ pub fn edit<R: ByteSource, O: Outputs, T: Texts>(
     ensures sinks { O.count outputs.new ≡ O.count outputs.old }
     // The texts are only read.
     ensures same_texts { (k : ℕ) → Keeps (T.text texts.old k) (T.text texts.new k) }
-    // Where memory is wanting, no device was touched.
+    // Where a request for memory was refused, no device was touched.
     ensures untouched { OnErr result ((source.new ≡ source.old) × (outputs.new ≡ outputs.old)
         × (texts.new ≡ texts.old)) }
 {

@@ -1,17 +1,16 @@
 -- From the end of an engine's run to the end of an edit.
 use Rattle.std.proofs.Common.{◌≡◌, ℕ, suc, List, [], Option, Some, None, length, refl}
-use Rattle.std.proofs.lemmas.List.{take_at}
 use Rattle.std.proofs.Math.Seq.{take-length}
 use Rattle.sedspace.specs.Lines.{lines}
 use Rattle.sedscript.specs.Script.{Program}
 use Rattle.sedengine.specs.Limits.{Limits}
 use Rattle.sedengine.specs.State.{State, Setting}
-use Rattle.sedengine.specs.Move.{start, after, written}
+use Rattle.sedengine.specs.Move.{start, written}
 use Rattle.sedengine.specs.Ends.{WholeOrCut}
-use Rattle.sedengine.specs.Run.{Run, Ending, Takes, at_lines, setting, setting_of}
+use Rattle.sedengine.specs.Run.{Run, Ending, at_lines, setting, setting_of}
 use Rattle.sedengine.specs.declared.ends.Ended.{Ended}
 use Rattle.sedengine.specs.declared.ends.Ended.TheVariants.{Done}
-use Rattle.sed.specs.Editing.{Edits, GainsAll, GainsBeginning, TakesFirstLines, start_over}
+use Rattle.sededit.specs.Editing.{Edits, GainsAll, GainsBeginning, start_over}
 
 -- an engine that was opened
 abbrev pub opened : Limits → Program → Run
@@ -35,8 +34,3 @@ Gains-beginning l g s gained end t (Some k) w = (suc t, w.b, w.sinks)
 pub Gains-all : (l : Limits) (g : Setting) (s : State) (gained : List (ℕ × ℕ) → Type 0) (old new : Option (List ℕ)) (end : Ended) →
     end ≡ Done → Edits l g s gained old new end → GainsAll g s gained
 Gains-all l g s gained old new end is h = let w = rw is at h.cause in (h.t, w.cause, w.sinks)
-
--- the lines taken stand first
-pub Takes-first : (g : Setting) (s : State) (old new : Option (List ℕ)) (more t : ℕ) → Takes g s old new more t → TakesFirstLines s.lines old new more
-Takes-first g s old new more t h =
-    (length h.lines, rw (h.are, take_at h.lines (after g s t).lines (length h.lines) refl) h.bytes)
