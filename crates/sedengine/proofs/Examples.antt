@@ -1,4 +1,4 @@
--- The definition of a move computes. No command that is built yet leads to these states.
+-- The definition of a move computes. No run leads to these states.
 use Rattle.std.proofs.Common.{◌≡◌, List, [], ◌∷◌, None, refl}
 use Rattle.sedengine.specs.State.{Task, fetch, join, State, Setting}
 use Rattle.sedengine.specs.Move.{move, quietly}

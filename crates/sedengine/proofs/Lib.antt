@@ -19,6 +19,7 @@ pub mod Replacements
 pub mod Due
 pub mod ListingLemmas
 pub mod Examples
+pub mod RunExamples
 pub mod OccurrenceExamples
 pub mod ListingExamples
 pub mod ListingLines
