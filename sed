@@ -24,6 +24,9 @@ out=$root/crates/sed/out
 program=$out/sed
 log=$out/build.log
 lock=$out/build.lock
+has_lock=
+ticker=
+builders=
 
 # the crates below the program and itself, a line for each level, lowest first
 levels() {
@@ -65,31 +68,33 @@ is_built() {
     [ -z "$(find "$@" -newer "$program" -print 2>/dev/null | head -n 1)" ]
 }
 
-# Waits until no other call builds, and keeps others from it. The lock is a link that names the process.
+# Waits until no other call builds, and keeps others from it. The lock is a folder with the number of its process.
 take_lock() {
     is_told=
-    until ln -s "$$" "$lock" 2>/dev/null; do
+    until mkdir "$lock" 2>/dev/null; do
         [ -d "$out" ] || return 1
-        owner=$(readlink -- "$lock" 2>/dev/null)
+        owner=$(cat "$lock/owner" 2>/dev/null)
         if [ -n "$owner" ] && ! kill -0 "$owner" 2>/dev/null; then
-            rm -f -- "$lock"
+            rm -rf -- "$lock"
             continue
         fi
-        [ -n "$is_told" ] || say "another call is building the program; waiting for it"
+        [ -n "$is_told" ] || say "another call is building the program; waiting for it (its lock: $lock)"
         is_told=1
         sleep 2
     done
+    has_lock=1
+    echo "$$" >"$lock/owner"
 }
 
-# Builds one crate, with so many processors.
+# Becomes the build of one crate, with so many processors.
 build_crate() {
-    cd "$root/crates/$1" || return 1
+    cd "$root/crates/$1" || exit 1
+    exec >"$out/build.$1.log" 2>&1 </dev/null
     if [ "$1" = sed ]; then
         # `rt run` builds the program and runs it once: an empty script over an empty input writes nothing.
-        rt run --jobs "$2" -- '' </dev/null
-    else
-        rt lib --jobs "$2" </dev/null
-    fi >"$out/build.$1.log" 2>&1
+        exec rt run --jobs "$2" -- ''
+    fi
+    exec rt lib --jobs "$2"
 }
 
 # Says every minute how long it takes.
@@ -105,7 +110,7 @@ stop() {
     trap - EXIT HUP INT TERM
     # shellcheck disable=SC2086 # a list of processes
     kill $ticker $builders 2>/dev/null
-    rm -f -- "$lock" "$out/build.now"
+    [ -z "$has_lock" ] || rm -rf -- "$lock" "$out/build.now"
 }
 
 # Builds the crates of a level side by side, and says where they stand in all.
@@ -145,11 +150,9 @@ build() {
         say "the program isn't built, or is older than its sources, and there is no rt on PATH to build it"
         return 1
     fi
-    mkdir -p "$out" && take_lock || return 1
-    ticker=
-    builders=
     trap 'stop; exit 127' HUP INT TERM
     trap stop EXIT
+    mkdir -p "$out" && take_lock || return 1
     is_built && return 0
     say "proving and building the program, which takes minutes (log: $log)"
     : >"$log"
