@@ -4,7 +4,8 @@
 //! `lines`, where a read gives one line; `taken=2`, the bytes taken from the input then; `calls=1`, how often it was
 //! read then, and `all=5`, how often in the whole run; `held=1`, the bytes that the engine holds then.
 
-use crate::job::{Job, texts_of};
+use crate::files::texts_of;
+use crate::job::Job;
 use crate::outcomes::{Outcome, compared, compared_numbers};
 use crate::table::{Row, name_and_value, number_of};
 use anyhow::{Result, ensure};
@@ -62,7 +63,7 @@ pub(crate) fn run(alloc: Global, row: &Row) -> Result<Outcome> {
         let is_known = wanted.take(option.as_slice())? || job.take(option.as_slice())?;
         ensure!(is_known, "unknown option");
     }
-    if let Some(refusal) = job.refusal(alloc, row.field(0)?)? {
+    if let Some(refusal) = job.refusal(alloc, row.field(0)?, row.options(3))? {
         return Ok(Some(refusal));
     }
     let source = if wanted.is_by_lines {
@@ -91,8 +92,8 @@ fn by_lines(alloc: Global, input: &[u8]) -> Result<MemorySource, AllocError> {
 fn cycle(alloc: Global, job: &Job, row: &Row, source: MemorySource) -> Result<Came> {
     let limits = job.limits(job.look.unwrap_or(65536))?;
     let script = job.script(alloc, row.field(0)?, &limits)?;
-    let mut outputs = job.outputs(alloc, usize::MAX)?;
-    let mut texts = texts_of(alloc, row.options(3))?;
+    let mut outputs = job.outputs(alloc, &script, usize::MAX)?;
+    let mut texts = texts_of(alloc, script.rfiles(), row.options(3))?;
     let mut engine = Engine::open(alloc, script, limits)?;
     let mut lines = Lines::new(alloc, source, limits.look())?;
     let _progress = engine.cycle(&mut lines, &mut outputs, &mut texts);

@@ -31,6 +31,7 @@ pub(crate) fn run_end(alloc: Global, end: Ended) -> Result<String, AllocError> {
         Ended::Done => format!(in alloc; "F0"),
         Ended::PatternFull(number) => format!(in alloc; "F1 line {number}"),
         Ended::HoldFull(number) => format!(in alloc; "F2 line {number}"),
+        Ended::QueueFull(number) => format!(in alloc; "F3 line {number}"),
         Ended::TurnsSpent => format!(in alloc; "F4"),
         Ended::NoPrevious(number) => format!(in alloc; "F5 line {number}"),
         Ended::InputBroken => format!(in alloc; "F6"),

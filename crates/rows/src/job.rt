@@ -2,13 +2,14 @@
 ghost use Rattle.std.specs.Prelude.{◌≡◌, ◌<◌, ◌≤◌, length, IfOk};
 
 use crate::faults::script_fault;
+use crate::files::{check_read, check_written};
 use crate::outcomes::Outcome;
 use crate::table::{Row, long_number_of, name_and_value, number_of};
 use anyhow::{Result, bail, ensure};
 use sededit::script;
 use sedengine::Limits;
 use sedscript::{Kind, Script};
-use sedspace::{MemoryOutputs, MemorySource, MemoryTexts};
+use sedspace::{MemoryOutputs, MemorySource, Outputs};
 use std::alloc::Global;
 
 /// A script over an input, with its options, limits and devices.
@@ -31,6 +32,8 @@ pub(crate) struct Job {
     pub fails_at: Option<u64>,
     /// `room=`: the bytes that each sink takes before it fails.
     pub room: Option<usize>,
+    /// `refuses=`: the sink whose first write fails.
+    pub refuses: Option<usize>,
     /// How many `w:NAME=TEXT` there are: sinks besides the standard output, with what they get.
     pub sinks: usize,
 }
@@ -49,6 +52,7 @@ impl Job {
             read: None,
             fails_at: None,
             room: None,
+            refuses: None,
             sinks: 0,
         }
     }
@@ -75,6 +79,7 @@ impl Job {
             b"read" => self.read = Some(number_of(value)?),
             b"fails" => self.fails_at = Some(long_number_of(value)?),
             b"room" => self.room = Some(number_of(value)?),
+            b"refuses" => self.refuses = Some(number_of(value)?),
             _ if name.starts_with(b"w:") => self.sinks = self.sinks.saturating_add(1),
             _ => return Ok(name.starts_with(b"r:")),
         }
@@ -90,11 +95,23 @@ impl Job {
     }
 
     /// What is told of a script that isn't accepted.
-    pub(crate) fn refusal(&self, alloc: Global, text: &[u8]) -> Result<Outcome> {
+    ///
+    /// # Errors
+    /// Where the options name other files than the script, or in another order.
+    pub(crate) fn refusal(
+        &self,
+        alloc: Global,
+        text: &[u8],
+        options: &[Vec<u8>],
+    ) -> Result<Outcome> {
         let nodes = self.nodes;
         ensure!(1 <= nodes && nodes <= 65536, "nodes is 1 to 65536");
         match script(alloc, text, self.kind, nodes) {
-            Ok(_) => Ok(None),
+            Ok(script) => {
+                check_written(script.wfiles(), options)?;
+                check_read(script.rfiles(), options)?;
+                Ok(None)
+            }
             Err(fault) => {
                 let place = fault.place;
                 let told = script_fault(alloc, &fault)?;
@@ -131,9 +148,14 @@ impl Job {
         Ok(source)
     }
 
-    /// The sinks, in writes of at most so many bytes.
-    pub(crate) fn outputs(&self, alloc: Global, most: usize) -> Result<MemoryOutputs>
-        ensures { IfOk result (λ o. 0 < length o.held) }
+    /// The sinks of a script, in writes of at most so many bytes.
+    pub(crate) fn outputs(
+        &self,
+        alloc: Global,
+        script: &Script,
+        most: usize,
+    ) -> Result<MemoryOutputs>
+        ensures { IfOk result (λ o. length script.now.wfiles < length o.held) }
     {
         ensure!(most > 0, "a write is of some bytes");
         let count = self.sinks.saturating_add(1);
@@ -142,18 +164,14 @@ impl Job {
             None => MemoryOutputs::new(alloc, count)?,
         };
         outputs.take_at_most(most);
+        if let Some(sink) = self.refuses {
+            ensure!(sink < outputs.sinks(), "there is no such sink");
+            outputs.fail_at(sink, 1);
+        }
+        ensure!(
+            script.wfiles().len() < outputs.sinks(),
+            "the script writes more files than the row has"
+        );
         Ok(outputs)
     }
-}
-
-/// The texts of the options `r:NAME=TEXT`, in their order.
-pub(crate) fn texts_of(alloc: Global, options: &[Vec<u8>]) -> Result<MemoryTexts> {
-    let mut texts = Vec::new(alloc);
-    for option in options {
-        let (name, value) = name_and_value(option.as_slice());
-        if name.starts_with(b"r:") {
-            texts.push(value.to_vec(alloc)?)?;
-        }
-    }
-    Ok(MemoryTexts::new(texts))
 }

@@ -11,6 +11,7 @@ mod decoder;
 mod delimiters;
 mod expressions;
 mod faults;
+mod files;
 mod job;
 mod limits;
 mod lists;

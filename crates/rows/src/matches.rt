@@ -4,6 +4,8 @@
 //! match and of each group, as `(0,2)(1,2)`, `(?,?)` of a group without a match; or `none`. Options: `most=9` and
 //! `least=9` steps. `find_span` and `is_match` have to tell the same as `find`.
 
+ghost use Rattle.std.specs.Prelude.{◌≡◌, ◌≤◌, length};
+
 use crate::expressions::kind_named;
 use crate::outcomes::{Outcome, compared};
 use crate::table::{Row, long_number_of, name_and_value};
@@ -61,21 +63,51 @@ fn outcome(alloc: Global, expr: &Expr, text: &[u8], from: usize) -> Result<Optio
     ensure!(text.len() <= 1 << 20, "the text is too long");
     ensure!(from <= text.len(), "the search begins past the text");
     let mut scratch = Scratch::new(alloc, text.len(), nodes)?;
-    let text = Text::new(text);
-    let mut steps = Steps::new();
-    let found = find(expr, &text, from, &mut scratch, &mut steps);
-    let mut others = Steps::new();
-    let span = find_span(expr, &text, from, &mut scratch, &mut others);
-    let mut others = Steps::new();
-    let is_one = is_match(expr, &text, from, &mut scratch, &mut others);
-    let count = steps.count();
+    let (found, steps) = found_in(expr, text, from, &mut scratch);
+    let span = span_in(expr, text, from, &mut scratch);
+    let is_one = is_in(expr, text, from, &mut scratch);
     match found {
-        None if span.is_none() && !is_one => Ok(Some((String::from_str(alloc, "none")?, count))),
+        None if span.is_none() && !is_one => Ok(Some((String::from_str(alloc, "none")?, steps))),
         Some(found) if is_one && span == Some((found.start, found.end)) => {
-            Ok(Some((spans_of(alloc, &found, expr.groups())?, count)))
+            Ok(Some((spans_of(alloc, &found, expr.groups())?, steps)))
         }
         _ => Ok(None),
     }
+}
+
+/// What `find` answers, and the steps that it takes.
+fn found_in(expr: &Expr, text: &[u8], from: usize, scratch: &mut Scratch) -> (Option<Found>, u128)
+    requires from { from ≤ length text.now }
+    requires text { length text.now ≤ scratch.old.text }
+    requires nodes { length expr.now.nodes ≤ scratch.old.nodes }
+    ensures { scratch.new ≡ scratch.old }
+{
+    let text = Text::new(text);
+    let mut steps = Steps::new();
+    let found = find(expr, &text, from, scratch, &mut steps);
+    (found, steps.count())
+}
+
+/// What `find_span` answers.
+fn span_in(expr: &Expr, text: &[u8], from: usize, scratch: &mut Scratch) -> Option<(usize, usize)>
+    requires from { from ≤ length text.now }
+    requires text { length text.now ≤ scratch.old.text }
+    requires nodes { length expr.now.nodes ≤ scratch.old.nodes }
+    ensures { scratch.new ≡ scratch.old }
+{
+    let mut steps = Steps::new();
+    find_span(expr, &Text::new(text), from, scratch, &mut steps)
+}
+
+/// What `is_match` answers.
+fn is_in(expr: &Expr, text: &[u8], from: usize, scratch: &mut Scratch) -> bool
+    requires from { from ≤ length text.now }
+    requires text { length text.now ≤ scratch.old.text }
+    requires nodes { length expr.now.nodes ≤ scratch.old.nodes }
+    ensures { scratch.new ≡ scratch.old }
+{
+    let mut steps = Steps::new();
+    is_match(expr, &Text::new(text), from, scratch, &mut steps)
 }
 
 /// The spans of a match and of so many groups, of nine at most.

@@ -4,11 +4,14 @@
 //! expression of this number, `//` the one last used; `!`; the letter of the command, and what it names:
 //!
 //! * `{4`, `b4`, `t4`: the number of a command, counted from 0
-//! * `i"T"`, `c"T"`: the text
-//! * `s/0/ "[" & \1 1 g p`: the expression, the parts of the replacement, the number of the occurrence and the flags
+//! * `a"T"`, `i"T"`, `c"T"`: the text
+//! * `r0`: the number of a file that is read, counted from 0
+//! * `w1`: the number of a file that is written, counted from 1; 0 is the standard output
+//! * `s/0/ "[" & \1 1 g p w1`: the expression, the parts of the replacement, the number of the occurrence and the flags
 //! * `y ab ba`: each byte that is replaced, and the one that stands for it
 //!
-//! Options: `-E`; `-n`, where the script suppresses default output.
+//! Options: `-E`; `-n`, where the script suppresses default output; `r:NAME`, the files that the script reads, and
+//! then `w:NAME`, those that it writes: all of them, in the order of their numbers.
 
 ghost use Rattle.std.specs.Prelude.{◌<◌, length};
 
@@ -26,10 +29,12 @@ const MOST_NODES: usize = 65536;
 pub(crate) fn run(alloc: Global, row: &Row) -> Result<Outcome> {
     let mut kind = Kind::Basic;
     let mut is_quiet = false;
+    let mut files = Vec::new(alloc);
     for option in row.options(2) {
         match option.as_slice() {
             b"-E" => kind = Kind::Extended,
             b"-n" => is_quiet = true,
+            file if is_file(file) => push_file(&mut files, b"", file)?,
             _ => bail!("unknown option"),
         }
     }
@@ -39,8 +44,40 @@ pub(crate) fn run(alloc: Global, row: &Row) -> Result<Outcome> {
     if script.quiet() != is_quiet {
         return Ok(Some(String::from_str(alloc, "-n isn't as expected")?));
     }
+    let came = files_of(alloc, &script)?;
+    if let Some(difference) = compared(alloc, "the files", came.as_slice(), files.as_slice())? {
+        return Ok(Some(difference));
+    }
     let came = commands_of(alloc, &script)?;
     compared(alloc, "the commands", came.as_slice(), row.field(1)?)
+}
+
+/// Whether an option is about a file.
+fn is_file(option: &[u8]) -> bool {
+    option.starts_with(b"r:") || option.starts_with(b"w:")
+}
+
+/// A file in a list of files: the letter of its kind and a colon, and its name.
+fn push_file(out: &mut Vec<u8>, kind: &[u8], name: &[u8]) -> Result<(), AllocError> {
+    out.extend_from_slice(kind)?;
+    out.extend_from_slice(name)?;
+    push(out, b'\n')
+}
+
+/// Files of a kind.
+fn push_files(out: &mut Vec<u8>, kind: &[u8], names: &[Vec<u8>]) -> Result<(), AllocError> {
+    for name in names {
+        push_file(out, kind, name.as_slice())?;
+    }
+    Ok(())
+}
+
+/// The files of a script: those that it reads, and those that it writes.
+fn files_of(alloc: Global, script: &Script) -> Result<Vec<u8>, AllocError> {
+    let mut out = Vec::new(alloc);
+    push_files(&mut out, b"r:", script.rfiles())?;
+    push_files(&mut out, b"w:", script.wfiles())?;
+    Ok(out)
 }
 
 /// The commands of a script.
@@ -71,8 +108,11 @@ fn push_action(out: &mut Vec<u8>, script: &Script, i: usize) -> Result<(), Alloc
         Action::Block(k) => push_target(out, b'{', k),
         Action::Branch(k) => push_target(out, b'b', k),
         Action::Test(k) => push_target(out, b't', k),
+        Action::Append(k) => push_text(out, b'a', script.text(k)),
         Action::Change(k) => push_text(out, b'c', script.text(k)),
         Action::Insert(k) => push_text(out, b'i', script.text(k)),
+        Action::ReadFile(k) => push_target(out, b'r', k),
+        Action::WriteFile(k) => push_target(out, b'w', k),
         Action::Substitute(k) => push_substitution(out, script.substitution(k)),
         Action::Transliterate(k) => push_table(out, script.table(k)),
         action => push(out, letter_of(action)),
@@ -85,7 +125,7 @@ fn push(out: &mut Vec<u8>, b: u8) -> Result<(), AllocError> {
     Ok(())
 }
 
-/// A letter and the number of a command.
+/// A letter and a number.
 fn push_target(out: &mut Vec<u8>, letter: u8, k: usize) -> Result<(), AllocError> {
     push(out, letter)?;
     push_number(out, k as u64)
@@ -155,6 +195,10 @@ fn push_substitution(out: &mut Vec<u8>, substitution: &Substitution) -> Result<(
     if substitution.print {
         out.extend_from_slice(b" p")?;
     }
+    if let Some(sink) = substitution.file {
+        out.push(b' ')?;
+        push_target(out, b'w', sink)?;
+    }
     Ok(())
 }
 
@@ -184,13 +228,17 @@ fn push_table(out: &mut Vec<u8>, table: &[u8]) -> Result<(), AllocError> {
 /// The letter of a command that names nothing by numbers.
 fn letter_of(action: Action) -> u8 {
     match action {
+        Action::AppendNext => b'N',
         Action::CopyHold => b'g',
         Action::AppendHold => b'G',
         Action::Hold => b'h',
         Action::HoldMore => b'H',
         Action::Exchange => b'x',
         Action::Delete => b'd',
+        Action::DeleteFirst => b'D',
         Action::LineNumber => b'=',
+        Action::List => b'l',
+        Action::NextLine => b'n',
         Action::Print => b'p',
         Action::PrintFirst => b'P',
         Action::Quit => b'q',

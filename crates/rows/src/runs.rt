@@ -5,19 +5,21 @@
 //! * `-n`, `-E`: those of the command line
 //! * `F1 line 2`, `F4`, `F7 sink 0`: the end, where it isn't the ordinary one
 //! * `space=3`, `queue=`, `look=`, `turns=`, `nodes=`: limits other than the program's
-//! * `r:NAME=TEXT`: a file that is read; `w:NAME=TEXT`: what a file that is written gets; each kind in the order in
-//!   which the script first names them
+//! * `r:NAME=TEXT`: a file that is read, one that isn't given is empty; `w:NAME=TEXT`: what a file that is written
+//!   gets, each of them; each kind in the order in which the script first names them
 //! * `fails=2`: the second read of the input fails; `read=1`: a read gives one byte; `room=3`: a sink takes three bytes
-//!   and then fails; `cuts`: the input cut at each two places besides
+//!   and then fails; `refuses=1`: the first write to this sink fails; `cuts`: the input cut at each two places besides
 //!
-//! Each row runs with the input whole and in reads of 1, 2, 3 and 5 bytes, with writes of any length and of one byte,
-//! and with 1, 2, 7 and 65,536 bytes read ahead. Where a read fails, the reads are as the row says, and the read-ahead
-//! is that of the program. At last an engine runs it by `cycle` and `run`, and has to stay at its end.
+//! Each row runs with the input whole and in reads of 1, 2, 3 and 5 bytes, with writes and pieces of files that are read
+//! of any length and of one byte, and with 1, 2, 7 and 65,536 bytes read ahead. Where a read fails, the reads are as the
+//! row says, and the read-ahead is that of the program. At last an engine runs it by `cycle` and `run`, and has to stay
+//! at its end.
 
 ghost use Rattle.std.specs.Prelude.{◌≡◌, ◌<◌, length};
 
 use crate::faults::run_end;
-use crate::job::{Job, texts_of};
+use crate::files::{PiecedTexts, texts_of};
+use crate::job::Job;
 use crate::outcomes::{Outcome, compared};
 use crate::table::{Row, name_and_value};
 use anyhow::{Result, bail, ensure};
@@ -37,7 +39,7 @@ struct Wanted<'a> {
     is_cut: bool,
 }
 
-/// The most bytes of a read, of a write, and ahead.
+/// The most bytes of a read, of a write and of a piece of a file that is read, and ahead.
 #[derive(Clone, Copy)]
 struct Pieces {
     read: usize,
@@ -71,7 +73,7 @@ pub(crate) fn run(alloc: Global, row: &Row) -> Result<Outcome> {
             ensure!(job.take(option.as_slice())?, "unknown option");
         }
     }
-    if let Some(refusal) = job.refusal(alloc, wanted.script)? {
+    if let Some(refusal) = job.refusal(alloc, wanted.script, wanted.options)? {
         return Ok(Some(refusal));
     }
     if let Some(difference) = run_in_pieces(alloc, &job, wanted)? {
@@ -151,8 +153,11 @@ fn run_over(
 ) -> Result<Outcome> {
     let limits = job.limits(job.look.unwrap_or(pieces.look))?;
     let script = job.script(alloc, wanted.script, &limits)?;
-    let mut outputs = job.outputs(alloc, pieces.write)?;
-    let mut texts = texts_of(alloc, wanted.options)?;
+    let mut outputs = job.outputs(alloc, &script, pieces.write)?;
+    let mut texts = PiecedTexts {
+        held: texts_of(alloc, script.rfiles(), wanted.options)?,
+        most: pieces.write,
+    };
     let end = edit(alloc, script, limits, source, &mut outputs, &mut texts)?;
     let difference = compared_run(alloc, wanted, end, &outputs)?;
     let Some(told) = difference else {
@@ -213,8 +218,8 @@ fn run_engine(alloc: Global, job: &Job, wanted: Wanted<'_>) -> Result<Outcome> {
     let limits = job.limits(job.look.unwrap_or(65536))?;
     let script = job.script(alloc, wanted.script, &limits)?;
     let source = job.source(alloc, wanted.input, job.read.unwrap_or(usize::MAX))?;
-    let mut outputs = job.outputs(alloc, usize::MAX)?;
-    let mut texts = texts_of(alloc, wanted.options)?;
+    let mut outputs = job.outputs(alloc, &script, usize::MAX)?;
+    let mut texts = texts_of(alloc, script.rfiles(), wanted.options)?;
     let mut engine = Engine::open(alloc, script, limits)?;
     let mut lines = Lines::new(alloc, source, limits.look())?;
     let end = end_of(&mut engine, &mut lines, &mut outputs, &mut texts);
@@ -233,9 +238,9 @@ fn end_of(
     texts: &mut MemoryTexts,
 ) -> Ended
     requires look { lines.old.look ≡ engine.old.limits.look }
-    requires sink { 0 < length outputs.old.held }
+    requires sinks { length engine.old.script.wfiles < length outputs.old.held }
     ensures look { lines.new.look ≡ engine.new.limits.look }
-    ensures sink { 0 < length outputs.new.held }
+    ensures sinks { length engine.new.script.wfiles < length outputs.new.held }
 {
     let _progress = engine.cycle(lines, outputs, texts);
     engine.run(lines, outputs, texts)
@@ -250,7 +255,7 @@ fn stays_at(
     end: Ended,
 ) -> bool
     requires look { lines.old.look ≡ engine.old.limits.look }
-    requires sink { 0 < length outputs.old.held }
+    requires sinks { length engine.old.script.wfiles < length outputs.old.held }
 {
     let calls = lines.source().calls();
     let again = engine.run(lines, outputs, texts);

@@ -1,0 +1,88 @@
+//! The files of a row: what those hold that the script reads, and the names of all.
+
+use crate::table::name_and_value;
+use anyhow::{Result, bail, ensure};
+use sedspace::{MemoryTexts, Texts};
+use std::alloc::{AllocError, Global};
+
+/// Texts of which a read gives no more than so many bytes, at least one.
+#[derive(Drop)]
+pub(crate) struct PiecedTexts<T: Texts> {
+    pub held: T,
+    pub most: usize,
+}
+
+impl<T: Texts> Texts for PiecedTexts<T> {
+    ghost text = { λ t. T.text t.held };
+
+    fn read_at(&mut self, number: usize, offset: u64, buf: &mut [u8]) -> usize {
+        let room = buf.len().min(self.most.max(1));
+        self.held.read_at(number, offset, &mut buf[..room])
+    }
+}
+
+/// The name in an option `r:NAME=TEXT` or `w:NAME=TEXT`, and the text: `kind` is the letter and the colon.
+fn file_of<'a>(option: &'a [u8], kind: &[u8]) -> Option<(&'a [u8], &'a [u8])> {
+    let (name, text) = name_and_value(option);
+    match name.strip_prefix(kind) {
+        Some(name) => Some((name, text)),
+        None => None,
+    }
+}
+
+/// The texts of the files of these names; one that no option gives is empty.
+pub(crate) fn texts_of(
+    alloc: Global,
+    names: &[Vec<u8>],
+    options: &[Vec<u8>],
+) -> Result<MemoryTexts, AllocError> {
+    let mut texts = Vec::new(alloc);
+    for name in names {
+        texts.push(text_in(options, name.as_slice()).to_vec(alloc)?)?;
+    }
+    Ok(MemoryTexts::new(texts))
+}
+
+/// The text that the options give for a file that is read.
+fn text_in<'a>(options: &'a [Vec<u8>], wanted: &[u8]) -> &'a [u8] {
+    for option in options {
+        if let Some((name, text)) = file_of(option.as_slice(), b"r:")
+            && name == wanted
+        {
+            return text;
+        }
+    }
+    b""
+}
+
+/// Sees that the options `r:NAME=TEXT` name files that the script reads, each once, in its order.
+pub(crate) fn check_read(names: &[Vec<u8>], options: &[Vec<u8>]) -> Result<()> {
+    let mut rest = names;
+    for option in options {
+        if let Some((name, _)) = file_of(option.as_slice(), b"r:") {
+            match rest.iter().position(|n| n.as_slice() == name) {
+                Some(k) if k < rest.len() => rest = &rest[k + 1..],
+                _ => bail!("the script reads no such file, or in another order"),
+            }
+        }
+    }
+    Ok(())
+}
+
+/// Sees that the options `w:NAME=TEXT` name all files that the script writes, each once, in its order.
+pub(crate) fn check_written(names: &[Vec<u8>], options: &[Vec<u8>]) -> Result<()> {
+    let mut rest = names;
+    for option in options {
+        if let Some((name, _)) = file_of(option.as_slice(), b"w:") {
+            match rest.split_first() {
+                Some((first, others)) if first.as_slice() == name => rest = others,
+                _ => bail!("the script writes no such file, or in another order"),
+            }
+        }
+    }
+    ensure!(
+        rest.is_empty(),
+        "the script writes a file that the row doesn't have"
+    );
+    Ok(())
+}
