@@ -11,7 +11,8 @@
 //! * `y ab ba`: each byte that is replaced, and the one that stands for it
 //!
 //! Options: `-E`; `-n`, where the script suppresses default output; `r:NAME`, the files that the script reads, and
-//! then `w:NAME`, those that it writes: all of them, in the order of their numbers.
+//! then `w:NAME`, those that it writes: all of them, in the order of their numbers. Where they are many, one field may
+//! hold several, parted by newlines.
 
 ghost use Rattle.std.specs.Prelude.{◌<◌, length};
 
