@@ -2,7 +2,8 @@
 //!
 //!     matchbench CALL KIND EXPRESSION LENGTH ROUNDS < TEXT
 //!
-//! CALL is `find`, `span` or `match`, and KIND `basic` or `extended`. The text is cut into pieces of LENGTH bytes, the
+//! CALL is `find`, `span` or `match`, by tables that are kept from call to call, or `find-once`, `span-once` or
+//! `match-once`, by the calls that keep nothing. KIND is `basic` or `extended`. The text is cut into pieces of LENGTH bytes, the
 //! last one maybe shorter. Each round makes the call once for each piece, from its beginning on. What is printed is
 //! the number of calls with a hit, so it depends on the words and the text alone: `bench/matching` takes the times.
 #![tactic(auto)]
@@ -10,7 +11,7 @@
 ghost use Rattle.std.specs.Prelude.{◌≡◌, ◌<◌, ◌≤◌, length};
 
 use anyhow::{Context, Result, bail, ensure};
-use sedmatch::{Scratch, Text, find, find_span, is_match};
+use sedmatch::{Scratch, TableMatcher, Text, find, find_span, is_match};
 use sedre::{Expr, Kind, Steps, read};
 use std::alloc::Global;
 use std::env;
@@ -25,12 +26,18 @@ const MAX_NODES: usize = 16384;
 /// A call of the matcher.
 #[derive(Clone, Copy)]
 enum Call {
-    /// `find`: the match and its groups.
+    /// The match and its groups, by tables.
     Find,
-    /// `find_span`: where the match begins and ends.
+    /// Where the match begins and ends, by tables.
     Span,
-    /// `is_match`: whether there is one.
+    /// Whether there is one, by tables.
     Match,
+    /// The match and its groups.
+    FindOnce,
+    /// Where the match begins and ends.
+    SpanOnce,
+    /// Whether there is one.
+    MatchOnce,
 }
 
 impl Call {
@@ -40,35 +47,58 @@ impl Call {
             "find" => Ok(Call::Find),
             "span" => Ok(Call::Span),
             "match" => Ok(Call::Match),
-            _ => bail!("CALL is find, span or match"),
+            "find-once" => Ok(Call::FindOnce),
+            "span-once" => Ok(Call::SpanOnce),
+            "match-once" => Ok(Call::MatchOnce),
+            _ => bail!("CALL is find, span or match, or one of these and -once"),
         }
     }
 
     /// Makes the call from the beginning of a piece on, and says whether it has a hit.
-    fn hits(self, expr: &Expr, piece: &[u8], scratch: &mut Scratch) -> bool
+    fn hits(
+        self,
+        expr: &Expr,
+        tables: &mut TableMatcher,
+        piece: &[u8],
+        scratch: &mut Scratch,
+    ) -> bool
         requires text { length piece.now ≤ scratch.old.text }
         requires nodes { length expr.now.nodes ≤ scratch.old.nodes }
+        requires tables { length tables.old.nodes ≤ scratch.old.nodes }
+        ensures tables { tables.new ≡ tables.old }
         ensures scratch { scratch.new ≡ scratch.old }
     {
         let text = Text::new(piece);
         let mut steps = Steps::new();
         match self {
-            Call::Find => find(expr, &text, 0, scratch, &mut steps).is_some(),
-            Call::Span => find_span(expr, &text, 0, scratch, &mut steps).is_some(),
-            Call::Match => is_match(expr, &text, 0, scratch, &mut steps),
+            Call::Find => tables.find(&text, 0, scratch, &mut steps).is_some(),
+            Call::Span => tables.find_span(&text, 0, scratch, &mut steps).is_some(),
+            Call::Match => tables.is_match(&text, 0, scratch, &mut steps),
+            Call::FindOnce => find(expr, &text, 0, scratch, &mut steps).is_some(),
+            Call::SpanOnce => find_span(expr, &text, 0, scratch, &mut steps).is_some(),
+            Call::MatchOnce => is_match(expr, &text, 0, scratch, &mut steps),
         }
     }
 
     /// In how many pieces of a text the call has a hit.
-    fn round(self, expr: &Expr, text: &[u8], size: usize, scratch: &mut Scratch) -> u64
+    fn round(
+        self,
+        expr: &Expr,
+        tables: &mut TableMatcher,
+        text: &[u8],
+        size: usize,
+        scratch: &mut Scratch,
+    ) -> u64
         requires some { 0 < size }
         requires text { size ≤ scratch.old.text }
         requires nodes { length expr.now.nodes ≤ scratch.old.nodes }
+        requires tables { length tables.old.nodes ≤ scratch.old.nodes }
+        ensures tables { tables.new ≡ tables.old }
         ensures scratch { scratch.new ≡ scratch.old }
     {
         let mut hits = 0u64;
         for piece in text.chunks(size) {
-            if self.hits(expr, piece, scratch) {
+            if self.hits(expr, tables, piece, scratch) {
                 hits = hits.saturating_add(1);
             }
         }
@@ -76,14 +106,23 @@ impl Call {
     }
 
     /// The hits of so many rounds, none of them left out.
-    fn rounds(self, count: u32, expr: &Expr, text: &[u8], size: usize, scratch: &mut Scratch) -> u64
+    fn rounds(
+        self,
+        count: u32,
+        expr: &Expr,
+        tables: &mut TableMatcher,
+        text: &[u8],
+        size: usize,
+        scratch: &mut Scratch,
+    ) -> u64
         requires some { 0 < size }
         requires text { size ≤ scratch.old.text }
         requires nodes { length expr.now.nodes ≤ scratch.old.nodes }
+        requires tables { length tables.old.nodes ≤ scratch.old.nodes }
     {
         let mut hits = 0u64;
         for _ in 0..count {
-            hits = hits.saturating_add(self.round(expr, text, size, scratch));
+            hits = hits.saturating_add(self.round(expr, tables, text, size, scratch));
         }
         hits
     }
@@ -138,9 +177,16 @@ impl Job {
         let nodes = self.expr.nodes();
         ensure!(nodes <= MAX_NODES, "EXPRESSION has too many nodes");
         let mut scratch = Scratch::new(alloc, self.size, MAX_NODES)?;
+        let mut tables = TableMatcher::new(alloc, &self.expr)?;
         Ok(
-            self.call
-                .rounds(self.rounds, &self.expr, text, self.size, &mut scratch),
+            self.call.rounds(
+                self.rounds,
+                &self.expr,
+                &mut tables,
+                text,
+                self.size,
+                &mut scratch,
+            ),
         )
     }
 }

@@ -1,5 +1,5 @@
 -- The steps of a search, with m nodes and n bytes.
-use Rattle.std.proofs.Common.{◌≡◌, ℕ, ◌+◌, ◌-◌, ◌*◌, ◌<◌, ◌≤◌, ap, arith, mul-le-mul_left}
+use Rattle.std.proofs.Common.{◌≡◌, ℕ, ◌+◌, ◌-◌, ◌*◌, ◌<◌, ◌≤◌, ap, refl, subst, arith, mul-le-mul_left}
 
 -- places that are looked at: the bytes passed over, and what comes first in a match
 pub place_step : (m from at start s0 s s1 s2 : ℕ) → 0 < m → at ≤ start →
@@ -22,35 +22,6 @@ pub place_last : (m n from start s0 s : ℕ) → start ≤ n → s + 8 * m * fro
 place_last m n from start s0 s low cost =
     let up : start + 1 ≤ n + 1 = omega arith in
     let all = mul-le-mul_left (8 * m) up in
-    omega (arith, all)
-
--- starts from one to the next: the places looked at, a longer look ahead and one pass
-pub start_step : (m n from at start s0 s s1 s2 : ℕ) → 0 < m → at ≤ start →
-    s + 37 * m * (n + 1) * from ≤ s0 + 37 * m * (n + 1) * at → s1 + 8 * m * at ≤ s + 8 * m * (start + 1) → s2 ≤ s1 + 29 * m * (n + 1) →
-    s2 + 37 * m * (n + 1) * from ≤ s0 + 37 * m * (n + 1) * (start + 1)
-start_step m n from at start s0 s s1 s2 some low before skip pass =
-    let d = start + 1 - at in
-    let e : start + 1 ≡ at + d = omega arith in
-    let one : 1 ≤ d = omega arith in
-    let q = m * (n + 1) in
-    let grown = mul-le-mul_left q one in
-    let m_n : m * 1 ≤ m * (n + 1) = mul-le-mul_left m (let h : 1 ≤ n + 1 = omega arith in h) in
-    let most = mul-le-mul_left d m_n in
-    let looks : 8 * m * (start + 1) ≡ 8 * m * (at + d) = ap (λ v. 8 * m * v) e in
-    let all : 37 * m * (n + 1) * (start + 1) ≡ 37 * m * (n + 1) * (at + d) = ap (λ v. 37 * m * (n + 1) * v) e in
-    omega (arith, grown, most, looks, all)
-
--- up to the end of the text
-pub start_end : (m n from at s0 s s1 : ℕ) → 0 < m → at ≤ n →
-    s + 37 * m * (n + 1) * from ≤ s0 + 37 * m * (n + 1) * at → s1 + 8 * m * at ≤ s + 8 * m * (n + 1) →
-    s1 + 37 * m * (n + 1) * from ≤ s0 + 37 * m * (n + 1) * (n + 1)
-start_end m n from at s0 s s1 some low before skip = start_step m n from at n s0 s s1 s1 some low before skip (omega arith)
-
-pub start_last : (m n from start s0 s : ℕ) → start ≤ n → s + 37 * m * (n + 1) * from ≤ s0 + 37 * m * (n + 1) * (start + 1) →
-    s + 37 * m * (n + 1) * from ≤ s0 + 37 * m * (n + 1) * (n + 1)
-start_last m n from start s0 s low cost =
-    let up : start + 1 ≤ n + 1 = omega arith in
-    let all = mul-le-mul_left (37 * m * (n + 1)) up in
     omega (arith, all)
 
 -- a pass that enters every start: the places looked at before it, and its own
@@ -81,12 +52,27 @@ sweep_last m n from stop s0 s low cost =
     let all = mul-le-mul_left (29 * m) up in
     omega (arith, all)
 
--- a whole search: one place, a start, a scan, and starts one after another
-pub whole_cost : (m n from start at s0 s1 s2 s3 s4 s5 : ℕ) → 1 ≤ at → s1 ≤ s0 + 9 * m → s2 + 8 * m * from ≤ s1 + 8 * m * (start + 1) →
-    s3 ≤ s2 + 29 * m * (n + 1) → s4 + 29 * m * (start + 1) ≤ s3 + 29 * m * (n + 1) →
-    s5 + 37 * m * (n + 1) * at ≤ s4 + 37 * m * (n + 1) * (n + 1) → s5 ≤ s0 + 48 * m * (n + 1) * (n + 1)
-whole_cost m n from start at s0 s1 s2 s3 s4 s5 one begins place pass scan rest =
-    let all = mul-le-mul_left (37 * m * (n + 1)) one in
+-- a whole search: one place, a start, a scan, and the first start of a region with its longest span
+pub whole_cost : (m n from start at s0 s1 s2 s3 s4 s5 : ℕ) → start + 1 ≤ at → s1 ≤ s0 + 9 * m → s2 + 8 * m * from ≤ s1 + 8 * m * (start + 1) →
+    s3 ≤ s2 + 8 * m + 21 * m * (n + 1) → s4 + 29 * m * (start + 1) ≤ s3 + 29 * m * (n + 1) →
+    s5 + 20 * m * at ≤ s4 + 16 * m + 41 * m * (n + 1) → s5 ≤ s0 + 96 * m * (n + 1)
+whole_cost m n from start at s0 s1 s2 s3 s4 s5 behind begins place pass scan rest =
+    let all = mul-le-mul_left m behind in
+    omega (arith, all)
+
+-- which is less than a square where there is a byte
+pub square_cost : (m n s0 s : ℕ) → 1 ≤ n → s ≤ s0 + 96 * m * (n + 1) → s ≤ s0 + 48 * m * (n + 1) * (n + 1)
+square_cost m n s0 s some cost =
+    let two : 2 ≤ n + 1 = omega arith in
+    let all = mul-le-mul_left (48 * m * (n + 1)) two in
+    omega (arith, all)
+
+-- the first start of a region, and the longest span from there
+pub region_cost : (m n start bound s0 s1 s2 s3 : ℕ) → bound ≤ n → s1 + 20 * m * start ≤ s0 + m + 20 * m * (bound + 1) → s2 ≤ s1 + 7 * m →
+    s3 ≤ s2 + 8 * m + 21 * m * (n + 1) → s3 + 20 * m * start ≤ s0 + 16 * m + 41 * m * (n + 1)
+region_cost m n start bound s0 s1 s2 s3 low first look rest =
+    let up : bound + 1 ≤ n + 1 = omega arith in
+    let all = mul-le-mul_left (20 * m) up in
     omega (arith, all)
 
 -- the looks at one alternative more, of at most four
@@ -101,5 +87,25 @@ turns_cost m turn s0 s1 s few first before =
     omega (arith, all)
 
 -- a longer look ahead, and a pass behind it
-pub far_cost : (m n s0 s1 s2 : ℕ) → s1 ≤ s0 + (n + 8) * m → s2 ≤ s1 + 21 * m * (n + 1) → s2 ≤ s0 + 29 * m * (n + 1)
+pub far_cost : (m n s0 s1 s2 : ℕ) → s1 ≤ s0 + (n + 8) * m → s2 ≤ s1 + m + 20 * m * (n + 1) → s2 ≤ s0 + 8 * m + 21 * m * (n + 1)
 far_cost m n s0 s1 s2 look pass = omega (arith, look, pass)
+
+-- a pass from the other end over a region
+pub back_cost : (m many len start bound s0 s1 : ℕ) → many ≡ m → start ≤ bound → bound ≤ len →
+    s1 + 20 * many * (len - bound) ≤ s0 + many + 20 * many * (len - start + 1) → s1 + 20 * m * start ≤ s0 + m + 20 * m * (bound + 1)
+back_cost m many len start bound s0 s1 same low high pass =
+    let d = bound - start in
+    let bound_is : bound ≡ start + d = omega arith in
+    let stop_is : len - start ≡ (len - bound) + d = omega arith in
+    let e1 = ap (λ v. 20 * m * (v + 1)) bound_is in
+    let e2 = ap (λ v. 20 * m * (v + 1)) stop_is in
+    let here = subst (λ v. s1 + 20 * v * (len - bound) ≤ s0 + v + 20 * v * (len - start + 1)) same pass in
+    let a = len - bound in
+    let a_is : len - bound ≡ a = refl in
+    omega (arith, here, e1, e2)
+
+-- a region that a look ahead tells costs nothing
+pub told_cost : (m start end s : ℕ) → start ≤ end → s + 20 * m * start ≤ s + m + 20 * m * (end + 1)
+told_cost m start end s low =
+    let all = mul-le-mul_left (20 * m) low in
+    omega (arith, all)

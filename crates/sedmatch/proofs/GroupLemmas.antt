@@ -102,3 +102,25 @@ miss_cost m n s t some first =
     let one : 1 ≤ m = omega arith in
     let all = mul-le-mul_left (48 * m * (n + 1) * (n + 1)) one in
     omega (arith, first, all)
+
+-- the same bounds for a search by tables
+pub by_room : (m n s t : ℕ) → m ≤ 65536 → n ≤ 2 ^ 30 → s ≤ 2 ^ 100 → t ≤ s + 64 * m * (n + 1) * (n + 1) →
+    t + (23 * m * (n + 1) * (n + 2) + 1 + m) * m + 3 * m < 2 ^ 114
+by_room m n s t few short low first =
+    let mn : m * n ≤ 65536 * 2 ^ 30 = mul-le-mul few short in
+    let mm : m * m ≤ 65536 * 65536 = mul-le-mul few few in
+    let mnn : m * n * n ≤ 65536 * 2 ^ 30 * 2 ^ 30 = mul-le-mul mn short in
+    let mmn : m * m * n ≤ 65536 * 65536 * 2 ^ 30 = mul-le-mul mm short in
+    let mmnn : m * m * n * n ≤ 65536 * 65536 * 2 ^ 30 * 2 ^ 30 = mul-le-mul mmn short in
+    omega (arith, mn, mm, mnn, mmn, mmnn)
+
+pub by_miss : (m n s t : ℕ) → 0 < m → t ≤ s + 64 * m * (n + 1) * (n + 1) → t ≤ s + 64 * m * m * (n + 1) * (n + 1)
+by_miss m n s t some first =
+    let one : 1 ≤ m = omega arith in
+    let all = mul-le-mul_left (64 * m * (n + 1) * (n + 1)) one in
+    omega (arith, first, all)
+
+pub by_cost : (m n s t u : ℕ) → 2 ≤ m → t ≤ s + 64 * m * (n + 1) * (n + 1) → u + 48 * m * (n + 1) * (n + 1) ≤ t + 51 * m * m * (n + 1) * (n + 1) → u ≤ s + 64 * m * m * (n + 1) * (n + 1)
+by_cost m n s t u two first rest =
+    let all = mul-le-mul_left (8 * m * (n + 1) * (n + 1)) two in
+    omega (arith, first, rest, all)

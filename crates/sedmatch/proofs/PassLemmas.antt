@@ -1,5 +1,5 @@
 -- One step of each pass.
-use Rattle.std.proofs.Common.{◌≡◌, ◌≢◌, ℕ, ◌+◌, ◌<◌, ◌≤◌, ◌⊎◌, ◌↔◌, Bool, false, List, length, Option, Some, IsTrue, refl, sym, ap, ◌∙◌, subst, inl, inr, ⊎_elim, arith, length-set}
+use Rattle.std.proofs.Common.{◌≡◌, ◌≢◌, ℕ, zero, suc, ◌+◌, ◌<◌, ◌≤◌, ◌⊎◌, ◌↔◌, Bool, true, false, List, length, Option, Some, IsTrue, refl, sym, ap, ◌∙◌, subst, inl, inr, ⊎_elim, arith, length-set}
 use Rattle.std.specs.Prelude.{slice_get, slice_index_or, slice_set, eqb}
 use Rattle.std.proofs.lemmas.Bool.{cases_eq, cases_lt, eqb-true, eq-eqb}
 use Rattle.std.proofs.lemmas.List.{get_or-set_same, get_or-set_other}
@@ -8,7 +8,8 @@ use Rattle.sedre.specs.declared.types.Node.{Node}
 use Rattle.sedre.specs.declared.types.Node.TheVariants.{Empty, Set, Begin, End, Seq, Alt, Group, Star, Opt}
 use Rattle.sedmatch.specs.declared.passes.Starts.{Starts}
 use Rattle.sedmatch.specs.Reach.{IsStart, Marked, Below, PartFrom, IsLoose, At, Enters, Ends, Entered, at_root}
-use Rattle.sedmatch.specs.Local.{PartsBelow, null_of, end_of, enter_parts}
+use Rattle.sedmatch.specs.Local.{PartsBelow, null_of, end_of, enter_parts, takes}
+use Rattle.sedmatch.specs.Places.{IsPlace, ComesAfter}
 use Rattle.sedmatch.proofs.ReachLemmas.{null_of-At, end_of-Ends, enter_parts-Marked, Enters-root, Enters-loose}
 
 -- the parts of the node at x are below anything from x on
@@ -51,26 +52,62 @@ is_zero n = (eqb-true n 0, eq-eqb n 0)
 is_end : (w : List ℕ) (len n : ℕ) → len ≡ length w → IsTrue (eqb n len) ↔ (n ≡ length w)
 is_end w len n e = (λ h. eqb-true n len h ∙ e, λ h. eq-eqb n len (h ∙ sym e))
 
+-- a node ends alike after two bytes that its set takes alike
+end_alike : (e : Bool) (a b : Option ℕ) (null ended : ℕ → Bool) (node : Node) → ((members : List Bool) → node ≡ Set members → IsTrue e → takes a members ≡ takes b members) →
+    end_of e a null ended node ≡ end_of e b null ended node
+end_alike e a b null ended Empty alike = refl
+end_alike false a b null ended (Set s) alike = refl
+end_alike true a b null ended (Set s) alike = alike s refl refl
+end_alike e a b null ended Begin alike = refl
+end_alike e a b null ended End alike = refl
+end_alike e a b null ended (Seq l r) alike = refl
+end_alike e a b null ended (Alt l r) alike = refl
+end_alike e a b null ended (Group k l) alike = refl
+end_alike e a b null ended (Star l first) alike = refl
+end_alike e a b null ended (Opt l first) alike = refl
+
+-- there is a byte that stands before the place, if any does, after which the node ends alike
+byte_there : (nodes : List Node) (w : List ℕ) (place x : ℕ) (node : Node) → slice_get nodes x ≡ Some node → (row : List Bool) (byte : Option ℕ) → ComesAfter nodes w place row byte → (null ended : ℕ → Bool) →
+    (other : Option ℕ) × ((i : ℕ) → i + 1 ≡ place → slice_get w i ≡ other) × (end_of (slice_index_or row x false) byte null ended node ≡ end_of (slice_index_or row x false) other null ended node)
+byte_there nodes w zero x node is row byte after null ended = (byte, λ i e. absurd (omega arith), refl)
+byte_there nodes w (suc j) x node is row byte after null ended = (
+  slice_get w j,
+  λ i e. ap (slice_get w) (omega arith),
+  end_alike (slice_index_or row x false) byte (slice_get w j) null ended node (λ members e h. sym (after j x members (omega arith) (is ∙ ap Some e) h)),
+)
+
 module _ (nodes : List Node) (w : List ℕ) (arena : IsArena nodes) (place x : ℕ) (node : Node) (is : slice_get nodes x ≡ Some node) where
-  pub ascend_null : (len : ℕ) → len ≡ length w → (null after : List Bool) (v : Bool) → x < length null →
-      v ≡ null_of (eqb place 0) (eqb place len) (λ c. slice_index_or null c false) node → after ≡ slice_set null x v →
+  pub ascend_null : (begin end : Bool) → IsPlace w place begin end → (null after : List Bool) (v : Bool) → x < length null →
+      v ≡ null_of begin end (λ c. slice_index_or null c false) node → after ≡ slice_set null x v →
       Marked null (Below x) (λ c. At nodes w c place place) → Marked after (Below (x + 1)) (λ c. At nodes w c place place)
-  ascend_null len long null after v inside value is_after marked =
+  ascend_null begin end there null after v inside value is_after marked =
       Marked-next null after x v (λ c. At nodes w c place place) is_after inside marked
-      (let truth = null_of-At nodes w 0 (record { first = 0; last = 0 }) arena place x node is (eqb place 0) (eqb place len) (is_zero place) (is_end w len place long) (λ c. slice_index_or null c false) marked in
+      (let truth = null_of-At nodes w 0 (record { first = 0; last = 0 }) arena place x node is begin end there.0 there.1 (λ c. slice_index_or null c false) marked in
       (λ h. truth.0 (sym value ∙ h), λ h. value ∙ truth.1 h))
 
   pub ascend_ended : (r : ℕ) (p : Starts) → x ≤ r → (entered null ended after : List Bool) (byte : Option ℕ) (v : Bool) → x < length ended →
-      ((i : ℕ) → i + 1 ≡ place → slice_get w i ≡ byte) →
+      ComesAfter nodes w place entered byte →
       v ≡ end_of (slice_index_or entered x false) byte (λ c. slice_index_or null c false) (λ c. slice_index_or ended c false) node →
       after ≡ slice_set ended x v →
       Marked null (Below x) (λ c. At nodes w c place place) →
       Marked entered (Below (r + 1)) (λ c. Entered nodes w r p c place) →
       Marked ended (Below x) (λ c. Ends nodes w r p c place) → Marked after (Below (x + 1)) (λ c. Ends nodes w r p c place)
-  ascend_ended r p le entered null ended after byte v inside bytes value is_after nulls enters marked =
+  ascend_ended r p le entered null ended after byte v inside comes value is_after nulls enters marked =
+      let there = byte_there nodes w place x node is entered byte comes (λ c. slice_index_or null c false) (λ c. slice_index_or ended c false) in
       Marked-next ended after x v (λ c. Ends nodes w r p c place) is_after inside marked
-      (let truth = end_of-Ends nodes w r p arena place x le node is (slice_index_or entered x false) (enters x (omega arith)) byte bytes (λ c. slice_index_or null c false) nulls (λ c. slice_index_or ended c false) marked in
-      (λ h. truth.0 (sym value ∙ h), λ h. value ∙ truth.1 h))
+      (let truth = end_of-Ends nodes w r p arena place x le node is (slice_index_or entered x false) (enters x (omega arith)) there.0 there.1 (λ c. slice_index_or null c false) nulls (λ c. slice_index_or ended c false) marked in
+      (λ h. truth.0 (sym there.2 ∙ sym value ∙ h), λ h. value ∙ there.2 ∙ truth.1 h))
+
+-- the byte before a place comes before it
+pub comes_after : (nodes : List Node) (w : List ℕ) (place : ℕ) (row : List Bool) (byte : Option ℕ) → ((i : ℕ) → i + 1 ≡ place → slice_get w i ≡ byte) → ComesAfter nodes w place row byte
+comes_after nodes w place row byte there i x members e is marked = ap (λ b. takes b members) (there i e)
+
+-- a place is what the text's length says
+pub is_place : (w : List ℕ) (place len : ℕ) (begin end : Bool) → len ≡ length w → begin ≡ eqb place 0 → end ≡ eqb place len → IsPlace w place begin end
+is_place w place len begin end long is_begin is_end_mark =
+    let first = is_zero place in
+    let last = is_end w len place long in
+    ((λ h. first.0 (sym is_begin ∙ h), λ h. is_begin ∙ first.1 h), (λ h. last.0 (sym is_end_mark ∙ h), λ h. is_end_mark ∙ last.1 h))
 
 -- which nodes have been told where they begin, when the nodes from y to r have told their parts
 -- told already, or never

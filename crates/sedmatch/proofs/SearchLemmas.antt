@@ -84,21 +84,23 @@ pass_cost q m n place s t most last =
     let grown = mul-le-mul_left (q * m) last in
     omega (arith, grown)
 
--- the steps of a search for a cut
-pub cut_cost : (m n stop k s0 s1 s t : ℕ) → 0 < m → stop ≤ n → 1 ≤ k → s1 ≤ s0 + 22 * m * (n + 1) →
-    s + 22 * m * (n + 1) * k ≤ s1 + 22 * m * (n + 1) * (stop + 1) → t ≤ s + 1 + 21 * m * (n + 1) →
-    t ≤ s0 + 22 * m * (n + 1) * (n + 2)
-cut_cost m n stop k s0 s1 s t some low one first loop here =
-    let one_more = mul-le-mul_left (22 * m * (n + 1)) one in
-    let up : stop + 1 ≤ n + 1 = omega arith in
-    let all = mul-le-mul_left (22 * m * (n + 1)) up in
-    omega (arith, one_more, all)
+-- the same, with what it costs to begin apart
+pub pass_whole : (q m n place s t : ℕ) → s ≤ t + m + q * m * place → place ≤ n + 1 → s ≤ t + m + q * m * (n + 1)
+pass_whole q m n place s t most last =
+    let grown = mul-le-mul_left (q * m) last in
+    omega (arith, grown)
 
-pub cut_step : (m n j k s t bound : ℕ) → 0 < m → j + 1 ≡ k → s + 22 * m * (n + 1) * k ≤ bound → t ≤ s + 1 + 21 * m * (n + 1) →
-    t + 22 * m * (n + 1) * j ≤ bound
-cut_step m n j k s t bound some next loop here =
-    let e : 22 * m * (n + 1) * (j + 1) ≡ 22 * m * (n + 1) * k = ap (λ v. 22 * m * (n + 1) * v) next in
-    omega (arith, e)
+-- the steps of a search for a cut: one pass from either end
+pub cut_cost : (m many n length s0 s1 s2 : ℕ) → many ≡ m → length ≡ n → s1 ≤ s0 + 22 * m * (n + 1) → s2 ≤ s1 + 22 * many * (length + 1) → s2 ≤ s0 + 44 * m * (n + 1)
+cut_cost m many n length s0 s1 s2 same long first second =
+    let here = subst (λ v. s2 ≤ s1 + 22 * v * (n + 1)) same (subst (λ v. s2 ≤ s1 + 22 * many * (v + 1)) long second) in
+    omega (arith, here)
+
+pub cut_square : (m n s0 s : ℕ) → s ≤ s0 + 44 * m * (n + 1) → s ≤ s0 + 22 * m * (n + 1) * (n + 2)
+cut_square m n s0 s cost =
+    let two : 2 ≤ n + 2 = omega arith in
+    let all = mul-le-mul_left (22 * m * (n + 1)) two in
+    omega (arith, all)
 
 -- one step of a loop downwards, at most 23 steps a node and place each
 pub down_step : (m n j k s t bound : ℕ) → 0 < m → j + 1 ≡ k → s + 23 * m * (n + 1) * k ≤ bound → t ≤ s + 22 * m * (n + 1) + 1 →

@@ -13,6 +13,7 @@ use Rattle.sedmatch.specs.declared.skip.Begins.{Begins}
 use Rattle.sedmatch.specs.Reach.{At, SomeSpan, OpenAt, Longest}
 use Rattle.sedmatch.specs.Search.{NoneIn, Scanned}
 use Rattle.sedmatch.specs.declared.passes.Starts.{Starts}
+use Rattle.sedmatch.specs.declared.region.Region.{Region}
 use Rattle.sedmatch.proofs.SpanLemmas.{Spans-forward, Spans-within}
 
 module _ (nodes : List Node) (w : List ℕ) (r start len : ℕ) (root : r + 1 ≡ length nodes) (end : len ≡ length w) where
@@ -25,7 +26,7 @@ module _ (nodes : List Node) (w : List ℕ) (r start len : ℕ) (root : r + 1 �
   to_tree : (i k : ℕ) → At nodes w r i k → Spans whole w i k
   to_tree i k at = let last : r ≡ length nodes - 1 = omega arith in subst (λ x. At nodes w x i k) last at
 
-  from_tree : (i k : ℕ) → Spans whole w i k → At nodes w r i k
+  pub from_tree : (i k : ℕ) → Spans whole w i k → At nodes w r i k
   from_tree i k s = let last : length nodes - 1 ≡ r = omega arith in subst (λ x. At nodes w x i k) last s
 
   pub swept_hit : (place : ℕ) → SomeSpan nodes w r every place → SomeFound whole w start
@@ -97,12 +98,19 @@ pub none_there : (e : Tree) (w : List ℕ) (start : ℕ) → LeadsTo (length w) 
 none_there e w start none i k low high s = let same : i ≡ start = omega arith in none k (subst (λ v. Spans e w v k) same s)
 
 -- what the passes tell
-pub scan_tells : (e : Tree) (w : List ℕ) (p : ℕ) (r : Option ℕ) → Scanned e w p r → IsTrue (is_some r) ↔ SomeFound e w p
-scan_tells e w p None none = (
+pub scan_tells : (e : Tree) (w : List ℕ) (whole : Bool) (p : ℕ) (r : Option Region) → Scanned e w whole p r → IsTrue (is_some r) ↔ SomeFound e w p
+scan_tells e w whole p None none = (
   λ h. absurd (true≢false (sym h)),
   λ some. absurd (none some.0 some.1 some.2 some.3 some.4),
 )
-scan_tells e w p (Some q) some = (
-  λ h. (some.3.0, some.3.1, omega (arith, some.0, some.3.2), some.3.3, some.3.4),
-  λ h. refl,
-)
+scan_tells e w whole p (Some r) scanned =
+    let region = scanned.2 in
+    let some = region.some in
+    let low = scanned.0 in
+    let from = some.2 in
+    let to = some.3 in
+    let ordered = region.bounded in
+    let inside = region.inside in (
+      λ h. (some.0, some.1, omega arith, omega arith, some.4),
+      λ h. refl,
+    )

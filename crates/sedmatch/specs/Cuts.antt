@@ -7,6 +7,11 @@ abbrev pub GreatestBelow : (ℕ → Type 0) → ℕ → Option ℕ → Type 0
 GreatestBelow P n None = (k : ℕ) → k < n → P k → ⊥
 GreatestBelow P n (Some l) = (l < n) × P l × ((k : ℕ) → k < n → P k → k ≤ l)
 
+-- the least number from a on and below n of which P holds, if there is one
+abbrev pub LeastFrom : (ℕ → Type 0) → ℕ → ℕ → Option ℕ → Type 0
+LeastFrom P a n None = (k : ℕ) → a ≤ k → k < n → P k → ⊥
+LeastFrom P a n (Some l) = (a ≤ l) × (l < n) × P l × ((k : ℕ) → a ≤ k → k < l → P k → ⊥)
+
 -- l is the greatest place to which one copy of R that is not empty leads from x, and from which copies lead on to j
 pub record IsNext (R : ℕ → ℕ → Type 0) (j x l : ℕ) : Type 0 where
   pub after : x < l

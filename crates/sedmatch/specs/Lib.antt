@@ -9,6 +9,11 @@ pub mod Words
 pub mod Fits
 pub mod Local
 pub mod Reach
+pub mod Places
+pub mod States
+pub mod Tables
+pub mod Linear
+pub mod Quick
 pub mod Skip
 pub mod Ahead
 pub mod Runs

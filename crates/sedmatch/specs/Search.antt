@@ -1,9 +1,11 @@
 -- Private to this crate: what the parts of a search tell.
-use Rattle.std.specs.Prelude.{ℕ, ◌+◌, ◌<◌, ◌≤◌, List, length, Option, Some, None}
+use Rattle.std.specs.Prelude.{◌≡◌, ℕ, ◌+◌, ◌<◌, ◌≤◌, Bool, List, length, Option, Some, None, IsTrue}
 use Rattle.sedre.specs.Tree.{Tree}
-use Rattle.sedmatch.specs.Spans.{Spans, NotFound, SomeFound}
+use Rattle.sedmatch.specs.Spans.{Spans, NotFound}
 use Rattle.sedmatch.specs.Ahead.{LeadsTo}
 use Rattle.sedmatch.specs.declared.ahead.Lead.{Lead}
+use Rattle.sedmatch.specs.declared.passes.Starts.{Starts}
+use Rattle.sedmatch.specs.declared.region.Region.{Region}
 use Rattle.sedmatch.specs.declared.search.Swept.{Swept}
 use Rattle.sedmatch.specs.declared.search.Swept.TheVariants.{Hit, Miss}
 
@@ -21,17 +23,41 @@ abbrev pub sought_to : ℕ → Option (ℕ × Lead) → ℕ
 sought_to n None = n
 sought_to n (Some f) = f.0
 
--- what a pass from the place p on tells
-abbrev pub IsSwept : Tree → List ℕ → ℕ → Swept → Type 0
-IsSwept e w p Hit = SomeFound e w p
-IsSwept e w p (Miss stop) = (p ≤ stop) × (stop ≤ length w) × NoneIn e w p (stop + 1)
+-- a match begins at one of the region's places; if the whole of it was looked at, no match that begins there passes its bound
+pub record IsRegion (e : Tree) (w : List ℕ) (whole : Bool) (r : Region) : Type 0 where
+  pub ordered : r.start ≤ r.last
+  pub bounded : r.last ≤ r.bound
+  pub inside : r.bound ≤ length w
+  pub some : (i : ℕ) × (k : ℕ) × (r.start ≤ i) × (i ≤ r.last) × Spans e w i k
+  pub all : IsTrue whole → (i k : ℕ) → r.start ≤ i → i ≤ r.last → Spans e w i k → k ≤ r.bound
 
--- where it ended, in a text of n bytes at the latest at its end
-abbrev pub swept_to : ℕ → Swept → ℕ
-swept_to n Hit = n
-swept_to n (Miss stop) = stop
+-- the first place of the region at which a match begins
+pub record IsEarliest (e : Tree) (w : List ℕ) (r : Region) (i : ℕ) : Type 0 where
+  pub ordered : r.start ≤ i
+  pub inside : i ≤ r.last
+  pub some : (k : ℕ) × Spans e w i k
+  pub none : NoneIn e w r.start i
+
+-- the last place below n at which a match ends that begins at the place first or behind it, if there is one
+abbrev pub LastEnd : Tree → List ℕ → ℕ → ℕ → Option ℕ → Type 0
+LastEnd e w first n None = (i k : ℕ) → first ≤ i → k < n → Spans e w i k → ⊥
+LastEnd e w first n (Some p) = (p < n) × ((i : ℕ) × (first ≤ i) × Spans e w i p) × ((i k : ℕ) → first ≤ i → k < n → Spans e w i k → k ≤ p)
+
+-- the starts from one to another
+abbrev pub starts_to : ℕ → ℕ → Starts
+starts_to first last = record { first = first; last = last }
+
+-- what a pass from the place p on tells
+abbrev pub IsSwept : Tree → List ℕ → Bool → ℕ → Swept → Type 0
+IsSwept e w whole p (Hit r) = (r.start ≡ p) × IsRegion e w whole r
+IsSwept e w whole p (Miss stop) = (p ≤ stop) × (stop ≤ length w) × NoneIn e w p (stop + 1)
+
+-- where it ended
+abbrev pub swept_to : Swept → ℕ
+swept_to (Hit r) = r.bound
+swept_to (Miss stop) = stop
 
 -- what the passes from the place p on tell
-abbrev pub Scanned : Tree → List ℕ → ℕ → Option ℕ → Type 0
-Scanned e w p None = NotFound e w p
-Scanned e w p (Some q) = (p ≤ q) × (q ≤ length w) × NoneIn e w p q × SomeFound e w q
+abbrev pub Scanned : Tree → List ℕ → Bool → ℕ → Option Region → Type 0
+Scanned e w whole p None = NotFound e w p
+Scanned e w whole p (Some r) = (p ≤ r.start) × NoneIn e w p r.start × IsRegion e w whole r

@@ -167,6 +167,20 @@ pub fn look_ahead(expr: &Expr, text: &Text, place: usize, steps: &mut Steps) -> 
     ensures cost { steps.new ≤ steps.old + 7 * length expr.now.nodes }
 {
     let root = expr.root().index();
+    lead_from(expr, root, text, place, steps)
+}
+
+/// The same of the spans of a node.
+pub fn lead_from(expr: &Expr, root: usize, text: &Text, place: usize, steps: &mut Steps) -> Lead
+    requires root { root < length expr.now.nodes }
+    requires place { place ≤ length text.now }
+    requires few { length expr.now.nodes ≤ 65536 }
+    requires room { steps.old < 2 ^ 117 }
+    ensures leads { LeadsTo (length text.now) (At expr.now.nodes text.now root place) result }
+    ensures grows { steps.old ≤ steps.new }
+    ensures cost { steps.new ≤ steps.old + 7 * length expr.now.nodes }
+{
+    let _count = expr.nodes();
     let mut index = root;
     let mut at = place;
     loop {

@@ -3,10 +3,14 @@ ghost use Rattle.std.specs.Prelude.{◌≡◌, ℕ, Bool, false, true, List, ◌
 ghost use Rattle.std.specs.Prelude.{slice_index_or, slice_set, slice_get, Some, IfOk, replicate, eqb, ◌≢◌, ◌*◌};
 ghost use Rattle.std.specs.Prelude.{vec_len};
 ghost use Rattle.std.specs.Int.{bit_at};
-ghost use Rattle.sedmatch.specs.Bytes.{FirstAt, looked_at};
+ghost use Rattle.std.specs.Prelude.{reverse};
+ghost use Rattle.sedmatch.specs.Bytes.{FirstAt, looked_at, in_order};
 ghost use Rattle.sedmatch.specs.Words.{marks_of};
 
+mod rows;
+
 use memchr::memchr;
+pub use rows::Rows;
 use sedre::Steps;
 use std::alloc::{AllocError, Global};
 use std::marker::Model;
@@ -38,6 +42,26 @@ impl<'a> Text<'a> {
         self.bytes.len()
     }
 
+    /// Its bytes as they are.
+    pub fn forwards(&self) -> Bytes<'a>
+        ensures { result ≡ self.now }
+    {
+        Bytes {
+            bytes: self.bytes,
+            backwards: false,
+        }
+    }
+
+    /// Its bytes from the last to the first.
+    pub fn backwards(&self) -> Bytes<'a>
+        ensures { result ≡ reverse self.now }
+    {
+        Bytes {
+            bytes: self.bytes,
+            backwards: true,
+        }
+    }
+
     /// The byte at a place. Counts one look.
     pub fn byte(&self, i: usize, steps: &mut Steps) -> u8
         requires inside { i < length self.now }
@@ -67,6 +91,43 @@ impl<'a> Text<'a> {
                 steps.add(k + 1);
                 Some(from + k)
             }
+        }
+    }
+}
+
+/// The bytes of a text, as they are or from the last to the first, looked at by calls that count.
+#[derive(Drop)]
+pub struct Bytes<'a> {
+    bytes: &'a [u8],
+    backwards: bool,
+}
+
+impl<'a> Model for Bytes<'a> {
+    ghost Value = { List ℕ };
+
+    ghost view = { λ b. in_order b.backwards b.bytes.now };
+}
+
+impl<'a> Bytes<'a> {
+    /// How many bytes there are.
+    pub fn len(&self) -> usize
+        ensures { result ≡ length self.now }
+    {
+        self.bytes.len()
+    }
+
+    /// The byte at a place. Counts one look.
+    pub fn byte(&self, i: usize, steps: &mut Steps) -> u8
+        requires inside { i < length self.now }
+        requires room { steps.old < 2 ^ 120 }
+        ensures byte { slice_get self.now i ≡ Some result }
+        ensures cost { steps.new ≡ steps.old + 1 }
+    {
+        steps.add(1);
+        if self.backwards {
+            self.bytes[self.bytes.len() - 1 - i]
+        } else {
+            self.bytes[i]
         }
     }
 }
@@ -139,6 +200,17 @@ impl Marks {
         steps.add(count);
         clear_words(&mut self.words, count.div_ceil(64));
     }
+
+    /// A number made of the first `count` marks and the rest of their last word.
+    /// Counts a look for each of the `count`.
+    pub fn digest(&self, count: usize, steps: &mut Steps) -> u64
+        requires inside { count ≤ length self.now }
+        requires room { steps.old < 2 ^ 120 }
+        ensures cost { steps.new ≡ steps.old + count }
+    {
+        steps.add(count);
+        digest_words(&self.words, count.div_ceil(64))
+    }
 }
 
 /// So many words without a mark.
@@ -178,4 +250,15 @@ fn clear_words(words: &mut Vec<u64>, count: usize)
     for x in 0..count {
         words[x] = 0;
     }
+}
+
+/// A number made of the first words.
+fn digest_words(words: &Vec<u64>, count: usize) -> u64
+    requires inside { count ≤ vec_len words.now }
+{
+    let mut digest = 0u64;
+    for x in 0..count {
+        digest = (digest.rotate_left(5) ^ words[x]).wrapping_mul(0x9E37_79B9_7F4A_7C15);
+    }
+    digest ^ (digest >> 32)
 }

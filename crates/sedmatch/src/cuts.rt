@@ -6,16 +6,48 @@ ghost use Rattle.sedmatch.specs.Fits.{FitsNodes, SameMarks, FitsPlaces, SameNote
 ghost use Rattle.sedmatch.specs.Reach.{Marked, Below, At, one_start, Entered, Enters, Ends, OpenFrom};
 ghost use Rattle.sedmatch.specs.Reach.{TellEntered, TellBegun};
 ghost use Rattle.sedmatch.specs.Caps.{LastCut, LastCopy};
-ghost use Rattle.sedmatch.specs.Cuts.{GreatestBelow, IsNext};
+ghost use Rattle.sedmatch.specs.Cuts.{GreatestBelow, IsNext, LeastFrom};
 
-use crate::counted::{Marks, Text};
+use crate::ahead::{Lead, lead_from};
+use crate::counted::{Bytes, Marks, Text};
 use crate::passes::Here;
+use crate::runs::{Far, far_from, none_before};
 use crate::scratch::{Notes, Sets};
-use crate::search::advance_from;
-use sedre::{Expr, Steps};
+use crate::search::{advance_from, advance_seen};
+use sedre::{Expr, Node, Nodes, Steps};
 
 /// Whether the node `root` matches `start..stop`.
 pub fn reaches(
+    expr: &Expr,
+    root: usize,
+    text: &Text,
+    start: usize,
+    stop: usize,
+    sets: &mut Sets,
+    steps: &mut Steps,
+) -> bool
+    requires root { root < length expr.now.nodes }
+    requires few { length expr.now.nodes ≤ 65536 }
+    requires short { length text.now ≤ 2 ^ 30 }
+    requires start { start ≤ stop }
+    requires stop { stop ≤ length text.now }
+    requires fits { FitsNodes (length expr.now.nodes) sets.old }
+    requires room { steps.old < 2 ^ 115 }
+    ensures marks { SameMarks sets.old sets.new }
+    ensures spans { IsTrue result ↔ At expr.now.nodes text.now root start stop }
+    ensures grows { steps.old ≤ steps.new }
+    ensures cost { steps.new ≤ steps.old + 28 * length expr.now.nodes * (length text.now + 1) }
+{
+    let _count = expr.nodes();
+    match lead_from(expr, root, text, start, steps) {
+        Lead::Nowhere => false,
+        Lead::To(end) => end == stop,
+        Lead::Unknown => reaches_by_pass(expr, root, text, start, stop, sets, steps),
+    }
+}
+
+/// The same, where what comes first doesn't tell it.
+fn reaches_by_pass(
     expr: &Expr,
     root: usize,
     text: &Text,
@@ -120,8 +152,152 @@ fn ends_from(
     }
 }
 
+/// The first place from `start` up to `stop` at which a match of the node `root` from `start` ends and which is marked
+/// where it is counted from the other end.
+fn first_end(
+    nodes: &Nodes,
+    root: usize,
+    bytes: &Bytes,
+    start: usize,
+    stop: usize,
+    sets: &mut Sets,
+    ends: &Marks,
+    steps: &mut Steps,
+) -> Option<usize>
+    requires root { root < length nodes.now.nodes }
+    requires few { length nodes.now.nodes ≤ 65536 }
+    requires short { length bytes.now ≤ 2 ^ 30 }
+    requires start { start ≤ stop }
+    requires stop { stop ≤ length bytes.now }
+    requires fits { FitsNodes (length nodes.now.nodes) sets.old }
+    requires ends_fit { length bytes.now < length ends.now }
+    requires room { steps.old < 2 ^ 116 }
+    ensures marks { SameMarks sets.old sets.new }
+    ensures first { LeastFrom (λ q. At nodes.now.nodes bytes.now root start q × IsTrue (slice_index_or ends.now (length bytes.now - q) false)) start (stop + 1) result }
+    ensures grows { steps.old ≤ steps.new }
+    ensures cost { steps.new ≤ steps.old + 22 * length nodes.now.nodes * (length bytes.now + 1) }
+{
+    let _count = nodes.nodes();
+    let len = bytes.len();
+    sets.entered.clear(root + 1, steps);
+    for place in start..stop + 1 {
+        let here = advance_seen(nodes, root, bytes, start, place, sets, steps);
+        if here.matched && ends.get(len - place, steps) {
+            return Some(place);
+        }
+        if !here.more {
+            return None;
+        }
+    }
+    None
+}
+
+/// Where the longest match of `left` from `start` ends, if what comes first in those of `right` tells that none of
+/// them begins before.
+fn far_cut(
+    expr: &Expr,
+    left: usize,
+    right: usize,
+    text: &Text,
+    start: usize,
+    stop: usize,
+    steps: &mut Steps,
+) -> Option<usize>
+    requires left_inside { left < length expr.now.nodes }
+    requires right_inside { right < length expr.now.nodes }
+    requires few { length expr.now.nodes ≤ 65536 }
+    requires short { length text.now ≤ 2 ^ 30 }
+    requires start { start ≤ length text.now }
+    requires spans { (k : ℕ) × At expr.now.nodes text.now left start k × At expr.now.nodes text.now right k stop }
+    requires room { steps.old < 2 ^ 115 }
+    ensures cut { IfSome result (LastCut (At expr.now.nodes text.now left) (At expr.now.nodes text.now right) start stop) }
+    ensures grows { steps.old ≤ steps.new }
+    ensures cost { let m = length expr.now.nodes in let n = length text.now in
+        steps.new ≤ steps.old + (n + 8) * m + 3 + n }
+{
+    let _count = expr.nodes();
+    match far_from(expr, left, text, start, steps) {
+        Far::To(end) => if none_before(expr, right, text, start, end, steps) {
+            Some(end)
+        } else {
+            None
+        },
+        _ => None,
+    }
+}
+
+/// The cut of a span into those of two parts, where it can be told by what comes first in them.
+fn cut_at_sight(
+    expr: &Expr,
+    left: usize,
+    right: usize,
+    text: &Text,
+    start: usize,
+    stop: usize,
+    steps: &mut Steps,
+) -> Option<usize>
+    requires left_inside { left < length expr.now.nodes }
+    requires right_inside { right < length expr.now.nodes }
+    requires few { length expr.now.nodes ≤ 65536 }
+    requires short { length text.now ≤ 2 ^ 30 }
+    requires start { start ≤ stop }
+    requires stop { stop ≤ length text.now }
+    requires spans { (k : ℕ) × At expr.now.nodes text.now left start k × At expr.now.nodes text.now right k stop }
+    requires room { steps.old ≤ 2 ^ 114 }
+    ensures cut { IfSome result (LastCut (At expr.now.nodes text.now left) (At expr.now.nodes text.now right) start stop) }
+    ensures some_byte { IfNone result (start < stop) }
+    ensures grows { steps.old ≤ steps.new }
+    ensures cost { let m = length expr.now.nodes in let n = length text.now in
+        steps.new ≤ steps.old + (n + 15) * m + 3 + n }
+{
+    let _count = expr.nodes();
+    if start == stop {
+        return Some(start);
+    }
+    match lead_from(expr, left, text, start, steps) {
+        Lead::Nowhere => None,
+        Lead::To(end) => Some(end),
+        Lead::Unknown => far_cut(expr, left, right, text, start, stop, steps),
+    }
+}
+
 /// The greatest place up to which `left` matches from `start`, and from which `right` matches to `stop`.
 pub fn last_cut(
+    expr: &Expr,
+    left: usize,
+    right: usize,
+    text: &Text,
+    start: usize,
+    stop: usize,
+    sets: &mut Sets,
+    ends: &mut Marks,
+    steps: &mut Steps,
+) -> usize
+    requires left_inside { left < length expr.now.nodes }
+    requires right_inside { right < length expr.now.nodes }
+    requires few { length expr.now.nodes ≤ 65536 }
+    requires short { length text.now ≤ 2 ^ 30 }
+    requires start { start ≤ stop }
+    requires stop { stop ≤ length text.now }
+    requires fits { FitsNodes (length expr.now.nodes) sets.old }
+    requires ends_fit { length text.now < length ends.old }
+    requires spans { (k : ℕ) × At expr.now.nodes text.now left start k × At expr.now.nodes text.now right k stop }
+    requires room { steps.old ≤ 2 ^ 114 }
+    ensures marks { SameMarks sets.old sets.new }
+    ensures ends_len { length ends.new ≡ length ends.old }
+    ensures cut { LastCut (At expr.now.nodes text.now left) (At expr.now.nodes text.now right) start stop result }
+    ensures grows { steps.old ≤ steps.new }
+    ensures cost { let m = length expr.now.nodes in let n = length text.now in
+        steps.new ≤ steps.old + 23 * m * (n + 1) * (n + 2) }
+{
+    match cut_at_sight(expr, left, right, text, start, stop, steps) {
+        Some(cut) => cut,
+        None => cut_by_passes(expr, left, right, text, start, stop, sets, ends, steps),
+    }
+}
+
+/// The same, by one pass from either end.
+fn cut_by_passes(
     expr: &Expr,
     left: usize,
     right: usize,
@@ -147,15 +323,25 @@ pub fn last_cut(
     ensures cut { LastCut (At expr.now.nodes text.now left) (At expr.now.nodes text.now right) start stop result }
     ensures grows { steps.old ≤ steps.new }
     ensures cost { let m = length expr.now.nodes in let n = length text.now in
-        steps.new ≤ steps.old + 22 * m * (n + 1) * (n + 2) }
+        steps.new ≤ steps.old + 44 * m * (n + 1) }
 {
     ends_from(expr, left, text, start, stop, sets, ends, steps);
-    for k in (start..stop + 1).rev() {
-        if ends.get(k, steps) && reaches(expr, right, text, k, stop, sets, steps) {
-            return k;
-        }
+    let len = text.len();
+    let nodes = Nodes::mirrored(expr);
+    let bytes = text.backwards();
+    match first_end(
+        &nodes,
+        right,
+        &bytes,
+        len - stop,
+        len - start,
+        sets,
+        ends,
+        steps,
+    ) {
+        Some(place) => len - place,
+        None => unreachable!(),
     }
-    unreachable!()
 }
 
 /// The greatest marked place after `start` up to which one copy of `root` matches.
@@ -233,6 +419,42 @@ fn mark_tail(
 
 /// Where the last copy of `root` begins when `start..stop` is cut into copies that are as long as can be.
 pub fn last_copy(
+    expr: &Expr,
+    root: usize,
+    text: &Text,
+    start: usize,
+    stop: usize,
+    sets: &mut Sets,
+    notes: &mut Notes,
+    steps: &mut Steps,
+) -> usize
+    requires root { root < length expr.now.nodes }
+    requires few { length expr.now.nodes ≤ 65536 }
+    requires short { length text.now ≤ 2 ^ 30 }
+    requires start { start < stop }
+    requires stop { stop ≤ length text.now }
+    requires fits { FitsNodes (length expr.now.nodes) sets.old }
+    requires notes_fit { FitsPlaces (length text.now + 1) notes.old }
+    requires spans { Copies (At expr.now.nodes text.now root) stop start }
+    requires room { steps.old ≤ 2 ^ 114 }
+    ensures marks { SameMarks sets.old sets.new }
+    ensures notes { SameNotes notes.old notes.new }
+    ensures last { LastCopy (At expr.now.nodes text.now root) stop start result }
+    ensures after { start ≤ result }
+    ensures before { result < stop }
+    ensures grows { steps.old ≤ steps.new }
+    ensures cost { let m = length expr.now.nodes in let n = length text.now in
+        steps.new ≤ steps.old + 23 * m * (n + 1) * (n + 1) + 2 }
+{
+    let _count = expr.nodes();
+    match expr.look(expr.id(root), steps) {
+        Node::Set(_) => stop - 1,
+        _ => copy_by_passes(expr, root, text, start, stop, sets, notes, steps),
+    }
+}
+
+/// The same by passes, where a copy may have several bytes.
+fn copy_by_passes(
     expr: &Expr,
     root: usize,
     text: &Text,

@@ -109,11 +109,11 @@ fn has_empty_copy(
     requires short { length text.now ≤ 2 ^ 30 }
     requires place { place ≤ length text.now }
     requires fits { FitsNodes (length expr.now.nodes) sets.old }
-    requires room { steps.old < 2 ^ 116 }
+    requires room { steps.old < 2 ^ 115 }
     ensures marks { SameMarks sets.old sets.new }
     ensures copy { IsTrue result ↔ (IsTrue first × At expr.now.nodes text.now part place place) }
     ensures grows { steps.old ≤ steps.new }
-    ensures cost { steps.new ≤ steps.old + 21 * length expr.now.nodes * (length text.now + 1) }
+    ensures cost { steps.new ≤ steps.old + 28 * length expr.now.nodes * (length text.now + 1) }
 {
     first && reaches(expr, part, text, place, place, sets, steps)
 }

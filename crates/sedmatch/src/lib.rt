@@ -3,23 +3,34 @@
 //! [`find`] answers it whole, [`find_span`] without the groups, [`is_match`] only whether there is one. They go over
 //! the text with marks at the nodes of the expression, never back, so that their steps are bounded for every
 //! expression and text: 64 times nodes times places where there is no match, as many times the places again where
-//! there is one, and as many times the nodes again where groups are reported. A step is one look at a node, a byte
-//! or a mark. They work in the room of a [`Scratch`] and take no memory.
+//! there is one, and as many times the nodes again where groups are reported. A step is one look at a node, a byte,
+//! a mark or a cell. They work in the room of a [`Scratch`] and take no memory.
+//!
+//! A [`TableMatcher`] keeps what such a search finds out of an expression, and looks it up in the next one: at most
+//! places that is one cell of a table in place of all nodes. Where a match begins and ends then takes steps in
+//! proportion to the text, whatever the answer: 128 times nodes times places at most.
 #![tactic(auto)]
 
 mod ahead;
+mod classes;
 mod counted;
 mod cuts;
 mod groups;
 mod laws;
+mod linear;
 mod matcher;
 mod passes;
+mod quick;
+mod region;
 mod runs;
 mod scratch;
 mod search;
 mod skip;
+mod states;
+mod tables;
 
 pub use counted::{Marks, Text};
 pub use laws::{found_law, groups_law, spans_law};
 pub use matcher::{Found, find, find_span, is_match};
+pub use quick::TableMatcher;
 pub use scratch::Scratch;

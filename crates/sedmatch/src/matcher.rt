@@ -66,6 +66,8 @@ pub fn find(
         steps.new ≤ steps.old + 64 * m * m * (n + 1) * (n + 1) }
     ensures cost_without_groups { let m = length expr.now.nodes in let n = length text.now in
         expr.now.groups ≡ 0 → steps.new ≤ steps.old + 64 * m * (n + 1) * (n + 1) }
+    ensures linear_without_groups { let m = length expr.now.nodes in let n = length text.now in
+        expr.now.groups ≡ 0 → steps.new ≤ steps.old + 96 * m * (n + 1) }
     ensures cost_of_none { let m = length expr.now.nodes in let n = length text.now in
         IfNone result (steps.new ≤ steps.old + 64 * m * (n + 1)) }
 {
@@ -103,6 +105,8 @@ pub fn find_span(
     ensures grows { steps.old ≤ steps.new }
     ensures cost { let m = length expr.now.nodes in let n = length text.now in
         steps.new ≤ steps.old + 64 * m * (n + 1) * (n + 1) }
+    ensures linear_cost { let m = length expr.now.nodes in let n = length text.now in
+        steps.new ≤ steps.old + 96 * m * (n + 1) }
     ensures cost_of_none { let m = length expr.now.nodes in let n = length text.now in
         IfNone result (steps.new ≤ steps.old + 64 * m * (n + 1)) }
 {
@@ -129,5 +133,5 @@ pub fn is_match(
 {
     let sets = &mut scratch.sets;
     let begins = how_begins(expr, steps);
-    scan(expr, &begins, text, from, sets, steps).is_some()
+    scan(expr, &begins, text, from, false, sets, steps).is_some()
 }

@@ -9,10 +9,11 @@ ghost use Rattle.sedmatch.specs.Fits.{FitsNodes, SameMarks};
 ghost use Rattle.sedmatch.specs.Local.{PartsBelow, takes_next, null_of, end_of, enter_parts, takes};
 ghost use Rattle.sedmatch.specs.Reach.{Marked, Below, At, IsStart, Enters, Ends, Entered, SetsFrom, SomeSpan, OpenAt};
 ghost use Rattle.sedmatch.specs.Reach.{TellNull, TellEntered, TellEnded, TellBegun};
+ghost use Rattle.sedmatch.specs.Places.{IsPlace, ComesAfter};
 
-use crate::counted::{Marks, Text};
+use crate::counted::{Bytes, Marks};
 use crate::scratch::Sets;
-use sedre::{ByteSet, Expr, Node, Steps};
+use sedre::{ByteSet, Node, Nodes, Steps};
 
 /// The places from which a match may begin, `first` to `last`.
 #[derive(Clone, Copy)]
@@ -44,6 +45,7 @@ pub fn takes_byte(set: &ByteSet, byte: Option<u8>) -> bool
 
 /// Whether a node matches the null string here, and whether it ends here after at least one byte, given the marks of
 /// its parts. One look at the node decides both.
+#[inline(always)]
 fn marks_here(
     node: &Node,
     begin: bool,
@@ -86,6 +88,7 @@ fn marks_here(
 
 /// Marks where the parts of a node begin, given whether it begins here itself, and says whether a node that takes the
 /// byte that comes begins here: this one, or one seen before. One look at the node decides both.
+#[inline(always)]
 fn mark_parts(
     node: &Node,
     here: bool,
@@ -131,32 +134,33 @@ fn mark_parts(
     }
 }
 
-/// From the lowest node up to `root`: which nodes match the null string at this place, and which end here.
-/// `byte` is the one before the place.
-fn ascend(
-    expr: &Expr,
+/// From the lowest node up to `root`: which nodes match the null string at a place, and which end there.
+/// `byte` is the one before the place, and `begin` and `end` say whether it is the text's beginning or end.
+#[inline(always)]
+pub fn ascend(
+    expr: &Nodes,
     root: usize,
-    text: &Text,
-    place: usize,
     byte: Option<u8>,
+    begin: bool,
+    end: bool,
     sets: &mut Sets,
     steps: &mut Steps,
 )
     requires root { root < length expr.now.nodes }
     requires few { length expr.now.nodes ≤ 65536 }
     requires fits { FitsNodes (length expr.now.nodes) sets.old }
-    requires byte { (i : ℕ) → i + 1 ≡ place → slice_get text.now i ≡ byte }
     requires room { steps.old < 2 ^ 118 }
     ensures marks { SameMarks sets.old sets.new }
     ensures kept { sets.new.entered ≡ sets.old.entered }
-    ensures null { TellNull expr.now.nodes text.now root place sets.new.null }
-    ensures ended { (s : Starts) → TellEntered expr.now.nodes text.now root s place sets.old.entered →
-        TellEnded expr.now.nodes text.now root s place sets.new.ended }
+    ensures null { (w : List ℕ) (place : ℕ) → IsPlace w place begin end →
+        TellNull expr.now.nodes w root place sets.new.null }
+    ensures ended { (w : List ℕ) (s : Starts) (place : ℕ) → IsPlace w place begin end →
+        ComesAfter expr.now.nodes w place sets.old.entered byte →
+        TellEntered expr.now.nodes w root s place sets.old.entered →
+        TellEnded expr.now.nodes w root s place sets.new.ended }
     ensures grows { steps.old ≤ steps.new }
     ensures cost { steps.new ≤ steps.old + 9 * (root + 1) }
 {
-    let begin = place == 0;
-    let end = place == text.len();
     let _count = expr.nodes();
     for x in 0..root + 1 {
         let before = sets.entered.get(x, steps);
@@ -178,8 +182,9 @@ fn ascend(
 
 /// From `root` down: which nodes begin here in a match of it, and whether one of them takes the byte that comes.
 /// `first` says whether the root itself begins here.
-fn descend(
-    expr: &Expr,
+#[inline(always)]
+pub fn descend(
+    expr: &Nodes,
     root: usize,
     first: bool,
     next: Option<u8>,
@@ -229,7 +234,7 @@ fn descend(
 }
 
 /// Whether the root ends here, or matches the null string where it begins.
-fn ends_here(root: usize, first: bool, null: &Marks, ended: &Marks, steps: &mut Steps) -> bool
+pub fn ends_here(root: usize, first: bool, null: &Marks, ended: &Marks, steps: &mut Steps) -> bool
     requires null_inside { root < length null.now }
     requires ended_inside { root < length ended.now }
     requires room { steps.old < 2 ^ 119 }
@@ -241,7 +246,7 @@ fn ends_here(root: usize, first: bool, null: &Marks, ended: &Marks, steps: &mut 
 }
 
 /// The byte before the place, if there is one.
-fn byte_before(text: &Text, place: usize, steps: &mut Steps) -> Option<u8>
+fn byte_before(text: &Bytes, place: usize, steps: &mut Steps) -> Option<u8>
     requires place { place ≤ length text.now }
     requires room { steps.old < 2 ^ 119 }
     ensures byte { (i : ℕ) → i + 1 ≡ place → slice_get text.now i ≡ result }
@@ -256,7 +261,7 @@ fn byte_before(text: &Text, place: usize, steps: &mut Steps) -> Option<u8>
 }
 
 /// The byte at the place, if there is one.
-fn byte_after(text: &Text, place: usize, steps: &mut Steps) -> Option<u8>
+fn byte_after(text: &Bytes, place: usize, steps: &mut Steps) -> Option<u8>
     requires room { steps.old < 2 ^ 119 }
     ensures byte { slice_get text.now place ≡ result }
     ensures grows { steps.old ≤ steps.new }
@@ -279,10 +284,11 @@ pub struct Here {
 }
 
 /// Brings the marks of a pass to the next place, and tells whether a match ends there or may end later.
+#[inline(always)]
 pub fn advance(
-    expr: &Expr,
+    expr: &Nodes,
     root: usize,
-    text: &Text,
+    text: &Bytes,
     starts: Starts,
     place: usize,
     sets: &mut Sets,
@@ -305,7 +311,9 @@ pub fn advance(
     // A count of its own is kept in registers, and added once.
     let mut own = Steps::new();
     let byte = byte_before(text, place, &mut own);
-    ascend(expr, root, text, place, byte, sets, &mut own);
+    let begin = place == 0;
+    let end = place == text.len();
+    ascend(expr, root, byte, begin, end, sets, &mut own);
     let first = starts.has(place);
     let next = byte_after(text, place, &mut own);
     let more = descend(expr, root, first, next, sets, &mut own);

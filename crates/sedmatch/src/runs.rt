@@ -2,7 +2,7 @@
 //!
 //! A repetition of a set takes bytes as far as they are in the set. Where what follows it can begin at none of them,
 //! every match takes the whole run; where nothing follows, the longest does.
-ghost use Rattle.std.specs.Prelude.{◌≡◌, ℕ, ◌+◌, ◌*◌, ◌^◌, ◌<◌, ◌≤◌, length, slice_get, Some, IfSome};
+ghost use Rattle.std.specs.Prelude.{◌≡◌, ℕ, ◌+◌, ◌*◌, ◌^◌, ◌<◌, ◌≤◌, length, slice_get, Some, IfSome, IsTrue};
 ghost use Rattle.std.specs.Prelude.{◌⊎◌};
 ghost use Rattle.sedre.specs.Arena.{tree};
 ghost use Rattle.sedre.specs.Tree.{set as a_set};
@@ -119,7 +119,7 @@ fn near_first(expr: &Expr, index: usize, steps: &mut Steps) -> Node
 fn run_end(set: &ByteSet, text: &Text, from: usize, steps: &mut Steps) -> usize
     requires from { from ≤ length text.now }
     requires short { length text.now ≤ 2 ^ 30 }
-    requires room { steps.old < 2 ^ 117 }
+    requires room { steps.old < 2 ^ 119 }
     ensures run { IsRun set.now text.now from result }
     ensures grows { steps.old ≤ steps.new }
     ensures cost { steps.new ≤ steps.old + length text.now }
@@ -143,7 +143,7 @@ fn run_apart(
 ) -> Option<usize>
     requires from { from ≤ length text.now }
     requires short { length text.now ≤ 2 ^ 30 }
-    requires room { steps.old < 2 ^ 117 }
+    requires room { steps.old < 2 ^ 119 }
     ensures run { IfSome result (λ k. IsRun set.now text.now from k) }
     ensures apart { IfSome result (λ k. IsApart next.now text.now from k) }
     ensures grows { steps.old ≤ steps.new }
@@ -173,7 +173,7 @@ fn run_before(
     requires inside { index < length expr.now.nodes }
     requires from { from ≤ length text.now }
     requires short { length text.now ≤ 2 ^ 30 }
-    requires room { steps.old < 2 ^ 116 }
+    requires room { steps.old < 2 ^ 118 }
     ensures run { IfSome result (λ k. IsRun set.now text.now from k) }
     ensures none { IfSome result (λ k. NoneBefore expr.now.nodes text.now index from k) }
     ensures grows { steps.old ≤ steps.new }
@@ -190,7 +190,7 @@ fn run_before(
 /// Where the longest of one copy of the set and none ends.
 fn one_or_none(set: &ByteSet, text: &Text, place: usize, steps: &mut Steps) -> Far
     requires place { place ≤ length text.now }
-    requires room { steps.old < 2 ^ 117 }
+    requires room { steps.old < 2 ^ 119 }
     ensures far { EndsFar (length text.now) (λ j. (place ≡ j) ⊎ Spans (a_set set.now) text.now place j) result }
     ensures grows { steps.old ≤ steps.new }
     ensures cost { steps.new ≤ steps.old + 1 }
@@ -215,7 +215,7 @@ fn star_end(
     requires inside { index < length expr.now.nodes }
     requires place { place ≤ length text.now }
     requires short { length text.now ≤ 2 ^ 30 }
-    requires room { steps.old < 2 ^ 116 }
+    requires room { steps.old < 2 ^ 118 }
     ensures far { EndsFar (length text.now) (At expr.now.nodes text.now index place) result }
     ensures grows { steps.old ≤ steps.new }
     ensures cost { steps.new ≤ steps.old + 1 + length text.now }
@@ -238,7 +238,7 @@ fn opt_end(
     requires node { slice_get expr.now.nodes index ≡ Some node.now }
     requires inside { index < length expr.now.nodes }
     requires place { place ≤ length text.now }
-    requires room { steps.old < 2 ^ 116 }
+    requires room { steps.old < 2 ^ 118 }
     ensures far { EndsFar (length text.now) (At expr.now.nodes text.now index place) result }
     ensures grows { steps.old ≤ steps.new }
     ensures cost { steps.new ≤ steps.old + 2 }
@@ -266,7 +266,7 @@ fn seq_behind(
     requires inside { index < length expr.now.nodes }
     requires place { place ≤ length text.now }
     requires short { length text.now ≤ 2 ^ 30 }
-    requires room { steps.old < 2 ^ 115 }
+    requires room { steps.old < 2 ^ 117 }
     ensures goes { GoesFar expr.now.nodes text.now (At expr.now.nodes text.now index place) result }
     ensures nearer { IsNearer index (length text.now) result }
     ensures grows { steps.old ≤ steps.new }
@@ -290,7 +290,7 @@ fn far_behind(expr: &Expr, index: usize, text: &Text, place: usize, steps: &mut 
     requires inside { index < length expr.now.nodes }
     requires place { place ≤ length text.now }
     requires short { length text.now ≤ 2 ^ 30 }
-    requires room { steps.old < 2 ^ 114 }
+    requires room { steps.old < 2 ^ 116 }
     ensures goes { GoesFar expr.now.nodes text.now (At expr.now.nodes text.now index place) result }
     ensures nearer { IsNearer index (length text.now) result }
     ensures grows { steps.old ≤ steps.new }
@@ -317,6 +317,21 @@ pub fn look_far(expr: &Expr, text: &Text, place: usize, steps: &mut Steps) -> Fa
     ensures cost { steps.new ≤ steps.old + (length text.now + 8) * length expr.now.nodes }
 {
     let root = expr.root().index();
+    far_from(expr, root, text, place, steps)
+}
+
+/// The same of the spans of a node.
+pub fn far_from(expr: &Expr, root: usize, text: &Text, place: usize, steps: &mut Steps) -> Far
+    requires root { root < length expr.now.nodes }
+    requires place { place ≤ length text.now }
+    requires few { length expr.now.nodes ≤ 65536 }
+    requires short { length text.now ≤ 2 ^ 30 }
+    requires room { steps.old < 2 ^ 115 }
+    ensures far { EndsFar (length text.now) (At expr.now.nodes text.now root place) result }
+    ensures grows { steps.old ≤ steps.new }
+    ensures cost { steps.new ≤ steps.old + (length text.now + 8) * length expr.now.nodes }
+{
+    let _count = expr.nodes();
     let mut index = root;
     let mut at = place;
     loop {
@@ -327,5 +342,67 @@ pub fn look_far(expr: &Expr, text: &Text, place: usize, steps: &mut Steps) -> Fa
             }
             Further::End(far) => return far,
         }
+    }
+}
+
+/// Whether no byte from one place up to another is in the set.
+fn none_in(set: &ByteSet, text: &Text, from: usize, to: usize, steps: &mut Steps) -> bool
+    requires to { to ≤ length text.now }
+    requires short { length text.now ≤ 2 ^ 30 }
+    requires room { steps.old < 2 ^ 119 }
+    ensures apart { IsTrue result → IsApart set.now text.now from to }
+    ensures grows { steps.old ≤ steps.new }
+    ensures cost { steps.new ≤ steps.old + length text.now }
+{
+    for place in from..to {
+        let byte = text.byte(place, steps);
+        if set.has(byte) {
+            return false;
+        }
+    }
+    true
+}
+
+/// Whether what comes first in the spans of the node tells that none of them begins from one place up to another.
+pub fn none_before(
+    expr: &Expr,
+    index: usize,
+    text: &Text,
+    from: usize,
+    to: usize,
+    steps: &mut Steps,
+) -> bool
+    requires inside { index < length expr.now.nodes }
+    requires to { to ≤ length text.now }
+    requires short { length text.now ≤ 2 ^ 30 }
+    requires room { steps.old < 2 ^ 118 }
+    ensures none { IsTrue result → NoneBefore expr.now.nodes text.now index from to }
+    ensures grows { steps.old ≤ steps.new }
+    ensures cost { steps.new ≤ steps.old + 3 + length text.now }
+{
+    let _count = expr.nodes();
+    match near_first(expr, index, steps) {
+        Node::Set(next) => none_in(&next, text, from, to, steps),
+        Node::End => true,
+        _ => false,
+    }
+}
+
+/// Whether the expression is a set, a run of its bytes or one and a run, so that the first place at which a match can
+/// begin is mostly one at which it does, and where it ends is seen there.
+pub fn is_sight(expr: &Expr) -> bool
+    requires few { length expr.now.nodes ≤ 65536 }
+{
+    let _count = expr.nodes();
+    let mut steps = Steps::new();
+    let root = expr.root();
+    match expr.look(root, &mut steps) {
+        Node::Set(_) => true,
+        Node::Seq(a, b) => {
+            let first = expr.look(a, &mut steps);
+            let run = star_set(expr, b.index(), &mut steps);
+            matches!(first, Node::Set(_)) && run.is_some()
+        }
+        _ => star_set(expr, root.index(), &mut steps).is_some(),
     }
 }

@@ -1,23 +1,88 @@
 //! The search for the leftmost of the longest matches.
 ghost use Rattle.std.specs.Prelude.{◌≡◌, ℕ, Bool, false, List, ◌+◌, ◌-◌, ◌*◌, ◌^◌, ◌<◌, ◌≤◌, ◌↔◌, ◌&&◌, ◌||◌};
-ghost use Rattle.std.specs.Prelude.{length, slice_index_or, IfSome, IfNone, IsTrue};
+ghost use Rattle.std.specs.Prelude.{length, slice_index_or, IfSome, IfNone, IsTrue, true};
 ghost use Rattle.sedre.specs.Arena.{tree};
 ghost use Rattle.sedmatch.specs.Fits.{FitsNodes, SameMarks};
-ghost use Rattle.sedmatch.specs.Spans.{Spans, Found as IsFound, NotFound};
+ghost use Rattle.sedre.specs.Tree.{Tree};
+ghost use Rattle.sedmatch.specs.Spans.{Spans, Found as IsFound, NotFound, SomeFound};
 ghost use Rattle.sedmatch.specs.Reach.{Longest, LongestBelow, Marked, Below, At, one_start, Entered, Enters, Ends};
 ghost use Rattle.sedmatch.specs.Reach.{TellEntered, TellBegun};
-ghost use Rattle.sedmatch.specs.Reach.{OpenFrom};
-ghost use Rattle.sedmatch.specs.Search.{IsSwept, swept_to, Sought, sought_to, Scanned};
+ghost use Rattle.sedmatch.specs.Reach.{OpenFrom, OpenAt, SomeSpan};
+ghost use Rattle.sedmatch.specs.Search.{IsSwept, swept_to, Sought, sought_to, Scanned, IsRegion, starts_to};
 ghost use Rattle.sedmatch.specs.Ahead.{LeadsTo};
 ghost use Rattle.sedmatch.specs.Skip.{AllBegin};
+ghost use Rattle.sedmatch.specs.States.{IsAt};
+ghost use Rattle.sedmatch.specs.Tables.{starts_from};
 
 use crate::ahead::{Lead, look_ahead};
-use crate::counted::Text;
+use crate::counted::{Bytes, Text};
 use crate::passes::{Here, Starts, advance};
+use crate::region::{Region, earliest};
 use crate::runs::{Far, look_far};
 use crate::scratch::Sets;
 use crate::skip::{Begins, how_begins, next_start};
-use sedre::{Expr, Steps};
+use crate::states::Ends;
+use sedre::{Expr, Nodes, Steps};
+
+/// Brings the marks of a pass over the text as it is to the next place.
+#[inline(never)]
+fn advance_forwards(
+    expr: &Expr,
+    root: usize,
+    text: &Text,
+    starts: Starts,
+    place: usize,
+    sets: &mut Sets,
+    steps: &mut Steps,
+) -> Here
+    requires root { root < length expr.now.nodes }
+    requires few { length expr.now.nodes ≤ 65536 }
+    requires place { place ≤ length text.now }
+    requires fits { FitsNodes (length expr.now.nodes) sets.old }
+    requires entered { TellEntered expr.now.nodes text.now root starts place sets.old.entered }
+    requires room { steps.old < 2 ^ 117 }
+    ensures marks { SameMarks sets.old sets.new }
+    ensures entered { TellBegun expr.now.nodes text.now root starts place sets.new.entered }
+    ensures spans { IsTrue result.matched ↔ SomeSpan expr.now.nodes text.now root starts place }
+    ensures opens { OpenAt expr.now.nodes text.now root starts place result.more }
+    ensures grows { steps.old ≤ steps.new }
+    ensures cost { steps.new ≤ steps.old + 15 * length expr.now.nodes + 5 }
+{
+    let nodes = Nodes::of(expr);
+    let bytes = text.forwards();
+    advance(&nodes, root, &bytes, starts, place, sets, steps)
+}
+
+/// The same in a pass over nodes and bytes seen from either end.
+pub fn advance_seen(
+    nodes: &Nodes,
+    root: usize,
+    bytes: &Bytes,
+    start: usize,
+    place: usize,
+    sets: &mut Sets,
+    steps: &mut Steps,
+) -> Here
+    requires root { root < length nodes.now.nodes }
+    requires few { length nodes.now.nodes ≤ 65536 }
+    requires start { start ≤ place }
+    requires place { place ≤ length bytes.now }
+    requires fits { FitsNodes (length nodes.now.nodes) sets.old }
+    requires entered { TellEntered nodes.now.nodes bytes.now root (one_start start) place sets.old.entered }
+    requires room { steps.old < 2 ^ 117 }
+    ensures marks { SameMarks sets.old sets.new }
+    ensures entered { TellBegun nodes.now.nodes bytes.now root (one_start start) place sets.new.entered }
+    ensures spans { IsTrue result.matched ↔ At nodes.now.nodes bytes.now root start place }
+    ensures opens { OpenFrom nodes.now.nodes bytes.now root start place result.more }
+    ensures grows { steps.old ≤ steps.new }
+    ensures cost { steps.new ≤ steps.old + 15 * length nodes.now.nodes + 5 }
+{
+    let starts = Starts {
+        first: start,
+        last: start,
+    };
+    advance(nodes, root, bytes, starts, place, sets, steps)
+}
 
 /// Brings the marks of a pass from the one start to the next place.
 pub fn advance_from(
@@ -47,7 +112,7 @@ pub fn advance_from(
         first: start,
         last: start,
     };
-    advance(expr, root, text, starts, place, sets, steps)
+    advance_forwards(expr, root, text, starts, place, sets, steps)
 }
 
 /// The end of the longest match that begins at `start`.
@@ -67,7 +132,7 @@ fn longest_at(
     ensures longest { Longest (tree expr.now) text.now start result }
     ensures lies { IfSome result (λ end. (start ≤ end) × (end ≤ length text.now)) }
     ensures grows { steps.old ≤ steps.new }
-    ensures cost { steps.new ≤ steps.old + 21 * length expr.now.nodes * (length text.now + 1) }
+    ensures cost { steps.new ≤ steps.old + length expr.now.nodes + 20 * length expr.now.nodes * (length text.now + 1) }
 {
     let root = expr.root().index();
     sets.entered.clear(root + 1, steps);
@@ -103,7 +168,7 @@ fn longest_from(
     ensures longest { Longest (tree expr.now) text.now start result }
     ensures lies { IfSome result (λ end. (start ≤ end) × (end ≤ length text.now)) }
     ensures grows { steps.old ≤ steps.new }
-    ensures cost { steps.new ≤ steps.old + 29 * length expr.now.nodes * (length text.now + 1) }
+    ensures cost { steps.new ≤ steps.old + 8 * length expr.now.nodes + 21 * length expr.now.nodes * (length text.now + 1) }
 {
     match lead {
         Lead::To(end) => Some(end),
@@ -118,25 +183,88 @@ fn longest_from(
 /// How a pass in which every start is entered as it is come to ends.
 #[derive(Clone, Copy)]
 pub enum Swept {
-    /// A match from one of the starts ends.
-    Hit,
+    /// A match from one of these starts ends.
+    Hit(Region),
     /// No match begins up to this place.
     Miss(usize),
 }
 
+/// The region that a pass from `start` on has come to the last place of, where the first match ends: with its bound,
+/// to which the pass goes on with no new starts, if the whole of it is asked for.
+fn region_to(
+    expr: &Expr,
+    root: usize,
+    text: &Text,
+    start: usize,
+    last: usize,
+    goes_on: bool,
+    whole: bool,
+    sets: &mut Sets,
+    steps: &mut Steps,
+) -> Region
+    requires root { root + 1 ≡ length expr.now.nodes }
+    requires few { length expr.now.nodes ≤ 65536 }
+    requires short { length text.now ≤ 2 ^ 30 }
+    requires order { start ≤ last }
+    requires inside { last ≤ length text.now }
+    requires fits { FitsNodes (length expr.now.nodes) sets.old }
+    requires begun { TellBegun expr.now.nodes text.now root (starts_to start (length text.now)) last sets.old.entered }
+    requires spans { SomeSpan expr.now.nodes text.now root (starts_to start (length text.now)) last }
+    requires opens { IsTrue whole → OpenAt expr.now.nodes text.now root (starts_to start (length text.now)) last goes_on }
+    requires room { steps.old < 2 ^ 116 }
+    ensures marks { SameMarks sets.old sets.new }
+    ensures start { result.start ≡ start }
+    ensures region { IsRegion (tree expr.now) text.now whole result }
+    ensures grows { steps.old ≤ steps.new }
+    ensures cost { let m = length expr.now.nodes in
+        steps.new + 20 * m * (last + 1) ≤ steps.old + 20 * m * (result.bound + 1) }
+{
+    if !whole || !goes_on {
+        return Region {
+            start,
+            last,
+            bound: last,
+        };
+    }
+    let starts = Starts { first: start, last };
+    for place in last + 1..text.len() + 1 {
+        let here = advance_forwards(expr, root, text, starts, place, sets, steps);
+        if !here.more {
+            return Region {
+                start,
+                last,
+                bound: place,
+            };
+        }
+    }
+    Region {
+        start,
+        last,
+        bound: text.len(),
+    }
+}
+
 /// A pass over the text from `start` on in which every place is entered as a start.
-/// It ends where a match does, or where no match that began before can go on.
-fn sweep(expr: &Expr, text: &Text, start: usize, sets: &mut Sets, steps: &mut Steps) -> Swept
+/// It ends where a match does, or where no match that began before can go on; where the whole region of the match is
+/// asked for, it goes on with no new starts to the bound.
+fn sweep(
+    expr: &Expr,
+    text: &Text,
+    start: usize,
+    whole: bool,
+    sets: &mut Sets,
+    steps: &mut Steps,
+) -> Swept
     requires few { length expr.now.nodes ≤ 65536 }
     requires short { length text.now ≤ 2 ^ 30 }
     requires start { start ≤ length text.now }
     requires fits { FitsNodes (length expr.now.nodes) sets.old }
-    requires room { steps.old < 2 ^ 116 }
+    requires room { steps.old < 2 ^ 114 }
     ensures marks { SameMarks sets.old sets.new }
-    ensures swept { IsSwept (tree expr.now) text.now start result }
+    ensures swept { IsSwept (tree expr.now) text.now whole start result }
     ensures grows { steps.old ≤ steps.new }
-    ensures cost { let m = length expr.now.nodes in let n = length text.now in
-        steps.new + 20 * m * start ≤ steps.old + m + 20 * m * (swept_to n result + 1) }
+    ensures cost { let m = length expr.now.nodes in
+        steps.new + 20 * m * start ≤ steps.old + m + 20 * m * (swept_to result + 1) }
 {
     let root = expr.root().index();
     let starts = Starts {
@@ -145,9 +273,11 @@ fn sweep(expr: &Expr, text: &Text, start: usize, sets: &mut Sets, steps: &mut St
     };
     sets.entered.clear(root + 1, steps);
     for place in start..text.len() + 1 {
-        let here = advance(expr, root, text, starts, place, sets, steps);
+        let here = advance_forwards(expr, root, text, starts, place, sets, steps);
         if here.matched {
-            return Swept::Hit;
+            let more = here.more;
+            let region = region_to(expr, root, text, start, place, more, whole, sets, steps);
+            return Swept::Hit(region);
         }
         if !here.more {
             return Swept::Miss(place);
@@ -156,12 +286,63 @@ fn sweep(expr: &Expr, text: &Text, start: usize, sets: &mut Sets, steps: &mut St
     Swept::Miss(text.len())
 }
 
+/// The better of a place at which a match ends, if it does, and the best before.
+pub fn better(best: Option<usize>, place: usize, matched: bool) -> Option<usize>
+    ensures longest { (e : Tree) (w : List ℕ) (i : ℕ) → (IsTrue matched ↔ Spans e w i place) →
+        LongestBelow e w i place best → LongestBelow e w i (place + 1) result }
+    ensures lies { (low high : ℕ) → low ≤ place → place ≤ high → IfSome best (λ end. (low ≤ end) × (end ≤ high)) →
+        IfSome result (λ end. (low ≤ end) × (end ≤ high)) }
+{
+    if matched { Some(place) } else { best }
+}
+
+/// The end of the longest match from a start, given what is told of a place and the best before it.
+pub fn longest_on(
+    expr: &Nodes,
+    root: usize,
+    text: &Bytes,
+    start: usize,
+    place: usize,
+    ends: Ends,
+    before: Option<usize>,
+    sets: &mut Sets,
+    steps: &mut Steps,
+) -> Option<usize>
+    requires root { root + 1 ≡ length expr.now.nodes }
+    requires few { length expr.now.nodes ≤ 65536 }
+    requires short { length text.now ≤ 2 ^ 30 }
+    requires start { start ≤ place }
+    requires place { place ≤ length text.now }
+    requires fits { FitsNodes (length expr.now.nodes) sets.old }
+    requires at { IsAt expr.now.nodes text.now root (one_start start) place sets.old.entered ends }
+    requires best { LongestBelow (tree expr.now) text.now start place before }
+    requires best_lies { IfSome before (λ end. (start ≤ end) × (end ≤ length text.now)) }
+    requires room { steps.old < 2 ^ 116 }
+    ensures marks { SameMarks sets.old sets.new }
+    ensures longest { Longest (tree expr.now) text.now start result }
+    ensures lies { IfSome result (λ end. (start ≤ end) × (end ≤ length text.now)) }
+    ensures grows { steps.old ≤ steps.new }
+    ensures cost { steps.new + 20 * length expr.now.nodes * place ≤ steps.old + 20 * length expr.now.nodes * length text.now }
+{
+    let _count = expr.nodes();
+    if place >= text.len() {
+        return better(before, place, ends.last);
+    }
+    let mut best = better(before, place, ends.inner);
+    for at in place + 1..text.len() + 1 {
+        let here = advance_seen(expr, root, text, start, at, sets, steps);
+        best = better(best, at, here.matched);
+    }
+    best
+}
+
 /// The same, where a look ahead may have told that a match begins at `start`.
 fn sweep_from(
     expr: &Expr,
     text: &Text,
     start: usize,
     lead: Lead,
+    whole: bool,
     sets: &mut Sets,
     steps: &mut Steps,
 ) -> Swept
@@ -170,22 +351,26 @@ fn sweep_from(
     requires start { start ≤ length text.now }
     requires leads { LeadsTo (length text.now) (Spans (tree expr.now) text.now start) lead }
     requires fits { FitsNodes (length expr.now.nodes) sets.old }
-    requires room { steps.old < 2 ^ 116 }
+    requires room { steps.old < 2 ^ 114 }
     ensures marks { SameMarks sets.old sets.new }
-    ensures swept { IsSwept (tree expr.now) text.now start result }
+    ensures swept { IsSwept (tree expr.now) text.now whole start result }
     ensures grows { steps.old ≤ steps.new }
-    ensures cost { let m = length expr.now.nodes in let n = length text.now in
-        steps.new + 20 * m * start ≤ steps.old + m + 20 * m * (swept_to n result + 1) }
+    ensures cost { let m = length expr.now.nodes in
+        steps.new + 20 * m * start ≤ steps.old + m + 20 * m * (swept_to result + 1) }
 {
     match lead {
-        Lead::To(_) => Swept::Hit,
-        _ => sweep(expr, text, start, sets, steps),
+        Lead::To(end) => Swept::Hit(Region {
+            start,
+            last: start,
+            bound: end,
+        }),
+        _ => sweep(expr, text, start, whole, sets, steps),
     }
 }
 
 /// The first place from `from` on at which a match can begin, by its first byte and by what comes first in it, and
 /// where the matches end that begin there.
-fn next_place(
+pub fn next_place(
     expr: &Expr,
     begins: &Begins,
     text: &Text,
@@ -218,24 +403,25 @@ fn next_place(
     None
 }
 
-/// A place from `from` on before which no match begins, and from which on one does.
+/// A region from `from` on before which no match begins, whole if that is asked for.
 /// Each byte is passed once, whatever the expression.
 pub fn scan(
     expr: &Expr,
     begins: &Begins,
     text: &Text,
     from: usize,
+    whole: bool,
     sets: &mut Sets,
     steps: &mut Steps,
-) -> Option<usize>
+) -> Option<Region>
     requires few { length expr.now.nodes ≤ 65536 }
     requires short { length text.now ≤ 2 ^ 30 }
     requires from { from ≤ length text.now }
     requires begins { AllBegin (tree expr.now) begins.now }
     requires fits { FitsNodes (length expr.now.nodes) sets.old }
-    requires room { steps.old < 2 ^ 115 }
+    requires room { steps.old < 2 ^ 113 }
     ensures marks { SameMarks sets.old sets.new }
-    ensures scanned { Scanned (tree expr.now) text.now from result }
+    ensures scanned { Scanned (tree expr.now) text.now whole from result }
     ensures grows { steps.old ≤ steps.new }
     ensures cost { let m = length expr.now.nodes in let n = length text.now in
         steps.new + 29 * m * from ≤ steps.old + 29 * m * (n + 1) }
@@ -243,8 +429,8 @@ pub fn scan(
     let _count = expr.nodes();
     let mut at = from;
     while let Some((start, lead)) = next_place(expr, begins, text, at, steps) {
-        match sweep_from(expr, text, start, lead, sets, steps) {
-            Swept::Hit => return Some(start),
+        match sweep_from(expr, text, start, lead, whole, sets, steps) {
+            Swept::Hit(region) => return Some(region),
             Swept::Miss(stop) => {
                 if stop >= text.len() {
                     return None;
@@ -256,47 +442,42 @@ pub fn scan(
     None
 }
 
-/// The leftmost-longest span that begins at `from` or later, sought from one start after another.
-fn first_span(
+/// The leftmost-longest span among those that begin in the region: the first start by a pass from the other end,
+/// and the longest span from there.
+fn span_in(
     expr: &Expr,
-    begins: &Begins,
     text: &Text,
-    from: usize,
+    region: Region,
     sets: &mut Sets,
     steps: &mut Steps,
 ) -> Option<(usize, usize)>
     requires few { length expr.now.nodes ≤ 65536 }
     requires short { length text.now ≤ 2 ^ 30 }
-    requires from { from ≤ length text.now }
-    requires begins { AllBegin (tree expr.now) begins.now }
+    requires region { IsRegion (tree expr.now) text.now true region }
     requires fits { FitsNodes (length expr.now.nodes) sets.old }
     requires room { steps.old < 2 ^ 112 }
     ensures marks { SameMarks sets.old sets.new }
-    ensures found { IfSome result (λ f. IsFound (tree expr.now) text.now from f.0 f.1) }
-    ensures none { IfNone result (NotFound (tree expr.now) text.now from) }
+    ensures found { IfSome result (λ f. IsFound (tree expr.now) text.now region.start f.0 f.1) }
+    ensures some { IfNone result ⊥ }
     ensures lies { IfSome result (λ f. (f.0 ≤ f.1) × (f.1 ≤ length text.now)) }
     ensures grows { steps.old ≤ steps.new }
     ensures cost { let m = length expr.now.nodes in let n = length text.now in
-        steps.new + 37 * m * (n + 1) * from ≤ steps.old + 37 * m * (n + 1) * (n + 1) }
+        steps.new + 20 * m * region.start ≤ steps.old + 16 * m + 41 * m * (n + 1) }
 {
     let _count = expr.nodes();
-    let mut at = from;
-    while let Some((start, lead)) = next_place(expr, begins, text, at, steps) {
-        if let Some(end) = longest_from(expr, text, start, lead, sets, steps) {
-            return Some((start, end));
-        }
-        if start >= text.len() {
-            return None;
-        }
-        at = start + 1;
+    let start = earliest(expr, text, region, sets, steps);
+    let lead = look_ahead(expr, text, start, steps);
+    match longest_from(expr, text, start, lead, sets, steps) {
+        None => None,
+        Some(end) => Some((start, end)),
     }
-    None
 }
 
 /// The leftmost-longest span that begins at `from` or later.
 ///
-/// The first possible start is tried first. Where no match begins there, one pass tells whether any follows,
-/// before more starts are tried.
+/// The first possible start is tried first. Where no match begins there, one pass tells whether any follows, up to
+/// which place it begins and up to which it can end; a pass backwards from there finds where the first one begins,
+/// and a pass from that start where the longest ends. So each byte is passed four times at most.
 pub fn leftmost(
     expr: &Expr,
     text: &Text,
@@ -316,6 +497,8 @@ pub fn leftmost(
     ensures some { 0 < length expr.now.nodes }
     ensures grows { steps.old ≤ steps.new }
     ensures cost { let m = length expr.now.nodes in let n = length text.now in
+        steps.new ≤ steps.old + 96 * m * (n + 1) }
+    ensures short_cost { let m = length expr.now.nodes in let n = length text.now in
         steps.new ≤ steps.old + 48 * m * (n + 1) * (n + 1) }
     ensures none_cost { let m = length expr.now.nodes in let n = length text.now in
         IfNone result (steps.new ≤ steps.old + 58 * m * (n + 1)) }
@@ -331,8 +514,8 @@ pub fn leftmost(
     if start >= text.len() {
         return None;
     }
-    let Some(at) = scan(expr, &begins, text, start + 1, sets, steps) else {
+    let Some(region) = scan(expr, &begins, text, start + 1, true, sets, steps) else {
         return None;
     };
-    first_span(expr, &begins, text, at, sets, steps)
+    span_in(expr, text, region, sets, steps)
 }

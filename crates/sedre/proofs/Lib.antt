@@ -18,6 +18,7 @@ pub mod Repeating
 pub mod Reading
 pub mod Tables
 pub mod TreeLemmas
+pub mod MirrorLemmas
 pub mod Holding
 pub mod Numbers
 pub mod Ended

@@ -15,5 +15,6 @@ pub mod Symbols
 pub mod Intervals
 pub mod Items
 pub mod Grammar
+pub mod Mirror
 pub mod Finished
 pub mod Reasons

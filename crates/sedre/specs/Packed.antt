@@ -124,3 +124,22 @@ shifted d (node.Alt a b) = node.Alt (id (a.index + d)) (id (b.index + d))
 shifted d (node.Group k a) = node.Group k (id (a.index + d))
 shifted d (node.Star a first) = node.Star (id (a.index + d)) first
 shifted d (node.Opt a first) = node.Opt (id (a.index + d)) first
+
+-- what is kept of the mirrored node
+abbrev pub mirror_kept : Shape → ℕ → ℕ → Entry
+mirror_kept shape.Empty left right = entry shape.Empty left right
+mirror_kept shape.Set left right = entry shape.Set left right
+mirror_kept shape.Begin left right = entry shape.End left right
+mirror_kept shape.End left right = entry shape.Begin left right
+mirror_kept shape.Seq left right = entry shape.Seq right left
+mirror_kept shape.Alt left right = entry shape.Alt left right
+mirror_kept shape.Group left right = entry shape.Group left right
+mirror_kept shape.FirstStar left right = entry shape.FirstStar left right
+mirror_kept shape.Star left right = entry shape.Star left right
+mirror_kept shape.FirstOpt left right = entry shape.FirstOpt left right
+mirror_kept shape.Opt left right = entry shape.Opt left right
+
+-- the same where it is asked for
+abbrev pub entry_seen : Bool → Entry → Entry
+entry_seen true e = mirror_kept e.shape e.left e.right
+entry_seen false e = e

@@ -2,7 +2,9 @@
 ghost use Rattle.std.specs.Prelude.{◌≡◌, ◌≢◌, ◌≤◌, ◌<◌, ◌+◌, ◌-◌, ◌++◌, ◌∷◌, [], List, Bool, Some, IfOk, IfSome, OnOk};
 ghost use Rattle.std.specs.Prelude.{ℕ, length, map, take, drop, slice_get, vec_len};
 ghost use Rattle.sedre.specs.Packed.{node_at, nodes_from, Fits, FitFrom, star_shape, opt_shape, entry_of, HasNumber};
-ghost use Rattle.sedre.specs.Packed.{Grows, PartsBelow, numbered, shifted};
+ghost use Rattle.sedre.specs.Packed.{Grows, PartsBelow, numbered, shifted, entry_seen};
+ghost use Rattle.std.specs.Prelude.{option_map, true};
+ghost use Rattle.sedre.specs.Mirror.{node_seen};
 
 use crate::byte_set::ByteSet;
 use crate::types::{Node, NodeId};
@@ -97,6 +99,47 @@ fn node_at(sets: &[ByteSet], at: usize, entry: Entry) -> Node
         Shape::FirstOpt => Node::Opt(right, true),
         Shape::Opt => Node::Opt(right, false),
     }
+}
+
+/// What is kept of the node, mirrored where that is asked for.
+fn entry_seen(entry: Entry, mirrored: bool) -> Entry
+    ensures { result ≡ entry_seen mirrored entry }
+{
+    if mirrored { mirror_entry(entry) } else { entry }
+}
+
+/// What is kept of the mirrored node: its two parts are exchanged where they stand one behind the other, and so are
+/// the two anchors.
+fn mirror_entry(entry: Entry) -> Entry
+    ensures { result ≡ entry_seen true entry }
+{
+    let Entry { shape, left, right } = entry;
+    match shape {
+        Shape::Begin => Entry {
+            shape: Shape::End,
+            left,
+            right,
+        },
+        Shape::End => Entry {
+            shape: Shape::Begin,
+            left,
+            right,
+        },
+        Shape::Seq => Entry {
+            shape,
+            left: right,
+            right: left,
+        },
+        _ => entry,
+    }
+}
+
+/// The node that an entry at the index `at` stands for, mirrored where that is asked for.
+fn seen_at(sets: &[ByteSet], at: usize, entry: Entry, mirrored: bool) -> Node
+    requires { Fits sets.now at entry }
+    ensures { result ≡ node_seen mirrored (node_at sets.now at entry) }
+{
+    node_at(sets, at, entry_seen(entry, mirrored))
 }
 
 /// The number of a set that was added before. It is compared, so that nothing rests on `numbers`.
@@ -212,6 +255,17 @@ impl Packed {
         }
     }
 
+    /// The same nodes once more. To those, others can be added too; sets are then not sought among the old ones.
+    pub fn copy(&self, alloc: Global) -> Result<Packed, AllocError>
+        ensures { IfOk result (λ p. p ≡ self.now) }
+    {
+        Ok(Packed {
+            entries: self.entries.clone()?,
+            sets: self.sets.clone()?,
+            numbers: BTreeMap::new(alloc),
+        })
+    }
+
     /// How many nodes there are.
     pub fn len(&self) -> usize
         ensures { result ≡ length self.now }
@@ -225,6 +279,14 @@ impl Packed {
         ensures { slice_get self.now index ≡ Some result }
     {
         node_at(&self.sets, index, self.entries[index])
+    }
+
+    /// The node of an index, mirrored where that is asked for.
+    pub fn get_seen(&self, index: usize, mirrored: bool) -> Node
+        requires { index < length self.now }
+        ensures { option_map (node_seen mirrored) (slice_get self.now index) ≡ Some result }
+    {
+        seen_at(&self.sets, index, self.entries[index], mirrored)
     }
 
     /// Adds a node, which is kept as it is where its parts stand before it.

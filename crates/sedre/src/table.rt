@@ -1,10 +1,13 @@
 //! Expressions as callers see them: nodes, each behind its parts.
-ghost use Rattle.std.specs.Prelude.{◌≡◌, ◌<◌, ◌+◌, ◌^◌, Some, length, slice_get};
+ghost use Rattle.std.specs.Prelude.{◌≡◌, ◌<◌, ◌+◌, ◌^◌, Some, IfOk, length, slice_get};
+ghost use Rattle.std.specs.Prelude.{option_map};
 ghost use Rattle.sedre.specs.Arena.{Written, IsArena, IsExpr};
+ghost use Rattle.sedre.specs.Mirror.{node_seen};
 
 use crate::packed::Packed;
 use crate::steps::Steps;
 use crate::types::{Node, NodeId};
+use std::alloc::{AllocError, Global};
 use std::marker::Model;
 
 /// An expression written out. A node's parts have smaller indices than the node, and each node but the root, which is
@@ -32,6 +35,16 @@ impl Expr {
         ensures { result ≡ record { nodes = nodes; groups = groups } }
     {
         Expr { nodes, groups }
+    }
+
+    /// The same expression once more. Memory is wanting only where a request was refused.
+    pub fn copy(&self, alloc: Global) -> Result<Expr, AllocError>
+        ensures { IfOk result (λ e. e ≡ self.now) }
+    {
+        Ok(Expr {
+            nodes: self.nodes.copy(alloc)?,
+            groups: self.groups,
+        })
     }
 
     /// How many nodes it has: those of the expression written out.
@@ -77,5 +90,13 @@ impl Expr {
     {
         steps.add(1);
         self.nodes.get(id.index)
+    }
+
+    /// The node itself, mirrored where that is asked for. It counts nothing: [`crate::Nodes`] does.
+    pub(crate) fn seen(&self, id: NodeId, mirrored: bool) -> Node
+        requires { id.index < length self.now.nodes }
+        ensures { option_map (node_seen mirrored) (slice_get self.now.nodes id.index) ≡ Some result }
+    {
+        self.nodes.get_seen(id.index, mirrored)
     }
 }

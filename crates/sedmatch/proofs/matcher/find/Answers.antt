@@ -9,7 +9,7 @@ use Rattle.sedmatch.proofs.matcher.find.Goals as goal
 
 pub returns-in_err-start-clause-cost : goal.returns-in_err-start-clause-cost
 returns-in_err-start-clause-cost c =
-    miss_cost (length c.args.expr.now.nodes) (length c.args.text.now) c.args.steps.now c.leftmost.new.steps c.leftmost.ensures.some c.leftmost.ensures.cost
+    miss_cost (length c.args.expr.now.nodes) (length c.args.text.now) c.args.steps.now c.leftmost.new.steps c.leftmost.ensures.some c.leftmost.ensures.short_cost
 
 pub returns-clause-lies : goal.returns-clause-lies
 returns-clause-lies c =
@@ -26,7 +26,7 @@ pub report-groups-requires-clause-room : goal.report-groups-requires-clause-room
 report-groups-requires-clause-room c =
     let few : length c.args.expr.now.nodes ≤ 65536 = omega (arith, ap (λ r. r.nodes) c.scratch.view_is, c.scratch.invariant.few) in
     let short : length c.args.text.now ≤ 2 ^ 30 = omega (arith, ap (λ r. r.text) c.scratch.view_is, c.scratch.invariant.short) in
-    report_room (length c.args.expr.now.nodes) (length c.args.text.now) c.args.steps.now c.leftmost.new.steps few short c.requires.room c.leftmost.ensures.cost
+    report_room (length c.args.expr.now.nodes) (length c.args.text.now) c.args.steps.now c.leftmost.new.steps few short c.requires.room c.leftmost.ensures.short_cost
 
 pub returns-in_err-start-clause-computed : goal.returns-in_err-start-clause-computed
 returns-in_err-start-clause-computed c =

@@ -1,25 +1,45 @@
-use Rattle.std.proofs.Common.{◌+◌, sym, subst}
+use Rattle.std.proofs.Common.{◌+◌, refl, sym, subst}
+use Rattle.std.specs.Prelude.{eqb}
 use Rattle.sedmatch.specs.Reach.{Marked, Below, Entered}
 use Rattle.sedmatch.proofs.SearchLemmas.{root_spans}
+use Rattle.sedmatch.proofs.PassLemmas.{comes_after, is_place}
 use Rattle.sedmatch.proofs.OpenLemmas.{open_from_sets}
 use Rattle.sedmatch.proofs.passes.advance.Goals as goal
 
 pub returns-clause-entered : goal.returns-clause-entered
 returns-clause-entered c =
-    c.descend-more.ensures.entered c.args.text.now c.args.starts c.args.place c.ascend.ensures.null
-    (c.ascend.ensures.ended c.args.starts c.requires.entered) c.has-first.ensures
-    (subst (λ l. Marked l (Below (c.args.root + 1)) (λ n. Entered c.args.expr.now.nodes c.args.text.now c.args.root c.args.starts n c.args.place)) (sym c.ascend.ensures.kept) c.requires.entered)
+    let nodes = c.args.expr.now.nodes in
+    let w = c.args.text.now in
+    let place = c.args.place in
+    let there = is_place w place c.len.result (eqb place 0) (eqb place c.len.result) c.len.ensures refl refl in
+    let comes = comes_after nodes w place c.args.sets.now.entered c.byte_before-byte.result c.byte_before-byte.ensures.byte in
+    let nulls = c.ascend.ensures.null w place there in
+    let ends = c.ascend.ensures.ended w c.args.starts place there comes c.requires.entered in
+    c.descend-more.ensures.entered w c.args.starts place nulls ends c.has-first.ensures
+    (subst (λ l. Marked l (Below (c.args.root + 1)) (λ n. Entered nodes w c.args.root c.args.starts n place)) (sym c.ascend.ensures.kept) c.requires.entered)
 
 pub returns-clause-spans : goal.returns-clause-spans
 returns-clause-spans c =
-    root_spans c.args.expr.now.nodes c.args.text.now c.args.root c.args.starts c.nodes-count.ensures.arena c.args.place
+    let nodes = c.args.expr.now.nodes in
+    let w = c.args.text.now in
+    let place = c.args.place in
+    let there = is_place w place c.len.result (eqb place 0) (eqb place c.len.result) c.len.ensures refl refl in
+    let comes = comes_after nodes w place c.args.sets.now.entered c.byte_before-byte.result c.byte_before-byte.ensures.byte in
+    let nulls = c.ascend.ensures.null w place there in
+    let ends = c.ascend.ensures.ended w c.args.starts place there comes c.requires.entered in
+    root_spans nodes w c.args.root c.args.starts c.nodes-count.ensures.arena place
     c.ascend.new.sets.null c.ascend.new.sets.ended c.has-first.result c.ends_here-matched.result
-    (rw (← c.descend-more.ensures.kept_null, ← c.descend-more.ensures.kept_ended) c.ends_here-matched.ensures.value) c.has-first.ensures c.ascend.ensures.null
-    (c.ascend.ensures.ended c.args.starts c.requires.entered)
+    (rw (← c.descend-more.ensures.kept_null, ← c.descend-more.ensures.kept_ended) c.ends_here-matched.ensures.value) c.has-first.ensures nulls ends
 
 pub returns-clause-opens : goal.returns-clause-opens
 returns-clause-opens c =
-    open_from_sets c.args.expr.now.nodes c.args.text.now c.args.root c.args.starts c.nodes-count.ensures.arena c.requires.root c.args.place c.byte_after-next.result c.descend-more.result c.byte_after-next.ensures.byte
-    (c.descend-more.ensures.opens c.args.text.now c.args.starts c.args.place c.ascend.ensures.null
-    (c.ascend.ensures.ended c.args.starts c.requires.entered) c.has-first.ensures
-    (subst (λ l. Marked l (Below (c.args.root + 1)) (λ n. Entered c.args.expr.now.nodes c.args.text.now c.args.root c.args.starts n c.args.place)) (sym c.ascend.ensures.kept) c.requires.entered))
+    let nodes = c.args.expr.now.nodes in
+    let w = c.args.text.now in
+    let place = c.args.place in
+    let there = is_place w place c.len.result (eqb place 0) (eqb place c.len.result) c.len.ensures refl refl in
+    let comes = comes_after nodes w place c.args.sets.now.entered c.byte_before-byte.result c.byte_before-byte.ensures.byte in
+    let nulls = c.ascend.ensures.null w place there in
+    let ends = c.ascend.ensures.ended w c.args.starts place there comes c.requires.entered in
+    open_from_sets nodes w c.args.root c.args.starts c.nodes-count.ensures.arena c.requires.root place c.byte_after-next.result c.descend-more.result c.byte_after-next.ensures.byte
+    (c.descend-more.ensures.opens w c.args.starts place nulls ends c.has-first.ensures
+    (subst (λ l. Marked l (Below (c.args.root + 1)) (λ n. Entered nodes w c.args.root c.args.starts n place)) (sym c.ascend.ensures.kept) c.requires.entered))

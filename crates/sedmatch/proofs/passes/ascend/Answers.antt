@@ -1,6 +1,5 @@
-use Rattle.std.proofs.Common.{◌≡◌, ◌+◌, length, Some, ap, ◌∙◌, arith}
+use Rattle.std.proofs.Common.{◌≡◌, length, Some, ap, ◌∙◌, arith}
 use Rattle.std.specs.Prelude.{slice_get, slice_index_or, false}
-use Rattle.sedmatch.specs.Reach.{Marked, Below, At}
 use Rattle.sedmatch.specs.Local.{end_of}
 use Rattle.std.proofs.Common.{length-set}
 use Rattle.sedmatch.proofs.PassLemmas.{parts_below, ascend_null, ascend_ended}
@@ -24,9 +23,6 @@ loop-x-preserved c =
     let is : slice_get nodes x ≡ Some c.look-node.result = cc in
     let null_len : length c.set.new.self ≡ length c.loop-x.sets.null = rw c.set.ensures.marks (simp length-set) in
     let ended_len : length c.set-in-loop-x.new.self ≡ length c.loop-x.sets.ended = rw c.set-in-loop-x.ensures.marks (simp length-set) in
-    let nulls : Marked c.set.new.self (Below (x + 1)) (λ n. At nodes c.args.text.now n c.args.place c.args.place) =
-    ascend_null nodes c.args.text.now arena c.args.place x c.look-node.result is c.len.result c.len.ensures
-    c.loop-x.sets.null c.set.new.self c.marks_here-here.result.0 (omega arith) c.marks_here-here.ensures.null c.set.ensures.marks c.loop-x.invariant.null in
     let mark : c.get-before.result ≡ slice_index_or c.args.sets.now.entered x false =
     c.get-before.ensures.mark ∙ ap (λ l. slice_index_or l x false) c.loop-x.invariant.kept in
     let value : c.marks_here-here.result.1 ≡ end_of (slice_index_or c.args.sets.now.entered x false) c.args.byte (λ n. slice_index_or c.loop-x.sets.null n false) (λ n. slice_index_or c.loop-x.sets.ended n false) c.look-node.result =
@@ -36,11 +32,15 @@ loop-x-preserved c =
       kept = c.loop-x.invariant.kept;
       grows = omega arith;
       cost = omega arith;
-      null = nulls;
-      ended = λ s enters. ascend_ended nodes c.args.text.now arena c.args.place x c.look-node.result is c.args.root s (omega arith)
+      null = λ w place there. ascend_null nodes w arena place x c.look-node.result is c.args.begin c.args.end there
+          c.loop-x.sets.null c.set.new.self c.marks_here-here.result.0 (omega arith) c.marks_here-here.ensures.null c.set.ensures.marks (c.loop-x.invariant.null w place there);
+      ended = λ w s place there comes enters. ascend_ended nodes w arena place x c.look-node.result is c.args.root s (omega arith)
           c.args.sets.now.entered c.loop-x.sets.null c.loop-x.sets.ended c.set-in-loop-x.new.self c.args.byte c.marks_here-here.result.1
-          (omega arith) c.requires.byte value c.set-in-loop-x.ensures.marks c.loop-x.invariant.null enters (c.loop-x.invariant.ended s enters);
+          (omega arith) comes value c.set-in-loop-x.ensures.marks (c.loop-x.invariant.null w place there) enters (c.loop-x.invariant.ended w s place there comes enters);
     }
 
+pub returns-clause-null : goal.returns-clause-null
+returns-clause-null c w place there n below = c.loop-x.invariant.null w place there n (omega arith)
+
 pub returns-clause-ended : goal.returns-clause-ended
-returns-clause-ended c s enters n below = c.loop-x.invariant.ended s enters n (omega arith)
+returns-clause-ended c w s place there comes enters n below = c.loop-x.invariant.ended w s place there comes enters n (omega arith)

@@ -1,6 +1,7 @@
-use Rattle.std.proofs.Common.{◌≡◌, ◌+◌, ◌*◌, ◌≤◌}
+use Rattle.std.proofs.Common.{◌≡◌, ℕ, List, ◌+◌, ◌*◌, ◌≤◌}
 use Rattle.sedmatch.specs.Fits.{SameMarks}
 use Rattle.sedmatch.specs.Reach.{Marked, Below, At, Ends, Entered}
+use Rattle.sedmatch.specs.Places.{IsPlace, ComesAfter}
 use Rattle.sedmatch.specs.declared.passes.Starts.{Starts}
 use Rattle.sedmatch.proofs.passes.ascend.Given as goal
 
@@ -10,7 +11,8 @@ invariant-loop-x l = record {
   kept : l.sets.entered ≡ l.initial.sets.entered;
   grows : l.initial.steps ≤ l.steps;
   cost : l.steps ≤ l.initial.steps + 9 * l.x;
-  null : Marked l.sets.null (Below l.x) (λ c. At l.expr.nodes l.text c l.place l.place);
-  ended : (s : Starts) → Marked l.initial.sets.entered (Below (l.root + 1)) (λ c. Entered l.expr.nodes l.text l.root s c l.place) →
-      Marked l.sets.ended (Below l.x) (λ c. Ends l.expr.nodes l.text l.root s c l.place);
+  null : (w : List ℕ) (place : ℕ) → IsPlace w place l.begin l.end → Marked l.sets.null (Below l.x) (λ c. At l.expr.nodes w c place place);
+  ended : (w : List ℕ) (s : Starts) (place : ℕ) → IsPlace w place l.begin l.end → ComesAfter l.expr.nodes w place l.initial.sets.entered l.byte →
+      Marked l.initial.sets.entered (Below (l.root + 1)) (λ c. Entered l.expr.nodes w l.root s c place) →
+      Marked l.sets.ended (Below l.x) (λ c. Ends l.expr.nodes w l.root s c place);
 }

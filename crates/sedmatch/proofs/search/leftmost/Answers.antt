@@ -16,11 +16,11 @@ returns-clause-found c =
     let missed : Longest e w c.in-Some.start None = c.in_default-longest_from.ensures.longest in
     let here : NoneIn e w c.args.from (c.in-Some.start + 1) =
     none_join e w c.args.from c.in-Some.start (c.in-Some.start + 1) next.2 (none_at e w c.in-Some.start missed) in
-    let none : NoneIn e w c.args.from c.in-Some-scan.at = none_join e w c.args.from (c.in-Some.start + 1) c.in-Some-scan.at here scanned.2 in
-    IfSome_then c.first_span.result c.first_span.ensures.found (λ f. found_later e w c.args.from c.in-Some-scan.at f.0 f.1 (omega (arith, next.0, scanned.0)) none)
+    let none : NoneIn e w c.args.from c.in-Some-scan.region.start = none_join e w c.args.from (c.in-Some.start + 1) c.in-Some-scan.region.start here scanned.1 in
+    IfSome_then c.span_in.result c.span_in.ensures.found (λ f. found_later e w c.args.from c.in-Some-scan.region.start f.0 f.1 (omega (arith, next.0, scanned.0)) none)
 
 pub returns-clause-cost : goal.returns-clause-cost
 returns-clause-cost c =
-    whole_cost (length c.args.expr.now.nodes) (length c.args.text.now) c.args.from c.in-Some.start c.in-Some-scan.at c.args.steps.now c.how_begins-begins.new.steps
-    c.next_place.new.steps c.longest_from.new.steps c.scan.new.steps c.first_span.new.steps (omega (arith, c.in-Some-scan.ensures.scanned.0))
-    c.how_begins-begins.ensures.cost c.in-Some.ensures.cost c.longest_from.ensures.cost c.scan.ensures.cost c.first_span.ensures.cost
+    whole_cost (length c.args.expr.now.nodes) (length c.args.text.now) c.args.from c.in-Some.start c.in-Some-scan.region.start c.args.steps.now c.how_begins-begins.new.steps
+    c.next_place.new.steps c.longest_from.new.steps c.scan.new.steps c.span_in.new.steps c.in-Some-scan.ensures.scanned.0
+    c.how_begins-begins.ensures.cost c.in-Some.ensures.cost c.longest_from.ensures.cost c.scan.ensures.cost c.span_in.ensures.cost

@@ -1,7 +1,7 @@
 use Rattle.std.proofs.Common.{length, refl, arith, rules}
 use Rattle.sedre.specs.Arena.{tree}
 use Rattle.sedmatch.specs.Reach.{one_start}
-use Rattle.sedmatch.proofs.SearchLemmas.{clear_entered, LongestBelow-none, Longest-from_below, pass_cost}
+use Rattle.sedmatch.proofs.SearchLemmas.{clear_entered, LongestBelow-none, Longest-from_below, pass_whole}
 use Rattle.sedmatch.proofs.search.longest_at.Goals as goal
 
 pub loop-place-init : goal.loop-place-init
@@ -20,4 +20,4 @@ returns-clause-longest c =
 
 pub returns-clause-cost : goal.returns-clause-cost
 returns-clause-cost c =
-    pass_cost 20 (length c.args.expr.now.nodes) (length c.args.text.now) c.loop-place.place c.loop-place.steps c.args.steps.now (omega arith) (omega arith)
+    pass_whole 20 (length c.args.expr.now.nodes) (length c.args.text.now) c.loop-place.place c.loop-place.steps c.args.steps.now (omega arith) (omega arith)

@@ -7,8 +7,11 @@ use Rattle.sedmatch.proofs.search.scan.Goals as goal
 pub returns-in-Hit-clause-cost : goal.returns-in-Hit-clause-cost
 returns-in-Hit-clause-cost c =
     let next = c.in-Some.ensures.sought in
-    sweep_step (length c.args.expr.now.nodes) c.args.from c.loop-start.at c.in-Some.start (length c.args.text.now) c.args.steps.now c.loop-start.steps c.next_place.new.steps c.sweep_from.new.steps
-    next.0 next.1 c.loop-start.invariant.cost c.in-Some.ensures.cost c.in-Hit.ensures.cost
+    let swept = c.in-Hit.ensures.swept in
+    let region = swept.1 in
+    sweep_last (length c.args.expr.now.nodes) (length c.args.text.now) c.args.from c.in-Hit.region.bound c.args.steps.now c.sweep_from.new.steps region.inside
+    (sweep_step (length c.args.expr.now.nodes) c.args.from c.loop-start.at c.in-Some.start c.in-Hit.region.bound c.args.steps.now c.loop-start.steps c.next_place.new.steps c.sweep_from.new.steps
+    next.0 (omega (arith, swept.0, region.ordered, region.bounded)) c.loop-start.invariant.cost c.in-Some.ensures.cost c.in-Hit.ensures.cost)
 
 pub returns-then-stop-len-clause-cost : goal.returns-then-stop-len-clause-cost
 returns-then-stop-len-clause-cost c =

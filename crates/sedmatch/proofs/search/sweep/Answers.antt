@@ -3,7 +3,7 @@ use Rattle.std.proofs.lemmas.Bool.{not-true}
 use Rattle.sedre.specs.Arena.{tree}
 use Rattle.sedmatch.specs.Search.{NoneIn}
 use Rattle.sedmatch.proofs.SearchLemmas.{clear_entered, next_entered}
-use Rattle.sedmatch.proofs.SweepLemmas.{swept_hit, missed_init, missed_step, missed_closed, missed_end}
+use Rattle.sedmatch.proofs.SweepLemmas.{missed_init, missed_step, missed_closed, missed_end}
 use Rattle.sedmatch.proofs.search.sweep.Goals as goal
 
 pub loop-place-init : goal.loop-place-init
@@ -20,15 +20,10 @@ loop-place-preserved c = record {
   marks = (omega arith, omega arith, omega arith);
   grows = omega arith;
   cost = omega arith;
-  entered = next_entered c.args.expr.now.nodes c.args.text.now c.index-root.result (record { first = c.args.start; last = c.len.result }) c.root.ensures.arena c.advance-here.new.sets.entered c.loop-place.place c.advance-here.ensures.entered;
+  entered = next_entered c.args.expr.now.nodes c.args.text.now c.index-root.result (record { first = c.args.start; last = c.len.result }) c.root.ensures.arena c.advance_forwards-here.new.sets.entered c.loop-place.place c.advance_forwards-here.ensures.entered;
   missed = missed_step c.args.expr.now.nodes c.args.text.now c.index-root.result c.args.start c.len.result (omega arith) c.len.ensures
-      c.loop-place.place (omega arith) c.advance-here.result.matched c.if-here.false c.advance-here.ensures.spans c.loop-place.invariant.missed;
+      c.loop-place.place (omega arith) c.advance_forwards-here.result.matched c.if-here.false c.advance_forwards-here.ensures.spans c.loop-place.invariant.missed;
 }
-
-pub returns-then-here-clause-swept : goal.returns-then-here-clause-swept
-returns-then-here-clause-swept c =
-    swept_hit c.args.expr.now.nodes c.args.text.now c.index-root.result c.args.start c.len.result (omega arith) c.len.ensures
-    c.loop-place.place (c.advance-here.ensures.spans.0 c.if-here.true)
 
 pub returns-then-not-here-clause-swept : goal.returns-then-not-here-clause-swept
 returns-then-not-here-clause-swept c =
@@ -37,9 +32,9 @@ returns-then-not-here-clause-swept c =
       omega arith,
       omega arith,
       missed_closed nodes w c.index-root.result c.args.start c.len.result (omega arith) c.len.ensures
-          c.loop-place.place (omega arith) c.advance-here.result.more (not-true c.advance-here.result.more c.if-not-here.true) c.advance-here.ensures.opens
+          c.loop-place.place (omega arith) c.advance_forwards-here.result.more (not-true c.advance_forwards-here.result.more c.if-not-here.true) c.advance_forwards-here.ensures.opens
           (missed_step nodes w c.index-root.result c.args.start c.len.result (omega arith) c.len.ensures
-          c.loop-place.place (omega arith) c.advance-here.result.matched c.if-here.false c.advance-here.ensures.spans c.loop-place.invariant.missed),
+          c.loop-place.place (omega arith) c.advance_forwards-here.result.matched c.if-here.false c.advance_forwards-here.ensures.spans c.loop-place.invariant.missed),
     )
 
 pub returns-clause-swept : goal.returns-clause-swept

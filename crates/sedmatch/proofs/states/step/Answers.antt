@@ -1,0 +1,35 @@
+use Rattle.std.proofs.Common.{◌≡◌, ◌<◌, ◌∙◌, true, false, length, refl, sym, subst, true≢false, arith}
+use Rattle.sedmatch.specs.Reach.{TellEntered, TellEnded, TellBegun}
+use Rattle.sedmatch.specs.Places.{IsPlace, ComesAfter}
+use Rattle.std.specs.Prelude.{slice_get}
+use Rattle.sedmatch.proofs.SearchLemmas.{root_spans}
+use Rattle.sedmatch.proofs.OpenLemmas.{open_from_sets}
+use Rattle.sedmatch.proofs.TableLemmas.{open_sets}
+use Rattle.sedmatch.proofs.states.step.Goals as goal
+
+pub returns-clause-state : goal.returns-clause-state
+returns-clause-state c w s place begins firsts comes enters =
+    let nodes = c.args.expr.now.nodes in
+    let r = c.args.root in
+    let arena = c.nodes-count.ensures.arena in
+    let row = c.args.sets.now.entered in
+    let row2 = c.ascend.new.sets.entered in
+    let row3 = c.ascend-2.new.sets.entered in
+    let kept2 : row ≡ row2 = sym c.ascend.ensures.kept in
+    let kept3 : row ≡ row3 = kept2 ∙ sym c.ascend-2.ensures.kept in
+    let inside : place < length w → IsPlace w place c.args.begin false =
+    λ lt. (begins, (λ h. absurd (true≢false (sym h)), λ e. absurd (omega arith))) in
+    let outside : place ≡ length w → IsPlace w place c.args.begin true = λ e. (begins, (λ h. e, λ h. refl)) in
+    let ends : (lt : place < length w) → TellEnded nodes w r s place c.ascend-2.new.sets.ended =
+    λ lt. c.ascend-2.ensures.ended w s place (inside lt) (subst (λ l. ComesAfter nodes w place l c.args.byte) kept2 comes) (subst (λ l. TellEntered nodes w r s place l) kept2 enters) in
+    let begun : place < length w → TellBegun nodes w r s place c.descend.new.sets.entered =
+    λ lt. c.descend.ensures.entered w s place (c.ascend-2.ensures.null w place (inside lt)) (ends lt) firsts (subst (λ l. TellEntered nodes w r s place l) kept3 enters) in
+    record {
+      begun = begun;
+      goes = λ lt. open_from_sets nodes w r s arena c.requires.root place (slice_get w place) c.any_set-goes.result refl
+          (open_sets nodes w r s place c.descend.new.sets.entered (slice_get w place) c.any_set-goes.result (begun lt) c.any_set-goes.ensures.sets arena);
+      inner = λ lt. root_spans nodes w r s arena place c.ascend-2.new.sets.null c.ascend-2.new.sets.ended c.args.first c.ends_here-inner.result c.ends_here-inner.ensures.value firsts
+          (c.ascend-2.ensures.null w place (inside lt)) (ends lt);
+      last = λ e. root_spans nodes w r s arena place c.ascend.new.sets.null c.ascend.new.sets.ended c.args.first c.ends_here-last.result c.ends_here-last.ensures.value firsts
+          (c.ascend.ensures.null w place (outside e)) (c.ascend.ensures.ended w s place (outside e) comes enters);
+    }

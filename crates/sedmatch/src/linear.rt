@@ -1,0 +1,779 @@
+//! The search for the leftmost of the longest spans by tables, in which each byte is passed four times at most.
+ghost use Rattle.std.specs.Prelude.{IfSome, IfNone, true, false, Bool, List, ◌≡◌, ℕ, ◌+◌, ◌-◌, ◌*◌, ◌^◌, ◌<◌, ◌≤◌, ◌↔◌, length, IsTrue};
+ghost use Rattle.sedre.specs.Arena.{tree};
+ghost use Rattle.sedre.specs.Mirror.{seen, mirror};
+ghost use Rattle.sedre.specs.Tree.{Tree};
+ghost use Rattle.sedre.specs.declared.types.Node.{Node};
+ghost use Rattle.sedmatch.specs.Fits.{FitsNodes, SameMarks};
+ghost use Rattle.sedmatch.specs.Spans.{Spans, Found as IsFound, NotFound};
+ghost use Rattle.sedmatch.specs.Reach.{At, SomeSpan};
+ghost use Rattle.sedmatch.specs.Search.{IsRegion, LastEnd, IsEarliest, starts_to};
+ghost use Rattle.sedmatch.specs.Skip.{AllBegin};
+ghost use Rattle.sedmatch.specs.States.{IsAt};
+ghost use Rattle.sedmatch.specs.Tables.{IsTable, NextIs, starts_from};
+ghost use Rattle.sedmatch.specs.Linear.{NoneBefore, IsFirstEnd, ended_to, IsBound};
+
+use crate::counted::{Bytes, Text};
+use crate::passes::{Starts, advance};
+use crate::quick::longest_in;
+use crate::region::Region;
+use crate::scratch::Sets;
+use crate::skip::{Begins, next_start};
+use crate::states::Ends;
+use crate::tables::{Next, Table, first_state, follow, follow_past, go, settle, stay};
+use sedre::{Expr, Nodes, Steps};
+
+/// Where the first match ends.
+#[derive(Clone, Copy)]
+pub struct FirstEnd {
+    /// The place.
+    pub place: usize,
+    /// What is told of it.
+    pub ends: Ends,
+}
+
+/// Whether a match ends at the end of the text.
+fn at_last(place: usize, ends: Ends) -> Option<FirstEnd>
+    ensures first { (nodes : List Node) (w : List ℕ) (r from : ℕ) (marks : List Bool) → r + 1 ≡ length nodes → place ≡ length w → from ≤ place →
+        (IsTrue ends.last ↔ SomeSpan nodes w r (starts_from from w) place) → NoneBefore nodes w r from place →
+        IsFirstEnd nodes w r from marks result }
+    ensures place { (n : ℕ) → place ≡ n → ended_to n result ≡ place }
+{
+    if ends.last {
+        Some(FirstEnd { place, ends })
+    } else {
+        None
+    }
+}
+
+/// Where the first match ends, at the place or behind it, given what is told of the place.
+fn first_end_on(
+    expr: &Nodes,
+    root: usize,
+    text: &Bytes,
+    start: usize,
+    place: usize,
+    ends: Ends,
+    sets: &mut Sets,
+    steps: &mut Steps,
+) -> Option<FirstEnd>
+    requires root { root + 1 ≡ length expr.now.nodes }
+    requires few { length expr.now.nodes ≤ 65536 }
+    requires short { length text.now ≤ 2 ^ 30 }
+    requires start { start ≤ place }
+    requires place { place ≤ length text.now }
+    requires fits { FitsNodes (length expr.now.nodes) sets.old }
+    requires at { IsAt expr.now.nodes text.now root (starts_from start text.now) place sets.old.entered ends }
+    requires missed { NoneBefore expr.now.nodes text.now root start place }
+    requires room { steps.old < 2 ^ 116 }
+    ensures marks { SameMarks sets.old sets.new }
+    ensures first { IsFirstEnd expr.now.nodes text.now root start sets.new.entered result }
+    ensures after { place ≤ ended_to (length text.now) result }
+    ensures grows { steps.old ≤ steps.new }
+    ensures cost { let m = length expr.now.nodes in
+        steps.new + 20 * m * place ≤ steps.old + 20 * m * ended_to (length text.now) result }
+{
+    if place >= text.len() {
+        return at_last(place, ends);
+    }
+    if ends.inner {
+        return Some(FirstEnd { place, ends });
+    }
+    let starts = Starts {
+        first: start,
+        last: text.len(),
+    };
+    let _count = expr.nodes();
+    for at in place + 1..text.len() + 1 {
+        let here = advance(expr, root, text, starts, at, sets, steps);
+        if here.matched {
+            return Some(FirstEnd {
+                place: at,
+                ends: Ends {
+                    inner: true,
+                    last: true,
+                    goes: here.more,
+                },
+            });
+        }
+    }
+    None
+}
+
+/// Where the first match ends that begins at `from` or later, by a table in which every place is a start.
+fn first_end(
+    expr: &Nodes,
+    root: usize,
+    text: &Bytes,
+    from: usize,
+    table: &mut Table,
+    sets: &mut Sets,
+    steps: &mut Steps,
+) -> Option<FirstEnd>
+    requires root { root + 1 ≡ length expr.now.nodes }
+    requires few { length expr.now.nodes ≤ 65536 }
+    requires short { length text.now ≤ 2 ^ 30 }
+    requires from { from ≤ length text.now }
+    requires table { IsTable expr.now.nodes root table.old }
+    requires sweeps { IsTrue table.old.sweeps }
+    requires fits { FitsNodes (length expr.now.nodes) sets.old }
+    requires room { steps.old < 2 ^ 110 }
+    ensures table { IsTable expr.now.nodes root table.new }
+    ensures sweeps { IsTrue table.new.sweeps }
+    ensures marks { SameMarks sets.old sets.new }
+    ensures first { IsFirstEnd expr.now.nodes text.now root from sets.new.entered result }
+    ensures grows { steps.old ≤ steps.new }
+    ensures cost { let m = length expr.now.nodes in
+        steps.new + 42 * m * from ≤ steps.old + 40 * m + 42 * m * ended_to (length text.now) result }
+{
+    let begin = from == 0;
+    let mut place = from;
+    let mut next = first_state(expr, root, table, begin, sets, steps);
+    loop {
+        match next {
+            Next::Full(ends) => {
+                return first_end_on(expr, root, text, from, place, ends, sets, steps);
+            }
+            Next::To(state) => {
+                let ends = table.ends[state];
+                if place >= text.len() {
+                    return at_last(place, ends);
+                }
+                if ends.inner {
+                    table
+                        .rows
+                        .load(state, &mut sets.entered, expr.nodes(), steps);
+                    return Some(FirstEnd { place, ends });
+                }
+                let stop = follow(expr, root, table, text, state, place, steps);
+                if stop.place >= text.len() {
+                    return at_last(stop.place, table.ends[stop.state]);
+                }
+                let byte = text.byte(stop.place, steps);
+                let passed = stop.place - place;
+                next = go(expr, root, table, stop.state, byte, passed, sets, steps);
+                place = stop.place + 1;
+            }
+        }
+    }
+}
+
+/// Up to where matches can end that begin from `start` to `last`, given what is told of a place.
+fn bound_on(
+    expr: &Nodes,
+    root: usize,
+    text: &Bytes,
+    start: usize,
+    last: usize,
+    place: usize,
+    ends: Ends,
+    sets: &mut Sets,
+    steps: &mut Steps,
+) -> usize
+    requires root { root + 1 ≡ length expr.now.nodes }
+    requires few { length expr.now.nodes ≤ 65536 }
+    requires short { length text.now ≤ 2 ^ 30 }
+    requires start { start ≤ last }
+    requires last { last ≤ place }
+    requires place { place ≤ length text.now }
+    requires fits { FitsNodes (length expr.now.nodes) sets.old }
+    requires at { IsAt expr.now.nodes text.now root (starts_to start last) place sets.old.entered ends }
+    requires room { steps.old < 2 ^ 116 }
+    ensures marks { SameMarks sets.old sets.new }
+    ensures bound { IsBound expr.now.nodes text.now root start last result }
+    ensures after { place ≤ result }
+    ensures grows { steps.old ≤ steps.new }
+    ensures cost { let m = length expr.now.nodes in steps.new + 20 * m * place ≤ steps.old + 20 * m * result }
+{
+    if place >= text.len() {
+        return place;
+    }
+    if !ends.goes {
+        return place;
+    }
+    let starts = Starts { first: start, last };
+    let _count = expr.nodes();
+    for at in place + 1..text.len() + 1 {
+        let here = advance(expr, root, text, starts, at, sets, steps);
+        if !here.more {
+            return at;
+        }
+    }
+    text.len()
+}
+
+/// The state with the marks in the sets.
+fn enter(
+    expr: &Nodes,
+    root: usize,
+    table: &mut Table,
+    ends: Ends,
+    sets: &mut Sets,
+    steps: &mut Steps,
+) -> Next
+    requires root { root + 1 ≡ length expr.now.nodes }
+    requires few { length expr.now.nodes ≤ 65536 }
+    requires table { IsTable expr.now.nodes root table.old }
+    requires fits { FitsNodes (length expr.now.nodes) sets.old }
+    requires room { steps.old < 2 ^ 115 }
+    ensures table { IsTable expr.now.nodes root table.new }
+    ensures sweeps { table.new.sweeps ≡ table.old.sweeps }
+    ensures marks { SameMarks sets.old sets.new }
+    ensures next { (w : List ℕ) (s : Starts) (place : ℕ) → IsAt expr.now.nodes w root s place sets.old.entered ends →
+        NextIs (IsAt expr.now.nodes w root s place) table.new sets.new.entered result }
+    ensures grows { steps.old ≤ steps.new }
+    ensures cost { steps.new ≤ steps.old + 6 * length expr.now.nodes }
+{
+    let _count = expr.nodes();
+    match settle(expr, root, table, &sets.entered, ends, steps) {
+        None => Next::Full(ends),
+        Some(state) => Next::To(state),
+    }
+}
+
+/// Up to where matches can end that begin from `start` to `last`, by a table in which no place behind the first is a
+/// start, given what is told of the last.
+fn bound_by(
+    expr: &Nodes,
+    root: usize,
+    text: &Bytes,
+    start: usize,
+    last: usize,
+    ends: Ends,
+    table: &mut Table,
+    sets: &mut Sets,
+    steps: &mut Steps,
+) -> usize
+    requires root { root + 1 ≡ length expr.now.nodes }
+    requires few { length expr.now.nodes ≤ 65536 }
+    requires short { length text.now ≤ 2 ^ 30 }
+    requires start { start ≤ last }
+    requires last { last ≤ length text.now }
+    requires table { IsTable expr.now.nodes root table.old }
+    requires sweeps { table.old.sweeps ≡ false }
+    requires fits { FitsNodes (length expr.now.nodes) sets.old }
+    requires at { IsAt expr.now.nodes text.now root (starts_to start last) last sets.old.entered ends }
+    requires room { steps.old < 2 ^ 110 }
+    ensures table { IsTable expr.now.nodes root table.new }
+    ensures sweeps { table.new.sweeps ≡ false }
+    ensures marks { SameMarks sets.old sets.new }
+    ensures bound { IsBound expr.now.nodes text.now root start last result }
+    ensures grows { steps.old ≤ steps.new }
+    ensures cost { let m = length expr.now.nodes in steps.new + 42 * m * last ≤ steps.old + 6 * m + 42 * m * result }
+{
+    let mut place = last;
+    let mut next = enter(expr, root, table, ends, sets, steps);
+    loop {
+        match next {
+            Next::Full(ends) => {
+                return bound_on(expr, root, text, start, last, place, ends, sets, steps);
+            }
+            Next::To(state) => {
+                if place >= text.len() {
+                    return place;
+                }
+                let here = table.ends[state];
+                if !here.goes {
+                    return place;
+                }
+                let (inner, len) = (here.inner, text.len());
+                let run = stay(expr, root, table, text, state, inner, place, len, steps);
+                if run > place {
+                    place = run;
+                } else {
+                    let stop = follow_past(
+                        expr, root, table, text, state, inner, place, len, steps,
+                    );
+                    if stop.place >= len {
+                        return stop.place;
+                    }
+                    let byte = text.byte(stop.place, steps);
+                    let passed = stop.place - place;
+                    next = go(expr, root, table, stop.state, byte, passed, sets, steps);
+                    place = stop.place + 1;
+                }
+            }
+        }
+    }
+}
+
+/// The better of a place at which a match ends, if it does, and the last one before.
+fn later(
+    nodes: &Nodes,
+    root: usize,
+    bytes: &Bytes,
+    first: usize,
+    best: Option<usize>,
+    place: usize,
+    matched: bool,
+) -> Option<usize>
+    requires root { root + 1 ≡ length nodes.now.nodes }
+    requires place { place ≤ length bytes.now }
+    requires tells { IsTrue matched ↔ SomeSpan nodes.now.nodes bytes.now root (starts_from first bytes.now) place }
+    requires last { LastEnd (tree nodes.now) bytes.now first place best }
+    ensures last { LastEnd (tree nodes.now) bytes.now first (place + 1) result }
+{
+    if matched { Some(place) } else { best }
+}
+
+/// Whether a match ends at the place, given what is told of it.
+fn ends_at(place: usize, len: usize, ends: Ends) -> bool
+    ensures here { (nodes : List Node) (w : List ℕ) (r : ℕ) (s : Starts) (row : List Bool) → len ≡ length w → place ≤ len →
+        IsAt nodes w r s place row ends → IsTrue result ↔ SomeSpan nodes w r s place }
+{
+    if place < len { ends.inner } else { ends.last }
+}
+
+/// The last place up to `stop` at which a match ends that begins at `first` or behind it, given what is told of a
+/// place and the last one before it.
+fn last_on(
+    nodes: &Nodes,
+    root: usize,
+    bytes: &Bytes,
+    first: usize,
+    place: usize,
+    stop: usize,
+    ends: Ends,
+    before: Option<usize>,
+    sets: &mut Sets,
+    steps: &mut Steps,
+) -> Option<usize>
+    requires root { root + 1 ≡ length nodes.now.nodes }
+    requires few { length nodes.now.nodes ≤ 65536 }
+    requires short { length bytes.now ≤ 2 ^ 30 }
+    requires first { first ≤ place }
+    requires place { place ≤ stop }
+    requires stop { stop ≤ length bytes.now }
+    requires fits { FitsNodes (length nodes.now.nodes) sets.old }
+    requires at { IsAt nodes.now.nodes bytes.now root (starts_from first bytes.now) place sets.old.entered ends }
+    requires best { LastEnd (tree nodes.now) bytes.now first place before }
+    requires room { steps.old < 2 ^ 116 }
+    ensures marks { SameMarks sets.old sets.new }
+    ensures last { LastEnd (tree nodes.now) bytes.now first (stop + 1) result }
+    ensures grows { steps.old ≤ steps.new }
+    ensures cost { let m = length nodes.now.nodes in steps.new + 20 * m * place ≤ steps.old + 20 * m * stop }
+{
+    let here = ends_at(place, bytes.len(), ends);
+    let mut best = later(nodes, root, bytes, first, before, place, here);
+    if place >= stop {
+        return best;
+    }
+    let starts = Starts {
+        first,
+        last: bytes.len(),
+    };
+    let _count = nodes.nodes();
+    for at in place + 1..stop + 1 {
+        let here = advance(nodes, root, bytes, starts, at, sets, steps);
+        best = later(nodes, root, bytes, first, best, at, here.matched);
+    }
+    best
+}
+
+/// The last place up to `stop` at which a match ends that begins at `first` or behind it, by a table in which every
+/// place is a start.
+fn last_by(
+    nodes: &Nodes,
+    root: usize,
+    bytes: &Bytes,
+    first: usize,
+    stop: usize,
+    table: &mut Table,
+    sets: &mut Sets,
+    steps: &mut Steps,
+) -> Option<usize>
+    requires root { root + 1 ≡ length nodes.now.nodes }
+    requires few { length nodes.now.nodes ≤ 65536 }
+    requires short { length bytes.now ≤ 2 ^ 30 }
+    requires order { first ≤ stop }
+    requires inside { stop ≤ length bytes.now }
+    requires table { IsTable nodes.now.nodes root table.old }
+    requires sweeps { IsTrue table.old.sweeps }
+    requires fits { FitsNodes (length nodes.now.nodes) sets.old }
+    requires room { steps.old < 2 ^ 110 }
+    ensures table { IsTable nodes.now.nodes root table.new }
+    ensures sweeps { IsTrue table.new.sweeps }
+    ensures marks { SameMarks sets.old sets.new }
+    ensures last { LastEnd (tree nodes.now) bytes.now first (stop + 1) result }
+    ensures grows { steps.old ≤ steps.new }
+    ensures cost { let m = length nodes.now.nodes in steps.new + 42 * m * first ≤ steps.old + 38 * m + 42 * m * stop }
+{
+    let begin = first == 0;
+    let mut place = first;
+    let mut best = None;
+    let mut next = first_state(nodes, root, table, begin, sets, steps);
+    loop {
+        match next {
+            Next::Full(ends) => {
+                return last_on(
+                    nodes, root, bytes, first, place, stop, ends, best, sets, steps,
+                );
+            }
+            Next::To(state) => {
+                let ends = table.ends[state];
+                let here = ends_at(place, bytes.len(), ends);
+                best = later(nodes, root, bytes, first, best, place, here);
+                if place >= stop {
+                    return best;
+                }
+                let inner = ends.inner;
+                let run = stay(nodes, root, table, bytes, state, inner, place, stop, steps);
+                if run > place {
+                    best = Some(run - 1);
+                    place = run;
+                } else {
+                    let to = follow_past(
+                        nodes, root, table, bytes, state, inner, place, stop, steps,
+                    );
+                    if to.place >= stop {
+                        let there = ends_at(to.place, bytes.len(), table.ends[to.state]);
+                        return later(nodes, root, bytes, first, best, to.place, there);
+                    }
+                    let byte = bytes.byte(to.place, steps);
+                    let passed = to.place - place;
+                    next = go(nodes, root, table, to.state, byte, passed, sets, steps);
+                    place = to.place + 1;
+                }
+            }
+        }
+    }
+}
+
+/// Where the first match ends, in a text as it is, and the marks there.
+pub fn first_end_in(
+    expr: &Expr,
+    root: usize,
+    text: &Text,
+    from: usize,
+    table: &mut Table,
+    sets: &mut Sets,
+    steps: &mut Steps,
+) -> Option<FirstEnd>
+    requires root { root + 1 ≡ length expr.now.nodes }
+    requires few { length expr.now.nodes ≤ 65536 }
+    requires short { length text.now ≤ 2 ^ 30 }
+    requires from { from ≤ length text.now }
+    requires table { IsTable expr.now.nodes root table.old }
+    requires sweeps { IsTrue table.old.sweeps }
+    requires fits { FitsNodes (length expr.now.nodes) sets.old }
+    requires room { steps.old < 2 ^ 110 }
+    ensures table { IsTable expr.now.nodes root table.new }
+    ensures sweeps { IsTrue table.new.sweeps }
+    ensures marks { SameMarks sets.old sets.new }
+    ensures first { IsFirstEnd expr.now.nodes text.now root from sets.new.entered result }
+    ensures grows { steps.old ≤ steps.new }
+    ensures cost { let m = length expr.now.nodes in
+        steps.new + 42 * m * from ≤ steps.old + 40 * m + 42 * m * ended_to (length text.now) result }
+{
+    let nodes = Nodes::of(expr);
+    let bytes = text.forwards();
+    first_end(&nodes, root, &bytes, from, table, sets, steps)
+}
+
+/// Up to where matches can end, in a text as it is.
+fn bound_in(
+    expr: &Expr,
+    root: usize,
+    text: &Text,
+    start: usize,
+    last: usize,
+    ends: Ends,
+    table: &mut Table,
+    sets: &mut Sets,
+    steps: &mut Steps,
+) -> usize
+    requires root { root + 1 ≡ length expr.now.nodes }
+    requires few { length expr.now.nodes ≤ 65536 }
+    requires short { length text.now ≤ 2 ^ 30 }
+    requires start { start ≤ last }
+    requires last { last ≤ length text.now }
+    requires table { IsTable expr.now.nodes root table.old }
+    requires sweeps { table.old.sweeps ≡ false }
+    requires fits { FitsNodes (length expr.now.nodes) sets.old }
+    requires at { IsAt expr.now.nodes text.now root (starts_to start last) last sets.old.entered ends }
+    requires room { steps.old < 2 ^ 110 }
+    ensures table { IsTable expr.now.nodes root table.new }
+    ensures sweeps { table.new.sweeps ≡ false }
+    ensures marks { SameMarks sets.old sets.new }
+    ensures bound { IsBound expr.now.nodes text.now root start last result }
+    ensures grows { steps.old ≤ steps.new }
+    ensures cost { let m = length expr.now.nodes in steps.new + 42 * m * last ≤ steps.old + 6 * m + 42 * m * result }
+{
+    let nodes = Nodes::of(expr);
+    let bytes = text.forwards();
+    bound_by(&nodes, root, &bytes, start, last, ends, table, sets, steps)
+}
+
+/// The region that begins at `start`, whose last place is where the first match ends.
+fn region_by(
+    expr: &Expr,
+    root: usize,
+    text: &Text,
+    start: usize,
+    first: FirstEnd,
+    table: &mut Table,
+    sets: &mut Sets,
+    steps: &mut Steps,
+) -> Region
+    requires root { root + 1 ≡ length expr.now.nodes }
+    requires few { length expr.now.nodes ≤ 65536 }
+    requires short { length text.now ≤ 2 ^ 30 }
+    requires table { IsTable expr.now.nodes root table.old }
+    requires sweeps { table.old.sweeps ≡ false }
+    requires fits { FitsNodes (length expr.now.nodes) sets.old }
+    requires start { start ≤ first.place }
+    requires inside { first.place ≤ length text.now }
+    requires some { SomeSpan expr.now.nodes text.now root (starts_from start text.now) first.place }
+    requires at { first.place < length text.now →
+        IsAt expr.now.nodes text.now root (starts_from start text.now) first.place sets.old.entered first.ends }
+    requires room { steps.old < 2 ^ 110 }
+    ensures table { IsTable expr.now.nodes root table.new }
+    ensures sweeps { table.new.sweeps ≡ false }
+    ensures marks { SameMarks sets.old sets.new }
+    ensures start { result.start ≡ start }
+    ensures last { result.last ≡ first.place }
+    ensures region { IsRegion (tree expr.now) text.now true result }
+    ensures grows { steps.old ≤ steps.new }
+    ensures cost { let m = length expr.now.nodes in
+        steps.new + 42 * m * first.place ≤ steps.old + 6 * m + 42 * m * result.bound }
+{
+    let last = first.place;
+    if last >= text.len() {
+        return Region {
+            start,
+            last,
+            bound: last,
+        };
+    }
+    let bound = bound_in(
+        expr, root, text, start, last, first.ends, table, sets, steps,
+    );
+    Region { start, last, bound }
+}
+
+/// The first place of the region at which a match begins, by a table for the mirrored expression.
+fn earliest_by(
+    expr: &Expr,
+    root: usize,
+    text: &Text,
+    region: Region,
+    table: &mut Table,
+    sets: &mut Sets,
+    steps: &mut Steps,
+) -> usize
+    requires root { root + 1 ≡ length expr.now.nodes }
+    requires few { length expr.now.nodes ≤ 65536 }
+    requires short { length text.now ≤ 2 ^ 30 }
+    requires region { IsRegion (tree expr.now) text.now true region }
+    requires table { IsTable (seen true expr.now).nodes root table.old }
+    requires sweeps { IsTrue table.old.sweeps }
+    requires fits { FitsNodes (length expr.now.nodes) sets.old }
+    requires room { steps.old < 2 ^ 110 }
+    ensures table { IsTable (seen true expr.now).nodes root table.new }
+    ensures sweeps { IsTrue table.new.sweeps }
+    ensures marks { SameMarks sets.old sets.new }
+    ensures earliest { IsEarliest (tree expr.now) text.now region result }
+    ensures grows { steps.old ≤ steps.new }
+    ensures cost { let m = length expr.now.nodes in
+        steps.new + 42 * m * region.start ≤ steps.old + 38 * m + 42 * m * region.bound }
+{
+    if region.start == region.last {
+        return region.start;
+    }
+    let len = text.len();
+    let nodes = Nodes::mirrored(expr);
+    let bytes = text.backwards();
+    let first = len - region.bound;
+    let stop = len - region.start;
+    match last_by(&nodes, root, &bytes, first, stop, table, sets, steps) {
+        None => region.start,
+        Some(place) => len - place,
+    }
+}
+
+/// The leftmost-longest span among those that begin in the region.
+fn span_by(
+    expr: &Expr,
+    root: usize,
+    text: &Text,
+    region: Region,
+    single: &mut Table,
+    back: &mut Table,
+    sets: &mut Sets,
+    steps: &mut Steps,
+) -> Option<(usize, usize)>
+    requires root { root + 1 ≡ length expr.now.nodes }
+    requires few { length expr.now.nodes ≤ 65536 }
+    requires short { length text.now ≤ 2 ^ 30 }
+    requires region { IsRegion (tree expr.now) text.now true region }
+    requires single { IsTable expr.now.nodes root single.old }
+    requires single_sweeps { single.old.sweeps ≡ false }
+    requires back { IsTable (seen true expr.now).nodes root back.old }
+    requires back_sweeps { IsTrue back.old.sweeps }
+    requires fits { FitsNodes (length expr.now.nodes) sets.old }
+    requires room { steps.old < 2 ^ 108 }
+    ensures single { IsTable expr.now.nodes root single.new }
+    ensures single_sweeps { single.new.sweeps ≡ false }
+    ensures back { IsTable (seen true expr.now).nodes root back.new }
+    ensures back_sweeps { IsTrue back.new.sweeps }
+    ensures marks { SameMarks sets.old sets.new }
+    ensures found { IfSome result (λ f. IsFound (tree expr.now) text.now region.start f.0 f.1) }
+    ensures some { IfNone result ⊥ }
+    ensures lies { IfSome result (λ f. (f.0 ≤ f.1) × (f.1 ≤ length text.now)) }
+    ensures grows { steps.old ≤ steps.new }
+    ensures none_long { region.bound ≡ region.start → steps.new ≡ steps.old }
+    ensures cost { let m = length expr.now.nodes in
+        steps.new + 84 * m * region.start ≤ steps.old + 76 * m + 42 * m * region.bound + 42 * m * length text.now }
+{
+    if region.bound == region.start {
+        return Some((region.start, region.start));
+    }
+    let start = earliest_by(expr, root, text, region, back, sets, steps);
+    match longest_in(expr, root, text, start, single, sets, steps) {
+        None => None,
+        Some(end) => Some((start, end)),
+    }
+}
+
+/// The leftmost-longest span of an expression that matches at the beginning of the text alone, by one pass from there.
+pub fn anchored_by(
+    expr: &Expr,
+    root: usize,
+    text: &Text,
+    from: usize,
+    single: &mut Table,
+    sets: &mut Sets,
+    steps: &mut Steps,
+) -> Option<(usize, usize)>
+    requires root { root + 1 ≡ length expr.now.nodes }
+    requires few { length expr.now.nodes ≤ 65536 }
+    requires short { length text.now ≤ 2 ^ 30 }
+    requires from { from ≤ length text.now }
+    requires begins { (i j : ℕ) → Spans (tree expr.now) text.now i j → i ≡ 0 }
+    requires single { IsTable expr.now.nodes root single.old }
+    requires single_sweeps { single.old.sweeps ≡ false }
+    requires fits { FitsNodes (length expr.now.nodes) sets.old }
+    requires room { steps.old < 2 ^ 110 }
+    ensures single { IsTable expr.now.nodes root single.new }
+    ensures single_sweeps { single.new.sweeps ≡ false }
+    ensures marks { SameMarks sets.old sets.new }
+    ensures found { IfSome result (λ f. IsFound (tree expr.now) text.now from f.0 f.1) }
+    ensures none { IfNone result (NotFound (tree expr.now) text.now from) }
+    ensures lies { IfSome result (λ f. (f.0 ≤ f.1) × (f.1 ≤ length text.now)) }
+    ensures grows { steps.old ≤ steps.new }
+    ensures cost { let m = length expr.now.nodes in steps.new ≤ steps.old + 38 * m + 42 * m * length text.now }
+{
+    if from > 0 {
+        return None;
+    }
+    match longest_in(expr, root, text, from, single, sets, steps) {
+        None => None,
+        Some(end) => Some((from, end)),
+    }
+}
+
+/// The leftmost-longest span that begins at `from` or later.
+pub fn leftmost_by(
+    expr: &Expr,
+    root: usize,
+    begins: &Begins,
+    text: &Text,
+    from: usize,
+    every: &mut Table,
+    single: &mut Table,
+    back: &mut Table,
+    sets: &mut Sets,
+    steps: &mut Steps,
+) -> Option<(usize, usize)>
+    requires root { root + 1 ≡ length expr.now.nodes }
+    requires few { length expr.now.nodes ≤ 65536 }
+    requires short { length text.now ≤ 2 ^ 30 }
+    requires from { from ≤ length text.now }
+    requires begins { AllBegin (tree expr.now) begins.now }
+    requires every { IsTable expr.now.nodes root every.old }
+    requires every_sweeps { IsTrue every.old.sweeps }
+    requires single { IsTable expr.now.nodes root single.old }
+    requires single_sweeps { single.old.sweeps ≡ false }
+    requires back { IsTable (seen true expr.now).nodes root back.old }
+    requires back_sweeps { IsTrue back.old.sweeps }
+    requires fits { FitsNodes (length expr.now.nodes) sets.old }
+    requires room { steps.old ≤ 2 ^ 100 }
+    ensures every { IsTable expr.now.nodes root every.new }
+    ensures every_sweeps { IsTrue every.new.sweeps }
+    ensures single { IsTable expr.now.nodes root single.new }
+    ensures single_sweeps { single.new.sweeps ≡ false }
+    ensures back { IsTable (seen true expr.now).nodes root back.new }
+    ensures back_sweeps { IsTrue back.new.sweeps }
+    ensures marks { SameMarks sets.old sets.new }
+    ensures found { IfSome result (λ f. IsFound (tree expr.now) text.now from f.0 f.1) }
+    ensures none { IfNone result (NotFound (tree expr.now) text.now from) }
+    ensures lies { IfSome result (λ f. (f.0 ≤ f.1) × (f.1 ≤ length text.now)) }
+    ensures grows { steps.old ≤ steps.new }
+    ensures cost { let m = length expr.now.nodes in let n = length text.now in
+        steps.new ≤ steps.old + 128 * m * (n + 1) }
+    ensures short_cost { let m = length expr.now.nodes in let n = length text.now in
+        steps.new ≤ steps.old + 64 * m * (n + 1) * (n + 1) }
+    ensures none_cost { let m = length expr.now.nodes in let n = length text.now in
+        IfNone result (steps.new ≤ steps.old + 64 * m * (n + 1)) }
+{
+    match begins {
+        Begins::AtStart => anchored_by(expr, root, text, from, single, sets, steps),
+        _ => anywhere_by(
+            expr, root, begins, text, from, every, single, back, sets, steps,
+        ),
+    }
+}
+
+/// The same where matches may begin at any place.
+fn anywhere_by(
+    expr: &Expr,
+    root: usize,
+    begins: &Begins,
+    text: &Text,
+    from: usize,
+    every: &mut Table,
+    single: &mut Table,
+    back: &mut Table,
+    sets: &mut Sets,
+    steps: &mut Steps,
+) -> Option<(usize, usize)>
+    requires root { root + 1 ≡ length expr.now.nodes }
+    requires few { length expr.now.nodes ≤ 65536 }
+    requires short { length text.now ≤ 2 ^ 30 }
+    requires from { from ≤ length text.now }
+    requires begins { AllBegin (tree expr.now) begins.now }
+    requires every { IsTable expr.now.nodes root every.old }
+    requires every_sweeps { IsTrue every.old.sweeps }
+    requires single { IsTable expr.now.nodes root single.old }
+    requires single_sweeps { single.old.sweeps ≡ false }
+    requires back { IsTable (seen true expr.now).nodes root back.old }
+    requires back_sweeps { IsTrue back.old.sweeps }
+    requires fits { FitsNodes (length expr.now.nodes) sets.old }
+    requires room { steps.old ≤ 2 ^ 100 }
+    ensures every { IsTable expr.now.nodes root every.new }
+    ensures every_sweeps { IsTrue every.new.sweeps }
+    ensures single { IsTable expr.now.nodes root single.new }
+    ensures single_sweeps { single.new.sweeps ≡ false }
+    ensures back { IsTable (seen true expr.now).nodes root back.new }
+    ensures back_sweeps { IsTrue back.new.sweeps }
+    ensures marks { SameMarks sets.old sets.new }
+    ensures found { IfSome result (λ f. IsFound (tree expr.now) text.now from f.0 f.1) }
+    ensures none { IfNone result (NotFound (tree expr.now) text.now from) }
+    ensures lies { IfSome result (λ f. (f.0 ≤ f.1) × (f.1 ≤ length text.now)) }
+    ensures grows { steps.old ≤ steps.new }
+    ensures cost { let m = length expr.now.nodes in let n = length text.now in
+        steps.new ≤ steps.old + 128 * m * (n + 1) }
+    ensures short_cost { let m = length expr.now.nodes in let n = length text.now in
+        steps.new ≤ steps.old + 64 * m * (n + 1) * (n + 1) }
+    ensures none_cost { let m = length expr.now.nodes in let n = length text.now in
+        IfNone result (steps.new ≤ steps.old + 64 * m * (n + 1)) }
+{
+    let Some(start) = next_start(begins, text, from, steps) else {
+        return None;
+    };
+    let Some(first) = first_end_in(expr, root, text, start, every, sets, steps) else {
+        return None;
+    };
+    let region = region_by(expr, root, text, start, first, single, sets, steps);
+    span_by(expr, root, text, region, single, back, sets, steps)
+}

@@ -1,0 +1,510 @@
+//! Searches by a table.
+ghost use Rattle.std.specs.Prelude.{IfOk, IfSome, IfNone, true, false, is_some, ◌≡◌, ℕ, ◌+◌, ◌*◌, ◌^◌, ◌<◌, ◌≤◌, ◌↔◌, length, IsTrue};
+ghost use Rattle.sedre.specs.Arena.{tree};
+ghost use Rattle.sedmatch.specs.Fits.{FitsNodes, SameMarks};
+ghost use Rattle.sedmatch.specs.Spans.{Found as IsFound, NotFound, SomeFound};
+ghost use Rattle.sedmatch.specs.Skip.{AllBegin};
+ghost use Rattle.sedmatch.specs.Tables.{IsTable, IsCut};
+ghost use Rattle.sedmatch.specs.Reach.{Longest};
+ghost use Rattle.sedmatch.specs.Answer.{span_found};
+ghost use Rattle.sedmatch.specs.Caps.{IsReport};
+ghost use Rattle.sedmatch.specs.Matching.{found, report};
+ghost use Rattle.sedmatch.specs.Parts.{SpanIn, span_of};
+ghost use Rattle.sedre.specs.Mirror.{seen};
+
+use crate::classes::{Classes, find_classes};
+use crate::counted::{Bytes, Text};
+use crate::groups::report;
+use crate::linear::{anchored_by, first_end_in, leftmost_by};
+use crate::matcher::{Found, find, find_span};
+use crate::runs::is_sight;
+use crate::scratch::{Scratch, Sets};
+use crate::search::{better, longest_on};
+use crate::skip::{Begins, how_begins, next_start};
+use crate::tables::{Next, Table, first_state, follow_past, go, new_table, stay};
+use sedre::{Expr, Nodes, Steps};
+use std::alloc::{AllocError, Global};
+use std::marker::Model;
+
+/// Whether any match begins at `from` or later.
+fn some_by(
+    expr: &Expr,
+    root: usize,
+    begins: &Begins,
+    text: &Text,
+    from: usize,
+    every: &mut Table,
+    single: &mut Table,
+    sets: &mut Sets,
+    steps: &mut Steps,
+) -> bool
+    requires root { root + 1 ≡ length expr.now.nodes }
+    requires few { length expr.now.nodes ≤ 65536 }
+    requires short { length text.now ≤ 2 ^ 30 }
+    requires from { from ≤ length text.now }
+    requires begins { AllBegin (tree expr.now) begins.now }
+    requires every { IsTable expr.now.nodes root every.old }
+    requires every_sweeps { IsTrue every.old.sweeps }
+    requires single { IsTable expr.now.nodes root single.old }
+    requires single_sweeps { single.old.sweeps ≡ false }
+    requires fits { FitsNodes (length expr.now.nodes) sets.old }
+    requires room { steps.old < 2 ^ 109 }
+    ensures every { IsTable expr.now.nodes root every.new }
+    ensures every_sweeps { IsTrue every.new.sweeps }
+    ensures single { IsTable expr.now.nodes root single.new }
+    ensures single_sweeps { single.new.sweeps ≡ false }
+    ensures marks { SameMarks sets.old sets.new }
+    ensures matches { IsTrue result ↔ SomeFound (tree expr.now) text.now from }
+    ensures grows { steps.old ≤ steps.new }
+    ensures cost { steps.new ≤ steps.old + 64 * length expr.now.nodes * (length text.now + 1) }
+{
+    match begins {
+        Begins::AtStart => anchored_by(expr, root, text, from, single, sets, steps).is_some(),
+        _ => some_anywhere(expr, root, begins, text, from, every, sets, steps),
+    }
+}
+
+/// The same where matches may begin at any place.
+fn some_anywhere(
+    expr: &Expr,
+    root: usize,
+    begins: &Begins,
+    text: &Text,
+    from: usize,
+    table: &mut Table,
+    sets: &mut Sets,
+    steps: &mut Steps,
+) -> bool
+    requires root { root + 1 ≡ length expr.now.nodes }
+    requires few { length expr.now.nodes ≤ 65536 }
+    requires short { length text.now ≤ 2 ^ 30 }
+    requires from { from ≤ length text.now }
+    requires begins { AllBegin (tree expr.now) begins.now }
+    requires table { IsTable expr.now.nodes root table.old }
+    requires sweeps { IsTrue table.old.sweeps }
+    requires fits { FitsNodes (length expr.now.nodes) sets.old }
+    requires room { steps.old < 2 ^ 109 }
+    ensures table { IsTable expr.now.nodes root table.new }
+    ensures sweeps { IsTrue table.new.sweeps }
+    ensures marks { SameMarks sets.old sets.new }
+    ensures matches { IsTrue result ↔ SomeFound (tree expr.now) text.now from }
+    ensures grows { steps.old ≤ steps.new }
+    ensures cost { steps.new ≤ steps.old + 64 * length expr.now.nodes * (length text.now + 1) }
+{
+    match next_start(begins, text, from, steps) {
+        None => false,
+        Some(start) => first_end_in(expr, root, text, start, table, sets, steps).is_some(),
+    }
+}
+
+/// The end of the longest match that begins at `start`, by a table in which no place behind it is a start.
+fn longest_by(
+    expr: &Nodes,
+    root: usize,
+    text: &Bytes,
+    start: usize,
+    table: &mut Table,
+    sets: &mut Sets,
+    steps: &mut Steps,
+) -> Option<usize>
+    requires root { root + 1 ≡ length expr.now.nodes }
+    requires few { length expr.now.nodes ≤ 65536 }
+    requires short { length text.now ≤ 2 ^ 30 }
+    requires start { start ≤ length text.now }
+    requires table { IsTable expr.now.nodes root table.old }
+    requires sweeps { table.old.sweeps ≡ false }
+    requires fits { FitsNodes (length expr.now.nodes) sets.old }
+    requires room { steps.old < 2 ^ 110 }
+    ensures table { IsTable expr.now.nodes root table.new }
+    ensures sweeps { table.new.sweeps ≡ false }
+    ensures marks { SameMarks sets.old sets.new }
+    ensures longest { Longest (tree expr.now) text.now start result }
+    ensures lies { IfSome result (λ end. (start ≤ end) × (end ≤ length text.now)) }
+    ensures grows { steps.old ≤ steps.new }
+    ensures cost { let m = length expr.now.nodes in
+        steps.new + 42 * m * start ≤ steps.old + 38 * m + 42 * m * length text.now }
+{
+    let begin = start == 0;
+    let mut place = start;
+    let mut best = None;
+    let mut next = first_state(expr, root, table, begin, sets, steps);
+    loop {
+        match next {
+            Next::Full(ends) => {
+                return longest_on(expr, root, text, start, place, ends, best, sets, steps);
+            }
+            Next::To(state) => {
+                let ends = table.ends[state];
+                if place >= text.len() {
+                    return better(best, place, ends.last);
+                }
+                best = better(best, place, ends.inner);
+                if !ends.goes {
+                    return best;
+                }
+                let (inner, len) = (ends.inner, text.len());
+                let run = stay(expr, root, table, text, state, inner, place, len, steps);
+                if run > place {
+                    best = Some(run - 1);
+                    place = run;
+                } else {
+                    let stop = follow_past(
+                        expr, root, table, text, state, inner, place, len, steps,
+                    );
+                    if stop.place >= len {
+                        return better(best, stop.place, table.ends[stop.state].last);
+                    }
+                    let byte = text.byte(stop.place, steps);
+                    let passed = stop.place - place;
+                    next = go(expr, root, table, stop.state, byte, passed, sets, steps);
+                    place = stop.place + 1;
+                }
+            }
+        }
+    }
+}
+
+/// The same over a text as it is.
+pub fn longest_in(
+    expr: &Expr,
+    root: usize,
+    text: &Text,
+    start: usize,
+    table: &mut Table,
+    sets: &mut Sets,
+    steps: &mut Steps,
+) -> Option<usize>
+    requires root { root + 1 ≡ length expr.now.nodes }
+    requires few { length expr.now.nodes ≤ 65536 }
+    requires short { length text.now ≤ 2 ^ 30 }
+    requires start { start ≤ length text.now }
+    requires table { IsTable expr.now.nodes root table.old }
+    requires sweeps { table.old.sweeps ≡ false }
+    requires fits { FitsNodes (length expr.now.nodes) sets.old }
+    requires room { steps.old < 2 ^ 110 }
+    ensures table { IsTable expr.now.nodes root table.new }
+    ensures sweeps { table.new.sweeps ≡ false }
+    ensures marks { SameMarks sets.old sets.new }
+    ensures longest { Longest (tree expr.now) text.now start result }
+    ensures lies { IfSome result (λ end. (start ≤ end) × (end ≤ length text.now)) }
+    ensures grows { steps.old ≤ steps.new }
+    ensures cost { let m = length expr.now.nodes in
+        steps.new + 42 * m * start ≤ steps.old + 38 * m + 42 * m * length text.now }
+{
+    let nodes = Nodes::of(expr);
+    let bytes = text.forwards();
+    longest_by(&nodes, root, &bytes, start, table, sets, steps)
+}
+
+/// The leftmost-longest match that begins at `from` or later, with its groups.
+fn find_by(
+    expr: &Expr,
+    root: usize,
+    begins: &Begins,
+    text: &Text,
+    from: usize,
+    every: &mut Table,
+    single: &mut Table,
+    back: &mut Table,
+    scratch: &mut Scratch,
+    steps: &mut Steps,
+) -> Option<Found>
+    requires root { root + 1 ≡ length expr.now.nodes }
+    requires some { 2 ≤ length expr.now.nodes }
+    requires from { from ≤ length text.now }
+    requires text_fits { length text.now ≤ scratch.old.text }
+    requires expr_fits { length expr.now.nodes ≤ scratch.old.nodes }
+    requires begins { AllBegin (tree expr.now) begins.now }
+    requires every { IsTable expr.now.nodes root every.old }
+    requires every_sweeps { IsTrue every.old.sweeps }
+    requires single { IsTable expr.now.nodes root single.old }
+    requires single_sweeps { single.old.sweeps ≡ false }
+    requires back { IsTable (seen true expr.now).nodes root back.old }
+    requires back_sweeps { IsTrue back.old.sweeps }
+    requires room { steps.old ≤ 2 ^ 100 }
+    ensures every { IsTable expr.now.nodes root every.new }
+    ensures every_sweeps { IsTrue every.new.sweeps }
+    ensures single { IsTable expr.now.nodes root single.new }
+    ensures single_sweeps { single.new.sweeps ≡ false }
+    ensures back { IsTable (seen true expr.now).nodes root back.new }
+    ensures back_sweeps { IsTrue back.new.sweeps }
+    ensures scratch { scratch.new ≡ scratch.old }
+    ensures found { IfSome result (λ f. IsFound (tree expr.now) text.now from f.start f.end) }
+    ensures groups { IfSome result (λ f. IsReport (tree expr.now) text.now f.start f.end f.groups) }
+    ensures none { IfNone result (NotFound (tree expr.now) text.now from) }
+    ensures computed { span_found result ≡ found (tree expr.now) text.now from }
+    ensures reported { IfSome result (λ f. f.groups ≡ report (tree expr.now) text.now f.start f.end) }
+    ensures lies { IfSome result (λ f. (k : ℕ) → SpanIn (length text.now) (span_of f.groups k)) }
+    ensures grows { steps.old ≤ steps.new }
+    ensures cost { let m = length expr.now.nodes in let n = length text.now in
+        steps.new ≤ steps.old + 64 * m * m * (n + 1) * (n + 1) }
+    ensures cost_without_groups { let m = length expr.now.nodes in let n = length text.now in
+        expr.now.groups ≡ 0 → steps.new ≤ steps.old + 64 * m * (n + 1) * (n + 1) }
+    ensures linear_without_groups { let m = length expr.now.nodes in let n = length text.now in
+        expr.now.groups ≡ 0 → steps.new ≤ steps.old + 128 * m * (n + 1) }
+    ensures cost_of_none { let m = length expr.now.nodes in let n = length text.now in
+        IfNone result (steps.new ≤ steps.old + 64 * m * (n + 1)) }
+{
+    let sets = &mut scratch.sets;
+    let (start, end) = leftmost_by(
+        expr, root, begins, text, from, every, single, back, sets, steps,
+    )?;
+    let groups = report(
+        expr,
+        text,
+        start,
+        end,
+        &mut scratch.plan,
+        &mut scratch.sets,
+        &mut scratch.notes,
+        steps,
+    );
+    Some(Found { start, end, groups })
+}
+
+/// An empty table for the expression as it is.
+fn new_table_of(
+    alloc: Global,
+    expr: &Expr,
+    root: usize,
+    sweeps: bool,
+    classes: &Classes,
+    states: usize,
+) -> Result<Table, AllocError>
+    requires nodes { length expr.now.nodes ≤ 65536 }
+    requires classes { IsCut classes.now }
+    requires few { states ≤ 64 }
+    ensures table { IfOk result (λ t. IsTable expr.now.nodes root t) }
+    ensures sweeps { IfOk result (λ t. t.sweeps ≡ sweeps) }
+{
+    let nodes = Nodes::of(expr);
+    new_table(alloc, &nodes, root, sweeps, classes, states)
+}
+
+/// An empty table for the mirrored expression, in which every place is a start.
+fn mirror_table_of(
+    alloc: Global,
+    expr: &Expr,
+    root: usize,
+    classes: &Classes,
+    states: usize,
+) -> Result<Table, AllocError>
+    requires nodes { length expr.now.nodes ≤ 65536 }
+    requires classes { IsCut classes.now }
+    requires few { states ≤ 64 }
+    ensures table { IfOk result (λ t. IsTable (seen true expr.now).nodes root t) }
+    ensures sweeps { IfOk result (λ t. IsTrue t.sweeps) }
+{
+    let nodes = Nodes::mirrored(expr);
+    new_table(alloc, &nodes, root, true, classes, states)
+}
+
+/// The classes of bytes for an expression.
+fn classes_of(alloc: Global, expr: &Expr) -> Result<Classes, AllocError>
+    requires nodes { length expr.now.nodes ≤ 65536 }
+    ensures { IfOk result IsCut }
+{
+    let nodes = Nodes::of(expr);
+    find_classes(alloc, &nodes)
+}
+
+/// How many states a table has room for, where no other number is asked for.
+const STATES: usize = 64;
+
+/// An expression with tables of the states that its searches come to: what was found out at one place of a text serves
+/// at all others, and in later texts, so that a byte mostly costs a few looks, whatever the expression.
+///
+/// It holds a copy of the expression and three tables: for a pass in which every place is a start, for one from a
+/// single start, and for one backwards. All their room is taken in [`TableMatcher::new`], a few kilobytes for a common
+/// expression, and for each some 30 bytes a node. Where an expression is used once, [`crate::find`] and its like are
+/// the better choice: they need no table.
+#[derive(Drop)]
+pub struct TableMatcher {
+    expr: Expr,
+    root: usize,
+    begins: Begins,
+    // Whether a look at the text tells as much as the tables would.
+    sight: bool,
+    every: Table,
+    single: Table,
+    back: Table,
+}
+
+impl Model for TableMatcher {
+    ghost use Rattle.sedre.specs.Arena.{Written};
+
+    ghost Value = { Written };
+
+    ghost use Rattle.sedmatch.specs.Quick.{IsReady};
+
+    ghost view = { λ m. m.expr };
+
+    ghost invariant = { λ m. IsReady m.expr m.root m.begins m.every m.single m.back };
+}
+
+impl TableMatcher {
+    /// The expression with empty tables. Memory is wanting only where a request was refused.
+    pub fn new(alloc: Global, expr: &Expr) -> Result<TableMatcher, AllocError>
+        requires nodes { length expr.now.nodes ≤ 65536 }
+        ensures { IfOk result (λ m. m ≡ expr.now) }
+    {
+        TableMatcher::with_states(alloc, expr, STATES)
+    }
+
+    /// The same with tables of at most so many states, 64 or fewer. The answers are the same for each number, 0
+    /// included: fewer states take less room, and more time where an expression comes to more.
+    pub fn with_states(
+        alloc: Global,
+        expr: &Expr,
+        states: usize,
+    ) -> Result<TableMatcher, AllocError>
+        requires nodes { length expr.now.nodes ≤ 65536 }
+        requires few { states ≤ 64 }
+        ensures { IfOk result (λ m. m ≡ expr.now) }
+    {
+        let root = expr.root().index();
+        let classes = classes_of(alloc, expr)?;
+        let every = new_table_of(alloc, expr, root, true, &classes, states)?;
+        let single = new_table_of(alloc, expr, root, false, &classes, states)?;
+        let back = mirror_table_of(alloc, expr, root, &classes, states)?;
+        let mut steps = Steps::new();
+        let begins = how_begins(expr, &mut steps);
+        Ok(TableMatcher {
+            expr: expr.copy(alloc)?,
+            root,
+            begins,
+            sight: root == 0 || is_sight(expr),
+            every,
+            single,
+            back,
+        })
+    }
+
+    /// How many nodes the expression has.
+    pub fn nodes(&self) -> usize
+        ensures { result ≡ length self.now.nodes }
+    {
+        self.expr.nodes()
+    }
+
+    /// Whether any match begins at `from` or later. Its steps are in proportion to the text, whatever the expression.
+    pub fn is_match(
+        &mut self,
+        text: &Text,
+        from: usize,
+        scratch: &mut Scratch,
+        steps: &mut Steps,
+    ) -> bool
+        requires from { from ≤ length text.now }
+        requires text_fits { length text.now ≤ scratch.old.text }
+        requires expr_fits { length self.old.nodes ≤ scratch.old.nodes }
+        requires room { steps.old ≤ 2 ^ 100 }
+        ensures same { self.new ≡ self.old }
+        ensures scratch { scratch.new ≡ scratch.old }
+        ensures matches { IsTrue result ↔ SomeFound (tree self.old) text.now from }
+        ensures computed { result ≡ is_some (found (tree self.old) text.now from) }
+        ensures grows { steps.old ≤ steps.new }
+        ensures cost { steps.new ≤ steps.old + 64 * length self.old.nodes * (length text.now + 1) }
+    {
+        some_by(
+            &self.expr,
+            self.root,
+            &self.begins,
+            text,
+            from,
+            &mut self.every,
+            &mut self.single,
+            &mut scratch.sets,
+            steps,
+        )
+    }
+
+    /// Where the leftmost-longest match that begins at `from` or later begins and ends, without its groups.
+    pub fn find_span(
+        &mut self,
+        text: &Text,
+        from: usize,
+        scratch: &mut Scratch,
+        steps: &mut Steps,
+    ) -> Option<(usize, usize)>
+        requires from { from ≤ length text.now }
+        requires text_fits { length text.now ≤ scratch.old.text }
+        requires expr_fits { length self.old.nodes ≤ scratch.old.nodes }
+        requires room { steps.old ≤ 2 ^ 100 }
+        ensures same { self.new ≡ self.old }
+        ensures scratch { scratch.new ≡ scratch.old }
+        ensures found { IfSome result (λ f. IsFound (tree self.old) text.now from f.0 f.1) }
+        ensures none { IfNone result (NotFound (tree self.old) text.now from) }
+        ensures computed { result ≡ found (tree self.old) text.now from }
+        ensures lies { IfSome result (λ f. (f.0 ≤ f.1) × (f.1 ≤ length text.now)) }
+        ensures grows { steps.old ≤ steps.new }
+        ensures cost { let m = length self.old.nodes in let n = length text.now in
+            steps.new ≤ steps.old + 64 * m * (n + 1) * (n + 1) }
+        ensures linear_cost { let m = length self.old.nodes in let n = length text.now in
+            steps.new ≤ steps.old + 128 * m * (n + 1) }
+        ensures cost_of_none { let m = length self.old.nodes in let n = length text.now in
+            IfNone result (steps.new ≤ steps.old + 64 * m * (n + 1)) }
+    {
+        if self.sight {
+            return find_span(&self.expr, text, from, scratch, steps);
+        }
+        leftmost_by(
+            &self.expr,
+            self.root,
+            &self.begins,
+            text,
+            from,
+            &mut self.every,
+            &mut self.single,
+            &mut self.back,
+            &mut scratch.sets,
+            steps,
+        )
+    }
+    /// The leftmost-longest match that begins at `from` or later, with its groups. None just where there is none.
+    pub fn find(
+        &mut self,
+        text: &Text,
+        from: usize,
+        scratch: &mut Scratch,
+        steps: &mut Steps,
+    ) -> Option<Found>
+        requires from { from ≤ length text.now }
+        requires text_fits { length text.now ≤ scratch.old.text }
+        requires expr_fits { length self.old.nodes ≤ scratch.old.nodes }
+        requires room { steps.old ≤ 2 ^ 100 }
+        ensures same { self.new ≡ self.old }
+        ensures scratch { scratch.new ≡ scratch.old }
+        ensures found { IfSome result (λ f. IsFound (tree self.old) text.now from f.start f.end) }
+        ensures groups { IfSome result (λ f. IsReport (tree self.old) text.now f.start f.end f.groups) }
+        ensures none { IfNone result (NotFound (tree self.old) text.now from) }
+        ensures computed { span_found result ≡ found (tree self.old) text.now from }
+        ensures reported { IfSome result (λ f. f.groups ≡ report (tree self.old) text.now f.start f.end) }
+        ensures lies { IfSome result (λ f. (k : ℕ) → SpanIn (length text.now) (span_of f.groups k)) }
+        ensures grows { steps.old ≤ steps.new }
+        ensures cost { let m = length self.old.nodes in let n = length text.now in
+            steps.new ≤ steps.old + 64 * m * m * (n + 1) * (n + 1) }
+        ensures cost_without_groups { let m = length self.old.nodes in let n = length text.now in
+            self.old.groups ≡ 0 → steps.new ≤ steps.old + 64 * m * (n + 1) * (n + 1) }
+        ensures linear_without_groups { let m = length self.old.nodes in let n = length text.now in
+            self.old.groups ≡ 0 → steps.new ≤ steps.old + 128 * m * (n + 1) }
+        ensures cost_of_none { let m = length self.old.nodes in let n = length text.now in
+            IfNone result (steps.new ≤ steps.old + 64 * m * (n + 1)) }
+    {
+        if self.sight || self.root == 0 {
+            return find(&self.expr, text, from, scratch, steps);
+        }
+        find_by(
+            &self.expr,
+            self.root,
+            &self.begins,
+            text,
+            from,
+            &mut self.every,
+            &mut self.single,
+            &mut self.back,
+            scratch,
+            steps,
+        )
+    }
+}

@@ -1,0 +1,91 @@
+//! A step of a pass without a text: from the marks at one place and the byte there to those at the next.
+//!
+//! What a step tells holds of every text and place that agree with what it was given, so that it can be kept.
+ghost use Rattle.std.specs.Prelude.{slice_get, Some, ◌≡◌, ℕ, Bool, false, List, ◌+◌, ◌*◌, ◌^◌, ◌<◌, ◌≤◌, ◌↔◌, length, slice_index_or, IsTrue};
+ghost use Rattle.sedmatch.specs.Fits.{FitsNodes, SameMarks};
+ghost use Rattle.sedmatch.specs.Reach.{IsStart, TellEntered};
+ghost use Rattle.sedmatch.specs.Places.{ComesAfter};
+ghost use Rattle.sedmatch.specs.States.{IsAt};
+ghost use Rattle.sedmatch.specs.declared.passes.Starts.{Starts};
+ghost use Rattle.sedre.specs.declared.types.Node.TheVariants.{Set as ASet};
+ghost use Rattle.sedmatch.specs.Places.{takes_any};
+
+use crate::counted::Marks;
+use crate::passes::{ascend, descend, ends_here};
+use crate::scratch::Sets;
+use sedre::{Node, Nodes, Steps};
+
+/// Whether a match ends at a place.
+#[derive(Clone, Copy, PartialEq, Eq)]
+pub struct Ends {
+    /// If bytes follow.
+    pub inner: bool,
+    /// If the place is the end of the text.
+    pub last: bool,
+    /// Not whether one ends there, but whether one that began there or before may end later.
+    pub goes: bool,
+}
+
+/// Whether the node is a set.
+fn is_set(node: &Node) -> bool
+    ensures { result ≡ takes_any node.now }
+{
+    matches!(node, Node::Set(_))
+}
+
+/// Whether a set is marked.
+fn any_set(expr: &Nodes, root: usize, marks: &Marks, steps: &mut Steps) -> bool
+    requires root { root < length expr.now.nodes }
+    requires few { length expr.now.nodes ≤ 65536 }
+    requires there { length expr.now.nodes ≤ length marks.now }
+    requires room { steps.old < 2 ^ 118 }
+    ensures sets { (c : ℕ) (set : List Bool) → c < root + 1 → slice_get expr.now.nodes c ≡ Some (ASet set) →
+        IsTrue (slice_index_or marks.now c false) → IsTrue result }
+    ensures grows { steps.old ≤ steps.new }
+    ensures cost { steps.new ≤ steps.old + 2 * (root + 1) }
+{
+    for x in 0..root + 1 {
+        let node = expr.look(expr.id(x), steps);
+        if is_set(&node) && marks.get(x, steps) {
+            return true;
+        }
+    }
+    false
+}
+
+/// Brings the marks of a pass to a place behind `byte`, which `begin` says to be the text's beginning, and at which a
+/// match may begin if `first` says so.
+pub fn step(
+    expr: &Nodes,
+    root: usize,
+    byte: Option<u8>,
+    begin: bool,
+    first: bool,
+    sets: &mut Sets,
+    steps: &mut Steps,
+) -> Ends
+    requires root { root < length expr.now.nodes }
+    requires few { length expr.now.nodes ≤ 65536 }
+    requires fits { FitsNodes (length expr.now.nodes) sets.old }
+    requires room { steps.old < 2 ^ 117 }
+    ensures marks { SameMarks sets.old sets.new }
+    ensures state { (w : List ℕ) (s : Starts) (place : ℕ) →
+        (IsTrue begin ↔ (place ≡ 0)) → (IsTrue first ↔ IsStart s place) →
+        ComesAfter expr.now.nodes w place sets.old.entered byte →
+        TellEntered expr.now.nodes w root s place sets.old.entered →
+        IsAt expr.now.nodes w root s place sets.new.entered result }
+    ensures grows { steps.old ≤ steps.new }
+    ensures cost { steps.new ≤ steps.old + 26 * length expr.now.nodes + 5 }
+{
+    let _count = expr.nodes();
+    let mut own = Steps::new();
+    ascend(expr, root, byte, begin, true, sets, &mut own);
+    let last = ends_here(root, first, &sets.null, &sets.ended, &mut own);
+    ascend(expr, root, byte, begin, false, sets, &mut own);
+    let inner = ends_here(root, first, &sets.null, &sets.ended, &mut own);
+    descend(expr, root, first, None, sets, &mut own);
+    let goes = any_set(expr, root, &sets.entered, &mut own);
+    let count = own.count();
+    steps.add(count as usize);
+    Ends { inner, last, goes }
+}

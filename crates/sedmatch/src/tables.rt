@@ -1,0 +1,719 @@
+//! A table of the states that a pass comes to, and of the state to which each byte leads from each.
+//!
+//! A state is the marks at a place and whether a match ends there. A cell is filled when it is first asked for, by one
+//! step of the pass. So a byte mostly costs a look at its class and one at a cell.
+//!
+//! A full table is emptied, and the search goes on. Where few bytes were passed by its cells since the last time,
+//! that search goes on by marks in its place: so a table that doesn't help costs little.
+ghost use Rattle.std.specs.Prelude.{◌≡◌, ℕ, Bool, true, false, List, ◌+◌, ◌-◌, ◌*◌, ◌/◌, ◌^◌, ◌<◌, ◌≤◌, ◌↔◌, length, replicate, slice_index_or, slice_get, Some, IsTrue, IfOk, IfSome, IfNone, vec_len};
+ghost use Rattle.sedre.specs.Arena.{IsArena};
+ghost use Rattle.sedmatch.specs.Fits.{FitsNodes, SameMarks};
+ghost use Rattle.sedmatch.specs.Words.{AgreeBelow, row_of};
+ghost use Rattle.sedmatch.specs.Reach.{IsStart, SomeSpan};
+ghost use Rattle.sedmatch.specs.States.{IsAt};
+ghost use Rattle.sedmatch.specs.Tables.{IsTable, StateAt, NextIs, stops, code_of, ends_of, LeadsOn, LeadsFrom, IsFirst, HasState, Grows, Follows, Stays, look_cost, IsCut};
+ghost use Rattle.sedmatch.specs.declared.passes.Starts.{Starts};
+
+use crate::classes::{Classes, are_classes};
+use crate::counted::{Bytes, Marks, Rows};
+use crate::scratch::Sets;
+use crate::states::{Ends, step};
+use sedre::{Nodes, Steps};
+use std::alloc::{AllocError, Global};
+
+/// The least code of a state at which a search doesn't stop.
+const PLAIN: u16 = 32768;
+
+/// How many digests are told apart.
+const SLOTS: usize = 128;
+
+/// How many cells a table has at most.
+const CELLS: usize = 4096;
+
+/// A full table is worth emptying if so many bytes for each state were passed by its cells since the last time.
+const WORTH: usize = 8;
+
+/// A table for one expression.
+#[derive(Drop)]
+pub struct Table {
+    /// The marks of each state, and room for more.
+    pub rows: Rows,
+    /// Whether a match ends where the state is.
+    pub ends: Vec<Ends>,
+    /// How many states there are.
+    pub count: usize,
+    /// For each state and each class of bytes the code of the state that comes next, or 0 where it isn't known yet.
+    pub cells: Vec<u16>,
+    /// The class of each byte.
+    pub classes: Vec<u8>,
+    /// How many classes there are.
+    pub columns: usize,
+    /// By a digest of its marks, one more than the number of a state that may have them, or 0.
+    pub index: Vec<u8>,
+    /// One more than the state in which a search from the beginning of the text begins, or 0.
+    pub at_begin: usize,
+    /// The same for one from any other place.
+    pub later: usize,
+    /// Whether every place behind the first is a start too.
+    pub sweeps: bool,
+    /// How many bytes were passed by filled cells since the table was last emptied, or near that.
+    pub passed: usize,
+}
+
+/// What comes next.
+#[derive(Clone, Copy)]
+pub enum Next {
+    /// This state.
+    To(usize),
+    /// A state for which there is no room: its marks are among the sets, and these its ends.
+    Full(Ends),
+}
+
+/// Whether a search stops to look at a state with these ends.
+fn stops(sweeps: bool, ends: Ends) -> bool
+    ensures { result ≡ stops sweeps ends }
+{
+    ends.inner || !(sweeps || ends.goes)
+}
+
+/// The number by which a cell names the state whose cells begin there.
+fn code_of(stops: bool, offset: usize) -> u16
+    requires { offset < 32767 }
+    ensures { result ≡ code_of stops offset }
+{
+    if stops {
+        offset as u16 + 1
+    } else {
+        PLAIN + offset as u16
+    }
+}
+
+/// Where a state with these marks would be noted.
+fn slot_of(expr: &Nodes, table: &Table, row: &Marks, steps: &mut Steps) -> usize
+    requires index { 0 < vec_len table.now.index }
+    requires row { length expr.now.nodes ≤ length row.now }
+    requires room { steps.old < 2 ^ 118 }
+    ensures inside { result < vec_len table.now.index }
+    ensures cost { steps.new ≡ steps.old + length expr.now.nodes }
+{
+    (row.digest(expr.nodes(), steps) % table.index.len() as u64) as usize
+}
+
+/// A state with these marks and ends, if the table has one where it is looked for.
+fn find_state(
+    expr: &Nodes,
+    root: usize,
+    table: &Table,
+    slot: usize,
+    row: &Marks,
+    ends: Ends,
+    steps: &mut Steps,
+) -> Option<usize>
+    requires table { IsTable expr.now.nodes root table.now }
+    requires slot { slot < vec_len table.now.index }
+    requires row { length expr.now.nodes ≤ length row.now }
+    requires room { steps.old < 2 ^ 118 }
+    ensures has { HasState (length expr.now.nodes) table.now row.now ends result }
+    ensures grows { steps.old ≤ steps.new }
+    ensures cost { steps.new ≤ steps.old + length expr.now.nodes + 1 }
+{
+    steps.add(1);
+    let noted = table.index[slot] as usize;
+    if noted == 0 || noted > table.count {
+        return None;
+    }
+    let state = noted - 1;
+    if table.ends[state] == ends && table.rows.same(state, row, expr.nodes(), steps) {
+        Some(state)
+    } else {
+        None
+    }
+}
+
+/// Makes the cells from a place on those of a state from which nothing is known yet. Counts a look for each.
+fn clear_cells(cells: &mut Vec<u16>, from: usize, count: usize, steps: &mut Steps)
+    requires inside { from + count ≤ vec_len cells.old }
+    requires room { steps.old < 2 ^ 119 }
+    ensures len { length cells.new.items ≡ length cells.old.items }
+    ensures clear { (k : ℕ) → k < count → slice_index_or cells.new.items (from + k) 0 ≡ 0 }
+    ensures before { (k : ℕ) → k < from → slice_index_or cells.new.items k 0 ≡ slice_index_or cells.old.items k 0 }
+    ensures cost { steps.new ≡ steps.old + count }
+{
+    steps.add(count);
+    for x in 0..count {
+        cells[from + x] = 0;
+    }
+}
+
+/// Adds a state with these marks and ends, if there is room.
+fn add_state(
+    expr: &Nodes,
+    root: usize,
+    table: &mut Table,
+    slot: usize,
+    row: &Marks,
+    ends: Ends,
+    steps: &mut Steps,
+) -> Option<usize>
+    requires table { IsTable expr.now.nodes root table.old }
+    requires slot { slot < vec_len table.old.index }
+    requires row { length expr.now.nodes ≤ length row.now }
+    requires few { length expr.now.nodes ≤ 65536 }
+    requires room { steps.old < 2 ^ 118 }
+    ensures table { IsTable expr.now.nodes root table.new }
+    ensures kept { Grows table.old table.new }
+    ensures has { HasState (length expr.now.nodes) table.new row.now ends result }
+    ensures grows { steps.old ≤ steps.new }
+    ensures none_cost { IfNone result (steps.new ≡ steps.old) }
+    ensures cost { steps.new ≤ steps.old + 3 * length expr.now.nodes }
+{
+    let state = table.count;
+    if state >= table.rows.len() {
+        return None;
+    }
+    let columns = table.columns;
+    table.rows.store(state, row, expr.nodes(), steps);
+    table.ends[state] = ends;
+    clear_cells(&mut table.cells, columns * state, columns, steps);
+    table.index[slot] = state as u8 + 1;
+    table.count = state + 1;
+    Some(state)
+}
+
+/// A state with these marks and ends, which is added where it isn't found and there is room.
+fn state_of(
+    expr: &Nodes,
+    root: usize,
+    table: &mut Table,
+    slot: usize,
+    row: &Marks,
+    ends: Ends,
+    steps: &mut Steps,
+) -> Option<usize>
+    requires table { IsTable expr.now.nodes root table.old }
+    requires slot { slot < vec_len table.old.index }
+    requires row { length expr.now.nodes ≤ length row.now }
+    requires few { length expr.now.nodes ≤ 65536 }
+    requires room { steps.old < 2 ^ 117 }
+    ensures table { IsTable expr.now.nodes root table.new }
+    ensures kept { Grows table.old table.new }
+    ensures has { HasState (length expr.now.nodes) table.new row.now ends result }
+    ensures grows { steps.old ≤ steps.new }
+    ensures none_cost { IfNone result (steps.new ≤ steps.old + length expr.now.nodes + 1) }
+    ensures cost { steps.new ≤ steps.old + 4 * length expr.now.nodes + 1 }
+{
+    let _count = expr.nodes();
+    match find_state(expr, root, table, slot, row, ends, steps) {
+        Some(state) => Some(state),
+        None => add_state(expr, root, table, slot, row, ends, steps),
+    }
+}
+
+/// Takes all states away.
+fn forget(expr: &Nodes, root: usize, table: &mut Table)
+    requires table { IsTable expr.now.nodes root table.old }
+    ensures table { IsTable expr.now.nodes root table.new }
+    ensures sweeps { table.new.sweeps ≡ table.old.sweeps }
+    ensures index { table.new.index ≡ table.old.index }
+{
+    table.count = 0;
+    table.at_begin = 0;
+    table.later = 0;
+    table.passed = 0;
+}
+
+/// Empties a full table and adds a state, if the table was worth its while. A table that wasn't is emptied after some
+/// more of these calls.
+fn renew(
+    expr: &Nodes,
+    root: usize,
+    table: &mut Table,
+    slot: usize,
+    row: &Marks,
+    ends: Ends,
+    steps: &mut Steps,
+) -> Option<usize>
+    requires table { IsTable expr.now.nodes root table.old }
+    requires slot { slot < vec_len table.old.index }
+    requires row { length expr.now.nodes ≤ length row.now }
+    requires few { length expr.now.nodes ≤ 65536 }
+    requires room { steps.old < 2 ^ 118 }
+    ensures table { IsTable expr.now.nodes root table.new }
+    ensures sweeps { table.new.sweeps ≡ table.old.sweeps }
+    ensures has { HasState (length expr.now.nodes) table.new row.now ends result }
+    ensures grows { steps.old ≤ steps.new }
+    ensures cost { steps.new ≤ steps.old + 3 * length expr.now.nodes }
+{
+    let states = table.rows.len();
+    if table.passed < WORTH * states {
+        table.passed += states;
+        return None;
+    }
+    forget(expr, root, table);
+    add_state(expr, root, table, slot, row, ends, steps)
+}
+
+/// A state with these marks and ends, for which a full table may be emptied.
+pub fn settle(
+    expr: &Nodes,
+    root: usize,
+    table: &mut Table,
+    row: &Marks,
+    ends: Ends,
+    steps: &mut Steps,
+) -> Option<usize>
+    requires table { IsTable expr.now.nodes root table.old }
+    requires row { length expr.now.nodes ≤ length row.now }
+    requires few { length expr.now.nodes ≤ 65536 }
+    requires room { steps.old < 2 ^ 116 }
+    ensures table { IsTable expr.now.nodes root table.new }
+    ensures sweeps { table.new.sweeps ≡ table.old.sweeps }
+    ensures has { HasState (length expr.now.nodes) table.new row.now ends result }
+    ensures grows { steps.old ≤ steps.new }
+    ensures cost { steps.new ≤ steps.old + 5 * length expr.now.nodes + 1 }
+{
+    let _count = expr.nodes();
+    let slot = slot_of(expr, table, row, steps);
+    match state_of(expr, root, table, slot, row, ends, steps) {
+        Some(state) => Some(state),
+        None => renew(expr, root, table, slot, row, ends, steps),
+    }
+}
+
+/// The state that comes behind a state and a byte, where it is known.
+fn known(
+    expr: &Nodes,
+    root: usize,
+    table: &Table,
+    state: usize,
+    byte: u8,
+    steps: &mut Steps,
+) -> Option<usize>
+    requires table { IsTable expr.now.nodes root table.now }
+    requires state { state < table.now.count }
+    requires room { steps.old < 2 ^ 119 }
+    ensures to { IfSome result (λ q. (q < table.now.count)
+        × LeadsFrom expr.now.nodes root table.now state byte (row_of table.now.rows q) (ends_of table.now.ends.items q)) }
+    ensures cost { steps.new ≡ steps.old + 1 }
+{
+    steps.add(1);
+    let class = table.classes[byte as usize] as usize;
+    let cell = table.cells[table.columns * state + class];
+    if cell >= PLAIN {
+        Some((cell - PLAIN) as usize / table.columns)
+    } else if cell > 0 {
+        Some((cell - 1) as usize / table.columns)
+    } else {
+        None
+    }
+}
+
+/// Fills a cell.
+fn fill_cell(expr: &Nodes, root: usize, table: &mut Table, state: usize, byte: u8, next: usize)
+    requires table { IsTable expr.now.nodes root table.old }
+    requires state { state < table.old.count }
+    requires next { next < table.old.count }
+    requires leads { LeadsFrom expr.now.nodes root table.old state byte (row_of table.old.rows next) (ends_of table.old.ends.items next) }
+    ensures table { IsTable expr.now.nodes root table.new }
+    ensures rows { table.new.rows ≡ table.old.rows }
+    ensures ends { table.new.ends ≡ table.old.ends }
+    ensures count { table.new.count ≡ table.old.count }
+    ensures sweeps { table.new.sweeps ≡ table.old.sweeps }
+{
+    let class = table.classes[byte as usize] as usize;
+    let ends = table.ends[next];
+    let code = code_of(stops(table.sweeps, ends), table.columns * next);
+    table.cells[table.columns * state + class] = code;
+}
+
+/// Finds out what comes behind a state and a byte, and fills the cell.
+fn fill(
+    expr: &Nodes,
+    root: usize,
+    table: &mut Table,
+    state: usize,
+    byte: u8,
+    sets: &mut Sets,
+    steps: &mut Steps,
+) -> Next
+    requires root { root < length expr.now.nodes }
+    requires few { length expr.now.nodes ≤ 65536 }
+    requires table { IsTable expr.now.nodes root table.old }
+    requires state { state < table.old.count }
+    requires fits { FitsNodes (length expr.now.nodes) sets.old }
+    requires room { steps.old < 2 ^ 115 }
+    ensures table { IsTable expr.now.nodes root table.new }
+    ensures sweeps { table.new.sweeps ≡ table.old.sweeps }
+    ensures marks { SameMarks sets.old sets.new }
+    ensures next { NextIs (LeadsFrom expr.now.nodes root table.old state byte) table.new sets.new.entered result }
+    ensures grows { steps.old ≤ steps.new }
+    ensures cost { steps.new ≤ steps.old + 32 * length expr.now.nodes + 6 }
+{
+    table
+        .rows
+        .load(state, &mut sets.entered, expr.nodes(), steps);
+    let sweeps = table.sweeps;
+    let ends = step(expr, root, Some(byte), false, sweeps, sets, steps);
+    let slot = slot_of(expr, table, &sets.entered, steps);
+    match state_of(expr, root, table, slot, &sets.entered, ends, steps) {
+        Some(next) => {
+            fill_cell(expr, root, table, state, byte, next);
+            Next::To(next)
+        }
+        None => match renew(expr, root, table, slot, &sets.entered, ends, steps) {
+            Some(next) => Next::To(next),
+            None => Next::Full(ends),
+        },
+    }
+}
+
+/// What comes behind a state and a byte, after so many bytes that were passed by filled cells.
+pub fn go(
+    expr: &Nodes,
+    root: usize,
+    table: &mut Table,
+    state: usize,
+    byte: u8,
+    passed: usize,
+    sets: &mut Sets,
+    steps: &mut Steps,
+) -> Next
+    requires root { root < length expr.now.nodes }
+    requires few { length expr.now.nodes ≤ 65536 }
+    requires table { IsTable expr.now.nodes root table.old }
+    requires state { state < table.old.count }
+    requires fits { FitsNodes (length expr.now.nodes) sets.old }
+    requires room { steps.old < 2 ^ 114 }
+    ensures table { IsTable expr.now.nodes root table.new }
+    ensures sweeps { table.new.sweeps ≡ table.old.sweeps }
+    ensures marks { SameMarks sets.old sets.new }
+    ensures next { NextIs (LeadsFrom expr.now.nodes root table.old state byte) table.new sets.new.entered result }
+    ensures grows { steps.old ≤ steps.new }
+    ensures cost { steps.new ≤ steps.old + 32 * length expr.now.nodes + 7 }
+{
+    table.passed = table.passed.saturating_add(passed);
+    match known(expr, root, table, state, byte, steps) {
+        Some(next) => Next::To(next),
+        None => fill(expr, root, table, state, byte, sets, steps),
+    }
+}
+
+/// Finds out in which state a search begins, and notes it.
+fn find_first(
+    expr: &Nodes,
+    root: usize,
+    table: &mut Table,
+    begin: bool,
+    sets: &mut Sets,
+    steps: &mut Steps,
+) -> Next
+    requires root { root < length expr.now.nodes }
+    requires few { length expr.now.nodes ≤ 65536 }
+    requires table { IsTable expr.now.nodes root table.old }
+    requires fits { FitsNodes (length expr.now.nodes) sets.old }
+    requires room { steps.old < 2 ^ 115 }
+    ensures table { IsTable expr.now.nodes root table.new }
+    ensures sweeps { table.new.sweeps ≡ table.old.sweeps }
+    ensures marks { SameMarks sets.old sets.new }
+    ensures next { NextIs (IsFirst expr.now.nodes root begin) table.new sets.new.entered result }
+    ensures grows { steps.old ≤ steps.new }
+    ensures cost { steps.new ≤ steps.old + 32 * length expr.now.nodes + 6 }
+{
+    sets.entered.clear(expr.nodes(), steps);
+    let ends = step(expr, root, None, begin, true, sets, steps);
+    match settle(expr, root, table, &sets.entered, ends, steps) {
+        None => Next::Full(ends),
+        Some(next) => {
+            if begin {
+                table.at_begin = next + 1;
+            } else {
+                table.later = next + 1;
+            }
+            Next::To(next)
+        }
+    }
+}
+
+/// The state in which a search begins.
+pub fn first_state(
+    expr: &Nodes,
+    root: usize,
+    table: &mut Table,
+    begin: bool,
+    sets: &mut Sets,
+    steps: &mut Steps,
+) -> Next
+    requires root { root < length expr.now.nodes }
+    requires few { length expr.now.nodes ≤ 65536 }
+    requires table { IsTable expr.now.nodes root table.old }
+    requires fits { FitsNodes (length expr.now.nodes) sets.old }
+    requires room { steps.old < 2 ^ 114 }
+    ensures table { IsTable expr.now.nodes root table.new }
+    ensures sweeps { table.new.sweeps ≡ table.old.sweeps }
+    ensures marks { SameMarks sets.old sets.new }
+    ensures next { NextIs (IsFirst expr.now.nodes root begin) table.new sets.new.entered result }
+    ensures grows { steps.old ≤ steps.new }
+    ensures cost { steps.new ≤ steps.old + 32 * length expr.now.nodes + 6 }
+{
+    if begin {
+        if table.at_begin > 0 {
+            return Next::To(table.at_begin - 1);
+        }
+    } else if table.later > 0 {
+        return Next::To(table.later - 1);
+    }
+    find_first(expr, root, table, begin, sets, steps)
+}
+
+/// A state and a place.
+#[derive(Clone, Copy)]
+pub struct Stop {
+    /// The state.
+    pub state: usize,
+    /// The place.
+    pub place: usize,
+}
+
+/// Follows filled cells as far as no match ends: to a place, or to one before it at which the byte has no such
+/// cell.
+pub fn follow_to(
+    expr: &Nodes,
+    root: usize,
+    table: &Table,
+    text: &Bytes,
+    state: usize,
+    from: usize,
+    to: usize,
+    steps: &mut Steps,
+) -> Stop
+    requires table { IsTable expr.now.nodes root table.now }
+    requires state { state < table.now.count }
+    requires from { from ≤ to }
+    requires to { to ≤ length text.now }
+    requires short { length text.now ≤ 2 ^ 30 }
+    requires room { steps.old < 2 ^ 118 }
+    ensures state { result.state < table.now.count }
+    ensures after { from ≤ result.place }
+    ensures within { result.place ≤ to }
+    ensures follows { Follows expr.now.nodes root table.now text.now from state result.place result.state }
+    ensures grows { steps.old ≤ steps.new }
+    ensures cost { steps.new + 2 * from ≤ steps.old + 2 * result.place + 2 }
+{
+    let mut own = Steps::new();
+    let columns = table.columns;
+    // The code in place of the state: so the number below is taken off by the address alone.
+    let mut code = PLAIN as usize + columns * state;
+    for place in from..to {
+        let class = table.classes[text.byte(place, &mut own) as usize] as usize;
+        let cell = table.cells[code + class - PLAIN as usize];
+        own.add(1);
+        if cell < PLAIN {
+            let count = own.count();
+            steps.add(count as usize);
+            return Stop {
+                state: (code - PLAIN as usize) / columns,
+                place,
+            };
+        }
+        code = cell as usize;
+    }
+    let count = own.count();
+    steps.add(count as usize);
+    Stop {
+        state: (code - PLAIN as usize) / columns,
+        place: to,
+    }
+}
+
+/// Follows filled cells as far as no match ends: to the end of the text, or to a place at which the byte has no such
+/// cell.
+pub fn follow(
+    expr: &Nodes,
+    root: usize,
+    table: &Table,
+    text: &Bytes,
+    state: usize,
+    from: usize,
+    steps: &mut Steps,
+) -> Stop
+    requires table { IsTable expr.now.nodes root table.now }
+    requires state { state < table.now.count }
+    requires from { from ≤ length text.now }
+    requires short { length text.now ≤ 2 ^ 30 }
+    requires room { steps.old < 2 ^ 118 }
+    ensures state { result.state < table.now.count }
+    ensures after { from ≤ result.place }
+    ensures within { result.place ≤ length text.now }
+    ensures follows { Follows expr.now.nodes root table.now text.now from state result.place result.state }
+    ensures grows { steps.old ≤ steps.new }
+    ensures cost { steps.new + 2 * from ≤ steps.old + 2 * result.place + 2 }
+{
+    follow_to(expr, root, table, text, state, from, text.len(), steps)
+}
+
+/// Goes on as long as a filled cell leads from a state to itself, up to a place at most, if matches end at the state.
+pub fn stay(
+    expr: &Nodes,
+    root: usize,
+    table: &Table,
+    text: &Bytes,
+    state: usize,
+    inner: bool,
+    from: usize,
+    to: usize,
+    steps: &mut Steps,
+) -> usize
+    requires table { IsTable expr.now.nodes root table.now }
+    requires state { state < table.now.count }
+    requires from { from ≤ to }
+    requires to { to ≤ length text.now }
+    requires short { length text.now ≤ 2 ^ 30 }
+    requires room { steps.old < 2 ^ 118 }
+    ensures after { from ≤ result }
+    ensures within { result ≤ to }
+    ensures stays { Stays expr.now.nodes root table.now text.now from state result }
+    ensures only { from < result → IsTrue inner }
+    ensures grows { steps.old ≤ steps.new }
+    ensures cost { steps.new + 2 * from ≤ steps.old + 2 * result + look_cost inner }
+{
+    if !inner {
+        return from;
+    }
+    stay_on(expr, root, table, text, state, from, to, steps)
+}
+
+/// The same at a state at which matches end.
+fn stay_on(
+    expr: &Nodes,
+    root: usize,
+    table: &Table,
+    text: &Bytes,
+    state: usize,
+    from: usize,
+    to: usize,
+    steps: &mut Steps,
+) -> usize
+    requires table { IsTable expr.now.nodes root table.now }
+    requires state { state < table.now.count }
+    requires from { from ≤ to }
+    requires to { to ≤ length text.now }
+    requires short { length text.now ≤ 2 ^ 30 }
+    requires room { steps.old < 2 ^ 118 }
+    ensures after { from ≤ result }
+    ensures within { result ≤ to }
+    ensures stays { Stays expr.now.nodes root table.now text.now from state result }
+    ensures grows { steps.old ≤ steps.new }
+    ensures cost { steps.new + 2 * from ≤ steps.old + 2 * result + 2 }
+{
+    let mut own = Steps::new();
+    let offset = table.columns * state;
+    for place in from..to {
+        let class = table.classes[text.byte(place, &mut own) as usize] as usize;
+        let cell = table.cells[offset + class] as usize;
+        own.add(1);
+        if cell != offset + 1 {
+            let count = own.count();
+            steps.add(count as usize);
+            return place;
+        }
+    }
+    let count = own.count();
+    steps.add(count as usize);
+    to
+}
+
+/// Follows filled cells as [`follow_to`] does, but not from a state at which matches end.
+pub fn follow_past(
+    expr: &Nodes,
+    root: usize,
+    table: &Table,
+    text: &Bytes,
+    state: usize,
+    inner: bool,
+    from: usize,
+    to: usize,
+    steps: &mut Steps,
+) -> Stop
+    requires table { IsTable expr.now.nodes root table.now }
+    requires state { state < table.now.count }
+    requires from { from ≤ to }
+    requires to { to ≤ length text.now }
+    requires short { length text.now ≤ 2 ^ 30 }
+    requires room { steps.old < 2 ^ 118 }
+    ensures state { result.state < table.now.count }
+    ensures after { from ≤ result.place }
+    ensures within { result.place ≤ to }
+    ensures follows { Follows expr.now.nodes root table.now text.now from state result.place result.state }
+    ensures grows { steps.old ≤ steps.new }
+    ensures cost { steps.new + 2 * from + look_cost inner ≤ steps.old + 2 * result.place + 2 }
+{
+    if inner {
+        return Stop { state, place: from };
+    }
+    follow_to(expr, root, table, text, state, from, to, steps)
+}
+
+/// No ends.
+fn new_ends(alloc: Global, states: usize) -> Result<Vec<Ends>, AllocError>
+    ensures { IfOk result (λ v. length v.items ≡ states) }
+{
+    let none = Ends {
+        inner: false,
+        last: false,
+        goes: false,
+    };
+    vec![in alloc; none; states]
+}
+
+/// So many cells of which nothing is known.
+fn new_cells(alloc: Global, count: usize) -> Result<Vec<u16>, AllocError>
+    ensures { IfOk result (λ v. length v.items ≡ count) }
+{
+    vec![in alloc; 0; count]
+}
+
+/// Room to note states.
+fn new_index(alloc: Global) -> Result<Vec<u8>, AllocError>
+    ensures { IfOk result (λ v. 0 < length v.items) }
+{
+    vec![in alloc; 0; SLOTS]
+}
+
+/// An empty table with room for so many states, for fewer where there are many classes of bytes, and for none where
+/// those are more than suits the expression.
+pub fn new_table(
+    alloc: Global,
+    expr: &Nodes,
+    root: usize,
+    sweeps: bool,
+    classes: &Classes,
+    states: usize,
+) -> Result<Table, AllocError>
+    requires nodes { length expr.now.nodes ≤ 65536 }
+    requires classes { IsCut classes.now }
+    requires few { states ≤ 64 }
+    ensures table { IfOk result (λ t. IsTable expr.now.nodes root t) }
+    ensures sweeps { IfOk result (λ t. t.sweeps ≡ sweeps) }
+{
+    let count = expr.nodes();
+    let columns = classes.firsts.len();
+    let suits = columns <= 2 * count && are_classes(expr, classes);
+    let states = if suits {
+        states.min(CELLS / columns)
+    } else {
+        0
+    };
+    Ok(Table {
+        rows: Rows::new(alloc, states, count)?,
+        ends: new_ends(alloc, states)?,
+        count: 0,
+        cells: new_cells(alloc, columns * states)?,
+        classes: classes.of.clone()?,
+        columns,
+        index: new_index(alloc)?,
+        at_begin: 0,
+        later: 0,
+        sweeps,
+        passed: 0,
+    })
+}

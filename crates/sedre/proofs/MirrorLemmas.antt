@@ -1,0 +1,214 @@
+-- A mirrored expression is an expression, and its trees are the mirrored trees.
+use Rattle.std.proofs.Common.{◌≡◌, ℕ, zero, suc, ◌+◌, ◌-◌, ◌<◌, List, length, map, Bool, true, false, Option, Some, None, refl, sym, ap, ◌∙◌, subst, inl, inr, ⊎_elim, arith}
+use Rattle.std.specs.Prelude.{slice_get, option_map}
+use Rattle.std.proofs.lemmas.Option.{slice_get-map}
+use Rattle.std.proofs.lemmas.List.{length-map}
+use Rattle.sedre.specs.Tree.{Tree, empty, set, begin, end, seq, alt, group, star, opt, size}
+use Rattle.sedre.specs.Arena.{Written, IsArena, IsExpr, IsPart, HasTwoParts, tree, tree_of, tree_if, tree_within, tree_at}
+use Rattle.sedre.specs.Mirror.{mirror, mirror_node, node_seen, seen}
+use Rattle.sedre.specs.Packed.{node_of, node_at, FitsShape, Fits, mirror_kept, entry_seen}
+use Rattle.sedre.specs.declared.packed.Entry.{Entry}
+use Rattle.sedre.specs.declared.packed.Shape.{Shape}
+use Rattle.sedre.specs.declared.packed.Shape.TheVariants as shape
+use Rattle.sedre.specs.declared.types.NodeId.{NodeId}
+use Rattle.sedre.specs.declared.types.Node.{Node}
+use Rattle.sedre.specs.declared.types.Node.TheVariants.{Empty, Set, Begin, End, Seq, Alt, Group, Star, Opt}
+
+-- mirrored twice it is as it was
+pub mirror-mirror : (t : Tree) → mirror (mirror t) ≡ t
+mirror-mirror empty = refl
+mirror-mirror (set members) = refl
+mirror-mirror begin = refl
+mirror-mirror end = refl
+mirror-mirror (seq a b) = rw (mirror-mirror a, mirror-mirror b)
+mirror-mirror (alt a b) = rw (mirror-mirror a, mirror-mirror b)
+mirror-mirror (group k a) = rw (mirror-mirror a)
+mirror-mirror (star a first) = rw (mirror-mirror a)
+mirror-mirror (opt a first) = rw (mirror-mirror a)
+
+pub size-mirror : (t : Tree) → size (mirror t) ≡ size t
+size-mirror empty = refl
+size-mirror (set members) = refl
+size-mirror begin = refl
+size-mirror end = refl
+size-mirror (seq a b) = omega (arith, size-mirror a, size-mirror b)
+size-mirror (alt a b) = omega (arith, size-mirror a, size-mirror b)
+size-mirror (group k a) = omega (arith, size-mirror a)
+size-mirror (star a first) = omega (arith, size-mirror a)
+size-mirror (opt a first) = omega (arith, size-mirror a)
+
+-- the trees of a mirrored node
+tree_of-mirror : (f g : ℕ → Tree) → ((c : ℕ) → f c ≡ mirror (g c)) → (node : Node) → tree_of f (mirror_node node) ≡ mirror (tree_of g node)
+tree_of-mirror f g same Empty = refl
+tree_of-mirror f g same (Set s) = refl
+tree_of-mirror f g same Begin = refl
+tree_of-mirror f g same End = refl
+tree_of-mirror f g same (Seq a b) = rw (same a.index, same b.index)
+tree_of-mirror f g same (Alt a b) = rw (same a.index, same b.index)
+tree_of-mirror f g same (Group k a) = rw (same a.index)
+tree_of-mirror f g same (Star a first) = rw (same a.index)
+tree_of-mirror f g same (Opt a first) = rw (same a.index)
+
+tree_if-mirror : (f g : ℕ → Tree) → ((c : ℕ) → f c ≡ mirror (g c)) → (o : Option Node) → tree_if f (option_map mirror_node o) ≡ mirror (tree_if g o)
+tree_if-mirror f g same None = refl
+tree_if-mirror f g same (Some node) = tree_of-mirror f g same node
+
+tree_within-mirror : (nodes : List Node) (n x : ℕ) → tree_within n (map mirror_node nodes) x ≡ mirror (tree_within n nodes x)
+unfolding tree_within
+tree_within-mirror nodes zero x = refl
+tree_within-mirror nodes (suc n) x =
+    rw slice_get-map (tree_if-mirror (tree_within n (map mirror_node nodes)) (tree_within n nodes) (tree_within-mirror nodes n) (slice_get nodes x))
+
+pub tree_at-mirror : (nodes : List Node) (x : ℕ) → tree_at (map mirror_node nodes) x ≡ mirror (tree_at nodes x)
+unfolding tree_at
+tree_at-mirror nodes x = tree_within-mirror nodes (suc x) x
+
+-- a mirrored node has the same parts
+part_from : (node : Node) (c : ℕ) → IsPart (mirror_node node) c → IsPart node c
+part_from Empty c h = h
+part_from (Set s) c h = h
+part_from Begin c h = h
+part_from End c h = h
+part_from (Seq a b) c h = ⊎_elim (λ (r : b.index ≡ c). inr r) (λ (l : a.index ≡ c). inl l) h
+part_from (Alt a b) c h = h
+part_from (Group k a) c h = h
+part_from (Star a first) c h = h
+part_from (Opt a first) c h = h
+
+part_to : (node : Node) (c : ℕ) → IsPart node c → IsPart (mirror_node node) c
+part_to Empty c h = h
+part_to (Set s) c h = h
+part_to Begin c h = h
+part_to End c h = h
+part_to (Seq a b) c h = ⊎_elim (λ (l : a.index ≡ c). inr l) (λ (r : b.index ≡ c). inl r) h
+part_to (Alt a b) c h = h
+part_to (Group k a) c h = h
+part_to (Star a first) c h = h
+part_to (Opt a first) c h = h
+
+two_to : (node : Node) → HasTwoParts node → HasTwoParts (mirror_node node)
+two_to Empty h = h
+two_to (Set s) h = h
+two_to Begin h = h
+two_to End h = h
+two_to (Seq a b) h = λ e. h (sym e)
+two_to (Alt a b) h = h
+two_to (Group k a) h = h
+two_to (Star a first) h = h
+two_to (Opt a first) h = h
+
+some_from : (o : Option Node) (node : Node) → option_map mirror_node o ≡ Some node → (old : Node) × (o ≡ Some old) × (mirror_node old ≡ node)
+some_from None node is = cc
+some_from (Some old) node is = (old, refl, cc)
+
+-- the node that was mirrored
+pub old_node : (nodes : List Node) (x : ℕ) (node : Node) → slice_get (map mirror_node nodes) x ≡ Some node →
+    (old : Node) × (slice_get nodes x ≡ Some old) × (mirror_node old ≡ node)
+old_node nodes x node is = some_from (slice_get nodes x) node (sym (slice_get-map mirror_node nodes x) ∙ is)
+
+pub new_node : (nodes : List Node) (x : ℕ) (node : Node) → slice_get nodes x ≡ Some node → slice_get (map mirror_node nodes) x ≡ Some (mirror_node node)
+new_node nodes x node is = slice_get-map mirror_node nodes x ∙ ap (option_map mirror_node) is
+
+pub IsArena-mirror : (nodes : List Node) → IsArena nodes → IsArena (map mirror_node nodes)
+IsArena-mirror nodes arena = record {
+  nonempty = rw length-map arena.nonempty;
+  below = λ x c node is part.
+      let old = old_node nodes x node is in
+      arena.below x c old.0 old.1 (part_from old.0 c (subst (λ n. IsPart n c) (sym old.2) part));
+  distinct = λ x node is.
+      let old = old_node nodes x node is in
+      subst HasTwoParts old.2 (two_to old.0 (arena.distinct x old.0 old.1));
+  once = λ x y c node other is is' part part'.
+      let old = old_node nodes x node is in
+      let old' = old_node nodes y other is' in
+      arena.once x y c old.0 old'.0 old.1 old'.1 (part_from old.0 c (subst (λ n. IsPart n c) (sym old.2) part)) (part_from old'.0 c (subst (λ n. IsPart n c) (sym old'.2) part'));
+  each = λ c low.
+      let below : c + 1 < length nodes = (rw length-map at low) in
+      let of = arena.each c below in
+      (of.0, mirror_node of.1, new_node nodes of.0 of.1 of.2, part_to of.1 c of.3);
+}
+
+-- a group of a mirrored node is the node's own
+group_from : (old : Node) (k : ℕ) (a : NodeId) → mirror_node old ≡ Group k a → old ≡ Group k a
+group_from Empty k a e = cc
+group_from (Set s) k a e = cc
+group_from Begin k a e = cc
+group_from End k a e = cc
+group_from (Seq b c) k a e = cc
+group_from (Alt b c) k a e = cc
+group_from (Group n b) k a e = e
+group_from (Star b first) k a e = cc
+group_from (Opt b first) k a e = cc
+
+pub IsExpr-mirror : (nodes : List Node) (groups : ℕ) → IsExpr nodes groups → IsExpr (map mirror_node nodes) groups
+IsExpr-mirror nodes groups expr = record {
+  arena = IsArena-mirror nodes expr.arena;
+  sizes = λ x low.
+      let below : x < length nodes = (rw length-map at low) in
+      omega (arith, ap size (tree_at-mirror nodes x), size-mirror (tree_at nodes x), expr.sizes x below);
+  numbers = λ x k a is.
+      let old = old_node nodes x (Group k a) is in
+      expr.numbers x k a (old.1 ∙ ap (λ (n : Node). Some n) (group_from old.0 k a old.2));
+  whole =
+      rw length-map (ap size (tree_at-mirror nodes (length nodes - 1)) ∙ size-mirror (tree_at nodes (length nodes - 1)) ∙ expr.whole);
+}
+
+-- the same of an expression that is mirrored or not
+pub seen-arena : (back : Bool) (e : Written) → IsArena e.nodes → IsArena (seen back e).nodes
+seen-arena true e arena = IsArena-mirror e.nodes arena
+seen-arena false e arena = arena
+
+pub seen-length : (back : Bool) (e : Written) → length (seen back e).nodes ≡ length e.nodes
+seen-length true e = length-map e.nodes mirror_node
+seen-length false e = refl
+
+pub seen-node : (back : Bool) (e : Written) (x : ℕ) (node : Node) → slice_get e.nodes x ≡ Some node → slice_get (seen back e).nodes x ≡ Some (node_seen back node)
+seen-node true e x node is = new_node e.nodes x node is
+seen-node false e x node is = is
+
+pub seen-tree : (e : Written) → tree (seen true e) ≡ mirror (tree e)
+seen-tree e = rw length-map (tree_at-mirror e.nodes (length e.nodes - 1))
+
+-- what is kept of a mirrored node stands for the mirrored node
+node_of-mirror : (sets : List (List Bool)) (x : ℕ) (s : Shape) (left right : ℕ) → node_at sets x (mirror_kept s left right) ≡ mirror_node (node_of sets x s left right)
+node_of-mirror sets x shape.Empty left right = refl
+node_of-mirror sets x shape.Set left right = refl
+node_of-mirror sets x shape.Begin left right = refl
+node_of-mirror sets x shape.End left right = refl
+node_of-mirror sets x shape.Seq left right = refl
+node_of-mirror sets x shape.Alt left right = refl
+node_of-mirror sets x shape.Group left right = refl
+node_of-mirror sets x shape.FirstStar left right = refl
+node_of-mirror sets x shape.Star left right = refl
+node_of-mirror sets x shape.FirstOpt left right = refl
+node_of-mirror sets x shape.Opt left right = refl
+
+fits-mirror : (sets : List (List Bool)) (x : ℕ) (s : Shape) (left right : ℕ) → FitsShape sets x s left right → Fits sets x (mirror_kept s left right)
+fits-mirror sets x shape.Empty left right h = h
+fits-mirror sets x shape.Set left right h = h
+fits-mirror sets x shape.Begin left right h = h
+fits-mirror sets x shape.End left right h = h
+fits-mirror sets x shape.Seq left right h = (h.1, h.0)
+fits-mirror sets x shape.Alt left right h = h
+fits-mirror sets x shape.Group left right h = h
+fits-mirror sets x shape.FirstStar left right h = h
+fits-mirror sets x shape.Star left right h = h
+fits-mirror sets x shape.FirstOpt left right h = h
+fits-mirror sets x shape.Opt left right h = h
+
+pub node_at-seen : (back : Bool) (sets : List (List Bool)) (x : ℕ) (e : Entry) → node_at sets x (entry_seen back e) ≡ node_seen back (node_at sets x e)
+node_at-seen true sets x e = node_of-mirror sets x e.shape e.left e.right
+node_at-seen false sets x e = refl
+
+pub fits-seen : (back : Bool) (sets : List (List Bool)) (x : ℕ) (e : Entry) → Fits sets x e → Fits sets x (entry_seen back e)
+fits-seen true sets x e h = fits-mirror sets x e.shape e.left e.right h
+fits-seen false sets x e h = h
+
+as_it_is : (o : Option Node) → o ≡ option_map (node_seen false) o
+as_it_is None = refl
+as_it_is (Some node) = refl
+
+-- the node seen, from the node there is
+pub some-seen : (back : Bool) (e : Written) (x : ℕ) (node : Node) → option_map (node_seen back) (slice_get e.nodes x) ≡ Some node → slice_get (seen back e).nodes x ≡ Some node
+some-seen true e x node is = slice_get-map mirror_node e.nodes x ∙ is
+some-seen false e x node is = as_it_is (slice_get e.nodes x) ∙ is

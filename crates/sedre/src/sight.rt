@@ -1,0 +1,83 @@
+//! The nodes of an expression, looked at from its beginning or from its end.
+ghost use Rattle.std.specs.Prelude.{◌≡◌, ◌<◌, ◌+◌, ◌^◌, Bool, true, false, Some, length, slice_get};
+ghost use Rattle.sedre.specs.Arena.{Written, IsArena};
+ghost use Rattle.sedre.specs.Mirror.{node_seen, seen};
+
+use crate::steps::Steps;
+use crate::table::Expr;
+use crate::types::{Node, NodeId};
+use std::marker::Model;
+
+/// An expression as it is, or mirrored: what the mirrored one matches is what it matches itself, read from the last
+/// byte to the first. No second table is kept: each node is mirrored where it is looked at.
+#[derive(Drop)]
+pub struct Nodes<'a> {
+    expr: &'a Expr,
+    mirrored: bool,
+}
+
+impl<'a> Model for Nodes<'a> {
+    ghost use Rattle.sedre.specs.Arena.{Written};
+    ghost use Rattle.sedre.specs.Mirror.{seen};
+
+    ghost Value = { Written };
+
+    ghost view = { λ n. seen n.mirrored n.expr.now };
+}
+
+impl<'a> Nodes<'a> {
+    /// The nodes as they are.
+    pub fn of(expr: &'a Expr) -> Nodes<'a>
+        ensures { result ≡ expr.now }
+    {
+        Nodes {
+            expr,
+            mirrored: false,
+        }
+    }
+
+    /// The nodes mirrored.
+    pub fn mirrored(expr: &'a Expr) -> Nodes<'a>
+        ensures { result ≡ seen true expr.now }
+    {
+        Nodes {
+            expr,
+            mirrored: true,
+        }
+    }
+
+    /// How many nodes there are.
+    pub fn nodes(&self) -> usize
+        ensures value { result ≡ length self.now.nodes }
+        ensures arena { IsArena self.now.nodes }
+    {
+        self.expr.nodes()
+    }
+
+    /// The node of the whole expression.
+    pub fn root(&self) -> NodeId
+        ensures last { result.index + 1 ≡ length self.now.nodes }
+        ensures arena { IsArena self.now.nodes }
+    {
+        self.expr.root()
+    }
+
+    /// The node of an index. Condition: the index is below `nodes()`.
+    pub fn id(&self, index: usize) -> NodeId
+        requires { index < length self.now.nodes }
+        ensures { result.index ≡ index }
+    {
+        self.expr.id(index)
+    }
+
+    /// The node itself, which counts one step. Conditions: the index is below `nodes()`, the count below 2^120.
+    pub fn look(&self, id: NodeId, steps: &mut Steps) -> Node
+        requires inside { id.index < length self.now.nodes }
+        requires room { steps.old < 2 ^ 120 }
+        ensures node { slice_get self.now.nodes id.index ≡ Some result }
+        ensures cost { steps.new ≡ steps.old + 1 }
+    {
+        steps.add(1);
+        self.expr.seen(id, self.mirrored)
+    }
+}
