@@ -1,10 +1,10 @@
 -- How addresses are judged.
-use Rattle.std.proofs.Common.{◌≡◌, ℕ, Bool, true, false, cond, not, ◌||◌, ◌↔◌, IsTrue, List, Option, Some, None, Result, Err, refl, sym, subst, ap, ◌∙◌, arith}
-use Rattle.std.specs.Prelude.{is_some, option_and_then, slice_get, nat_le, nat_lt, nat_eq}
+use Rattle.std.proofs.Common.{◌≡◌, ℕ, Bool, true, false, cond, not, ◌||◌, ◌<◌, List, length, get_or, Option, Some, None, Result, Err, refl, sym, subst, ap, ◌∙◌, arith}
+use Rattle.std.specs.Prelude.{is_some, option_and_then, nat_le, nat_lt, nat_eq}
 use Rattle.std.proofs.lemmas.Bool.Decides.{nat_tests}
+use Rattle.std.proofs.lemmas.Option.{slice_get_read}
 use Rattle.sedre.specs.Arena.{Written, tree}
-use Rattle.sedmatch.specs.Spans.{SomeFound}
-use Rattle.sedmatch.specs.Matching.{found, NotFoundLaw}
+use Rattle.sedmatch.specs.Matching.{found}
 use Rattle.sedscript.specs.Ranges.{AddressWithin}
 use Rattle.sedscript.specs.declared.types.Address.{Address}
 use Rattle.sedscript.specs.declared.types.Address.TheVariants.{Line, Last, Match}
@@ -17,21 +17,10 @@ use Rattle.sedengine.specs.declared.ends.Ended.TheVariants.{Done, PatternFull, H
 use Rattle.sedengine.specs.Run.{has_match, finds_in}
 use Rattle.sedengine.specs.declared.select.Chosen.{Chosen}
 
-by_answer : (b : Bool) (o : Option (ℕ × ℕ)) → (b ≡ true → o ≡ None → ⊥) → (b ≡ false → o ≡ None) → b ≡ is_some o
-by_answer true None some none = absurd (some refl refl)
-by_answer true (Some x) some none = refl
-by_answer false None some none = refl
-by_answer false (Some x) some none = let e : Some x ≡ None = none refl in cc
-
 -- whether there is a match, as the matcher's call answers it
-pub finds_as : (expressions : List Written) (k : ℕ) (e : Written) (v w : List ℕ) (b : Bool) → slice_get expressions k ≡ Some e → NotFoundLaw → v ≡ w → (IsTrue b ↔ SomeFound (tree e) v 0) → b ≡ finds_in expressions k w
-finds_as expressions k e v w b is law same h0 =
-    let S : List ℕ → Type 0 = λ x. IsTrue b ↔ SomeFound (tree e) x 0 in
-    let h = subst S same h0 in
-    let found_as : b ≡ is_some (found (tree e) w 0) = by_answer b (found (tree e) w 0)
-    (λ yes none. let s = h.0 yes in (law (tree e) w 0 (omega arith)).0 none s.0 s.1 s.2 s.3 s.4)
-    (λ no. (law (tree e) w 0 (omega arith)).1 (λ i k from to spans. let yes : b ≡ true = h.1 (i, k, from, to, spans) in cc)) in
-    found_as ∙ ap (λ (o : Option Written). has_match o w) (sym is)
+pub finds_as : (expressions : List Written) (k : ℕ) (e : Written) (v w : List ℕ) (b : Bool) → k < length expressions → e ≡ get_or expressions k e → v ≡ w → b ≡ is_some (found (tree e) v 0) → b ≡ finds_in expressions k w
+finds_as expressions k e v w b inside is same found_as =
+    found_as ∙ ap (λ (x : List ℕ). is_some (found (tree e) x 0)) same ∙ ap (λ (o : Option Written). has_match o w) (sym (slice_get_read expressions (length expressions) k e refl inside is))
 
 -- the choice that follows from the answer of the address that decides
 abbrev follows : Current → Bool → Option Address → Option Address → Answer → Option Choice

@@ -1,18 +1,18 @@
 -- The queue is written, and a cycle, or the run, ends.
-use Rattle.std.proofs.Common.{◌≡◌, ℕ, ◌+◌, ◌<◌, ◌≤◌, Bool, true, false, cond, List, [], ◌∷◌, ◌++◌, length, length-append, Option, Some, None, Result, Ok, Err, refl, subst, sym, ap, ◌∙◌, arith}
+use Rattle.std.proofs.Common.{◌≡◌, ℕ, ◌+◌, ◌<◌, ◌≤◌, true, false, cond, List, [], ◌∷◌, ◌++◌, length, length-append, Option, Result, Ok, Err, refl, subst, sym, ap, ◌∙◌, arith}
 use Rattle.std.specs.Prelude.{OnOk, OnErr, slice_get}
 use Rattle.std.proofs.lemmas.Option.{slice_get_past}
 use Rattle.sedspace.specs.Spaces.{Entries}
 use Rattle.sedspace.specs.declared.errors.Full.{Full}
 use Rattle.sedengine.specs.Limits.{Limits}
 use Rattle.sedengine.specs.State.{Task, begin, rebegin, do_at, print_pattern, empty_pattern, flush, State, Move, Setting}
-use Rattle.sedengine.specs.Move.{move, comes_to, writing, quietly, then_do, at_end, line_to}
+use Rattle.sedengine.specs.Move.{comes_to, writing, quietly, then_do, at_end, line_to}
 use Rattle.sedengine.specs.Ends.{Fits, takes_turn}
 use Rattle.sedengine.specs.Held.{SameLengths}
 use Rattle.sedengine.specs.Devices.{Gained}
 use Rattle.sedengine.specs.Calls.{Puts}
 use Rattle.sedengine.specs.Run.{Run, at_lines, setting, starts_cycle}
-use Rattle.sedengine.specs.Steps.{ComesTo, Moves, Performs, costs, weight}
+use Rattle.sedengine.specs.Steps.{Moves, Performs, costs, weight}
 use Rattle.sedengine.specs.Flushing.{Flushes}
 use Rattle.sedengine.specs.Queueing.{flushed, with_turns}
 use Rattle.sedengine.specs.Inside.{run_of, tasks_of, entries_of, IsRun, Queues}
@@ -159,6 +159,7 @@ queue_is_run a q k (Ok u) i h ok room err = let same = i.queue_limit in rw ok (r
   used = i.used;
   scratch_text = i.scratch_text;
   scratch_nodes = i.scratch_nodes;
+  matchers = i.matchers;
   nodes = i.nodes;
 })
 queue_is_run a q k (Err f) i h ok room err = rw err i
@@ -186,6 +187,10 @@ queues_seen a e k seen h = let Q : Run → Type 0 = λ e. Queues (slice_get e.sc
 pub printed_by : (a : Inside) (e : Run) (old new : ℕ → Option (List ℕ)) (r : Result Unit Ended) → run_of a ≡ e → Puts (Gained old new) (cond a.script.quiet [] (line_to 0 a.pattern.bytes)) r →
     Puts (Gained old new) (cond e.script.quiet [] (line_to 0 e.state.pattern)) r
 printed_by a e old new r seen h = let Q : Run → Type 0 = λ e. Puts (Gained old new) (cond e.script.quiet [] (line_to 0 e.state.pattern)) r in subst Q seen h
+
+-- what is written, as the engine is seen
+pub puts_seen : (a : Inside) (e : Run) (f : Run → List (ℕ × ℕ)) (P : List (ℕ × ℕ) → Type 0) (r : Result Unit Ended) → run_of a ≡ e → Puts P (f (run_of a)) r → Puts P (f e) r
+puts_seen a e f P r seen h = let Q : Run → Type 0 = λ e. Puts P (f e) r in subst Q seen h
 
 -- an end that came while the queue was written is told of the engine, whatever it was to do next
 pub stopped_anyway : (l : Limits) (g : Setting) (s : State) (e : Run) (ls : List (List ℕ)) (rest : List Task) (P : List (ℕ × ℕ) → Type 0) (end : Ended) → Moves l g s (then_do rest (at_lines e ls)) P (Err end) → Moves l g s (at_lines e ls) P (Err end)

@@ -11,6 +11,8 @@ pub mod Ending
 pub mod NextLines
 pub mod Deleting
 pub mod Substituting
+pub mod Fitting
+pub mod Tried
 pub mod Choices
 pub mod Acts
 pub mod Holding

@@ -1,7 +1,8 @@
 -- What a substitution does is a move.
-use Rattle.std.proofs.Common.{◌≡◌, ℕ, zero, suc, ◌<◌, ◌≤◌, Bool, true, false, cond, List, [], ◌∷◌, length, Option, Some, None, Result, Ok, Err, refl, subst, sym, ap, ◌∙◌, arith}
+use Rattle.std.proofs.Common.{◌≡◌, ℕ, zero, suc, ◌<◌, ◌≤◌, Bool, true, false, cond, List, [], ◌∷◌, length, Option, Some, Result, Ok, Err, refl, subst, sym, ap, ◌∙◌, arith, Vec, Global}
 use Rattle.std.specs.Prelude.{option_and_then, slice_get}
 use Rattle.std.specs.Option.{option_or}
+use Rattle.sedre.specs.Arena.{Written}
 use Rattle.sedmatch.specs.Room.{Room}
 use Rattle.sedscript.specs.declared.substitution.Substitution.{Substitution}
 use Rattle.sedspace.specs.Spaces.{Contents}
@@ -10,7 +11,7 @@ use Rattle.sedengine.specs.Limits.{Limits}
 use Rattle.sedengine.specs.State.{Task, begin, rebegin, do_at, print_pattern, empty_pattern, flush, copy, fetch, join, State, Move, Setting}
 use Rattle.sedengine.specs.Substitute.{Match, chosen, occurrences, replaced_from}
 use Rattle.sedengine.specs.Select.{stands_for}
-use Rattle.sedengine.specs.Move.{move, chosen_in, line_to, line_to_file, replaces, substitutes, written_by}
+use Rattle.sedengine.specs.Move.{move, becomes, chosen_in, quietly, writing, line_to, line_to_file, replaces, substitutes, written_by}
 use Rattle.sedengine.specs.Ends.{Fits, Leads, comes, line_at}
 use Rattle.sedengine.specs.Held.{SameLengths}
 use Rattle.sedengine.specs.Devices.{Gained}
@@ -23,10 +24,11 @@ use Rattle.sedengine.specs.declared.engine.Engine.TheInside.{Inside}
 use Rattle.sedengine.specs.declared.place.Place.{Place}
 use Rattle.sedengine.specs.declared.place.Place.TheVariants as p
 use Rattle.sedengine.specs.declared.ends.Ended.{Ended}
-use Rattle.sedengine.specs.declared.ends.Ended.TheVariants.{Done, PatternFull, HoldFull, QueueFull, TurnsSpent, NoPrevious, InputBroken, OutputBroken}
+use Rattle.sedengine.specs.declared.ends.Ended.TheVariants.{PatternFull, NoPrevious}
 use Rattle.sedengine.proofs.Writing.{Puts-append, Puts-left}
 use Rattle.sedengine.proofs.Moves.{moves_writing, ran_quietly, stopped_here}
 use Rattle.sedengine.proofs.Tasks.{fits_of}
+use Rattle.sedengine.proofs.Tried.{standing}
 
 -- Where a command is come to the pattern space needn't be empty.
 may_hold : (p : Place) (bytes : List ℕ) → comes (tasks_of p) ≡ true → IsEmptied p bytes
@@ -37,10 +39,10 @@ may_hold p.Quit bytes h = tt
 may_hold p.Ended bytes h = tt
 
 -- the fields of the engine after a substitution with the expression e
-pub replaced_is_run : (a : Inside) (pattern build : Contents) (scratch : Room) (e : ℕ) (replaced : Bool) → IsRun a → comes (tasks_of a.place) ≡ true → e < length a.script.expressions →
-    pattern.limit ≡ a.pattern.limit → length pattern.bytes ≤ pattern.limit → build.limit ≡ a.build.limit → scratch ≡ a.scratch →
-    IsRun (record a { pattern = pattern; build = build; scratch = scratch; used = Some e; replaced = replaced })
-replaced_is_run a pattern build scratch e replaced i at within limit fits limit' same = record {
+pub replaced_is_run : (a : Inside) (pattern build : Contents) (scratch : Room) (matchers : Vec Written Global) (e : ℕ) (replaced : Bool) → IsRun a → comes (tasks_of a.place) ≡ true → e < length a.script.expressions →
+    pattern.limit ≡ a.pattern.limit → length pattern.bytes ≤ pattern.limit → build.limit ≡ a.build.limit → scratch ≡ a.scratch → matchers.items ≡ a.matchers.items →
+    IsRun (record a { pattern = pattern; build = build; scratch = scratch; matchers = matchers; used = Some e; replaced = replaced })
+replaced_is_run a pattern build scratch matchers e replaced i at within limit fits limit' same same' = record {
   number = i.number;
   turns = i.turns;
   pattern_limit = limit ∙ i.pattern_limit;
@@ -56,6 +58,7 @@ replaced_is_run a pattern build scratch e replaced i at within limit fits limit'
   used = within;
   scratch_text = λ some. ap (λ (r : Room). r.text) same ∙ i.scratch_text some;
   scratch_nodes = ap (λ (r : Room). r.nodes) same ∙ i.scratch_nodes;
+  matchers = rw same' i.matchers;
   nodes = i.nodes;
 }
 
@@ -65,21 +68,17 @@ leads_full : (s : State) (t : Substitution) (ms : List Match) (space : ℕ) → 
 leads_full s t [] space some more = absurd (omega arith)
 leads_full s t (m ∷ ms) space some more = (_, refl, more)
 
-pub makes_full : (a : Inside) (r : Run) (seen : run_of a ≡ r) (k e : ℕ) (files : ℕ → List ℕ) (ls : List (List ℕ)) (t : Substitution) (new : Contents) (now : State) (f : Full) → a.pattern.limit ≡ a.limits.space →
+pub makes_full : (a : Inside) (r : Run) (seen : run_of a ≡ r) (es : List Written) (same : es ≡ a.script.expressions) (k e : ℕ) (files : ℕ → List ℕ) (ls : List (List ℕ)) (t : Substitution) (new : Contents) (now : State) (f : Full) → a.pattern.limit ≡ a.limits.space →
     slice_get r.script.substitutions k ≡ Some t →
-    ((t : Substitution) → slice_get a.script.substitutions k ≡ Some t → ReplacesIn t (chosen t.number t.global (occurrences (search_in a.script.expressions e a.pattern.bytes) (length a.pattern.bytes))) a.pattern new (Err f)) →
+    ((t : Substitution) → slice_get a.script.substitutions k ≡ Some t → ReplacesIn t (chosen t.number t.global (occurrences (search_in es e a.pattern.bytes) (length a.pattern.bytes))) a.pattern new (Err f)) →
     Makes r.limits (replaces (record (at_lines r ls) { used = Some e }) t (chosen_in (setting r files) t e r.state.pattern)) t (at_lines r ls) now (Err (PatternFull a.number))
-makes_full a r seen k e files ls t new now f limit is h =
+makes_full a r seen es same k e files ls t new now f limit is h =
     let Q : Run → Type 0 = λ r. slice_get r.script.substitutions k ≡ Some t → Makes r.limits (replaces (record (at_lines r ls) { used = Some e }) t (chosen_in (setting r files) t e r.state.pattern)) t (at_lines r ls) now (Err (PatternFull a.number)) in
     subst Q seen
     (λ is.
-    let made = h t is in
+    let made = rw same at (h t is) in
     let more : a.limits.space < length (replaced_from a.pattern.bytes t.replacement 0 (chosen_in (setting (run_of a) files) t e a.pattern.bytes)) = rw limit at made.1 in
     (leads_full (record (at_lines (run_of a) ls) { used = Some e }) t (chosen_in (setting (run_of a) files) t e a.pattern.bytes) a.limits.space made.0 more, refl)) is
-
-standing : (named used : Option ℕ) → option_or named used ≡ stands_for named used
-standing None used = refl
-standing (Some e) used = refl
 
 some_of : {A : Type 0} (x y : A) → Some x ≡ Some y → x ≡ y
 some_of x y h = cc
@@ -165,3 +164,54 @@ puts_both t w old mid new r a h = Puts-append old mid new (cond t.print (line_to
 
 pub puts_first : (t : Substitution) (w : List ℕ) (old new : ℕ → Option (List ℕ)) (end : Ended) → Puts (Gained old new) (cond t.print (line_to 0 w) []) (Err end) → Puts (Gained old new) (written_by t w) (Err end)
 puts_first t w old new end h = Puts-left old new (cond t.print (line_to 0 w) []) (line_to_file t.file w) end h
+
+-- the substitution of a number, as the engine is seen
+one_seen : (a : Inside) (e : Run) (k : ℕ) (s t : Substitution) → run_of a ≡ e → slice_get a.script.substitutions k ≡ Some s → slice_get e.script.substitutions k ≡ Some t → s ≡ t
+one_seen a e k s t seen is is' = some_of s t (sym is ∙ ap (λ (r : Run). slice_get r.script.substitutions k) seen ∙ is')
+
+-- what its flags write
+pub filed_seen : (a : Inside) (e : Run) (k : ℕ) (s t : Substitution) (sink : ℕ) (w : List ℕ) (P : List (ℕ × ℕ) → Type 0) (r : Result Unit Ended) → run_of a ≡ e → slice_get a.script.substitutions k ≡ Some s →
+    slice_get e.script.substitutions k ≡ Some t → s.file ≡ Some sink → Puts P (line_to sink w) r → Puts P (line_to_file t.file w) r
+filed_seen a e k s t sink w P r seen is is' file h =
+    let Q : Option ℕ → Type 0 = λ o. Puts P (line_to_file o w) r in
+    subst Q (sym file ∙ ap (λ (x : Substitution). x.file) (one_seen a e k s t seen is is')) h
+
+pub printed_seen : (a : Inside) (e : Run) (k : ℕ) (s t : Substitution) (w : List ℕ) (P : List (ℕ × ℕ) → Type 0) (r : Result Unit Ended) → run_of a ≡ e → slice_get a.script.substitutions k ≡ Some s →
+    slice_get e.script.substitutions k ≡ Some t → s.print ≡ true → Puts P (line_to 0 w) r → Puts P (cond t.print (line_to 0 w) []) r
+printed_seen a e k s t w P r seen is is' print h =
+    let Q : Bool → Type 0 = λ b. Puts P (cond b (line_to 0 w) []) r in
+    subst Q (sym print ∙ ap (λ (x : Substitution). x.print) (one_seen a e k s t seen is is')) h
+
+replaces_some : (s : State) (t : Substitution) (ms : List Match) → 0 < length ms → replaces s t ms ≡ becomes s t (replaced_from s.pattern t.replacement 0 ms)
+replaces_some s t [] some = absurd (omega arith)
+replaces_some s t (m ∷ ms) some = refl
+
+-- a substitution that replaces something, and one that replaces nothing
+pub makes_some : (a : Inside) (r : Run) (seen : run_of a ≡ r) (es : List Written) (same : es ≡ a.script.expressions) (k e : ℕ) (files : ℕ → List ℕ) (ls : List (List ℕ)) (t : Substitution) (new : Contents) →
+    slice_get r.script.substitutions k ≡ Some t →
+    ((t : Substitution) → slice_get a.script.substitutions k ≡ Some t → ReplacesIn t (chosen t.number t.global (occurrences (search_in es e a.pattern.bytes) (length a.pattern.bytes))) a.pattern new (Ok true)) →
+    Makes r.limits (replaces (record (at_lines r ls) { used = Some e }) t (chosen_in (setting r files) t e r.state.pattern)) t (at_lines r ls)
+    (record (at_lines (run_of a) ls) { pattern = new.bytes; used = Some e; replaced = true }) (Ok true)
+makes_some a r seen es same k e files ls t new is h =
+    let now : State = record (at_lines (run_of a) ls) { pattern = new.bytes; used = Some e; replaced = true } in
+    let Q : Run → Type 0 = λ r. slice_get r.script.substitutions k ≡ Some t → replaces (record (at_lines r ls) { used = Some e }) t (chosen_in (setting r files) t e r.state.pattern) ≡ writing (written_by t now.pattern) now in
+    let s : State = record (at_lines (run_of a) ls) { used = Some e } in
+    let ms = chosen_in (setting (run_of a) files) t e a.pattern.bytes in
+    subst Q seen
+    (λ is.
+    let made = rw same at (h t is) in
+    replaces_some s t ms made.0 ∙ ap (λ (w : List ℕ). becomes s t w) (sym (ap (λ (x : Contents). x.bytes) made.1))) is
+
+pub makes_none : (a : Inside) (r : Run) (seen : run_of a ≡ r) (es : List Written) (same : es ≡ a.script.expressions) (k e : ℕ) (files : ℕ → List ℕ) (ls : List (List ℕ)) (t : Substitution) (new : Contents) →
+    slice_get r.script.substitutions k ≡ Some t →
+    ((t : Substitution) → slice_get a.script.substitutions k ≡ Some t → ReplacesIn t (chosen t.number t.global (occurrences (search_in es e a.pattern.bytes) (length a.pattern.bytes))) a.pattern new (Ok false)) →
+    Makes r.limits (replaces (record (at_lines r ls) { used = Some e }) t (chosen_in (setting r files) t e r.state.pattern)) t (at_lines r ls)
+    (record (at_lines (run_of a) ls) { pattern = new.bytes; used = Some e }) (Ok false)
+makes_none a r seen es same k e files ls t new is h =
+    let now : State = record (at_lines (run_of a) ls) { pattern = new.bytes; used = Some e } in
+    let Q : Run → Type 0 = λ r. slice_get r.script.substitutions k ≡ Some t → replaces (record (at_lines r ls) { used = Some e }) t (chosen_in (setting r files) t e r.state.pattern) ≡ quietly now in
+    let s : State = record (at_lines (run_of a) ls) { used = Some e } in
+    subst Q seen
+    (λ is.
+    let made = rw same at (h t is) in
+    ap (λ (ms : List Match). replaces s t ms) made.0 ∙ ap (λ (w : List ℕ). quietly (record s { pattern = w })) (sym (ap (λ (x : Contents). x.bytes) made.1))) is

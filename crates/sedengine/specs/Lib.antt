@@ -3,6 +3,7 @@ pub mod Calls
 pub mod Choose
 pub mod Devices
 pub mod Ends
+pub mod Fitting
 pub mod Flushing
 pub mod Held
 pub mod Holding

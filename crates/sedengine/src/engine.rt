@@ -21,8 +21,9 @@ mod tasks;
 
 use crate::ends::{Ended, Held, Progress};
 use crate::limits::Limits;
+use crate::matchers::matchers_of;
 use crate::place::Place;
-use sedmatch::Scratch;
+use sedmatch::{Scratch, TableMatcher};
 use sedscript::Script;
 use sedspace::{ByteSource, Lines, Outputs, Queue, Space, Texts};
 use std::alloc::{AllocError, Global};
@@ -40,6 +41,8 @@ pub struct Engine {
     build: Space,
     queue: Queue,
     scratch: Scratch,
+    // For each regular expression of the script, what seeks it.
+    matchers: Vec<TableMatcher>,
     // For each command, whether its range is active.
     ranges: Vec<bool>,
     // The number of the regular expression last used.
@@ -100,6 +103,7 @@ impl Engine {
         let space = limits.space();
         let ranges = idle_ranges(alloc, script.len())?;
         let scratch = search_room(alloc, &script, &limits)?;
+        let matchers = matchers_of(alloc, &script, limits.nodes())?;
         Ok(Engine {
             script,
             limits,
@@ -108,6 +112,7 @@ impl Engine {
             build: Space::new(alloc, space)?,
             queue: Queue::new(alloc, limits.queue())?,
             scratch,
+            matchers,
             ranges,
             used: None,
             replaced: false,

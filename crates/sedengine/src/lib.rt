@@ -19,6 +19,7 @@ mod flushing;
 pub mod laws;
 mod limits;
 mod listing;
+mod matchers;
 mod place;
 mod select;
 mod substitute;

@@ -4,11 +4,12 @@
 //! judged, and the choice follows from whether it matches.
 ghost use Rattle.std.specs.Prelude.{◌≡◌, ◌<◌, ◌≤◌, length};
 ghost use Rattle.sedengine.specs.Choose.{chosen, chosen_active, chosen_idle, deciding, is_over, turned, yes_by_number};
+ghost use Rattle.sedengine.specs.Fitting.{AllFit};
 ghost use Rattle.sedengine.specs.Run.{finds_in};
 
-use sedmatch::{Scratch, Text, found_law, is_match};
+use sedmatch::{Scratch, TableMatcher, Text};
 use sedre::Steps;
-use sedscript::{Address, Command, Script};
+use sedscript::{Address, Command};
 use sedspace::Space;
 
 /// What the addresses of a command choose at a line.
@@ -135,22 +136,22 @@ fn is_over(second: Address, number: u64) -> bool
     }
 }
 
-/// Whether the script's expression of number `k` has a match in the pattern space.
-pub(crate) fn finds(script: &Script, k: usize, pattern: &Space, scratch: &mut Scratch) -> bool
-    requires number { k < length script.now.expressions }
+/// Whether the expression of number `k` has a match in the pattern space.
+pub(crate) fn finds(
+    matchers: &mut Vec<TableMatcher>,
+    k: usize,
+    pattern: &Space,
+    scratch: &mut Scratch,
+) -> bool
+    requires number { k < length matchers.old.items }
     requires text { length pattern.now.bytes ≤ scratch.old.text }
-    requires nodes { script.now.max_nodes ≤ scratch.old.nodes }
-    ensures finds { result ≡ finds_in script.now.expressions k pattern.now.bytes }
+    requires fit { AllFit scratch.old.nodes matchers.old.items }
+    ensures finds { result ≡ finds_in matchers.old.items k pattern.now.bytes }
+    ensures same { matchers.new.items ≡ matchers.old.items }
     ensures scratch { scratch.new ≡ scratch.old }
 {
-    // The match that the definition computes is the one that the search tells.
-    found_law();
+    let text = Text::new(pattern.bytes());
     let mut steps = Steps::new();
-    is_match(
-        script.expr(k),
-        &Text::new(pattern.bytes()),
-        0,
-        scratch,
-        &mut steps,
-    )
+    let matcher = &mut matchers[k];
+    matcher.is_match(&text, 0, scratch, &mut steps)
 }

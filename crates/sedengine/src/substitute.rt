@@ -5,61 +5,103 @@ ghost use Rattle.sedmatch.specs.Matching.{found};
 ghost use Rattle.sedmatch.specs.Parts.{part_of, span_of};
 ghost use Rattle.sedscript.specs.Replacement.{GroupsWithin, pieces_in};
 ghost use Rattle.sedengine.specs.Substitute.{chosen, next_occurrence, occurrences, put_for, replaced_from};
-ghost use Rattle.sedengine.specs.Run.{match_at, search_for};
+ghost use Rattle.sedengine.specs.Fitting.{AllFit};
+ghost use Rattle.sedengine.specs.Run.{match_at, search_for, search_in};
 ghost use Rattle.sedengine.specs.Replacing.{Appends, EndsIn, GroupsIn, GroupsOf, LiesBehind, Replaces, Skips};
 ghost use Rattle.sedengine.specs.Replacing.{has_group, pending, with_groups};
 
-use sedmatch::{Scratch, Text, find, find_span};
-use sedre::{Expr, Steps};
+use sedmatch::{Scratch, TableMatcher, Text};
+use sedre::Steps;
 use sedscript::{Part, Substitution};
 use sedspace::{Full, Space};
 
 /// The span of each group of an occurrence.
 type Groups = [Option<(usize, usize)>; 10];
 
-/// Puts into `build` the text in which the occurrences that the substitution chooses are replaced. Says whether
-/// there are any.
-pub(crate) fn substitute(
+/// The substitution with the expression of number `e`: puts into `build` the text in which the occurrences that it
+/// chooses are replaced. Says whether there are any.
+pub(crate) fn substitute_by(
     substitution: &Substitution,
-    expr: &Expr,
+    matchers: &mut Vec<TableMatcher>,
+    e: usize,
+    text: &[u8],
+    build: &mut Space,
+    scratch: &mut Scratch,
+) -> Result<bool, Full>
+    requires expression { e < length matchers.old.items }
+    requires text { length text.now ≤ scratch.old.text }
+    requires short { length text.now ≤ build.old.limit }
+    requires fit { AllFit scratch.old.nodes matchers.old.items }
+    requires number { 1 ≤ substitution.now.number }
+    ensures replaces { Replaces text.now substitution.now.replacement
+        (chosen substitution.now.number substitution.now.global
+        (occurrences (search_in matchers.old.items e text.now) (length text.now)))
+        build.old.limit build.new.bytes result }
+    ensures limit { build.new.limit ≡ build.old.limit }
+    ensures same { matchers.new.items ≡ matchers.old.items }
+    ensures scratch { scratch.new ≡ scratch.old }
+{
+    let matcher = &mut matchers[e];
+    substitute(substitution, matcher, text, build, scratch)
+}
+
+/// The same with what seeks the expression.
+fn substitute(
+    substitution: &Substitution,
+    matcher: &mut TableMatcher,
     text: &[u8],
     build: &mut Space,
     scratch: &mut Scratch,
 ) -> Result<bool, Full>
     requires text { length text.now ≤ scratch.old.text }
     requires short { length text.now ≤ build.old.limit }
-    requires nodes { length expr.now.nodes ≤ scratch.old.nodes }
+    requires nodes { length matcher.old.nodes ≤ scratch.old.nodes }
     requires number { 1 ≤ substitution.now.number }
     ensures replaces { Replaces text.now substitution.now.replacement
         (chosen substitution.now.number substitution.now.global
-        (occurrences (search_for (Some expr.now) text.now) (length text.now)))
+        (occurrences (search_for (Some matcher.old) text.now) (length text.now)))
         build.old.limit build.new.bytes result }
     ensures limit { build.new.limit ≡ build.old.limit }
+    ensures same { matcher.new ≡ matcher.old }
     ensures scratch { scratch.new ≡ scratch.old }
 {
-    let Some(last) = skip(expr, text, substitution.number - 1, scratch) else {
+    let Some(last) = skip(matcher, text, substitution.number - 1, scratch) else {
         return Ok(false);
     };
     let wanted = needs_groups(substitution.replacement.parts());
     let mut groups = [None; 10];
-    let Some(first) = next_occurrence(expr, text, last, wanted, &mut groups, scratch) else {
+    let Some(first) = next_occurrence(matcher, text, last, wanted, &mut groups, scratch) else {
         return Ok(false);
     };
     build.clear();
-    replace(substitution, expr, text, first, &mut groups, build, scratch)?;
+    replace(
+        substitution,
+        matcher,
+        text,
+        first,
+        &mut groups,
+        build,
+        scratch,
+    )?;
     Ok(true)
 }
 
 /// Where the last of the first `count` occurrences ended, for no occurrence None. None alone where there are fewer.
-fn skip(expr: &Expr, text: &[u8], count: u64, scratch: &mut Scratch) -> Option<Option<usize>>
+fn skip(
+    matcher: &mut TableMatcher,
+    text: &[u8],
+    count: u64,
+    scratch: &mut Scratch,
+) -> Option<Option<usize>>
     requires text { length text.now ≤ scratch.old.text }
-    requires nodes { length expr.now.nodes ≤ scratch.old.nodes }
-    ensures skips { Skips expr.now text.now count result }
+    requires nodes { length matcher.old.nodes ≤ scratch.old.nodes }
+    ensures skips { Skips matcher.old text.now count result }
+    ensures same { matcher.new ≡ matcher.old }
     ensures scratch { scratch.new ≡ scratch.old }
 {
     let mut last = None;
     'occurrences: for _ in 0..count {
-        let (_, end) = next_occurrence(expr, text, last, false, &mut [None; 10], scratch)?;
+        let (_, end) = next_occurrence(matcher, text, last, false, &mut [None; 10], scratch)?;
         last = Some(end);
     }
     Some(last)
@@ -80,7 +122,7 @@ fn needs_groups(parts: &[Part]) -> bool
 /// The next occurrence, behind the one that ended at a place, where there was one. Its groups are told where they are
 /// wanted.
 fn next_occurrence(
-    expr: &Expr,
+    matcher: &mut TableMatcher,
     text: &[u8],
     last: Option<usize>,
     wanted: bool,
@@ -89,23 +131,24 @@ fn next_occurrence(
 ) -> Option<(usize, usize)>
     requires last { EndsIn (length text.now) last }
     requires text { length text.now ≤ scratch.old.text }
-    requires nodes { length expr.now.nodes ≤ scratch.old.nodes }
-    ensures next { match_at expr.now text.now result
-        ≡ next_occurrence (search_for (Some expr.now) text.now) (length text.now) last }
+    requires nodes { length matcher.old.nodes ≤ scratch.old.nodes }
+    ensures next { match_at matcher.old text.now result
+        ≡ next_occurrence (search_for (Some matcher.old) text.now) (length text.now) last }
     ensures lies { IfSome result (LiesBehind (length text.now) last) }
-    ensures groups { GroupsOf expr.now text.now wanted result groups.new }
+    ensures groups { GroupsOf matcher.old text.now wanted result groups.new }
     ensures groups_in { GroupsIn (length text.now) groups.old → GroupsIn (length text.now) groups.new }
+    ensures same { matcher.new ≡ matcher.old }
     ensures scratch { scratch.new ≡ scratch.old }
 {
     let Some(place) = last else {
-        return search(expr, text, 0, wanted, groups, scratch);
+        return search(matcher, text, 0, wanted, groups, scratch);
     };
-    let span = search(expr, text, place, wanted, groups, scratch)?;
+    let span = search(matcher, text, place, wanted, groups, scratch)?;
     if place < span.1 {
         return Some(span);
     }
     if place < text.len() {
-        search(expr, text, place + 1, wanted, groups, scratch)
+        search(matcher, text, place + 1, wanted, groups, scratch)
     } else {
         None
     }
@@ -113,7 +156,7 @@ fn next_occurrence(
 
 /// The match sought from a place on. Its groups are told where they are wanted.
 fn search(
-    expr: &Expr,
+    matcher: &mut TableMatcher,
     text: &[u8],
     from: usize,
     wanted: bool,
@@ -122,19 +165,20 @@ fn search(
 ) -> Option<(usize, usize)>
     requires from { from ≤ length text.now }
     requires text { length text.now ≤ scratch.old.text }
-    requires nodes { length expr.now.nodes ≤ scratch.old.nodes }
-    ensures found { result ≡ found (tree expr.now) text.now from }
+    requires nodes { length matcher.old.nodes ≤ scratch.old.nodes }
+    ensures found { result ≡ found (tree matcher.old) text.now from }
     ensures lies { IfSome result (λ span. (from ≤ span.0) × (span.0 ≤ span.1) × (span.1 ≤ length text.now)) }
-    ensures groups { GroupsOf expr.now text.now wanted result groups.new }
+    ensures groups { GroupsOf matcher.old text.now wanted result groups.new }
     ensures groups_in { GroupsIn (length text.now) groups.old → GroupsIn (length text.now) groups.new }
+    ensures same { matcher.new ≡ matcher.old }
     ensures scratch { scratch.new ≡ scratch.old }
 {
     let bytes = Text::new(text);
     let mut steps = Steps::new();
     if !wanted {
-        return find_span(expr, &bytes, from, scratch, &mut steps);
+        return matcher.find_span(&bytes, from, scratch, &mut steps);
     }
-    let found = find(expr, &bytes, from, scratch, &mut steps)?;
+    let found = matcher.find(&bytes, from, scratch, &mut steps)?;
     let told = found.groups;
     *groups = told;
     Some((found.start, found.end))
@@ -143,7 +187,7 @@ fn search(
 /// Appends the text with the first occurrence and, with the flag `g`, all behind it replaced.
 fn replace(
     substitution: &Substitution,
-    expr: &Expr,
+    matcher: &mut TableMatcher,
     text: &[u8],
     first: (usize, usize),
     groups: &mut Groups,
@@ -151,13 +195,14 @@ fn replace(
     scratch: &mut Scratch,
 ) -> Result<(), Full>
     requires text { length text.now ≤ scratch.old.text }
-    requires nodes { length expr.now.nodes ≤ scratch.old.nodes }
+    requires nodes { length matcher.old.nodes ≤ scratch.old.nodes }
     requires lies { LiesBehind (length text.now) None first }
-    requires groups { GroupsOf expr.now text.now (has_group substitution.now.replacement) (Some first) groups.old }
+    requires groups { GroupsOf matcher.old text.now (has_group substitution.now.replacement) (Some first) groups.old }
     requires groups_in { GroupsIn (length text.now) groups.old }
     ensures appends { Appends build.old build.new
         (replaced_from text.now substitution.now.replacement 0
-        (pending expr.now text.now substitution.now.global (Some first))) result }
+        (pending matcher.old text.now substitution.now.global (Some first))) result }
+    ensures same { matcher.new ≡ matcher.old }
     ensures scratch { scratch.new ≡ scratch.old }
 {
     let parts = substitution.replacement.parts();
@@ -169,7 +214,7 @@ fn replace(
         put(parts, span, groups, text, build)?;
         copied = span.1;
         occurrence = if substitution.global {
-            next_occurrence(expr, text, Some(copied), wanted, groups, scratch)
+            next_occurrence(matcher, text, Some(copied), wanted, groups, scratch)
         } else {
             None
         };

@@ -54,7 +54,7 @@ impl Engine {
             None => Err(Ended::NoPrevious(self.number)),
             Some(k) => {
                 self.used = Some(k);
-                Ok(finds(&self.script, k, &self.pattern, &mut self.scratch))
+                Ok(finds(&mut self.matchers, k, &self.pattern, &mut self.scratch))
             }
         }
     }

@@ -8,6 +8,7 @@ ghost use Rattle.sedengine.specs.Move.{chosen_in, in_table, line_to, line_to_fil
 ghost use Rattle.sedengine.specs.Ends.{comes};
 ghost use Rattle.sedengine.specs.Devices.{Gained};
 ghost use Rattle.sedengine.specs.Calls.{NoSinkFailed, Puts, Writes};
+ghost use Rattle.sedengine.specs.Fitting.{AllFit};
 ghost use Rattle.sedengine.specs.Run.{at_lines, search_in, setting};
 ghost use Rattle.sedengine.specs.Steps.{KeepsRun, Performs, weight};
 ghost use Rattle.sedengine.specs.Substituting.{Makes, ReplacesIn, same_but_replaced};
@@ -15,8 +16,8 @@ ghost use Rattle.sedengine.specs.Substituting.{Makes, ReplacesIn, same_but_repla
 use super::Engine;
 use crate::ends::Ended;
 use crate::place::Place;
-use crate::substitute::substitute;
-use sedmatch::Scratch;
+use crate::substitute::substitute_by;
+use sedmatch::{Scratch, TableMatcher};
 use sedscript::Script;
 use sedspace::{Full, Outputs, Space};
 
@@ -25,29 +26,30 @@ use sedspace::{Full, Outputs, Space};
 fn replace_in(
     script: &Script,
     k: usize,
+    matchers: &mut Vec<TableMatcher>,
     e: usize,
     pattern: &mut Space,
     build: &mut Space,
     scratch: &mut Scratch,
 ) -> Result<bool, Full>
     requires number { k < length script.now.substitutions }
-    requires expression { e < length script.now.expressions }
+    requires expression { e < length matchers.old.items }
     requires text { length pattern.old.bytes ≤ scratch.old.text }
-    requires nodes { script.now.max_nodes ≤ scratch.old.nodes }
+    requires fit { AllFit scratch.old.nodes matchers.old.items }
     requires limits { pattern.old.limit ≡ build.old.limit }
     ensures replaces { (t : Substitution) → slice_get script.now.substitutions k ≡ Some t →
         ReplacesIn t (chosen t.number t.global
-        (occurrences (search_in script.now.expressions e pattern.old.bytes) (length pattern.old.bytes)))
+        (occurrences (search_in matchers.old.items e pattern.old.bytes) (length pattern.old.bytes)))
         pattern.old pattern.new result }
     ensures err { OnErr result (pattern.new ≡ pattern.old) }
     ensures pattern { pattern.new.limit ≡ pattern.old.limit }
     ensures fits { length pattern.new.bytes ≤ pattern.new.limit }
     ensures build { build.new.limit ≡ build.old.limit }
+    ensures same { matchers.new.items ≡ matchers.old.items }
     ensures scratch { scratch.new ≡ scratch.old }
 {
     let substitution = script.substitution(k);
-    let expr = script.expr(e);
-    let replaced = substitute(substitution, expr, pattern.bytes(), build, scratch)?;
+    let replaced = substitute_by(substitution, matchers, e, pattern.bytes(), build, scratch)?;
     if replaced {
         // What a space holds is within its limit.
         let _ = build.len();
@@ -127,6 +129,7 @@ impl Engine {
         match replace_in(
             &self.script,
             k,
+            &mut self.matchers,
             e,
             &mut self.pattern,
             &mut self.build,

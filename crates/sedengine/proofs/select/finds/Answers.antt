@@ -1,8 +1,20 @@
-use Rattle.std.proofs.Common.{◌∙◌}
+use Rattle.std.proofs.Common.{◌≡◌, ◌∙◌, arith, get_or}
+use Rattle.std.proofs.lemmas.Grind.{elements}
 use Rattle.sedengine.proofs.Choices.{finds_as}
+use Rattle.sedengine.proofs.Fitting.{fits_at}
 use Rattle.sedengine.proofs.select.finds.Goals as goal
+
+pub is_match-requires-clause-expr_fits : goal.is_match-requires-clause-expr_fits
+is_match-requires-clause-expr_fits c =
+    let e = c.index_mut-matcher.result.now in
+    let h = c.index_mut-matcher.ensures.value in
+    let is : e ≡ get_or c.args.matchers.now.items c.args.k e = grind (arith, elements) in
+    fits_at c.args.scratch.now.nodes c.args.matchers.now.items c.args.k e c.requires.number is c.requires.fit
 
 pub returns-clause-finds : goal.returns-clause-finds
 returns-clause-finds c =
-    finds_as c.args.script.now.expressions c.args.k c.expr.result.now c.new.result c.args.pattern.now.bytes c.is_match.result
-    c.expr.ensures.is c.found_law.ensures.none (c.new.ensures ∙ c.bytes.ensures.value) c.is_match.ensures.matches
+    let e = c.index_mut-matcher.result.now in
+    let h = c.index_mut-matcher.ensures.value in
+    let is : e ≡ get_or c.args.matchers.now.items c.args.k e = grind (arith, elements) in
+    finds_as c.args.matchers.now.items c.args.k e c.new-text.result c.args.pattern.now.bytes c.is_match.result
+    c.requires.number is (c.new-text.ensures ∙ c.bytes.ensures.value) c.is_match.ensures.computed

@@ -10,7 +10,7 @@ returns-in_err-append-clause-appends c =
     let l = c.occurrences in
     let i = l.invariant in
     let s = c.args.substitution.now in
-    let due = due_next c.args.build.now l.build _ c.args.expr.now c.args.text.now s.replacement s.global l.copied
+    let due = due_next c.args.build.now l.build _ c.args.matcher.now c.args.text.now s.replacement s.global l.copied
     l.groups l.occurrence c.in-Some.span c.in-Some.is i.groups (i.limit, i.made) in
     let before = slice_range c.args.text.now l.copied c.in-Some.span.0 in
     let a = c.in_err-append.ensures in
@@ -25,7 +25,7 @@ returns-in_err-put-clause-appends c =
     let i = l.invariant in
     let s = c.args.substitution.now in
     let cut = c.append.new.self in
-    let due = due_cut c.args.build.now l.build cut _ c.args.expr.now c.args.text.now s.replacement _ s.global l.copied
+    let due = due_cut c.args.build.now l.build cut _ c.args.matcher.now c.args.text.now s.replacement _ s.global l.copied
     l.groups l.occurrence c.in-Some.span c.in-Some.is i.groups c.parts-parts.ensures.pieces (i.limit, i.made)
     c.in_ok-append.ensures.ok in
     due_full c.args.build.now cut c.put.new.build _ _ _ c.in_err-put.field-0.0 c.from_residual-in_err-put.result
@@ -35,23 +35,24 @@ pub occurrences-preserved-then-substitution : goal.occurrences-preserved-then-su
 occurrences-preserved-then-substitution c =
     let l = c.occurrences in
     let i = l.invariant in
-    let e = c.args.expr.now in
+    let e = c.args.matcher.now in
     let w = c.args.text.now in
     let s = c.args.substitution.now in
     let span = c.in-Some.span in
     let lies = rw c.in-Some.is at i.lies in
     let next = c.next_occurrence-occurrence in
-    let more = more_pending e w s.global span.1 next.result c.if-substitution.true lies.2 next.ensures.next in
+    let more = more_pending e w s.global span.1 next.result c.if-substitution.true lies.2 (rw i.matcher at next.ensures.next) in
     let due = due_behind c.args.build.now l.build c.append.new.self c.put.new.build _ e w s.replacement _ s.global
     l.copied l.groups l.occurrence span _ c.in-Some.is i.groups c.parts-parts.ensures.pieces (i.limit, i.made)
     c.in_ok-append.ensures.ok c.in_ok-put.ensures more in
     let wanted = c.needs_groups-wanted.ensures ∙ ap has_group c.parts-parts.ensures.pieces in
     record {
+      matcher = next.ensures.same ∙ i.matcher;
       scratch = next.ensures.scratch ∙ i.scratch;
       limit = due.0;
       copied = lies.2;
       lies = lies_on (length w) span.1 next.result next.ensures.lies;
-      groups = subst (λ (b : Bool). GroupsOf e w b next.result next.new.groups) wanted next.ensures.groups;
+      groups = subst (λ (b : Bool). GroupsOf e w b next.result next.new.groups) wanted (rw i.matcher at next.ensures.groups);
       groups_in = next.ensures.groups_in i.groups_in;
       made = due.1;
     }
@@ -60,7 +61,7 @@ pub occurrences-preserved : goal.occurrences-preserved
 occurrences-preserved c =
     let l = c.occurrences in
     let i = l.invariant in
-    let e = c.args.expr.now in
+    let e = c.args.matcher.now in
     let w = c.args.text.now in
     let s = c.args.substitution.now in
     let span = c.in-Some.span in
@@ -70,6 +71,7 @@ occurrences-preserved c =
     l.copied l.groups l.occurrence span _ c.in-Some.is i.groups c.parts-parts.ensures.pieces (i.limit, i.made)
     c.in_ok-append.ensures.ok c.in_ok-put.ensures none in
     record {
+      matcher = i.matcher;
       scratch = i.scratch;
       limit = due.0;
       copied = lies.2;
@@ -88,6 +90,6 @@ returns-clause-appends c =
     let new = c.append-2.new.self in
     let a = c.append-2.ensures in
     let rest = take (length w - l.copied) (drop l.copied w) in
-    due_rest c.args.build.now l.build new _ c.args.expr.now w s.replacement s.global l.copied l.occurrence
+    due_rest c.args.build.now l.build new _ c.args.matcher.now w s.replacement s.global l.copied l.occurrence
     c.append-2.result c.in_default.is (i.limit, i.made)
     (appended l.build new rest rest c.append-2.result refl a.ok a.full a.err)

@@ -6,16 +6,17 @@ use Rattle.sedengine.proofs.substitute.replace.Given as goal
 
 abbrev pub invariant-occurrences : goal.invariant-occurrences
 invariant-occurrences l = record {
+  matcher : l.matcher ≡ l.fn.matcher;
   scratch : l.scratch ≡ l.fn.scratch;
   limit : l.build.limit ≡ l.fn.build.limit;
   copied : l.copied ≤ length l.text;
   lies : IfSome l.occurrence (λ span. (l.copied ≤ span.0) × (span.0 ≤ span.1) × (span.1 ≤ length l.text));
-  groups : GroupsOf l.expr l.text (has_group l.substitution.replacement) l.occurrence l.groups;
+  groups : GroupsOf l.fn.matcher l.text (has_group l.substitution.replacement) l.occurrence l.groups;
   groups_in : GroupsIn (length l.text) l.groups;
   made : l.build.bytes ++ replaced_from l.text l.substitution.replacement l.copied
-      (pending l.expr l.text l.substitution.global l.occurrence)
+      (pending l.fn.matcher l.text l.substitution.global l.occurrence)
       ≡ l.fn.build.bytes ++ replaced_from l.text l.substitution.replacement 0
-      (pending l.expr l.text l.substitution.global (Some l.fn.first));
+      (pending l.fn.matcher l.text l.substitution.global (Some l.fn.first));
 }
 
 -- how many places an occurrence leaves behind it in a text of n bytes

@@ -1,0 +1,55 @@
+-- The expression that an address or a substitution tries.
+use Rattle.std.proofs.Common.{◌≡◌, ℕ, ◌<◌, Bool, List, length, get_or, Option, Some, None, Result, refl, sym, subst, ap, ◌∙◌}
+use Rattle.std.specs.Prelude.{option_and_then}
+use Rattle.std.specs.Option.{option_or}
+use Rattle.std.proofs.lemmas.Option.{slice_get_read}
+use Rattle.sedre.specs.Arena.{Written}
+use Rattle.sedscript.specs.Ranges.{AddressWithin}
+use Rattle.sedscript.specs.declared.types.Address.TheVariants.{Match}
+use Rattle.sedscript.specs.declared.substitution.Substitution.{Substitution}
+use Rattle.sedspace.specs.declared.errors.Full.{Full}
+use Rattle.sedengine.specs.Choose.{current}
+use Rattle.sedengine.specs.Inside.{run_of, IsRun, IsOneOf}
+use Rattle.sedengine.specs.Replacing.{Replaces}
+use Rattle.sedengine.specs.Run.{Run, finds_in, search_for, search_in}
+use Rattle.sedengine.specs.Select.{Answer, answer, stands_for}
+use Rattle.sedengine.specs.Substitute.{chosen, occurrences}
+use Rattle.sedengine.specs.declared.engine.Engine.TheInside.{Inside}
+
+pub standing : (named used : Option ℕ) → option_or named used ≡ stands_for named used
+standing None used = refl
+standing (Some e) used = refl
+
+some_of : (x y : ℕ) → Some x ≡ Some y → x ≡ y
+some_of x y h = cc
+
+within_by : (n : ℕ) (named used : Option ℕ) (k : ℕ) → AddressWithin n (Some (Match named)) → IsOneOf n used → Some k ≡ option_or named used → k < n
+within_by n (Some j) used k h one is = let same : k ≡ j = some_of k j is in rw same h
+within_by n None (Some j) k h one is = let same : k ≡ j = some_of k j is in rw same one
+within_by n None None k h one is = cc
+
+-- an address tries an expression of the script
+pub tried_within : (a : Inside) (r : Run) (named : Option ℕ) (k : ℕ) → run_of a ≡ r → IsRun a → AddressWithin (length r.script.expressions) (Some (Match named)) → Some k ≡ option_or named a.used →
+    k < length a.script.expressions
+tried_within a r named k seen i h is =
+    let P : Run → Type 0 = λ r. AddressWithin (length r.script.expressions) (Some (Match named)) in
+    within_by (length a.script.expressions) named a.used k (subst P (sym seen) h) i.used is
+
+-- what it answers
+pub answered : (a : Inside) (r : Run) (named : Option ℕ) (k : ℕ) (ms : List Written) (b last : Bool) → run_of a ≡ r → ms ≡ a.script.expressions → Some k ≡ option_or named a.used → b ≡ finds_in ms k a.pattern.bytes →
+    answer (current r last) (Match named) ≡ Some (record { yes = b; used = Some k })
+answered a r named k ms b last seen same is found =
+    let Q : Run → Type 0 = λ r. answer (current r last) (Match named) ≡ Some (record { yes = b; used = Some k }) in
+    let f : ℕ → Option Answer = λ j. Some (record { yes = finds_in a.script.expressions j a.pattern.bytes; used = Some j }) in
+    let stands : stands_for named a.used ≡ Some k = sym (is ∙ standing named a.used) in
+    let yes : finds_in a.script.expressions k a.pattern.bytes ≡ b = sym (found ∙ ap (λ (es : List Written). finds_in es k a.pattern.bytes) same) in
+    let put : Bool → Option Answer = λ x. Some (record { yes = x; used = Some k }) in
+    subst Q seen (ap (λ (o : Option ℕ). option_and_then f o) stands ∙ ap put yes)
+
+-- what is replaced with the expression of a number
+pub replaces_by : (ms : List Written) (e : ℕ) (m : Written) (w : List ℕ) (t : Substitution) (limit : ℕ) (made : List ℕ) (r : Result Bool Full) → e < length ms → m ≡ get_or ms e m →
+    Replaces w t.replacement (chosen t.number t.global (occurrences (search_for (Some m) w) (length w))) limit made r →
+    Replaces w t.replacement (chosen t.number t.global (occurrences (search_in ms e w) (length w))) limit made r
+replaces_by ms e m w t limit made r inside is h =
+    let P : Option Written → Type 0 = λ o. Replaces w t.replacement (chosen t.number t.global (occurrences (search_for o w) (length w))) limit made r in
+    subst P (sym (slice_get_read ms (length ms) e m refl inside is)) h

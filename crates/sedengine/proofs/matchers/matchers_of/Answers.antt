@@ -1,0 +1,28 @@
+use Rattle.std.proofs.Common.{[], ◌∷◌, ◌++◌, ◌∙◌, ap, arith}
+use Rattle.sedre.specs.Arena.{Written}
+use Rattle.sedengine.proofs.Fitting.{first_more, fits_more, fits_none, seek_all}
+use Rattle.sedengine.proofs.matchers.matchers_of.Goals as goal
+
+pub loop-k-init : goal.loop-k-init
+loop-k-init c = record {
+  are = c.in_ok-matchers.ensures.items;
+  fit = fits_none c.args.most_nodes c.in_ok-matchers.matchers.items c.in_ok-matchers.ensures.items;
+}
+
+pub loop-k-preserved : goal.loop-k-preserved
+loop-k-preserved c =
+    let l = c.loop-k in
+    let e = c.expr.result.now in
+    let are = c.in_ok-push.ensures.items ∙ ap (λ (x : Written). l.matchers.items ++ x ∷ []) c.in_ok-new.ensures in
+    let few = c.expr.ensures.nodes in
+    let within = c.requires.within in
+    record {
+      are = first_more c.args.script.now.expressions l.matchers.items c.push.new.self.items l.k e c.expr.ensures.is l.invariant.are are;
+      fit = fits_more c.args.most_nodes l.matchers.items c.push.new.self.items e are l.invariant.fit (omega arith);
+    }
+
+pub returns : goal.returns
+returns c =
+    let l = c.loop-k in
+    let count = c.expressions-count.ensures in
+    seek_all c.args.script.now.expressions c.args.most_nodes l.matchers.items l.k l.invariant.are (omega arith) (omega arith) l.invariant.fit

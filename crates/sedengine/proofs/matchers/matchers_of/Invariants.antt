@@ -1,0 +1,9 @@
+use Rattle.std.proofs.Common.{◌≡◌, take}
+use Rattle.sedengine.specs.Fitting.{AllFit}
+use Rattle.sedengine.proofs.matchers.matchers_of.Given as goal
+
+abbrev pub invariant-loop-k : goal.invariant-loop-k
+invariant-loop-k l = record {
+  are : l.matchers.items ≡ take l.k l.script.expressions;
+  fit : AllFit l.most_nodes l.matchers.items;
+}

@@ -1,0 +1,20 @@
+use Rattle.std.proofs.Common.{◌≡◌, arith, get_or}
+use Rattle.std.proofs.lemmas.Grind.{elements}
+use Rattle.sedengine.proofs.Fitting.{fits_at}
+use Rattle.sedengine.proofs.Tried.{replaces_by}
+use Rattle.sedengine.proofs.substitute.substitute_by.Goals as goal
+
+pub substitute-requires-clause-nodes : goal.substitute-requires-clause-nodes
+substitute-requires-clause-nodes c =
+    let e = c.index_mut-matcher.result.now in
+    let h = c.index_mut-matcher.ensures.value in
+    let is : e ≡ get_or c.args.matchers.now.items c.args.e e = grind (arith, elements) in
+    fits_at c.args.scratch.now.nodes c.args.matchers.now.items c.args.e e c.requires.expression is c.requires.fit
+
+pub returns-clause-replaces : goal.returns-clause-replaces
+returns-clause-replaces c =
+    let e = c.index_mut-matcher.result.now in
+    let h = c.index_mut-matcher.ensures.value in
+    let is : e ≡ get_or c.args.matchers.now.items c.args.e e = grind (arith, elements) in
+    replaces_by c.args.matchers.now.items c.args.e e c.args.text.now c.args.substitution.now _ _ c.substitute.result
+    c.requires.expression is c.substitute.ensures.replaces

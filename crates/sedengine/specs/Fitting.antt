@@ -1,0 +1,12 @@
+-- Private to this crate: what seeks the expressions of a script.
+use Rattle.std.specs.Prelude.{◌≡◌, ℕ, ◌≤◌, List, length}
+use Rattle.std.specs.List.{All}
+use Rattle.sedre.specs.Arena.{Written}
+
+-- each of these expressions has at most so many nodes
+unfoldable pub AllFit : ℕ → List Written → Type 0
+AllFit most es = All (λ e. length e.nodes ≤ most) es
+
+-- The matchers seek these expressions, of which each has at most so many nodes.
+unfoldable pub Seek : List Written → ℕ → List Written → Type 0
+Seek es most ms = (ms ≡ es) × AllFit most ms
