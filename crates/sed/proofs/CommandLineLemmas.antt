@@ -1,12 +1,12 @@
 -- The command line that `clap` is given.
-use Rattle.std.proofs.Common.{◌≡◌, ◌≢◌, ◌∙◌, inl, inr, List, [], ◌∷◌, Option, Result, Ok, Err, IfOk, IfErr, true, refl, ap, codes, unwrap_or}
+use Rattle.std.proofs.Common.{◌≡◌, ◌≢◌, ◌∙◌, inl, inr, List, [], ◌∷◌, Option, Result, Ok, Err, IfOk, IfErr, true, false, refl, ap, codes, unwrap_or}
 use Rattle.clap.specs.Words.{App, Text, first_of, first_value, found_of, is_simple, is_simple_and_free, kind_of, fault_of, matches_of, rows_of, takes, FailsBy, HasKind, HasMatchesOf}
 use Rattle.clap.specs.declared.error.Error.{Error}
 use Rattle.clap.specs.declared.error.kind.ErrorKind.TheVariants.{OutOfMemory, MissingRequiredArgument, DisplayHelp}
 use Rattle.clap.specs.declared.parser.matches.ArgMatches.{ArgMatches}
 use Rattle.clap.proofs.OnLiterals.{clap_on_literals}
 use Rattle.clap.proofs.WalkLemmas.{first_value-rows}
-use Rattle.sed.specs.CommandLine.{IsCommandLine, IsRefusal, script_in, sed_command}
+use Rattle.sed.specs.CommandLine.{IsCommandLine, IsRefusal, extended_in, script_in, sed_command}
 use Rattle.sed.specs.declared.asked.Refused.{Refused}
 use Rattle.sed.specs.declared.asked.Refused.TheVariants.{NoMemory, Words}
 
@@ -56,6 +56,18 @@ script_in-matches words m given script rows is same =
 two_are : IsCommandLine (codes "-n" ∷ codes "p" ∷ [])
 unfolding clap_on_literals sed_command
 two_are = refl
+
+extended_are : IsCommandLine (codes "-nE" ∷ codes "p" ∷ codes "-E" ∷ [])
+unfolding clap_on_literals sed_command
+extended_are = refl
+
+extended_is : extended_in (matches_of sed_command (codes "p" ∷ codes "-nE" ∷ [])) ≡ true
+unfolding clap_on_literals sed_command
+extended_is = refl
+
+extended_is_not : extended_in (matches_of sed_command (codes "-n" ∷ codes "p" ∷ [])) ≡ false
+unfolding clap_on_literals sed_command
+extended_is_not = refl
 
 none_are : fault_of sed_command [] ≡ MissingRequiredArgument ∷ []
 unfolding clap_on_literals sed_command

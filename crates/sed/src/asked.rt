@@ -11,6 +11,8 @@ use clap::error::ErrorKind;
 pub struct Line<'a> {
     /// Whether `-n` was given, which suppresses default output.
     pub quiet: bool,
+    /// Whether `-E` was given, which chooses extended expressions.
+    pub extended: bool,
     /// The script's text.
     pub script: &'a str,
 }

@@ -1,9 +1,10 @@
-//! The command line, `sed [-n] script`, read with `clap` (XCU sed, "Synopsis").
+//! The command line, `sed [-n] [-E] script`, read with `clap` (XCU sed, "Synopsis").
 //!
-//! -n may be given more than once, before the script or behind it; `--` ends the options; -h and --help ask for help.
+//! -n and -E may be given more than once, in one word or several, before the script or after it; `--` ends the options;
+//! -h and --help ask for help.
 ghost use Rattle.std.specs.Prelude.{◌≡◌, true, codes, map, option_map, unwrap_or, IfOk, IfErr, OnOk};
 ghost use Rattle.clap.specs.Words.{FailsBy, app_of, fault_of, found_of, kind_of, matches_of, rows_of, takes};
-ghost use Rattle.sed.specs.CommandLine.{IsCommandLine, IsRefusal, sed_command, quiet_in, script_in};
+ghost use Rattle.sed.specs.CommandLine.{IsCommandLine, IsRefusal, sed_command, extended_in, quiet_in, script_in};
 
 use crate::asked::{Line, Refused};
 use clap::error::ErrorKind;
@@ -17,6 +18,7 @@ use std::convert::AsStr;
 /// What `clap` has to say where it doesn't take the words, or asks for help; or want of memory.
 pub fn line<'a, S: AsStr>(alloc: Global, words: &'a [S]) -> Result<Line<'a>, Refused>
     ensures quiet { IfOk result (λ l. l.quiet ≡ quiet_in (matches_of sed_command (map S.text words.entry.now))) }
+    ensures extended { IfOk result (λ l. l.extended ≡ extended_in (matches_of sed_command (map S.text words.entry.now))) }
     ensures script { IfOk result (λ l. l.script.now ≡ script_in (matches_of sed_command (map S.text words.entry.now))) }
     // Words are answered only where `clap` finds no fault in them, and refused for one that it finds.
     ensures sound { OnOk result (IsCommandLine (map S.text words.entry.now)) }
@@ -27,6 +29,7 @@ pub fn line<'a, S: AsStr>(alloc: Global, words: &'a [S]) -> Result<Line<'a>, Ref
     match read(alloc, words) {
         Ok(matches) => Ok(Line {
             quiet: matches.get_count("quiet") > 0,
+            extended: matches.get_count("extended") > 0,
             script: or_empty(matches.get_str("script")),
         }),
         Err(error) => Err(Refused::from(error)),
@@ -59,6 +62,10 @@ fn command<'a>(alloc: Global) -> Result<Command<'a>, clap::Error>
         .short('n')
         .action(ArgAction::Count)
         .help("Write no pattern space unless the script asks for it");
+    let extended = Arg::new(alloc, "extended")
+        .short('E')
+        .action(ArgAction::Count)
+        .help("Read extended regular expressions in the script");
     let script = Arg::new(alloc, "script")
         .required(true)
         .action(ArgAction::Set)
@@ -67,6 +74,7 @@ fn command<'a>(alloc: Global) -> Result<Command<'a>, clap::Error>
         .no_binary_name(true)
         .about("Edits the standard input line by line, and writes to the standard output")
         .arg(quiet)?
+        .arg(extended)?
         .arg(script)?;
     Ok(command)
 }

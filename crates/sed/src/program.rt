@@ -7,7 +7,7 @@ ghost use Rattle.sedengine.specs.Move.{to_sink};
 ghost use Rattle.clap.specs.Words.{kind_of};
 ghost use Rattle.sed.specs.CommandLine.{IsCommandLine};
 ghost use Rattle.sed.specs.Program.{AsksHelp, GivesScript, StopsEarly, WritesAll, WritesBeginning, WritesHelp};
-ghost use Rattle.sed.specs.Program.{quiet_of, script_of};
+ghost use Rattle.sed.specs.Program.{expressions_of, kind_with, quiet_of, script_of};
 
 use crate::asked::{Line, Refused};
 use crate::command_line::line;
@@ -58,18 +58,21 @@ pub fn stream<S: AsStr, R: ByteSource + Drop, O: Outputs, E: Write>(
     // Status 0 says that all was written that the script writes, or that help was asked for and written.
     ensures whole { result ≡ SUCCESS →
         (IsCommandLine (map S.text words.now)
-        × WritesAll (script_of (map S.text words.now)) (quiet_of (map S.text words.now)) limits.nodes
-        (R.remaining source) (Gained (O.contents outputs.old) (O.contents outputs.new)))
+        × WritesAll (script_of (map S.text words.now)) (expressions_of (map S.text words.now))
+        (quiet_of (map S.text words.now)) limits.nodes (R.remaining source)
+        (Gained (O.contents outputs.old) (O.contents outputs.new)))
         ⊎ (AsksHelp (map S.text words.now) × WritesHelp (Gained (O.contents outputs.old) (O.contents outputs.new))) }
     // A run that stopped has written a beginning; where help was asked for, a text.
     ensures stopped { result ≡ STOPPED →
         (IsCommandLine (map S.text words.now)
-        × WritesBeginning (script_of (map S.text words.now)) (quiet_of (map S.text words.now)) limits.nodes
-        (R.remaining source) (Gained (O.contents outputs.old) (O.contents outputs.new)))
+        × WritesBeginning (script_of (map S.text words.now)) (expressions_of (map S.text words.now))
+        (quiet_of (map S.text words.now)) limits.nodes (R.remaining source)
+        (Gained (O.contents outputs.old) (O.contents outputs.new)))
         ⊎ (AsksHelp (map S.text words.now) × WritesHelp (Gained (O.contents outputs.old) (O.contents outputs.new))) }
     // It stopped for a cause.
     ensures cause { result ≡ STOPPED →
-        StopsEarly limits (script_of (map S.text words.now)) (quiet_of (map S.text words.now)) (R.remaining source)
+        StopsEarly limits (script_of (map S.text words.now)) (expressions_of (map S.text words.now))
+        (quiet_of (map S.text words.now)) (R.remaining source)
         (Gained (O.contents outputs.old) (O.contents outputs.new)) ⊎ AsksHelp (map S.text words.now) }
     ensures refused { result ≡ REFUSED → outputs.new ≡ outputs.old }
     ensures sinks { O.count outputs.new ≡ O.count outputs.old }
@@ -140,13 +143,27 @@ fn write_all<O: Outputs>(outputs: &mut O, bytes: &[u8]) -> Result<(), Ended>
     Ok(())
 }
 
-/// The script that a command line gives, with its -n.
+/// The kind of a script's expressions, with -E or without it.
+fn expressions(extended: bool) -> Kind
+    ensures { result ≡ kind_with extended }
+{
+    if extended {
+        Kind::Extended
+    } else {
+        Kind::Basic
+    }
+}
+
+/// The script that a command line gives, with its -n and -E.
 fn read_script(alloc: Global, line: Line<'_>, nodes: usize) -> Result<Script, ScriptFault>
     requires { (1 ≤ nodes) × (nodes ≤ 65536) }
-    ensures gives { IfOk result (GivesScript line.entry.script.now line.entry.quiet nodes) }
-    ensures fault { IfErr result (λ f. Faulty line.entry.script.now Kind.Basic nodes f ⊎ (f ≡ NO_MEMORY)) }
+    ensures gives { IfOk result (GivesScript line.entry.script.now (kind_with line.entry.extended) line.entry.quiet
+        nodes) }
+    ensures fault { IfErr result (λ f. Faulty line.entry.script.now (kind_with line.entry.extended) nodes f
+        ⊎ (f ≡ NO_MEMORY)) }
 {
-    let mut program = script(alloc, line.script.as_bytes(), Kind::Basic, nodes)?;
+    let kind = expressions(line.extended);
+    let mut program = script(alloc, line.script.as_bytes(), kind, nodes)?;
     if line.quiet {
         program.set_quiet();
     }
@@ -177,12 +194,14 @@ fn run_line<R: ByteSource + Drop, O: Outputs, E: Write>(
 ) -> u8
     requires { 0 < O.count outputs.old }
     ensures status { (result ≡ SUCCESS) ⊎ (result ≡ REFUSED) ⊎ (result ≡ STOPPED) }
-    ensures whole { result ≡ SUCCESS → WritesAll line.entry.script.now line.entry.quiet limits.nodes
-        (R.remaining source) (Gained (O.contents outputs.old) (O.contents outputs.new)) }
-    ensures stopped { result ≡ STOPPED → WritesBeginning line.entry.script.now line.entry.quiet limits.nodes
-        (R.remaining source) (Gained (O.contents outputs.old) (O.contents outputs.new)) }
-    ensures cause { result ≡ STOPPED → StopsEarly limits line.entry.script.now line.entry.quiet
-        (R.remaining source) (Gained (O.contents outputs.old) (O.contents outputs.new)) }
+    ensures whole { result ≡ SUCCESS → WritesAll line.entry.script.now (kind_with line.entry.extended)
+        line.entry.quiet limits.nodes (R.remaining source)
+        (Gained (O.contents outputs.old) (O.contents outputs.new)) }
+    ensures stopped { result ≡ STOPPED → WritesBeginning line.entry.script.now
+        (kind_with line.entry.extended) line.entry.quiet limits.nodes (R.remaining source)
+        (Gained (O.contents outputs.old) (O.contents outputs.new)) }
+    ensures cause { result ≡ STOPPED → StopsEarly limits line.entry.script.now (kind_with line.entry.extended)
+        line.entry.quiet (R.remaining source) (Gained (O.contents outputs.old) (O.contents outputs.new)) }
     ensures refused { result ≡ REFUSED → outputs.new ≡ outputs.old }
     ensures sinks { O.count outputs.new ≡ O.count outputs.old }
 {

@@ -102,6 +102,13 @@ fn calls_of_the_program(rt: HostRuntime) -> Result<(), Fail> {
         Call::new(&["-n", "--", "2p"], b"b\n"),
         Call::new(&["--", "1d"], b"b\n"),
         Call::new(&[""], b"a\nb\n"),
+        Call::new(&["-E", "/a|x/d"], b"b\n"),
+        Call::new(&["s/(b)+/[\\1]/p", "-nE", "-E"], b"[b]\n"),
+        Call::new(&["-n", "/a|x/p"], b""),
+        Call::refused(
+            &["-E", "p;/(a/p"],
+            b"sed: script byte 5: S21 Expression: E5 OpenGroup\n",
+        ),
         Call::refused(&["pp"], b"sed: script byte 1: S15 TrailingBytes\n"),
         Call::new(&["-n", "-n", "/b/="], b"2\n"),
         Call::refused(

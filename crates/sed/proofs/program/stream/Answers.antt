@@ -4,7 +4,7 @@ use Rattle.sed.proofs.program.stream.Goals as goal
 
 pub returns-in-Ok-clause-stopped : goal.returns-in-Ok-clause-stopped
 returns-in-Ok-clause-stopped g c is =
-    inl (c.in-Ok.ensures.sound, rw (← c.in-Ok.ensures.script, ← c.in-Ok.ensures.quiet) (c.run_line.ensures.stopped is))
+    inl (c.in-Ok.ensures.sound, rw (← c.in-Ok.ensures.script, ← c.in-Ok.ensures.quiet, ← c.in-Ok.ensures.extended) (c.run_line.ensures.stopped is))
 
 pub returns-in-Err-Words-clause-cause : goal.returns-in-Err-Words-clause-cause
 returns-in-Err-Words-clause-cause g c is =
