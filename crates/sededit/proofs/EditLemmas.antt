@@ -1,5 +1,5 @@
 -- From the end of an engine's run to the end of an edit.
-use Rattle.std.proofs.Common.{◌≡◌, ℕ, suc, List, [], Option, Some, None, length, refl}
+use Rattle.std.proofs.Common.{◌≡◌, ℕ, suc, List, [], Option, Some, None, length}
 use Rattle.std.proofs.Math.Seq.{take-length}
 use Rattle.sedspace.specs.Lines.{lines}
 use Rattle.sedscript.specs.Script.{Program}

@@ -2,5 +2,11 @@
 #![tactic(auto)]
 
 mod editing;
+mod inputs;
+mod joined;
+mod memory_inputs;
 
 pub use editing::{edit, script};
+pub use inputs::Inputs;
+pub use joined::Joined;
+pub use memory_inputs::{MemoryFile, MemoryInputs};

@@ -18,3 +18,4 @@ pub mod Ranges
 pub mod Parts
 pub mod Answers
 pub mod Tables
+pub mod ScriptText

@@ -18,6 +18,7 @@ pub mod reader;
 mod reading;
 mod replacement;
 pub mod script;
+mod script_text;
 mod strings;
 pub mod substitution;
 mod targets;
@@ -27,5 +28,6 @@ pub mod types;
 
 pub use reader::read;
 pub use script::Script;
+pub use script_text::add_part;
 pub use substitution::{Part, Piece, Replacement, Substitution};
 pub use types::{Action, Address, Command, ExprFault, Kind, NO_MEMORY, Reason, ScriptFault};

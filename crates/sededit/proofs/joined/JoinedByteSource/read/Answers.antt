@@ -1,0 +1,15 @@
+use Rattle.std.proofs.Common.{◌≡◌, ◌∙◌, Ok, refl, ap, arith}
+use Rattle.sededit.proofs.JoinLemmas.{Reads, passed_read, passed_open}
+use Rattle.sededit.proofs.joined.JoinedByteSource.read.Goals as goal
+
+pub loop-count-preserved : goal.loop-count-preserved
+loop-count-preserved g c =
+    let current = g.I.Inputs.current in
+    let ahead = g.I.Inputs.ahead in
+    let i = c.loop-count.invariant in
+    let r = c.in_ok-count.ensures in
+    let none : c.in_ok-count.count ≡ 0 = omega arith in
+    let reads : Reads current ahead c.loop-count.self c.read_file.new.self = record { rest = r.rest; kept = r.ahead } in
+    let o = c.if-not-open_next.ensures in
+    let passed = passed_read current ahead _ _ _ i.3 reads (rw none at r.bytes.0) in
+    (omega arith, o.failed ∙ r.failed ∙ i.1, o.same_reference ∙ r.same_reference ∙ i.2, passed_open current ahead _ _ _ passed (r.ended (ap Ok none)) (o.opened refl))

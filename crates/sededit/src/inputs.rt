@@ -1,0 +1,90 @@
+//! Where the files of a command line are read from.
+ghost use Rattle.std.specs.Prelude.{◌≡◌, ℕ, List, [], ◌∷◌, Option, length, IfOk, IfSome};
+ghost use Rattle.std.specs.Option.{option_map};
+ghost use Rattle.std.specs.Borrow.{GName};
+ghost use Rattle.std.specs.Io.{ReadsAtMost};
+ghost use Rattle.std.specs.Io.KnownBytes.{Keeps, ReadConsumes};
+ghost use Rattle.sedspace.specs.Failures.{FailsAtErr};
+ghost use Rattle.sededit.specs.Opening.{Opens, KeepsFiles, GivesWhole};
+
+use sedspace::Broken;
+use std::alloc::{AllocError, Global};
+
+/// Files by name, of which one is current. They may tell their bytes to contracts or not: where they don't, clauses on
+/// them claim nothing. The name `-` is the standard input, and a second opening of it goes on where the first ended.
+pub trait Inputs {
+    /// What the current file has still to give, where it tells.
+    ghost current: { Self → Option (List ℕ) };
+
+    /// What the files of these names, as bytes of UTF-8, will give, opened one after another from now on and each read
+    /// to its end before the next is opened; None for one that can't be opened.
+    ghost ahead: { Self → List (List ℕ) → Option (List (Option (List ℕ))) };
+
+    /// What reading the file of this name as a whole will give; None where it can't be read.
+    ghost text: { Self → List ℕ → Option (Option (List ℕ)) };
+
+    /// How often a read failed, up to 2^64 - 1, where the number stays.
+    ghost failures: { Self → ℕ };
+
+    /// Which reference it is, where it is one. A value that holds it keeps it, so that its lender learns what became
+    /// of the inputs.
+    ghost reference: { Self → GName };
+
+    /// Makes the file of this name the current one, and says whether it could be opened: one that couldn't gives
+    /// nothing. What wasn't read of the file before it is no longer given.
+    fn open(&mut self, name: &str) -> bool
+        ensures opens { (names : List (List ℕ)) → Opens (ahead self.old (name.now ∷ names)) result
+            (current self.new) (ahead self.new names) }
+        ensures failed { failures self.new ≡ failures self.old }
+        ensures same_reference { reference self.new ≡ reference self.old };
+
+    /// Places the next bytes of the current file at the buffer's front, and says how many, in pieces of any size. 0
+    /// for a buffer that isn't empty is the file's end. An `Err` gives none and raises the number of failures by one;
+    /// nothing else raises it.
+    fn read(&mut self, buf: &mut [u8]) -> Result<usize, Broken>
+        ensures bound { ReadsAtMost result buf.new }
+        ensures bytes { ReadConsumes (current self.old) (current self.new) result buf.new }
+        ensures ahead { (names : List (List ℕ)) → KeepsFiles (ahead self.old names) (ahead self.new names) }
+        ensures failed { FailsAtErr result (failures self.old) (failures self.new) }
+        ensures same_reference { reference self.new ≡ reference self.old };
+
+    /// The whole file of this name, as a script of -f is read; `None` where it can't be read. The name `-` is a file's
+    /// name here. The current file and those ahead stay as they are.
+    fn whole(&mut self, alloc: Global, name: &str) -> Result<Option<Vec<u8>>, AllocError>
+        ensures given { IfOk result (λ file. GivesWhole (text self.old name.now) (option_map (λ bytes. bytes.items) file)) }
+        ensures kept { Keeps (current self.old) (current self.new) }
+        ensures ahead { (names : List (List ℕ)) → KeepsFiles (ahead self.old names) (ahead self.new names) }
+        ensures texts { (other : List ℕ) → text self.new other ≡ text self.old other }
+        ensures failed { failures self.new ≡ failures self.old }
+        ensures same_reference { reference self.new ≡ reference self.old };
+
+    /// No name tells no file.
+    ghost none_ahead: { (inputs : Self) → IfSome (ahead inputs []) (λ files. files ≡ []) };
+}
+
+/// Inputs that are lent give the lender's files.
+impl<I: Inputs> Inputs for &mut I {
+    ghost current = { λ r. I.current r.now };
+
+    ghost ahead = { λ r names. I.ahead r.now names };
+
+    ghost text = { λ r name. I.text r.now name };
+
+    ghost failures = { λ r. I.failures r.now };
+
+    ghost reference = { λ r. r.ghost_name };
+
+    ghost none_ahead = { λ r. I.none_ahead r.now };
+
+    fn open(&mut self, name: &str) -> bool {
+        Inputs::open(&mut **self, name)
+    }
+
+    fn read(&mut self, buf: &mut [u8]) -> Result<usize, Broken> {
+        Inputs::read(&mut **self, buf)
+    }
+
+    fn whole(&mut self, alloc: Global, name: &str) -> Result<Option<Vec<u8>>, AllocError> {
+        Inputs::whole(&mut **self, alloc, name)
+    }
+}
