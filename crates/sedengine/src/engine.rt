@@ -86,6 +86,38 @@ fn search_room(alloc: Global, script: &Script, limits: &Limits) -> Result<Scratc
     Scratch::new(alloc, text, limits.nodes())
 }
 
+// The spaces and the queue of an engine, as they are made. They are made in a call of their own: what is let go where a
+// request is refused grows with each request, and so does the proof.
+#[derive(Drop)]
+struct Store {
+    pattern: Space,
+    hold: Space,
+    build: Space,
+    queue: Queue,
+}
+
+impl Store {
+    // Empty ones, whose room is reserved here.
+    fn new(alloc: Global, limits: &Limits) -> Result<Store, AllocError>
+        ensures pattern { IfOk result (λ s. s.pattern ≡ record { bytes = []; limit = limits.now.space }) }
+        ensures hold { IfOk result (λ s. s.hold ≡ record { bytes = []; limit = limits.now.space }) }
+        ensures build { IfOk result (λ s. s.build ≡ record { bytes = []; limit = limits.now.space }) }
+        ensures queue { IfOk result (λ s. s.queue ≡ record { items = []; limit = limits.now.queue }) }
+    {
+        let space = limits.space();
+        let pattern = Space::new(alloc, space)?;
+        let hold = Space::new(alloc, space)?;
+        let build = Space::new(alloc, space)?;
+        let queue = Queue::new(alloc, limits.queue())?;
+        Ok(Store {
+            pattern,
+            hold,
+            build,
+            queue,
+        })
+    }
+}
+
 impl Engine {
     /// An engine that stands at the start of a run. It reserves all the memory that its run takes.
     ///
@@ -100,17 +132,22 @@ impl Engine {
           ended = None;
         }) }
     {
-        let space = limits.space();
         let ranges = idle_ranges(alloc, script.len())?;
         let scratch = search_room(alloc, &script, &limits)?;
         let matchers = matchers_of(alloc, &script, limits.nodes())?;
+        let Store {
+            pattern,
+            hold,
+            build,
+            queue,
+        } = Store::new(alloc, &limits)?;
         Ok(Engine {
             script,
             limits,
-            pattern: Space::new(alloc, space)?,
-            hold: Space::new(alloc, space)?,
-            build: Space::new(alloc, space)?,
-            queue: Queue::new(alloc, limits.queue())?,
+            pattern,
+            hold,
+            build,
+            queue,
             scratch,
             matchers,
             ranges,
