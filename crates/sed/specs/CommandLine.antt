@@ -23,7 +23,8 @@ abbrev pub without_name : App → App
 without_name a = record a { top = record a.top { no_binary_name = true } }
 
 unfoldable pub sed_command : App
-sed_command = with_rule (with_rule (with_rule (without_name (new_app (codes "sed"))) quiet_rule) extended_rule) script_rule
+sed_command =
+    with_rule (with_rule (with_rule (without_name (new_app (codes "sed"))) quiet_rule) extended_rule) script_rule
 
 -- clap finds no fault in the words
 abbrev pub IsCommandLine : List Text → Type 0

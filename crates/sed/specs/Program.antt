@@ -3,6 +3,7 @@ use Rattle.std.specs.Prelude.{◌≡◌, ◌≢◌, ◌||◌, ℕ, Bool, true, f
 use Rattle.std.specs.Option.{ForSome}
 use Rattle.clap.specs.Words.{IsAmong, Text, fault_of, matches_of, takes}
 use Rattle.clap.specs.declared.error.kind.ErrorKind.TheVariants.{DisplayHelp}
+use Rattle.sedspace.specs.Failures.{Rose}
 use Rattle.sedscript.specs.Script.{Means, Program}
 use Rattle.sedre.specs.declared.types.Kind.{Kind}
 use Rattle.sedre.specs.declared.types.Kind.TheVariants.{Basic, Extended}
@@ -11,7 +12,7 @@ use Rattle.sedengine.specs.Limits.{Limits}
 use Rattle.sedengine.specs.Move.{to_sink}
 use Rattle.sedengine.specs.Run.{setting_of}
 use Rattle.sedengine.specs.declared.ends.Ended.{Ended}
-use Rattle.sedengine.specs.declared.ends.Ended.TheVariants.{Done}
+use Rattle.sedengine.specs.declared.ends.Ended.TheVariants.{Done, InputBroken, OutputBroken}
 use Rattle.sed.specs.CommandLine.{extended_in, quiet_in, script_in, sed_command}
 use Rattle.sededit.specs.Editing.{GainsAll, GainsBeginning, start_over}
 
@@ -43,11 +44,19 @@ WritesBeginning text kind quiet nodes input gained =
     (p : Program) × GivesScript text kind quiet nodes p
     × ForSome input (λ bytes. GainsBeginning (setting_of p no_files) (start_over p bytes) gained)
 
--- The text of a script means a script, whose run came to another end than the ordinary one; and where the bytes of the
--- input are known, that end has its cause, after some moves.
-abbrev pub StopsEarly : Limits → List ℕ → Kind → Bool → Option (List ℕ) → (List (ℕ × ℕ) → Type 0) → Type 0
-StopsEarly limits text kind quiet input gained =
-    (p : Program) × (end : Ended) × GivesScript text kind quiet limits.nodes p × (end ≢ Done)
+-- The device that an end names has failed, whether it tells its bytes or not: by the numbers of failures that the
+-- source and each sink had before and have after.
+abbrev pub HasFailed : ℕ → ℕ → (ℕ → ℕ) → (ℕ → ℕ) → Ended → Type 0
+HasFailed source_old source_new sinks_old sinks_new InputBroken = Rose source_old source_new
+HasFailed source_old source_new sinks_old sinks_new (OutputBroken k) = Rose (sinks_old k) (sinks_new k)
+HasFailed source_old source_new sinks_old sinks_new _ = Unit {0}
+
+-- The text of a script means a script, whose run came to another end than the ordinary one; a device that this end
+-- names has failed; and where the bytes of the input are known, the end has its cause, after some moves.
+abbrev pub StopsEarly : Limits → List ℕ → Kind → Bool → Option (List ℕ) → (List (ℕ × ℕ) → Type 0) → (Ended → Type 0) →
+    Type 0
+StopsEarly limits text kind quiet input gained failed =
+    (p : Program) × (end : Ended) × GivesScript text kind quiet limits.nodes p × (end ≢ Done) × failed end
     × ForSome input (λ bytes. (t : ℕ) × Cause limits (setting_of p no_files) (start_over p bytes) gained end t)
 
 -- clap doesn't take the words, since they ask for help

@@ -18,7 +18,8 @@ use std::convert::AsStr;
 /// What `clap` has to say where it doesn't take the words, or asks for help; or want of memory.
 pub fn line<'a, S: AsStr>(alloc: Global, words: &'a [S]) -> Result<Line<'a>, Refused>
     ensures quiet { IfOk result (λ l. l.quiet ≡ quiet_in (matches_of sed_command (map S.text words.entry.now))) }
-    ensures extended { IfOk result (λ l. l.extended ≡ extended_in (matches_of sed_command (map S.text words.entry.now))) }
+    ensures extended { IfOk result (λ l. l.extended
+        ≡ extended_in (matches_of sed_command (map S.text words.entry.now))) }
     ensures script { IfOk result (λ l. l.script.now ≡ script_in (matches_of sed_command (map S.text words.entry.now))) }
     // Words are answered only where `clap` finds no fault in them, and refused for one that it finds.
     ensures sound { OnOk result (IsCommandLine (map S.text words.entry.now)) }

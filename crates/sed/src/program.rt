@@ -1,13 +1,14 @@
 //! The program, over devices that its caller gives.
 ghost use Rattle.std.specs.Prelude.{◌≡◌, ◌≢◌, ◌<◌, ◌≤◌, ◌⊎◌, IfErr, IfOk, IsNone, length, map};
 ghost use Rattle.sedscript.specs.Script.{Faulty};
+ghost use Rattle.sedspace.specs.Failures.{Rose};
 ghost use Rattle.sedengine.specs.Calls.{Puts, Writes};
 ghost use Rattle.sedengine.specs.Devices.{Gained};
 ghost use Rattle.sedengine.specs.Move.{to_sink};
 ghost use Rattle.clap.specs.Words.{kind_of};
 ghost use Rattle.sed.specs.CommandLine.{IsCommandLine};
-ghost use Rattle.sed.specs.Program.{AsksHelp, GivesScript, StopsEarly, WritesAll, WritesBeginning, WritesHelp};
-ghost use Rattle.sed.specs.Program.{expressions_of, kind_with, quiet_of, script_of};
+ghost use Rattle.sed.specs.Program.{AsksHelp, GivesScript, HasFailed, StopsEarly, WritesAll, WritesBeginning};
+ghost use Rattle.sed.specs.Program.{WritesHelp, expressions_of, kind_with, quiet_of, script_of};
 
 use crate::asked::{Line, Refused};
 use crate::command_line::line;
@@ -45,11 +46,11 @@ pub(crate) const STOPPED: u8 = 4;
 /// * 4: the run stopped, as `sed: line 7: F1 PatternFull`, `sed: line 7: F2 HoldFull`,
 ///   `sed: line 7: F3 QueueFull`, `sed: F4 TurnsSpent`, `sed: line 7: F5 NoPrevious`, `sed: F6 InputBroken` or
 ///   `sed: F7 OutputBroken 0`. What was written stands.
-pub fn stream<S: AsStr, R: ByteSource + Drop, O: Outputs, E: Write>(
+pub fn stream<S: AsStr, R: ByteSource, O: Outputs, E: Write>(
     alloc: Global,
     words: &[S],
     limits: Limits,
-    source: R,
+    source: &mut R,
     outputs: &mut O,
     errors: &mut E,
 ) -> u8
@@ -59,21 +60,25 @@ pub fn stream<S: AsStr, R: ByteSource + Drop, O: Outputs, E: Write>(
     ensures whole { result ≡ SUCCESS →
         (IsCommandLine (map S.text words.now)
         × WritesAll (script_of (map S.text words.now)) (expressions_of (map S.text words.now))
-        (quiet_of (map S.text words.now)) limits.nodes (R.remaining source)
+        (quiet_of (map S.text words.now)) limits.nodes (R.remaining source.old)
         (Gained (O.contents outputs.old) (O.contents outputs.new)))
         ⊎ (AsksHelp (map S.text words.now) × WritesHelp (Gained (O.contents outputs.old) (O.contents outputs.new))) }
     // A run that stopped has written a beginning; where help was asked for, a text.
     ensures stopped { result ≡ STOPPED →
         (IsCommandLine (map S.text words.now)
         × WritesBeginning (script_of (map S.text words.now)) (expressions_of (map S.text words.now))
-        (quiet_of (map S.text words.now)) limits.nodes (R.remaining source)
+        (quiet_of (map S.text words.now)) limits.nodes (R.remaining source.old)
         (Gained (O.contents outputs.old) (O.contents outputs.new)))
         ⊎ (AsksHelp (map S.text words.now) × WritesHelp (Gained (O.contents outputs.old) (O.contents outputs.new))) }
-    // It stopped for a cause.
+    // It stopped for a cause, and a device that this cause names has failed in this call; where help was asked for, that
+    // is the standard output.
     ensures cause { result ≡ STOPPED →
         StopsEarly limits (script_of (map S.text words.now)) (expressions_of (map S.text words.now))
-        (quiet_of (map S.text words.now)) (R.remaining source)
-        (Gained (O.contents outputs.old) (O.contents outputs.new)) ⊎ AsksHelp (map S.text words.now) }
+        (quiet_of (map S.text words.now)) (R.remaining source.old)
+        (Gained (O.contents outputs.old) (O.contents outputs.new))
+        (HasFailed (R.failures source.old) (R.failures source.new)
+        (O.failures outputs.old) (O.failures outputs.new))
+        ⊎ (AsksHelp (map S.text words.now) × Rose (O.failures outputs.old 0) (O.failures outputs.new 0)) }
     ensures refused { result ≡ REFUSED → outputs.new ≡ outputs.old }
     ensures sinks { O.count outputs.new ≡ O.count outputs.old }
 {
@@ -110,6 +115,7 @@ fn answer_words<O: Outputs, E: Write>(
     requires { 0 < O.count outputs.old }
     ensures status { (result ≡ SUCCESS) ⊎ (result ≡ REFUSED) ⊎ (result ≡ STOPPED) }
     ensures asked { result ≢ REFUSED → kind_of error.now ≡ ErrorKind.DisplayHelp }
+    ensures failed { result ≡ STOPPED → Rose (O.failures outputs.old 0) (O.failures outputs.new 0) }
     ensures help { result ≢ REFUSED → WritesHelp (Gained (O.contents outputs.old) (O.contents outputs.new)) }
     ensures refused { result ≡ REFUSED → outputs.new ≡ outputs.old }
     ensures sinks { O.count outputs.new ≡ O.count outputs.old }
@@ -131,6 +137,7 @@ fn answer_words<O: Outputs, E: Write>(
 fn write_all<O: Outputs>(outputs: &mut O, bytes: &[u8]) -> Result<(), Ended>
     requires { 0 < O.count outputs.old }
     ensures puts { Puts (Gained (O.contents outputs.old) (O.contents outputs.new)) (to_sink 0 bytes.now) result }
+    ensures sink { IfErr result (λ end. end ≡ Ended.OutputBroken 0) }
     ensures devices { Writes O.failures O.count outputs.old outputs.new result }
 {
     let mut done = 0;
@@ -184,24 +191,26 @@ fn first_without_sink(program: &Script, sinks: usize) -> Option<&[u8]>
 }
 
 /// Runs what a command line asks for.
-fn run_line<R: ByteSource + Drop, O: Outputs, E: Write>(
+fn run_line<R: ByteSource, O: Outputs, E: Write>(
     alloc: Global,
     line: Line<'_>,
     limits: Limits,
-    mut source: R,
+    source: &mut R,
     outputs: &mut O,
     errors: &mut E,
 ) -> u8
     requires { 0 < O.count outputs.old }
     ensures status { (result ≡ SUCCESS) ⊎ (result ≡ REFUSED) ⊎ (result ≡ STOPPED) }
     ensures whole { result ≡ SUCCESS → WritesAll line.entry.script.now (kind_with line.entry.extended)
-        line.entry.quiet limits.nodes (R.remaining source)
+        line.entry.quiet limits.nodes (R.remaining source.old)
         (Gained (O.contents outputs.old) (O.contents outputs.new)) }
     ensures stopped { result ≡ STOPPED → WritesBeginning line.entry.script.now
-        (kind_with line.entry.extended) line.entry.quiet limits.nodes (R.remaining source)
+        (kind_with line.entry.extended) line.entry.quiet limits.nodes (R.remaining source.old)
         (Gained (O.contents outputs.old) (O.contents outputs.new)) }
     ensures cause { result ≡ STOPPED → StopsEarly limits line.entry.script.now (kind_with line.entry.extended)
-        line.entry.quiet (R.remaining source) (Gained (O.contents outputs.old) (O.contents outputs.new)) }
+        line.entry.quiet (R.remaining source.old) (Gained (O.contents outputs.old) (O.contents outputs.new))
+        (HasFailed (R.failures source.old) (R.failures source.new)
+        (O.failures outputs.old) (O.failures outputs.new)) }
     ensures refused { result ≡ REFUSED → outputs.new ≡ outputs.old }
     ensures sinks { O.count outputs.new ≡ O.count outputs.old }
 {
@@ -217,7 +226,7 @@ fn run_line<R: ByteSource + Drop, O: Outputs, E: Write>(
         return REFUSED;
     }
     let mut texts = MemoryTexts::new(Vec::new(alloc));
-    match edit(alloc, program, limits, &mut source, outputs, &mut texts) {
+    match edit(alloc, program, limits, source, outputs, &mut texts) {
         Ok(Ended::Done) => SUCCESS,
         Ok(end) => stopped(end, errors),
         Err(_) => out_of_memory(errors),

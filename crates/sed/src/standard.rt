@@ -66,9 +66,16 @@ fn run_words<E: Write>(rt: &HostRuntime, words: &[String], errors: &mut E) -> u8
         return REFUSED;
     };
     // The lines read straight into their own buffer, so the input needs none here.
-    let source = FromReader::new(rt.stdin());
+    let mut source = FromReader::new(rt.stdin());
     let mut outputs = ToWriter::new(&mut output);
-    let status = stream(alloc, words, program_limits(), source, &mut outputs, errors);
+    let status = stream(
+        alloc,
+        words,
+        program_limits(),
+        &mut source,
+        &mut outputs,
+        errors,
+    );
     let flushed = output.flush();
     if status == SUCCESS && flushed.is_err() {
         let _ = say_end(errors, Ended::OutputBroken(0));

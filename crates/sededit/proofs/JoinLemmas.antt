@@ -1,5 +1,5 @@
 -- Laws of files that are joined.
-use Rattle.std.proofs.Common.{String, if◌then◌else◌, drop, ◌≡◌, ℕ, zero, suc, ◌+◌, ◌-◌, ◌<◌, ◌≤◌, Bool, true, false, not, List, [], ◌∷◌, ◌++◌, length, map, take, get_or, Option, None, Some, refl, sym, ap, ◌∙◌, arith, eqb, append_assoc, append-nil, length-append}
+use Rattle.std.proofs.Common.{String, unwrap_or, ◌⊎◌, inl, inr, if◌then◌else◌, drop, ◌≡◌, ℕ, zero, suc, ◌+◌, ◌-◌, ◌<◌, ◌≤◌, Bool, true, false, not, List, [], ◌∷◌, ◌++◌, length, map, take, get_or, Option, None, Some, refl, sym, ap, ◌∙◌, arith, eqb, append_assoc, append-nil, length-append}
 use Rattle.std.proofs.lemmas.List.{drop_more, take_more_set, map-append}
 use Rattle.std.proofs.Math.ListN.{get_or-map}
 use Rattle.std.proofs.KnownBytes.{Consumes-nil, Consumes-trans}
@@ -10,7 +10,7 @@ use Rattle.std.specs.Fmt.{option_append}
 use Rattle.std.specs.Io.KnownBytes.{Consumes, IsAtEnd}
 use Rattle.sededit.specs.Joined.{due_after, with_newline, joined}
 use Rattle.sededit.specs.Opening.{Opens, KeepsFiles, contents}
-use Rattle.sededit.specs.Joining.{Joining, left, left_of_file, NotesMissed, Opened, OpensNext}
+use Rattle.sededit.specs.Joining.{Joining, left, left_of_file, NotesMissed, OnlyLastGives, Opened, OpensNext}
 
 due_after-append : (due : Bool) (a b : List ℕ) → due_after due (a ++ b) ≡ due_after (due_after due a) b
 due_after-append due [] b = refl
@@ -92,76 +92,133 @@ left_opened (Some (file ∷ files)) answer c y o = rw (o.1, o.2) refl
 
 -- ---- what was opened
 
-notes_none : (x : Option (List (Option (List ℕ)))) (m : List Bool) → NotesMissed x x m m
-notes_none None m = tt
-notes_none (Some files) m = ([], files, refl, refl, sym (append-nil m))
+-- what is left of the file being read is all of the last one opened, if any was
+abbrev pub FromLast : List (Option (List ℕ)) → Option (List ℕ) → Type 0
+FromLast [] left = Unit {0}
+FromLast (file ∷ []) left = left ≡ Some (with_newline false (unwrap_or file []))
+FromLast (file ∷ next ∷ files) left = FromLast (next ∷ files) left
 
-notes_kept : (x y z : Option (List (Option (List ℕ)))) (a b : List Bool) → NotesMissed x y a b → KeepsFiles y z → NotesMissed x z a b
-notes_kept None y z a b h q = tt
-notes_kept (Some files) y z a b h q =
-    let first = h.0 in
-    let rest = h.1 in
-    let same : y ≡ Some rest = h.3 in
-    let after : z ≡ Some rest = rw same at q in
-    (first, rest, h.2, after, h.4)
+abbrev AllGiveNone : List (Option (List ℕ)) → Type 0
+AllGiveNone [] = Unit {0}
+AllGiveNone (file ∷ files) = (unwrap_or file [] ≡ []) × AllGiveNone files
+
+with_newline-nil : (bytes : List ℕ) → with_newline false bytes ≡ [] → bytes ≡ []
+with_newline-nil [] e = refl
+with_newline-nil (b ∷ bytes) e = cc
+
+gives_none : (file : Option (List ℕ)) (left : Option (List ℕ)) → left ≡ Some (with_newline false (unwrap_or file [])) → Consumes left (Some []) [] → unwrap_or file [] ≡ []
+gives_none file None e p = cc
+gives_none file (Some x) e p =
+    let same : x ≡ with_newline false (unwrap_or file []) = cc in
+    with_newline-nil (unwrap_or file []) (sym same ∙ p)
+
+all_give_none : (files : List (Option (List ℕ))) (left : Option (List ℕ)) → OnlyLastGives files → FromLast files left → Consumes left (Some []) [] → AllGiveNone files
+all_give_none [] left o f p = tt
+all_give_none (file ∷ []) left o f p = (gives_none file left f p, tt)
+all_give_none (file ∷ next ∷ files) left o f p = (o.0, all_give_none (next ∷ files) left o.1 f p)
+
+only_last_gives : (files : List (Option (List ℕ))) (file : Option (List ℕ)) → AllGiveNone files → OnlyLastGives (files ++ file ∷ [])
+only_last_gives [] file h = tt
+only_last_gives (x ∷ []) file h = (h.0, tt)
+only_last_gives (x ∷ y ∷ files) file h = (h.0, only_last_gives (y ∷ files) file h.1)
+
+from_last : (files : List (Option (List ℕ))) (file : Option (List ℕ)) (left : Option (List ℕ)) → left ≡ Some (with_newline false (unwrap_or file [])) → FromLast (files ++ file ∷ []) left
+from_last [] file left e = e
+from_last (x ∷ []) file left e = e
+from_last (x ∷ y ∷ files) file left e = from_last (y ∷ files) file left e
+
+-- the files told first were opened and noted, and what is left of the file being read is all of the last of them
+abbrev pub Notes : Option (List (Option (List ℕ))) → Option (List (Option (List ℕ))) → Option (List ℕ) → List Bool → List Bool → Type 0
+Notes None new left before after = Unit {0}
+Notes (Some files) new left before after =
+    (first : List (Option (List ℕ))) × (rest : List (Option (List ℕ))) × (files ≡ first ++ rest) × (new ≡ Some rest)
+    × (after ≡ before ++ map is_none first) × OnlyLastGives first × FromLast first left
+
+notes_none : (x : Option (List (Option (List ℕ)))) (left : Option (List ℕ)) (m : List Bool) → Notes x x left m m
+notes_none None left m = tt
+notes_none (Some files) left m = ([], files, refl, refl, sym (append-nil m), tt, tt)
+
+notes_missed : (x y : Option (List (Option (List ℕ)))) (left : Option (List ℕ)) (a b : List Bool) → Notes x y left a b → NotesMissed x y a b
+notes_missed None y left a b h = tt
+notes_missed (Some files) y left a b h = (h.0, h.1, h.2, h.3, h.4, h.5)
 
 notes_one : (files first rest : List (Option (List ℕ))) (z : Option (List (Option (List ℕ)))) (a b : List Bool) (answer : Bool) (c : Option (List ℕ)) →
-    files ≡ first ++ rest → b ≡ a ++ map is_none first → Opens (Some rest) answer c z → NotesMissed (Some files) z a (b ++ not answer ∷ [])
-notes_one files first [] z a b answer c e m o = absurd o
-notes_one files first (file ∷ rest) z a b answer c e m o =
+    files ≡ first ++ rest → b ≡ a ++ map is_none first → AllGiveNone first → Opens (Some rest) answer c z → Notes (Some files) z (option_map (with_newline false) c) a (b ++ not answer ∷ [])
+notes_one files first [] z a b answer c e m none o = absurd o
+notes_one files first (file ∷ rest) z a b answer c e m none o =
     let noted : not answer ≡ is_none file = ap not o.0 in
-    let all : a ++ map is_none (first ++ file ∷ []) ≡ (a ++ map is_none first) ++ is_none file ∷ [] = rw map-append (sym (append_assoc a (map is_none first) (is_none file ∷ []))) in
-    (first ++ file ∷ [], rest, e ∙ sym (append_assoc first (file ∷ []) rest), o.2, ap (λ z. z ++ not answer ∷ []) m ∙ ap (λ z. (a ++ map is_none first) ++ z ∷ []) noted ∙ sym all)
+    let all : a ++ map is_none (first ++ file ∷ []) ≡ (a ++ map is_none first) ++ is_none file ∷ [] = rw map-append (sym (append_assoc a (map is_none first) (is_none file ∷ []))) in (
+      first ++ file ∷ [],
+      rest,
+      e ∙ sym (append_assoc first (file ∷ []) rest),
+      o.2,
+      ap (λ z. z ++ not answer ∷ []) m ∙ ap (λ z. (a ++ map is_none first) ++ z ∷ []) noted ∙ sym all,
+      only_last_gives first file none,
+      from_last first file _ (ap (option_map (with_newline false)) o.1),
+    )
 
-notes_opened : (x y z : Option (List (Option (List ℕ)))) (a b : List Bool) (answer : Bool) (c : Option (List ℕ)) → NotesMissed x y a b → Opens y answer c z → NotesMissed x z a (b ++ not answer ∷ [])
-notes_opened None y z a b answer c h o = tt
-notes_opened (Some files) y z a b answer c h o =
+notes_opened : (x y z w : Option (List (Option (List ℕ)))) (left : Option (List ℕ)) (a b : List Bool) (answer : Bool) (c : Option (List ℕ)) →
+    Notes x y left a b → KeepsFiles y w → Consumes left (Some []) [] → Opens w answer c z → Notes x z (option_map (with_newline false) c) a (b ++ not answer ∷ [])
+notes_opened None y z w left a b answer c h k p o = tt
+notes_opened (Some files) y z w left a b answer c h k p o =
     let rest = h.1 in
     let same : y ≡ Some rest = h.3 in
-    let o' : Opens (Some rest) answer c z = rw same at o in
-    notes_one files h.0 rest z a b answer c h.2 h.4 o'
+    let kept : w ≡ Some rest = rw same at k in
+    let o' : Opens (Some rest) answer c z = rw kept at o in
+    notes_one files h.0 rest z a b answer c h.2 h.4 (all_give_none h.0 left h.5 h.6 p) o'
+
+at_end : (a b : Option (List ℕ)) → Consumes a b [] → b ≡ Some [] → IsAtEnd a
+at_end None b p e = tt
+at_end (Some x) None p e = absurd p
+at_end (Some x) (Some y) p e = cc
 
 -- ---- files that gave no byte
 
 module _ {I : Type 0} (current : I → Option (List ℕ)) (ahead : I → List (List ℕ) → Option (List (Option (List ℕ)))) where
-  -- files were opened from old to new, and gave these bytes
+  -- files were opened from old to new, and gave no byte
   pub record Passed (old new : Joining I) : Type 0 where
     pub none : Consumes (left current ahead old) (left current ahead new) []
     pub opened : Opened ahead old new
+    pub notes : Notes (ahead old.inputs old.names) (ahead new.inputs new.names) (left_of_file current new) old.missed new.missed
+    pub waits : (new ≡ old) ⊎ IsAtEnd (left_of_file current old)
 
   pub passed_none : (j : Joining I) → Passed j j
-  passed_none j = record { none = Consumes-nil _; opened = (([], refl, omega arith), notes_none _ _) }
+  passed_none j =
+      let notes = notes_none (ahead j.inputs j.names) (left_of_file current j) j.missed in
+      record { none = Consumes-nil _; opened = (([], refl, omega arith), notes_missed _ _ _ _ _ notes); notes = notes; waits = inl refl }
 
   -- a read of the file changes nothing of those after it
   pub record Reads (now new : Joining I) : Type 0 where
     pub rest : new ≡ record now { inputs = new.inputs; reading = new.reading; due = new.due }
     pub kept : (names : List (List ℕ)) → KeepsFiles (ahead now.inputs names) (ahead new.inputs names)
 
-  opened_read : (old now new : Joining I) → Opened ahead old now → Reads now new → Opened ahead old new
-  opened_read old now new p r =
-      let names : new.names ≡ now.names = ap (λ j. j.names) r.rest in
-      let missed : new.missed ≡ now.missed = ap (λ j. j.missed) r.rest in
-      let files = notes_kept _ _ (ahead new.inputs now.names) old.missed now.missed p.1 (r.kept now.names) in
-      ((p.0.0, rw names p.0.1, rw missed p.0.2), rw (names, missed) files)
+  waits_on : (old now mid : Joining I) → (now ≡ old) ⊎ IsAtEnd (left_of_file current old) → Consumes (left_of_file current now) (left_of_file current mid) [] → mid.reading ≡ false → IsAtEnd (left_of_file current old)
+  waits_on old now mid (inl same) p idle = let p' = rw same at p in at_end _ _ p' (rw idle refl)
+  waits_on old now mid (inr end) p idle = end
 
-  pub passed_read : (old now new : Joining I) → Passed old now → Reads now new → Consumes (left_of_file current now) (left_of_file current new) [] → Passed old new
-  passed_read old now new p r c =
-      let names : new.names ≡ now.names = ap (λ j. j.names) r.rest in
-      record {
-        none = Consumes-trans _ _ _ [] [] p.none (rw names (left_read _ _ _ _ [] c (r.kept now.names)));
-        opened = opened_read old now new p.opened r;
-      }
-
-  -- and then the next file was opened
-  pub passed_open : (old now new : Joining I) → Passed old now → now.reading ≡ false → OpensNext current ahead now new → Passed old new
-  passed_open old now new p idle o =
+  -- the file being read had no byte left, and the next one was opened
+  pub passed_next : (old now mid new : Joining I) → Passed old now → Reads now mid → Consumes (left_of_file current now) (left_of_file current mid) [] → mid.reading ≡ false →
+      OpensNext current ahead mid new → Passed old new
+  passed_next old now mid new p r c idle o =
       let first = p.opened.0.0 in
       let name = o.name in
       let noted = not o.answer ∷ [] in
-      let more : old.names ≡ (first ++ name ∷ []) ++ new.names = p.opened.0.1 ∙ ap (λ z. first ++ z) o.names ∙ sym (append_assoc first (name ∷ []) new.names) in
-      let size : length new.missed ≡ length old.missed + length (first ++ name ∷ []) = omega (arith, p.opened.0.2, ap length o.missed, length-append now.missed noted, length-append first (name ∷ [])) in
-      let opening : Consumes (left current ahead now) (left current ahead new) [] = rw (idle, o.reading, o.due) (left_opened _ o.answer _ _ o.opens) in
+      let names : mid.names ≡ now.names = ap (λ j. j.names) r.rest in
+      let missed : mid.missed ≡ now.missed = ap (λ j. j.missed) r.rest in
+      let added : new.missed ≡ now.missed ++ noted = o.missed ∙ ap (λ z. z ++ noted) missed in
+      let split : now.names ≡ name ∷ new.names = sym names ∙ o.names in
+      let more : old.names ≡ (first ++ name ∷ []) ++ new.names = p.opened.0.1 ∙ ap (λ z. first ++ z) split ∙ sym (append_assoc first (name ∷ []) new.names) in
+      let size : length new.missed ≡ length old.missed + length (first ++ name ∷ []) = omega (arith, p.opened.0.2, ap length added, length-append now.missed noted, length-append first (name ∷ [])) in
+      let kept : KeepsFiles (ahead now.inputs now.names) (ahead mid.inputs mid.names) = rw names (r.kept now.names) in
+      let read : Consumes (left current ahead now) (left current ahead mid) [] = left_read _ _ _ _ [] c kept in
+      let opening : Consumes (left current ahead mid) (left current ahead new) [] = rw (idle, o.reading, o.due) (left_opened _ o.answer _ _ o.opens) in
+      let nothing : left_of_file current mid ≡ Some [] = rw idle refl in
+      let spent : Consumes (left_of_file current now) (Some []) [] = rw nothing at c in
+      let notes : Notes (ahead old.inputs old.names) (ahead new.inputs new.names) (left_of_file current new) old.missed new.missed =
+      rw (added, o.reading, o.due) (notes_opened _ _ _ _ _ old.missed now.missed o.answer _ p.notes kept spent o.opens) in
       record {
-        none = Consumes-trans _ _ _ [] [] p.none opening;
-        opened = ((first ++ name ∷ [], more, size), rw o.missed (notes_opened _ _ _ old.missed now.missed o.answer _ p.opened.1 o.opens));
+        none = Consumes-trans _ _ _ [] [] p.none (Consumes-trans _ _ _ [] [] read opening);
+        opened = ((first ++ name ∷ [], more, size), notes_missed _ _ _ _ _ notes);
+        notes = notes;
+        waits = inr (waits_on old now mid p.waits c idle);
       }

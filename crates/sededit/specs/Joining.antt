@@ -1,5 +1,5 @@
 -- What contracts see of files that are joined.
-use Rattle.std.specs.Prelude.{◌≡◌, ℕ, ◌+◌, Bool, true, false, not, if◌then◌else◌, List, [], ◌∷◌, ◌++◌, length, map, Option, None, Some, ⊤}
+use Rattle.std.specs.Prelude.{◌≡◌, ℕ, ◌+◌, Bool, true, false, not, if◌then◌else◌, List, [], ◌∷◌, ◌++◌, length, map, Option, None, Some, unwrap_or, ⊤}
 use Rattle.std.specs.Option.{is_none, option_map}
 use Rattle.std.specs.Fmt.{option_append}
 use Rattle.sededit.specs.Joined.{joined, with_newline}
@@ -26,12 +26,19 @@ left_of_files ahead j = option_map (λ files. joined (contents files)) (ahead j.
 abbrev pub left : {I : Type 0} → (I → Option (List ℕ)) → (I → List (List ℕ) → Option (List (Option (List ℕ)))) → Joining I → Option (List ℕ)
 left current ahead j = option_append (left_of_file current j) (left_of_files ahead j)
 
--- Where the files ahead are told, the first ones were opened: it is noted of each whether it was missed.
+-- only the last of the files gives bytes, if any
+abbrev pub OnlyLastGives : List (Option (List ℕ)) → Type 0
+OnlyLastGives [] = ⊤
+OnlyLastGives (file ∷ []) = ⊤
+OnlyLastGives (file ∷ next ∷ files) = (unwrap_or file [] ≡ []) × OnlyLastGives (next ∷ files)
+
+-- Where the files ahead are told, the first ones were opened, each but the last of these at its end: it is noted of each
+-- whether it was missed.
 abbrev pub NotesMissed : Option (List (Option (List ℕ))) → Option (List (Option (List ℕ))) → List Bool → List Bool → Type 0
 NotesMissed None new before after = ⊤
 NotesMissed (Some files) new before after =
     (first : List (Option (List ℕ))) × (rest : List (Option (List ℕ))) × (files ≡ first ++ rest) × (new ≡ Some rest)
-    × (after ≡ before ++ map is_none first)
+    × (after ≡ before ++ map is_none first) × OnlyLastGives first
 
 -- the files of the first names were opened, each noted as missed or not
 abbrev pub Opened : {I : Type 0} → (I → List (List ℕ) → Option (List (Option (List ℕ)))) → Joining I → Joining I → Type 0

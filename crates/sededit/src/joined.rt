@@ -2,10 +2,10 @@
 //!
 //! A file is opened by the read that has no byte left to give of those before it, so no two are held open together. One
 //! that can't be opened is as an empty one, and is noted as missed.
-ghost use Rattle.std.specs.Prelude.{◌≡◌, ◌<◌, [], ℕ, List, Ok, true, false, length, map, string_bytes, slice_get, unwrap_or, IfOk};
+ghost use Rattle.std.specs.Prelude.{◌≡◌, ◌<◌, ◌⊎◌, [], ℕ, List, Ok, true, false, length, map, string_bytes, slice_get, unwrap_or, IfOk};
 ghost use Rattle.std.specs.Option.{option_map};
 ghost use Rattle.std.specs.Io.{ReadsAtMost};
-ghost use Rattle.std.specs.Io.KnownBytes.{ReadConsumes};
+ghost use Rattle.std.specs.Io.KnownBytes.{IsAtEnd, ReadConsumes};
 ghost use Rattle.sedspace.specs.Failures.{FailsAtErr};
 ghost use Rattle.sededit.specs.Joined.{joined};
 ghost use Rattle.sededit.specs.Opening.{KeepsFiles, contents};
@@ -72,8 +72,8 @@ impl<'a, I: Inputs> Joined<'a, I> {
         })
     }
 
-    /// Whether the file of this number, counted from 0, was opened and couldn't be. One that wasn't come to isn't
-    /// missed.
+    /// Whether the file of this number, counted from 0, couldn't be opened when its turn came. One that is still to be
+    /// opened isn't missed.
     pub fn missed(&self, number: usize) -> bool
         ensures { result ≡ unwrap_or (slice_get self.now.missed number) false }
     {
@@ -146,7 +146,7 @@ impl<'a, I: Inputs> Joined<'a, I> {
 }
 
 impl<'a, I: Inputs> ByteSource for Joined<'a, I> {
-    ghost use Rattle.sededit.specs.Joining.{Joining, left, Opened};
+    ghost use Rattle.sededit.specs.Joining.{Joining, left, left_of_file, Opened};
 
     ghost remaining = { λ j. left I.current I.ahead j };
 
@@ -159,7 +159,9 @@ impl<'a, I: Inputs> ByteSource for Joined<'a, I> {
         ensures bytes { ReadConsumes (left I.current I.ahead self.old) (left I.current I.ahead self.new) result buf.new }
         ensures failed { FailsAtErr result (I.failures self.old.inputs) (I.failures self.new.inputs) }
         ensures same_reference { I.reference self.new.inputs ≡ I.reference self.old.inputs }
+        // A file is opened where those before it have no byte left to give, and no sooner.
         ensures opened { Opened I.ahead self.old self.new }
+        ensures waits { (self.new.names ≡ self.old.names) ⊎ IsAtEnd (left_of_file I.current self.old) }
     {
         if buf.is_empty() {
             return Ok(0);

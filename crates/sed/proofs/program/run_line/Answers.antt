@@ -1,6 +1,6 @@
 use Rattle.std.proofs.Common.{rules, ap, Ok}
 use Rattle.sed.specs.Program.{no_files}
-use Rattle.sed.proofs.ProgramLemmas.{tells_none}
+use Rattle.sed.proofs.ProgramLemmas.{has_failed, tells_none}
 use Rattle.sed.proofs.program.run_line.Goals as goal
 
 pub returns-in-Ok-Done-clause-whole : goal.returns-in-Ok-Done-clause-whole
@@ -23,5 +23,6 @@ returns-in-Ok-edit-clause-cause g c is = (
   c.in-Ok-edit.end,
   rw (← c.nodes.ensures.value) c.in-Ok.ensures.gives,
   search rules,
+  has_failed _ _ _ _ _ c.in-Ok-edit.end (search rules) c.in-Ok-edit.ensures.input c.in-Ok-edit.ensures.failed,
   λ bytes known. let h = c.in-Ok-edit.ensures.ending bytes known no_files (tells_none c.new-texts.result.held.items (search rules)) in (h.t, h.cause),
 )

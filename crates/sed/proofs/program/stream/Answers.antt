@@ -8,5 +8,8 @@ returns-in-Ok-clause-stopped g c is =
 
 pub returns-in-Err-Words-clause-cause : goal.returns-in-Err-Words-clause-cause
 returns-in-Err-Words-clause-cause g c is =
-    inr (asks_help _ c.in-Err-Words.field-0 c.in-Err-Words.error c.in-Err-Words.field-0-is c.in-Err-Words.ensures.refused c.in-Err-Words.ensures.taken
-    (rw (← c.in-Err-Words.error-is) (c.answer_words.ensures.asked (λ refused. absurd (omega (arith, is, refused))))))
+    inr (
+      (asks_help _ c.in-Err-Words.field-0 c.in-Err-Words.error c.in-Err-Words.field-0-is c.in-Err-Words.ensures.refused c.in-Err-Words.ensures.taken
+          (rw (← c.in-Err-Words.error-is) (c.answer_words.ensures.asked (λ refused. absurd (omega (arith, is, refused)))))),
+      c.answer_words.ensures.failed is,
+    )
