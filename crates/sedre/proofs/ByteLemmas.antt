@@ -216,6 +216,11 @@ filled_all test b set none filled = filled ∙ set_of-same (λ c. test c && nat_
     (λ (h : b ≤ c). ap (λ x. x && nat_lt c b) (none c h) ∙ sym (none c h))
     (cases_lt c b))
 
+-- all 256 bytes were met
+pub filled_full : (test : ℕ → Bool) (b : ℕ) (set : List Bool) → 256 ≤ b → set ≡ set_of (λ c. test c && nat_lt c b) → set ≡ set_of test
+filled_full test b set full filled =
+    filled ∙ set_of-same (λ c. test c && nat_lt c b) test (λ c lt. ap (λ x. test c && x) (lt-ltb c b (omega arith)) ∙ and_true (test c))
+
 -- ---- equal sets, and sets of one byte
 
 pub same_is : (these those : List ℕ) (s o : List Bool) (same : Bool) → set_of_words these ≡ s → set_of_words those ≡ o → AreWords these → AreWords those →

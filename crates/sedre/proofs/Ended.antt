@@ -1,5 +1,5 @@
 -- The end of a text, and the steps before it.
-use Rattle.std.proofs.Common.{◌≡◌, ◌≢◌, ℕ, ◌+◌, ◌<◌, ◌≤◌, ◌⊎◌, inl, inr, length, get_or, List, [], ◌∷◌, true, Option, Result, Ok, Err, refl, ap, subst, sym, ◌∙◌, IfOk, IfErr, OnOk, arith, append-nil}
+use Rattle.std.proofs.Common.{Bool, ◌≡◌, ◌≢◌, ℕ, ◌+◌, ◌<◌, ◌≤◌, ◌⊎◌, inl, inr, length, get_or, List, [], ◌∷◌, true, Option, Result, Ok, Err, refl, ap, subst, sym, ◌∙◌, IfOk, IfErr, OnOk, arith, append-nil}
 use Rattle.std.specs.Result.{is_ok}
 use Rattle.sedre.specs.declared.types.Kind.{Kind}
 use Rattle.sedre.specs.declared.types.Reason.{Reason}
@@ -78,40 +78,40 @@ finished limit s k p e opened st read small shallow eg is =
       small = size_is;
     }
 
-module _ (kind : Kind) (delimiter : Option ℕ) (text : List ℕ) where
-  pub can_take : {before : Option Item} {at next : ℕ} (i : Item) {s : State} → Reading kind delimiter text before at s → item_at kind delimiter text before at ≡ Is i next →
+module _ (kind : Kind) (folded : Bool) (delimiter : Option ℕ) (text : List ℕ) where
+  pub can_take : {before : Option Item} {at next : ℕ} (i : Item) {s : State} → Reading kind folded delimiter text before at s → item_at kind folded delimiter text before at ≡ Is i next →
       (i ≡ Close → s.below ≢ []) → CanTake i s
   can_take (Byte members) r f closes = tt
   can_take Open r f closes = tt
   can_take Close r f closes = closes refl
   can_take Bar r f closes = tt
-  can_take {before = before} {at = at} (Repeat least most) r f closes = let h = repeat_follows kind delimiter text before at f in (r.ready h.0, h.1)
+  can_take {before = before} {at = at} (Repeat least most) r f closes = let h = repeat_follows kind folded delimiter text before at f in (r.ready h.0, h.1)
   can_take AtBegin r f closes = tt
   can_take AtEnd r f closes = tt
 
   -- what the whole text reads as has its groups numbered
-  pub reads_numbered : {e : Tree} {groups : ℕ} → ReadsAs kind delimiter text e groups → Numbered groups e
+  pub reads_numbered : {e : Tree} {groups : ℕ} → ReadsAs kind folded delimiter text e groups → Numbered groups e
   reads_numbered {e = e} {groups = groups} r = subst (Numbered groups) r.is (of_alternation groups r.alternatives (of_alternatives r.grammar).1)
 
-  pub finished_reads : {before : Option Item} {at : ℕ} (s : State) (limit : ℕ) (e : Written) → Reading kind delimiter text before at s → item_at kind delimiter text before at ≡ Ends → s.below ≡ [] →
-      IsFinished s limit e → ReadsAs kind delimiter text (tree e) e.groups
+  pub finished_reads : {before : Option Item} {at : ℕ} (s : State) (limit : ℕ) (e : Written) → Reading kind folded delimiter text before at s → item_at kind folded delimiter text before at ≡ Ends → s.below ≡ [] →
+      IsFinished s limit e → ReadsAs kind folded delimiter text (tree e) e.groups
   finished_reads s limit e r f none d =
-      let R : Tree → ℕ → Type 0 = λ t g. ReadsAs kind delimiter text t g in
-      subst (λ (g : ℕ). R (tree e) g) (sym d.groups) (subst (λ (t : Tree). R t s.opened) (sym d.tree_is) (reading_whole kind delimiter text r f none))
+      let R : Tree → ℕ → Type 0 = λ t g. ReadsAs kind folded delimiter text t g in
+      subst (λ (g : ℕ). R (tree e) g) (sym d.groups) (subst (λ (t : Tree). R t s.opened) (sym d.tree_is) (reading_whole kind folded delimiter text r f none))
 
-  pub finished_no_fault : {before : Option Item} {at : ℕ} (s : State) (max_nodes : ℕ) (e : Written) → Reading kind delimiter text before at s → item_at kind delimiter text before at ≡ Ends → s.below ≡ [] →
-      IsFinished s (max_nodes + 1) e → (place : ℕ) (reason : Reason) → ExprFaulty kind delimiter text max_nodes place reason → ⊥
-  finished_no_fault s max_nodes e r f none d place reason = no_fault kind delimiter text (reading_whole kind delimiter text r f none) d.shallow (omega (arith, d.small))
+  pub finished_no_fault : {before : Option Item} {at : ℕ} (s : State) (max_nodes : ℕ) (e : Written) → Reading kind folded delimiter text before at s → item_at kind folded delimiter text before at ≡ Ends → s.below ≡ [] →
+      IsFinished s (max_nodes + 1) e → (place : ℕ) (reason : Reason) → ExprFaulty kind folded delimiter text max_nodes place reason → ⊥
+  finished_no_fault s max_nodes e r f none d place reason = no_fault kind folded delimiter text (reading_whole kind folded delimiter text r f none) d.shallow (omega (arith, d.small))
 
-  pub over_limit : {before : Option Item} {at : ℕ} (s : State) (max_nodes : ℕ) (fault : ExprFault) → Reading kind delimiter text before at s → item_at kind delimiter text before at ≡ Ends → s.below ≡ [] →
-      IsOverLimit s (max_nodes + 1) (length text) fault ⊎ (fault ≡ NO_MEMORY) → ExprFaulty kind delimiter text max_nodes fault.place fault.reason ⊎ (fault ≡ NO_MEMORY)
+  pub over_limit : {before : Option Item} {at : ℕ} (s : State) (max_nodes : ℕ) (fault : ExprFault) → Reading kind folded delimiter text before at s → item_at kind folded delimiter text before at ≡ Ends → s.below ≡ [] →
+      IsOverLimit s (max_nodes + 1) (length text) fault ⊎ (fault ≡ NO_MEMORY) → ExprFaulty kind folded delimiter text max_nodes fault.place fault.reason ⊎ (fault ≡ NO_MEMORY)
   over_limit s max_nodes fault r f none (inr m) = inr m
   over_limit s max_nodes fault r f none (inl (inl d)) =
-      let F : ExprFault → Type 0 = λ x. ExprFaulty kind delimiter text max_nodes x.place x.reason in
-      inl (subst F (sym d.0) ((reading_limits kind delimiter text max_nodes r f none).0 d.1))
+      let F : ExprFault → Type 0 = λ x. ExprFaulty kind folded delimiter text max_nodes x.place x.reason in
+      inl (subst F (sym d.0) ((reading_limits kind folded delimiter text max_nodes r f none).0 d.1))
   over_limit s max_nodes fault r f none (inl (inr d)) =
-      let F : ExprFault → Type 0 = λ x. ExprFaulty kind delimiter text max_nodes x.place x.reason in
-      inl (subst F (sym d.0) ((reading_limits kind delimiter text max_nodes r f none).1 d.1 (omega (arith, d.2))))
+      let F : ExprFault → Type 0 = λ x. ExprFaulty kind folded delimiter text max_nodes x.place x.reason in
+      inl (subst F (sym d.0) ((reading_limits kind folded delimiter text max_nodes r f none).1 d.1 (omega (arith, d.2))))
 
 -- a fault at the end
 pub limit_within : (s : State) (limit len : ℕ) (fault : ExprFault) → IsOverLimit s limit len fault ⊎ (fault ≡ NO_MEMORY) → fault.place ≤ len

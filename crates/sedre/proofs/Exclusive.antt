@@ -1,5 +1,5 @@
 -- A text that reads as an expression within the limits has no fault, and reads as no other.
-use Rattle.std.proofs.Common.{◌≡◌, ℕ, zero, suc, ◌≤◌, List, [], ◌∷◌, ◌++◌, Option, Some, None, refl, ap, subst, ◌∙◌, sym, append-nil, arith}
+use Rattle.std.proofs.Common.{Bool, ◌≡◌, ℕ, zero, suc, ◌≤◌, List, [], ◌∷◌, ◌++◌, Option, Some, None, refl, ap, subst, ◌∙◌, sym, append-nil, arith}
 use Rattle.sedre.specs.declared.types.Kind.{Kind}
 use Rattle.sedre.specs.declared.types.Reason.{Reason}
 use Rattle.sedre.specs.declared.syntax.Here.TheVariants.{Is, Ends, Bad}
@@ -59,57 +59,57 @@ mutual
   piece_balanced (subexpression {is = is} a) n = open-append (suc n) is (Close ∷ []) ∙ ap (λ (o : Option ℕ). go_on o (Close ∷ [])) (alternatives_balanced a (suc n))
   piece_balanced (repeated least most {is = is} q) n = open-append n is (Repeat least most ∷ []) ∙ ap (λ (o : Option ℕ). go_on o (Repeat least most ∷ [])) (piece_balanced q n)
 
-module _ (kind : Kind) (delimiter : Option ℕ) (text : List ℕ) where
+module _ (kind : Kind) (folded : Bool) (delimiter : Option ℕ) (text : List ℕ) where
   -- a cut that goes on behind another
   record Behind (before : Option Item) (at : ℕ) (is : List Item) (to : ℕ) (js : List Item) (mid : ℕ) : Type 0 where
     pub rest : List Item
     pub whole : is ≡ js ++ rest
-    pub cut : Cut kind delimiter text (last_of before js) mid rest to
+    pub cut : Cut kind folded delimiter text (last_of before js) mid rest to
     pub last : last_of before is ≡ last_of (last_of before js) rest
 
   -- a whole cut begins with each other one
-  begins : {before : Option Item} {at to mid : ℕ} {is js : List Item} → Cut kind delimiter text before at is to → item_at kind delimiter text (last_of before is) to ≡ Ends →
-      Cut kind delimiter text before at js mid → Behind before at is to js mid
+  begins : {before : Option Item} {at to mid : ℕ} {is js : List Item} → Cut kind folded delimiter text before at is to → item_at kind folded delimiter text (last_of before is) to ≡ Ends →
+      Cut kind folded delimiter text before at js mid → Behind before at is to js mid
   begins {is = is} c e done = record { rest = is; whole = refl; cut = c; last = refl }
   begins done e (item f d) = absurd cc
   begins {before = before} {at = at} {to = to} {mid = mid} (item {next = n} {i = i} {is = is} g c) e (item {next = m} {i = j} {is = js} f d) =
       let one : Is i n ≡ Is j m = sym g ∙ f in
       let same_item : i ≡ j = cc in
       let same_place : n ≡ m = cc in
-      let C : Item → ℕ → Type 0 = λ x y. Cut kind delimiter text (Some x) y js mid in
+      let C : Item → ℕ → Type 0 = λ x y. Cut kind folded delimiter text (Some x) y js mid in
       let d' : C i n = subst (λ (x : Item). C x n) (sym same_item) (subst (λ (y : ℕ). C j y) (sym same_place) d) in
       let b = begins c e d' in
       let D : Item → Type 0 = λ x. Behind before at (i ∷ is) to (x ∷ js) mid in
       subst D same_item (record { rest = b.rest; whole = ap (λ (r : List Item). i ∷ r) b.whole; cut = b.cut; last = b.last })
 
-  never_bad : {before : Option Item} {mid to : ℕ} {rest : List Item} {place : ℕ} {reason : Reason} → Cut kind delimiter text before mid rest to →
-      item_at kind delimiter text (last_of before rest) to ≡ Ends → item_at kind delimiter text before mid ≡ Bad (record { place = place; reason = reason }) → ⊥
+  never_bad : {before : Option Item} {mid to : ℕ} {rest : List Item} {place : ℕ} {reason : Reason} → Cut kind folded delimiter text before mid rest to →
+      item_at kind folded delimiter text (last_of before rest) to ≡ Ends → item_at kind folded delimiter text before mid ≡ Bad (record { place = place; reason = reason }) → ⊥
   never_bad done e f = cc
   never_bad (item g c) e f = cc
 
-  closes : {before : Option Item} {mid to next : ℕ} {rest : List Item} → Cut kind delimiter text before mid rest to →
-      item_at kind delimiter text (last_of before rest) to ≡ Ends → item_at kind delimiter text before mid ≡ Is Close next → (more_items : List Item) × (rest ≡ Close ∷ more_items)
+  closes : {before : Option Item} {mid to next : ℕ} {rest : List Item} → Cut kind folded delimiter text before mid rest to →
+      item_at kind folded delimiter text (last_of before rest) to ≡ Ends → item_at kind folded delimiter text before mid ≡ Is Close next → (more_items : List Item) × (rest ≡ Close ∷ more_items)
   closes done e f = absurd cc
   closes (item {next = n} {i = i} {is = is} g c) e f =
       let same : i ≡ Close = cc in
       (is, ap (λ (x : Item). x ∷ is) same)
 
-  at_end : {before : Option Item} {mid to : ℕ} {rest : List Item} → Cut kind delimiter text before mid rest to →
-      item_at kind delimiter text before mid ≡ Ends → rest ≡ []
+  at_end : {before : Option Item} {mid to : ℕ} {rest : List Item} → Cut kind folded delimiter text before mid rest to →
+      item_at kind folded delimiter text before mid ≡ Ends → rest ≡ []
   at_end done f = refl
   at_end (item g c) f = absurd cc
 
-  same_items : {before : Option Item} {at to mid : ℕ} {is js : List Item} → Behind before at is to js mid → item_at kind delimiter text (last_of before js) mid ≡ Ends → is ≡ js
+  same_items : {before : Option Item} {at to mid : ℕ} {is js : List Item} → Behind before at is to js mid → item_at kind folded delimiter text (last_of before js) mid ≡ Ends → is ≡ js
   same_items {js = js} b f = b.whole ∙ ap (λ (r : List Item). js ++ r) (at_end b.cut f) ∙ append-nil js
 
   -- the fault's row can't hold
   no_row : (max_nodes : ℕ) {groups to mid opened place : ℕ} {is js : List Item} {bs : List Tree} {reason : Reason} → AreAlternatives 0 is bs groups →
-      item_at kind delimiter text (last_of None is) to ≡ Ends → Behind None 0 is to js mid → open_groups 0 js ≡ Some opened →
-      depth (alternation bs) ≤ 600 → size (alternation bs) ≤ max_nodes → Row kind delimiter text max_nodes js opened mid place reason → ⊥
+      item_at kind folded delimiter text (last_of None is) to ≡ Ends → Behind None 0 is to js mid → open_groups 0 js ≡ Some opened →
+      depth (alternation bs) ≤ 600 → size (alternation bs) ≤ max_nodes → Row kind folded delimiter text max_nodes js opened mid place reason → ⊥
   no_row max_nodes {to = to} {is = is} {js = js} a e b balanced shallow small (bad f) =
-      never_bad b.cut (ap (λ (x : Option Item). item_at kind delimiter text x to) (sym b.last) ∙ e) f
+      never_bad b.cut (ap (λ (x : Option Item). item_at kind folded delimiter text x to) (sym b.last) ∙ e) f
   no_row max_nodes {to = to} {is = is} {js = js} a e b balanced shallow small (stray f) =
-      let c = closes b.cut (ap (λ (x : Option Item). item_at kind delimiter text x to) (sym b.last) ∙ e) f in
+      let c = closes b.cut (ap (λ (x : Option Item). item_at kind folded delimiter text x to) (sym b.last) ∙ e) f in
       let whole : open_groups 0 is ≡ None = ap (open_groups 0) (b.whole ∙ ap (λ (r : List Item). js ++ r) c.1) ∙ open-append 0 js (Close ∷ c.0) ∙ ap (λ (o : Option ℕ). go_on o (Close ∷ c.0)) balanced in
       let other : open_groups 0 is ≡ Some 0 = alternatives_balanced a 0 in
       cc
@@ -129,22 +129,22 @@ module _ (kind : Kind) (delimiter : Option ℕ) (text : List ℕ) where
       omega (arith, sizes)
 
   -- what reads as an expression within the limits has no fault
-  pub no_fault : {max_nodes place groups : ℕ} {reason : Reason} {t : Tree} → ReadsAs kind delimiter text t groups → depth t ≤ 600 → size t ≤ max_nodes →
-      ExprFaulty kind delimiter text max_nodes place reason → ⊥
+  pub no_fault : {max_nodes place groups : ℕ} {reason : Reason} {t : Tree} → ReadsAs kind folded delimiter text t groups → depth t ≤ 600 → size t ≤ max_nodes →
+      ExprFaulty kind folded delimiter text max_nodes place reason → ⊥
   no_fault {max_nodes = max_nodes} {t = t} r shallow small f =
       let D : Tree → Type 0 = λ x. depth x ≤ 600 in
       let S : Tree → Type 0 = λ x. size x ≤ max_nodes in
       no_row max_nodes r.grammar r.ends (begins r.cut r.ends f.cut) f.balanced (subst D (sym r.is) shallow) (subst S (sym r.is) small) f.row
 
   -- no text reads as two expressions
-  pub reads_one : {s t : Tree} {g h : ℕ} → ReadsAs kind delimiter text s g → ReadsAs kind delimiter text t h → s ≡ t
+  pub reads_one : {s t : Tree} {g h : ℕ} → ReadsAs kind folded delimiter text s g → ReadsAs kind folded delimiter text t h → s ≡ t
   reads_one {t = t} {h = h} q r =
       let b = begins q.cut q.ends r.cut in
       let A : List Item → Type 0 = λ x. AreAlternatives 0 x r.alternatives h in
       sym q.is ∙ ap alternation (one_reading q.grammar (subst A (sym (same_items b r.ends)) r.grammar)) ∙ r.is
 
   -- nor with two numbers of groups
-  pub reads_groups : {s t : Tree} {g h : ℕ} → ReadsAs kind delimiter text s g → ReadsAs kind delimiter text t h → g ≡ h
+  pub reads_groups : {s t : Tree} {g h : ℕ} → ReadsAs kind folded delimiter text s g → ReadsAs kind folded delimiter text t h → g ≡ h
   reads_groups {h = h} q r =
       let b = begins q.cut q.ends r.cut in
       let A : List Item → Type 0 = λ x. AreAlternatives 0 x r.alternatives h in

@@ -12,8 +12,8 @@ use Rattle.sedre.specs.declared.elements.Element.TheVariants.{Plain, Delimiter, 
 use Rattle.sedre.specs.declared.types.ExprFault.{ExprFault}
 use Rattle.sedre.specs.declared.types.Reason.TheVariants.{OpenBracket}
 use Rattle.sedre.specs.declared.byte_set.ByteSet.{ByteSet}
-use Rattle.sedre.specs.Sets.{has, union, no_byte, complement}
-use Rattle.sedre.specs.Brackets.{content, form, form_of, of_class, of_one, item, items, items_behind, is_dash, goes_on, single, range, both, listed, judged, is_negated, is_delimiter, Listing, list_at, list_end}
+use Rattle.sedre.specs.Sets.{has, union, no_byte}
+use Rattle.sedre.specs.Brackets.{content, form, form_of, of_class, of_one, item, items, items_behind, is_dash, goes_on, single, range, both, listed, judged, matched, is_negated, is_delimiter, Listing, list_at, list_end}
 use Rattle.sedre.specs.ListReading.{is_range, located, members_at, items_start, is_closing}
 
 -- the items from a place on, and where the list ends
@@ -145,8 +145,8 @@ listed_single x (y ∷ z ∷ rest) isnt =
     ap (λ (t : Bool). if t then both (range x z (goes_on rest)) (listed rest) else both (single x) (listed (y ∷ z ∷ rest))) isnt
 
 -- the bytes read so far, with what is listed from a place on
-abbrev pub go_on : Bool → ℕ → List Bool → Items → Result (ByteSet × ℕ) ExprFault
-go_on negated at set all = judged negated at (both (Ok set) (listed all.0)) all.1
+abbrev pub go_on : Bool → Bool → ℕ → List Bool → Items → Result (ByteSet × ℕ) ExprFault
+go_on folded negated at set all = judged folded negated at (both (Ok set) (listed all.0)) all.1
 
 or_assoc : (a b c : Bool) → (a || (b || c)) ≡ ((a || b) || c)
 or_assoc true b c = refl
@@ -162,22 +162,22 @@ union_assoc a b c =
     (λ k lt. ap (λ x. has a k || x) (has-set_of (λ m. has b m || has c m) k lt) ∙ or_assoc (has a k) (has b k) (has c k) ∙ sym (ap (λ x. x || has c k) (has-set_of (λ m. has a m || has b m) k lt)))
 
 -- what the next item or range makes of them
-abbrev pub after : Option ℕ → List ℕ → Bool → ℕ → List Bool → Result (ByteSet × ℕ) ExprFault → Result (ByteSet × ℕ) ExprFault
-after d text negated at set (Err f) = Err f
-after d text negated at set (Ok found) = go_on negated at (union set found.0) (items d false 0 found.1 (drop found.1 text))
+abbrev pub after : Option ℕ → List ℕ → Bool → Bool → ℕ → List Bool → Result (ByteSet × ℕ) ExprFault → Result (ByteSet × ℕ) ExprFault
+after d text folded negated at set (Err f) = Err f
+after d text folded negated at set (Ok found) = go_on folded negated at (union set found.0) (items d false 0 found.1 (drop found.1 text))
 
-joined_ok : (negated : Bool) (at : ℕ) (set h : List Bool) (rest : Listing) (end : Option ℕ) → judged negated at (both (Ok set) (both (Ok h) rest)) end ≡ judged negated at (both (Ok (union set h)) rest) end
-joined_ok negated at set h (Err f) end = refl
-joined_ok negated at set h (Ok l) end = ap (λ s. judged negated at (Ok s) end) (union_assoc set h l)
+joined_ok : (folded negated : Bool) (at : ℕ) (set h : List Bool) (rest : Listing) (end : Option ℕ) → judged folded negated at (both (Ok set) (both (Ok h) rest)) end ≡ judged folded negated at (both (Ok (union set h)) rest) end
+joined_ok folded negated at set h (Err f) end = refl
+joined_ok folded negated at set h (Ok l) end = ap (λ s. judged folded negated at (Ok s) end) (union_assoc set h l)
 
-joined : (d : Option ℕ) (text : List ℕ) (negated : Bool) (at behind : ℕ) (set : List Bool) (here : Listing) (rest : Listing) (end : Option ℕ) →
+joined : (d : Option ℕ) (text : List ℕ) (folded negated : Bool) (at behind : ℕ) (set : List Bool) (here : Listing) (rest : Listing) (end : Option ℕ) →
     rest ≡ listed (items d false 0 behind (drop behind text)).0 → end ≡ (items d false 0 behind (drop behind text)).1 →
-    judged negated at (both (Ok set) (both here rest)) end ≡ after d text negated at set (located behind here)
-joined d text negated at behind set (Err f) rest end is_rest is_end = refl
-joined d text negated at behind set (Ok h) rest end is_rest is_end =
-    joined_ok negated at set h rest end
-    ∙ ap (λ l. judged negated at (both (Ok (union set h)) l) end) is_rest
-    ∙ ap (judged negated at (both (Ok (union set h)) (listed (items d false 0 behind (drop behind text)).0))) is_end
+    judged folded negated at (both (Ok set) (both here rest)) end ≡ after d text folded negated at set (located behind here)
+joined d text folded negated at behind set (Err f) rest end is_rest is_end = refl
+joined d text folded negated at behind set (Ok h) rest end is_rest is_end =
+    joined_ok folded negated at set h rest end
+    ∙ ap (λ l. judged folded negated at (both (Ok (union set h)) l) end) is_rest
+    ∙ ap (judged folded negated at (both (Ok (union set h)) (listed (items d false 0 behind (drop behind text)).0))) is_end
 
 opened_front : (d : Option ℕ) (first : Bool) (place : ℕ) (bs : List ℕ) → 0 < length bs → (get_or bs 0 0 == 93 && not first) ≡ false →
     items d first 0 place bs ≡ OneMore place (item d bs).0 (items d false 0 (place + (item d bs).1) (drop (item d bs).1 bs))
@@ -229,10 +229,10 @@ ranged_at d place text is =
     ∙ ap (λ l. OneMore place (Plain 45) (OneMore (place + 1) (item d l).0 (items d false 0 (place + 1 + (item d l).1) (drop (item d l).1 l)))) tail
     ∙ ap (λ l. OneMore place (Plain 45) (OneMore (place + 1) last.0 (items d false 0 (place + 1 + last.1) l))) (drop-drop last.1 (place + 1) text)
 
-pub one_step : (d : Option ℕ) (text : List ℕ) (first negated : Bool) (at place : ℕ) (set : List Bool) → place < length text → (get_or text place 0 == 93 && not first) ≡ false →
-    go_on negated at set (items d first 0 place (drop place text)) ≡ after d text negated at set (members_at d text place)
+pub one_step : (d : Option ℕ) (text : List ℕ) (first folded negated : Bool) (at place : ℕ) (set : List Bool) → place < length text → (get_or text place 0 == 93 && not first) ≡ false →
+    go_on folded negated at set (items d first 0 place (drop place text)) ≡ after d text folded negated at set (members_at d text place)
 unfolding members_at
-one_step d text first negated at place set inside isnt =
+one_step d text first folded negated at place set inside isnt =
     let found : Element × ℕ = item d (drop place text) in
     let next : ℕ = place + found.1 in
     let last : Element × ℕ = item d (drop (next + 1) text) in
@@ -241,17 +241,17 @@ one_step d text first negated at place set inside isnt =
     let rest : Items = items d false 0 behind (drop behind text) in
     let ranges : Bool = is_range (drop next text) in
     let on : Bool = is_range (drop behind text) in
-    ap (go_on negated at set) (opened_at d first place text inside isnt)
+    ap (go_on folded negated at set) (opened_at d first place text inside isnt)
     ∙ ⊎_elim
     (λ (is : ranges ≡ true).
-    ap (λ (all : Items). go_on negated at set (OneMore place found.0 all)) (ranged_at d next text is)
-    ∙ ap (λ g. judged negated at (both (Ok set) (both (range (place, found.0) (next + 1, last.0) g) (listed rest.0))) rest.1) (goes_on-items d behind (drop behind text))
-    ∙ joined d text negated at behind set (range (place, found.0) (next + 1, last.0) on) (listed rest.0) rest.1 refl refl
-    ∙ ap (λ (t : Bool). after d text negated at set (if t then located behind (range (place, found.0) (next + 1, last.0) on) else located next (single (place, found.0)))) (sym is))
+    ap (λ (all : Items). go_on folded negated at set (OneMore place found.0 all)) (ranged_at d next text is)
+    ∙ ap (λ g. judged folded negated at (both (Ok set) (both (range (place, found.0) (next + 1, last.0) g) (listed rest.0))) rest.1) (goes_on-items d behind (drop behind text))
+    ∙ joined d text folded negated at behind set (range (place, found.0) (next + 1, last.0) on) (listed rest.0) rest.1 refl refl
+    ∙ ap (λ (t : Bool). after d text folded negated at set (if t then located behind (range (place, found.0) (next + 1, last.0) on) else located next (single (place, found.0)))) (sym is))
     (λ (is : ranges ≡ false).
-    ap (λ l. judged negated at (both (Ok set) l) more.1) (listed_single (place, found.0) more.0 (goes_on-items d next (drop next text) ∙ is))
-    ∙ joined d text negated at next set (single (place, found.0)) (listed more.0) more.1 refl refl
-    ∙ ap (λ (t : Bool). after d text negated at set (if t then located behind (range (place, found.0) (next + 1, last.0) on) else located next (single (place, found.0)))) (sym is))
+    ap (λ l. judged folded negated at (both (Ok set) l) more.1) (listed_single (place, found.0) more.0 (goes_on-items d next (drop next text) ∙ is))
+    ∙ joined d text folded negated at next set (single (place, found.0)) (listed more.0) more.1 refl refl
+    ∙ ap (λ (t : Bool). after d text folded negated at set (if t then located behind (range (place, found.0) (next + 1, last.0) on) else located next (single (place, found.0)))) (sym is))
     (decided ranges)
 
 -- ---- the loop over a whole list
@@ -317,45 +317,45 @@ none_listed (x ∷ []) = none_both (single x) (listed [])
 none_listed (x ∷ y ∷ []) = none_both (single x) (listed (y ∷ []))
 none_listed (x ∷ y ∷ z ∷ rest) = none_choice (is_dash y.1) (range x z (goes_on rest)) (listed rest) (single x) (listed (y ∷ z ∷ rest))
 
-pub list_begun : (d : Option ℕ) (text : List ℕ) (at start : ℕ) (negated : Bool) (set : List Bool) → negated ≡ is_negated (drop (at + 1) text) →
+pub list_begun : (d : Option ℕ) (text : List ℕ) (at start : ℕ) (folded negated : Bool) (set : List Bool) → negated ≡ is_negated (drop (at + 1) text) →
     start ≡ items_start (at + 1) (drop (at + 1) text) → set ≡ no_byte →
-    list_at d text at ≡ go_on negated at set (items d (start == start) 0 start (drop start text))
+    list_at folded d text at ≡ go_on folded negated at set (items d (start == start) 0 start (drop start text))
 unfolding list_at
-list_begun d text at start negated set is_neg is_start is_set =
+list_begun d text at start folded negated set is_neg is_start is_set =
     let bytes : List ℕ = drop (at + 1) text in
-    ap (λ (all : Items). judged (is_negated bytes) at (listed all.0) all.1) (begun d (at + 1) text ∙ ap (λ n. items d true 0 n (drop n text)) (sym is_start))
-    ∙ ap (λ t. judged t at (listed (items d true 0 start (drop start text)).0) (items d true 0 start (drop start text)).1) (sym is_neg)
-    ∙ ap (λ l. judged negated at l (items d true 0 start (drop start text)).1) (sym (none_listed (items d true 0 start (drop start text)).0))
-    ∙ ap (λ s. go_on negated at s (items d true 0 start (drop start text))) (sym is_set)
-    ∙ ap (λ t. go_on negated at set (items d t 0 start (drop start text))) (sym (eq-eqb start start refl))
+    ap (λ (all : Items). judged folded (is_negated bytes) at (listed all.0) all.1) (begun d (at + 1) text ∙ ap (λ n. items d true 0 n (drop n text)) (sym is_start))
+    ∙ ap (λ t. judged folded t at (listed (items d true 0 start (drop start text)).0) (items d true 0 start (drop start text)).1) (sym is_neg)
+    ∙ ap (λ l. judged folded negated at l (items d true 0 start (drop start text)).1) (sym (none_listed (items d true 0 start (drop start text)).0))
+    ∙ ap (λ s. go_on folded negated at s (items d true 0 start (drop start text))) (sym is_set)
+    ∙ ap (λ t. go_on folded negated at set (items d t 0 start (drop start text))) (sym (eq-eqb start start refl))
 
 -- what a list comes to where `set` was read up to a place
-abbrev pub comes_to : Option ℕ → List ℕ → Bool → (at start place : ℕ) → List Bool → Result (ByteSet × ℕ) ExprFault
-comes_to d text negated at start place set = go_on negated at set (items d (place == start) 0 place (drop place text))
+abbrev pub comes_to : Option ℕ → List ℕ → Bool → Bool → (at start place : ℕ) → List Bool → Result (ByteSet × ℕ) ExprFault
+comes_to d text folded negated at start place set = go_on folded negated at set (items d (place == start) 0 place (drop place text))
 
-pub list_more : (d : Option ℕ) (text : List ℕ) (negated : Bool) (at start place behind : ℕ) (set members : List Bool) (whole : Result (ByteSet × ℕ) ExprFault) →
-    whole ≡ comes_to d text negated at start place set → place < length text → is_closing text start place ≡ false → members_at d text place ≡ Ok (members, behind) →
-    start ≤ place → place < behind → whole ≡ comes_to d text negated at start behind (union set members)
-list_more d text negated at start place behind set members whole so_far inside isnt here low more =
-    so_far ∙ one_step d text (place == start) negated at place set inside isnt ∙ ap (after d text negated at set) here
-    ∙ ap (λ t. go_on negated at (union set members) (items d t 0 behind (drop behind text))) (sym (apart_false behind start (λ e. omega arith)))
+pub list_more : (d : Option ℕ) (text : List ℕ) (folded negated : Bool) (at start place behind : ℕ) (set members : List Bool) (whole : Result (ByteSet × ℕ) ExprFault) →
+    whole ≡ comes_to d text folded negated at start place set → place < length text → is_closing text start place ≡ false → members_at d text place ≡ Ok (members, behind) →
+    start ≤ place → place < behind → whole ≡ comes_to d text folded negated at start behind (union set members)
+list_more d text folded negated at start place behind set members whole so_far inside isnt here low more =
+    so_far ∙ one_step d text (place == start) folded negated at place set inside isnt ∙ ap (after d text folded negated at set) here
+    ∙ ap (λ t. go_on folded negated at (union set members) (items d t 0 behind (drop behind text))) (sym (apart_false behind start (λ e. omega arith)))
 
-pub list_fault : (d : Option ℕ) (text : List ℕ) (negated : Bool) (at start place : ℕ) (set : List Bool) (f : ExprFault) (whole : Result (ByteSet × ℕ) ExprFault) →
-    whole ≡ comes_to d text negated at start place set → place < length text → is_closing text start place ≡ false → members_at d text place ≡ Err f → Err f ≡ whole
-list_fault d text negated at start place set f whole so_far inside isnt here =
-    sym (so_far ∙ one_step d text (place == start) negated at place set inside isnt ∙ ap (after d text negated at set) here)
+pub list_fault : (d : Option ℕ) (text : List ℕ) (folded negated : Bool) (at start place : ℕ) (set : List Bool) (f : ExprFault) (whole : Result (ByteSet × ℕ) ExprFault) →
+    whole ≡ comes_to d text folded negated at start place set → place < length text → is_closing text start place ≡ false → members_at d text place ≡ Err f → Err f ≡ whole
+list_fault d text folded negated at start place set f whole so_far inside isnt here =
+    sym (so_far ∙ one_step d text (place == start) folded negated at place set inside isnt ∙ ap (after d text folded negated at set) here)
 
-pub list_closed : (d : Option ℕ) (text : List ℕ) (negated : Bool) (at start place : ℕ) (set : List Bool) (whole : Result (ByteSet × ℕ) ExprFault) →
-    whole ≡ comes_to d text negated at start place set → place < length text → is_closing text start place ≡ true → union set no_byte ≡ set →
-    whole ≡ Ok (if negated then complement set else set, place + 1)
-list_closed d text negated at start place set whole so_far inside is normal =
-    so_far ∙ ap (go_on negated at set) (closed_at d text (place == start) place inside is)
-    ∙ ap (λ (s : List Bool). Ok (if negated then complement s else s, place + 1)) normal
+pub list_closed : (d : Option ℕ) (text : List ℕ) (folded negated : Bool) (at start place : ℕ) (set : List Bool) (whole : Result (ByteSet × ℕ) ExprFault) →
+    whole ≡ comes_to d text folded negated at start place set → place < length text → is_closing text start place ≡ true → union set no_byte ≡ set →
+    whole ≡ Ok (matched folded negated set, place + 1)
+list_closed d text folded negated at start place set whole so_far inside is normal =
+    so_far ∙ ap (go_on folded negated at set) (closed_at d text (place == start) place inside is)
+    ∙ ap (λ (s : List Bool). Ok (matched folded negated s, place + 1)) normal
 
-pub list_open : (d : Option ℕ) (text : List ℕ) (negated : Bool) (at start place : ℕ) (set : List Bool) (whole : Result (ByteSet × ℕ) ExprFault) →
-    whole ≡ comes_to d text negated at start place set → length text ≤ place → Err (record { place = at; reason = OpenBracket }) ≡ whole
-list_open d text negated at start place set whole so_far past =
-    sym (so_far ∙ ap (go_on negated at set) (ended_at d text (place == start) place past))
+pub list_open : (d : Option ℕ) (text : List ℕ) (folded negated : Bool) (at start place : ℕ) (set : List Bool) (whole : Result (ByteSet × ℕ) ExprFault) →
+    whole ≡ comes_to d text folded negated at start place set → length text ≤ place → Err (record { place = at; reason = OpenBracket }) ≡ whole
+list_open d text folded negated at start place set whole so_far past =
+    sym (so_far ∙ ap (go_on folded negated at set) (ended_at d text (place == start) place past))
 
 -- ---- the loop over a list of which only the end is wanted
 

@@ -1,5 +1,5 @@
 -- What a reader has read so far.
-use Rattle.std.proofs.Common.{◌≡◌, ◌≢◌, ℕ, suc, ◌<◌, ◌≤◌, List, [], ◌∷◌, ◌++◌, length, true, Option, Some, None, refl, ap, subst, ◌∙◌, arith}
+use Rattle.std.proofs.Common.{Bool, ◌≡◌, ◌≢◌, ℕ, suc, ◌<◌, ◌≤◌, List, [], ◌∷◌, ◌++◌, length, true, Option, Some, None, refl, ap, subst, ◌∙◌, arith}
 use Rattle.sedre.specs.declared.types.Kind.{Kind}
 use Rattle.sedre.specs.declared.types.Reason.{Reason}
 use Rattle.sedre.specs.declared.types.Reason.TheVariants.{StrayClose, OpenGroup, TooDeep, TooManyNodes}
@@ -16,19 +16,19 @@ use Rattle.sedre.proofs.Exclusive.{open-append, go_on}
 use Rattle.sedre.proofs.Repeating.{repeat_follows}
 
 -- behind the items up to this place stands this state
-pub record Reading (kind : Kind) (delimiter : Option ℕ) (text : List ℕ) (before : Option Item) (at : ℕ) (s : State) : Type 0 where
+pub record Reading (kind : Kind) (folded : Bool) (delimiter : Option ℕ) (text : List ℕ) (before : Option Item) (at : ℕ) (s : State) : Type 0 where
   pub items : List Item
-  pub cut : Cut kind delimiter text None 0 items at
+  pub cut : Cut kind folded delimiter text None 0 items at
   pub last : last_of None items ≡ before
   pub balanced : open_groups 0 items ≡ Some (length s.below)
   pub stands : Stands items s.opened s.top s.below
   pub ready : is_repeatable before ≡ true → s.top.pieces ≢ []
 
-pub reading_start : (kind : Kind) (delimiter : Option ℕ) (text : List ℕ) → Reading kind delimiter text None 0 start
-reading_start kind delimiter text = record { items = []; cut = done; last = refl; balanced = refl; stands = base (only_pieces none); ready = λ h. absurd cc }
+pub reading_start : (kind : Kind) (folded : Bool) (delimiter : Option ℕ) (text : List ℕ) → Reading kind folded delimiter text None 0 start
+reading_start kind folded delimiter text = record { items = []; cut = done; last = refl; balanced = refl; stands = base (only_pieces none); ready = λ h. absurd cc }
 
-pub cut-snoc : {kind : Kind} {delimiter : Option ℕ} {text : List ℕ} {before : Option Item} {at to next : ℕ} {is : List Item} {i : Item} →
-    Cut kind delimiter text before at is to → item_at kind delimiter text (last_of before is) to ≡ Is i next → Cut kind delimiter text before at (is ++ i ∷ []) next
+pub cut-snoc : {kind : Kind} {folded : Bool} {delimiter : Option ℕ} {text : List ℕ} {before : Option Item} {at to next : ℕ} {is : List Item} {i : Item} →
+    Cut kind folded delimiter text before at is to → item_at kind folded delimiter text (last_of before is) to ≡ Is i next → Cut kind folded delimiter text before at (is ++ i ∷ []) next
 cut-snoc done f = item f done
 cut-snoc (item g c) f = item g (cut-snoc c f)
 
@@ -45,78 +45,78 @@ step_with_last f [] ne h = ne refl
 step_with_last f (t ∷ []) ne h = cc
 step_with_last f (t ∷ u ∷ us) ne h = cc
 
-module _ (kind : Kind) (delimiter : Option ℕ) (text : List ℕ) where
+module _ (kind : Kind) (folded : Bool) (delimiter : Option ℕ) (text : List ℕ) where
   -- one item more
-  pub reading_step : {before : Option Item} {at next : ℕ} {i : Item} {s : State} → Reading kind delimiter text before at s →
-      item_at kind delimiter text before at ≡ Is i next → (i ≡ Close → s.below ≢ []) → Reading kind delimiter text (Some i) next (step i s)
+  pub reading_step : {before : Option Item} {at next : ℕ} {i : Item} {s : State} → Reading kind folded delimiter text before at s →
+      item_at kind folded delimiter text before at ≡ Is i next → (i ≡ Close → s.below ≢ []) → Reading kind folded delimiter text (Some i) next (step i s)
   reading_step {before = before} {at = at} {next = next} {i = i} {s = s} r f closes =
-      let f' : item_at kind delimiter text (last_of None r.items) at ≡ Is i next = ap (λ (x : Option Item). item_at kind delimiter text x at) r.last ∙ f in
+      let f' : item_at kind folded delimiter text (last_of None r.items) at ≡ Is i next = ap (λ (x : Option Item). item_at kind folded delimiter text x at) r.last ∙ f in
       let c = cut-snoc r.cut f' in
       let l = last-snoc None r.items i in
       let o : open_groups 0 (r.items ++ i ∷ []) ≡ open_groups (length s.below) (i ∷ []) =
       open-append 0 r.items (i ∷ []) ∙ ap (λ (x : Option ℕ). go_on x (i ∷ [])) r.balanced in
       by_item i s r.items f closes c l o r.stands r.ready
     where
-      closing : (opened : ℕ) (top : Level) (below : List Level) (is : List Item) → below ≢ [] → Cut kind delimiter text None 0 (is ++ Close ∷ []) next → last_of None (is ++ Close ∷ []) ≡ Some Close →
+      closing : (opened : ℕ) (top : Level) (below : List Level) (is : List Item) → below ≢ [] → Cut kind folded delimiter text None 0 (is ++ Close ∷ []) next → last_of None (is ++ Close ∷ []) ≡ Some Close →
           open_groups 0 (is ++ Close ∷ []) ≡ open_groups (length below) (Close ∷ []) → Stands is opened top below →
-          Reading kind delimiter text (Some Close) next (step Close (record { opened = opened; top = top; below = below }))
+          Reading kind folded delimiter text (Some Close) next (step Close (record { opened = opened; top = top; below = below }))
       closing opened top [] is ne c l o st = absurd (ne refl)
       closing opened top (k ∷ ks) is ne c l o st =
           record { items = is ++ Close ∷ []; cut = c; last = l; balanced = o; stands = stands_close st; ready = λ _. not_empty k.pieces _ }
 
-      by_item : (i : Item) (s : State) (is : List Item) → item_at kind delimiter text before at ≡ Is i next → (i ≡ Close → s.below ≢ []) →
-          Cut kind delimiter text None 0 (is ++ i ∷ []) next → last_of None (is ++ i ∷ []) ≡ Some i → open_groups 0 (is ++ i ∷ []) ≡ open_groups (length s.below) (i ∷ []) →
-          Stands is s.opened s.top s.below → (is_repeatable before ≡ true → s.top.pieces ≢ []) → Reading kind delimiter text (Some i) next (step i s)
+      by_item : (i : Item) (s : State) (is : List Item) → item_at kind folded delimiter text before at ≡ Is i next → (i ≡ Close → s.below ≢ []) →
+          Cut kind folded delimiter text None 0 (is ++ i ∷ []) next → last_of None (is ++ i ∷ []) ≡ Some i → open_groups 0 (is ++ i ∷ []) ≡ open_groups (length s.below) (i ∷ []) →
+          Stands is s.opened s.top s.below → (is_repeatable before ≡ true → s.top.pieces ≢ []) → Reading kind folded delimiter text (Some i) next (step i s)
       by_item (Byte members) s is f closes c l o st ready = record { items = is ++ Byte members ∷ []; cut = c; last = l; balanced = o; stands = stands_piece st byte; ready = λ _. not_empty s.top.pieces (set members) }
       by_item Open s is f closes c l o st ready = record { items = is ++ Open ∷ []; cut = c; last = l; balanced = o; stands = stands_open st; ready = λ h. absurd cc }
       by_item Bar s is f closes c l o st ready = record { items = is ++ Bar ∷ []; cut = c; last = l; balanced = o; stands = stands_bar st; ready = λ h. absurd cc }
       by_item AtBegin s is f closes c l o st ready = record { items = is ++ AtBegin ∷ []; cut = c; last = l; balanced = o; stands = stands_piece st begin_anchor; ready = λ h. absurd cc }
       by_item AtEnd s is f closes c l o st ready = record { items = is ++ AtEnd ∷ []; cut = c; last = l; balanced = o; stands = stands_piece st end_anchor; ready = λ h. absurd cc }
       by_item (Repeat least most) s is f closes c l o st ready =
-          let ne : s.top.pieces ≢ [] = ready (repeat_follows kind delimiter text before at f).0 in
+          let ne : s.top.pieces ≢ [] = ready (repeat_follows kind folded delimiter text before at f).0 in
           record { items = is ++ Repeat least most ∷ []; cut = c; last = l; balanced = o; stands = stands_repeat least most st ne; ready = λ _. step_with_last (repetition least most) s.top.pieces ne }
       by_item Close s is f closes c l o st ready = closing s.opened s.top s.below is (closes refl) c l o st
 
   -- the whole text
-  pub reading_whole : {before : Option Item} {at : ℕ} {s : State} → Reading kind delimiter text before at s → item_at kind delimiter text before at ≡ Ends →
-      s.below ≡ [] → ReadsAs kind delimiter text (alternation (all_alternatives s.top)) s.opened
+  pub reading_whole : {before : Option Item} {at : ℕ} {s : State} → Reading kind folded delimiter text before at s → item_at kind folded delimiter text before at ≡ Ends →
+      s.below ≡ [] → ReadsAs kind folded delimiter text (alternation (all_alternatives s.top)) s.opened
   reading_whole {at = at} {s = s} r f e =
       let S : List Level → Type 0 = λ x. Stands r.items s.opened s.top x in
       record {
         items = r.items;
         to = at;
         cut = r.cut;
-        ends = ap (λ (x : Option Item). item_at kind delimiter text x at) r.last ∙ f;
+        ends = ap (λ (x : Option Item). item_at kind folded delimiter text x at) r.last ∙ f;
         alternatives = all_alternatives s.top;
         grammar = stands_whole (subst S e r.stands);
         is = refl;
       }
 
   -- the faults
-  pub reading_bad : {before : Option Item} {at : ℕ} {s : State} {place : ℕ} {reason : Reason} (max_nodes : ℕ) → Reading kind delimiter text before at s →
-      item_at kind delimiter text before at ≡ Bad (record { place = place; reason = reason }) → ExprFaulty kind delimiter text max_nodes place reason
+  pub reading_bad : {before : Option Item} {at : ℕ} {s : State} {place : ℕ} {reason : Reason} (max_nodes : ℕ) → Reading kind folded delimiter text before at s →
+      item_at kind folded delimiter text before at ≡ Bad (record { place = place; reason = reason }) → ExprFaulty kind folded delimiter text max_nodes place reason
   reading_bad {at = at} {s = s} max_nodes r f =
-      record { items = r.items; to = at; cut = r.cut; opened = length s.below; balanced = r.balanced; row = bad (ap (λ (x : Option Item). item_at kind delimiter text x at) r.last ∙ f) }
+      record { items = r.items; to = at; cut = r.cut; opened = length s.below; balanced = r.balanced; row = bad (ap (λ (x : Option Item). item_at kind folded delimiter text x at) r.last ∙ f) }
 
-  pub reading_stray : {before : Option Item} {at next : ℕ} {s : State} (max_nodes : ℕ) → Reading kind delimiter text before at s →
-      item_at kind delimiter text before at ≡ Is Close next → s.below ≡ [] → ExprFaulty kind delimiter text max_nodes at StrayClose
+  pub reading_stray : {before : Option Item} {at next : ℕ} {s : State} (max_nodes : ℕ) → Reading kind folded delimiter text before at s →
+      item_at kind folded delimiter text before at ≡ Is Close next → s.below ≡ [] → ExprFaulty kind folded delimiter text max_nodes at StrayClose
   reading_stray {at = at} max_nodes r f e =
-      record { items = r.items; to = at; cut = r.cut; opened = 0; balanced = r.balanced ∙ ap (λ (x : List Level). Some (length x)) e; row = stray (ap (λ (x : Option Item). item_at kind delimiter text x at) r.last ∙ f) }
+      record { items = r.items; to = at; cut = r.cut; opened = 0; balanced = r.balanced ∙ ap (λ (x : List Level). Some (length x)) e; row = stray (ap (λ (x : Option Item). item_at kind folded delimiter text x at) r.last ∙ f) }
 
-  pub reading_unclosed : {before : Option Item} {at : ℕ} {s : State} (max_nodes : ℕ) → Reading kind delimiter text before at s →
-      item_at kind delimiter text before at ≡ Ends → 0 < length s.below → ExprFaulty kind delimiter text max_nodes (length text) OpenGroup
+  pub reading_unclosed : {before : Option Item} {at : ℕ} {s : State} (max_nodes : ℕ) → Reading kind folded delimiter text before at s →
+      item_at kind folded delimiter text before at ≡ Ends → 0 < length s.below → ExprFaulty kind folded delimiter text max_nodes (length text) OpenGroup
   reading_unclosed {at = at} {s = s} max_nodes r f more_than =
-      let f' = ap (λ (x : Option Item). item_at kind delimiter text x at) r.last ∙ f in
+      let f' = ap (λ (x : Option Item). item_at kind folded delimiter text x at) r.last ∙ f in
       by_levels s.below r.balanced more_than f'
     where
-      by_levels : (ls : List Level) → open_groups 0 r.items ≡ Some (length ls) → 0 < length ls → item_at kind delimiter text (last_of None r.items) at ≡ Ends → ExprFaulty kind delimiter text max_nodes (length text) OpenGroup
+      by_levels : (ls : List Level) → open_groups 0 r.items ≡ Some (length ls) → 0 < length ls → item_at kind folded delimiter text (last_of None r.items) at ≡ Ends → ExprFaulty kind folded delimiter text max_nodes (length text) OpenGroup
       by_levels [] o h g = absurd (omega (arith, h))
       by_levels (k ∷ ks) o h g = record { items = r.items; to = at; cut = r.cut; opened = suc (length ks); balanced = o; row = unclosed g }
 
-  pub reading_limits : {before : Option Item} {at : ℕ} {s : State} (max_nodes : ℕ) → Reading kind delimiter text before at s →
-      item_at kind delimiter text before at ≡ Ends → s.below ≡ [] →
-      (600 < depth (alternation (all_alternatives s.top)) → ExprFaulty kind delimiter text max_nodes (length text) TooDeep)
-      × (depth (alternation (all_alternatives s.top)) ≤ 600 → max_nodes < size (alternation (all_alternatives s.top)) → ExprFaulty kind delimiter text max_nodes (length text) TooManyNodes)
+  pub reading_limits : {before : Option Item} {at : ℕ} {s : State} (max_nodes : ℕ) → Reading kind folded delimiter text before at s →
+      item_at kind folded delimiter text before at ≡ Ends → s.below ≡ [] →
+      (600 < depth (alternation (all_alternatives s.top)) → ExprFaulty kind folded delimiter text max_nodes (length text) TooDeep)
+      × (depth (alternation (all_alternatives s.top)) ≤ 600 → max_nodes < size (alternation (all_alternatives s.top)) → ExprFaulty kind folded delimiter text max_nodes (length text) TooManyNodes)
   unfolding reading_whole
   reading_limits {at = at} {s = s} max_nodes r f e =
       let w = reading_whole r f e in

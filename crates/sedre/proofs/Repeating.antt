@@ -101,27 +101,27 @@ fine_dollar Basic may true behind = tt
 fine_dollar Basic may false behind = tt
 fine_dollar Extended may last behind = tt
 
-fine_for : (kind : Kind) (delimiter : Option ℕ) (text : List ℕ) (before : Option Item) (at : ℕ) (o : Option (Symbol × ℕ)) → Fine (is_repeatable before) (item_for kind delimiter text before at o)
-fine_for kind delimiter text before at None = tt
-fine_for kind delimiter text before at (Some (Literal b, n)) = tt
-fine_for kind delimiter text before at (Some (AnyByte, n)) = tt
-fine_for kind delimiter text before at (Some (Opening, n)) = tt
-fine_for kind delimiter text before at (Some (Closing, n)) = tt
-fine_for kind delimiter text before at (Some (Parting, n)) = tt
-fine_for kind delimiter text before at (Some (Star, n)) = fine_star kind (is_repeatable before) at (at + n)
-fine_for kind delimiter text before at (Some (Plus, n)) = fine_plus (is_repeatable before) at (at + n)
-fine_for kind delimiter text before at (Some (Question, n)) = fine_question kind (is_repeatable before) (is_repeat before) at (at + n)
-fine_for kind delimiter text before at (Some (Interval, n)) = fine_interval_item (is_repeatable before) (interval kind delimiter (drop (at + n) text)) at (at + n) (fine_interval kind delimiter (drop (at + n) text))
-fine_for kind delimiter text before at (Some (IntervalEnd, n)) = tt
-fine_for kind delimiter text before at (Some (BracketOpening, n)) = fine_list (is_repeatable before) (list_at delimiter text at)
-fine_for kind delimiter text before at (Some (Caret, n)) = fine_caret kind (is_repeatable before) (is_first before) (at + n)
-fine_for kind delimiter text before at (Some (Dollar, n)) = fine_dollar kind (is_repeatable before) (ends_alternative (symbol kind delimiter (drop (at + n) text))) (at + n)
-fine_for kind delimiter text before at (Some (Unknown reason, n)) = tt
+fine_for : (kind : Kind) (folded : Bool) (delimiter : Option ℕ) (text : List ℕ) (before : Option Item) (at : ℕ) (o : Option (Symbol × ℕ)) → Fine (is_repeatable before) (item_for kind folded delimiter text before at o)
+fine_for kind folded delimiter text before at None = tt
+fine_for kind folded delimiter text before at (Some (Literal b, n)) = tt
+fine_for kind folded delimiter text before at (Some (AnyByte, n)) = tt
+fine_for kind folded delimiter text before at (Some (Opening, n)) = tt
+fine_for kind folded delimiter text before at (Some (Closing, n)) = tt
+fine_for kind folded delimiter text before at (Some (Parting, n)) = tt
+fine_for kind folded delimiter text before at (Some (Star, n)) = fine_star kind (is_repeatable before) at (at + n)
+fine_for kind folded delimiter text before at (Some (Plus, n)) = fine_plus (is_repeatable before) at (at + n)
+fine_for kind folded delimiter text before at (Some (Question, n)) = fine_question kind (is_repeatable before) (is_repeat before) at (at + n)
+fine_for kind folded delimiter text before at (Some (Interval, n)) = fine_interval_item (is_repeatable before) (interval kind delimiter (drop (at + n) text)) at (at + n) (fine_interval kind delimiter (drop (at + n) text))
+fine_for kind folded delimiter text before at (Some (IntervalEnd, n)) = tt
+fine_for kind folded delimiter text before at (Some (BracketOpening, n)) = fine_list (is_repeatable before) (list_at folded delimiter text at)
+fine_for kind folded delimiter text before at (Some (Caret, n)) = fine_caret kind (is_repeatable before) (is_first before) (at + n)
+fine_for kind folded delimiter text before at (Some (Dollar, n)) = fine_dollar kind (is_repeatable before) (ends_alternative (symbol kind delimiter (drop (at + n) text))) (at + n)
+fine_for kind folded delimiter text before at (Some (Unknown reason, n)) = tt
 
-fine_at : (kind : Kind) (delimiter : Option ℕ) (text : List ℕ) (before : Option Item) (at : ℕ) → Fine (is_repeatable before) (item_at kind delimiter text before at)
+fine_at : (kind : Kind) (folded : Bool) (delimiter : Option ℕ) (text : List ℕ) (before : Option Item) (at : ℕ) → Fine (is_repeatable before) (item_at kind folded delimiter text before at)
 unfolding item_at
-fine_at kind delimiter text before at = fine_for kind delimiter text before at (symbol kind delimiter (drop at text))
+fine_at kind folded delimiter text before at = fine_for kind folded delimiter text before at (symbol kind delimiter (drop at text))
 
-pub repeat_follows : (kind : Kind) (delimiter : Option ℕ) (text : List ℕ) (before : Option Item) (at : ℕ) {least next : ℕ} {most : Option ℕ} →
-    item_at kind delimiter text before at ≡ Is (Repeat least most) next → (is_repeatable before ≡ true) × IsInterval least most
-repeat_follows kind delimiter text before at h = subst (λ (x : Here). Fine (is_repeatable before) x) h (fine_at kind delimiter text before at)
+pub repeat_follows : (kind : Kind) (folded : Bool) (delimiter : Option ℕ) (text : List ℕ) (before : Option Item) (at : ℕ) {least next : ℕ} {most : Option ℕ} →
+    item_at kind folded delimiter text before at ≡ Is (Repeat least most) next → (is_repeatable before ≡ true) × IsInterval least most
+repeat_follows kind folded delimiter text before at h = subst (λ (x : Here). Fine (is_repeatable before) x) h (fine_at kind folded delimiter text before at)

@@ -2,7 +2,7 @@
 -- Which fault a list has, and where, is this project's own.
 use Rattle.std.specs.Prelude.{ℕ, zero, suc, ◌+◌, ◌-◌, List, [], ◌∷◌, length, take, drop, Bool, true, false, not, ◌&&◌}
 use Rattle.std.specs.Prelude.{◌||◌, Option, Some, None, Result, Ok, Err, if◌then◌else◌, nat_le, ◌==◌, option_map}
-use Rattle.sedre.specs.Sets.{set_of, no_byte, only, between, union, complement}
+use Rattle.sedre.specs.Sets.{set_of, no_byte, only, between, union, complement, matching}
 use Rattle.sedre.specs.Classes.{in_class, class_named}
 use Rattle.sedre.specs.declared.class.Class.{Class}
 use Rattle.sedre.specs.declared.types.Reason.{Reason}
@@ -167,18 +167,22 @@ abbrev pub is_negated : List ℕ → Bool
 is_negated [] = false
 is_negated (b ∷ bs) = b == 94
 
+-- the bytes that a list matches: those that match for the listed ones, and for a non-matching list the others
+abbrev pub matched : (folded negated : Bool) → List Bool → List Bool
+matched folded negated set = if negated then complement (matching folded set) else matching folded set
+
 -- the set and the place behind the list, or the first fault; that the list isn't closed comes last, at its [
-abbrev pub judged : (negated : Bool) → (at : ℕ) → Listing → Option ℕ → Result (ByteSet × ℕ) ExprFault
-judged negated at (Err f) end = Err f
-judged negated at (Ok set) None = Err (record { place = at; reason = OpenBracket })
-judged negated at (Ok set) (Some behind) = Ok (if negated then complement set else set, behind)
+abbrev pub judged : (folded negated : Bool) → (at : ℕ) → Listing → Option ℕ → Result (ByteSet × ℕ) ExprFault
+judged folded negated at (Err f) end = Err f
+judged folded negated at (Ok set) None = Err (record { place = at; reason = OpenBracket })
+judged folded negated at (Ok set) (Some behind) = Ok (matched folded negated set, behind)
 
 -- what a text's list comes to whose [ stands at a place
-unfoldable pub list_at : Option ℕ → (text : List ℕ) → (at : ℕ) → Result (ByteSet × ℕ) ExprFault
-list_at delimiter text at =
+unfoldable pub list_at : (folded : Bool) → Option ℕ → (text : List ℕ) → (at : ℕ) → Result (ByteSet × ℕ) ExprFault
+list_at folded delimiter text at =
     let bytes = drop (at + 1) text in
     let found = items_behind delimiter (at + 1) bytes in
-    judged (is_negated bytes) at (listed found.0) found.1
+    judged folded (is_negated bytes) at (listed found.0) found.1
 
 -- the place behind a list, whatever it lists, from the place behind its [ on
 unfoldable pub list_end : Option ℕ → (place : ℕ) → List ℕ → Option ℕ

@@ -39,11 +39,11 @@ mutual
         IsPiece g is t h → IsPiece g (is ++ Repeat least most ∷ []) (repetition least most t) h
 
 -- the text is cut into these items, from one place, behind an item, up to another
-pub data Cut (kind : Kind) (delimiter : Option ℕ) (text : List ℕ) : Option Item → ℕ → List Item → ℕ → Type 0 where
-  done : {before : Option Item} {at : ℕ} → Cut kind delimiter text before at [] at
+pub data Cut (kind : Kind) (folded : Bool) (delimiter : Option ℕ) (text : List ℕ) : Option Item → ℕ → List Item → ℕ → Type 0 where
+  done : {before : Option Item} {at : ℕ} → Cut kind folded delimiter text before at [] at
   item : {before : Option Item} {at next to : ℕ} {i : Item} {is : List Item} →
-      item_at kind delimiter text before at ≡ Is i next → Cut kind delimiter text (Some i) next is to →
-      Cut kind delimiter text before at (i ∷ is) to
+      item_at kind folded delimiter text before at ≡ Is i next → Cut kind folded delimiter text (Some i) next is to →
+      Cut kind folded delimiter text before at (i ∷ is) to
 
 -- the last item, or the one before where there is none
 abbrev pub last_of : Option Item → List Item → Option Item
@@ -63,48 +63,48 @@ open_groups n (AtBegin ∷ is) = open_groups n is
 open_groups n (AtEnd ∷ is) = open_groups n is
 
 -- the text reads as this expression with so many groups
-pub record ReadsAs (kind : Kind) (delimiter : Option ℕ) (text : List ℕ) (e : Tree) (groups : ℕ) : Type 0 where
+pub record ReadsAs (kind : Kind) (folded : Bool) (delimiter : Option ℕ) (text : List ℕ) (e : Tree) (groups : ℕ) : Type 0 where
   pub items : List Item
   pub to : ℕ
-  pub cut : Cut kind delimiter text None 0 items to
-  pub ends : item_at kind delimiter text (last_of None items) to ≡ Ends
+  pub cut : Cut kind folded delimiter text None 0 items to
+  pub ends : item_at kind folded delimiter text (last_of None items) to ≡ Ends
   pub alternatives : List Tree
   pub grammar : AreAlternatives 0 items alternatives groups
   pub is : alternation alternatives ≡ e
 
 -- the fault behind these items, of which so many groups are open
-pub data Row (kind : Kind) (delimiter : Option ℕ) (text : List ℕ) (max_nodes : ℕ) :
+pub data Row (kind : Kind) (folded : Bool) (delimiter : Option ℕ) (text : List ℕ) (max_nodes : ℕ) :
     List Item → (opened to place : ℕ) → Reason → Type 0 where
   -- the next item is none
   bad : {is : List Item} {opened to place : ℕ} {reason : Reason} →
-      item_at kind delimiter text (last_of None is) to ≡ Bad (record { place = place; reason = reason }) →
-      Row kind delimiter text max_nodes is opened to place reason
+      item_at kind folded delimiter text (last_of None is) to ≡ Bad (record { place = place; reason = reason }) →
+      Row kind folded delimiter text max_nodes is opened to place reason
   -- a group closes where none is open
   stray : {is : List Item} {to next : ℕ} →
-      item_at kind delimiter text (last_of None is) to ≡ Is Close next →
-      Row kind delimiter text max_nodes is 0 to to StrayClose
+      item_at kind folded delimiter text (last_of None is) to ≡ Is Close next →
+      Row kind folded delimiter text max_nodes is 0 to to StrayClose
   -- the text ends and a group is open
   unclosed : {is : List Item} {opened to : ℕ} →
-      item_at kind delimiter text (last_of None is) to ≡ Ends →
-      Row kind delimiter text max_nodes is (suc opened) to (length text) OpenGroup
+      item_at kind folded delimiter text (last_of None is) to ≡ Ends →
+      Row kind folded delimiter text max_nodes is (suc opened) to (length text) OpenGroup
   -- the expression is too deep
   deep : {is : List Item} {to groups : ℕ} (bs : List Tree) →
-      item_at kind delimiter text (last_of None is) to ≡ Ends → AreAlternatives 0 is bs groups →
+      item_at kind folded delimiter text (last_of None is) to ≡ Ends → AreAlternatives 0 is bs groups →
       600 < depth (alternation bs) →
-      Row kind delimiter text max_nodes is 0 to (length text) TooDeep
+      Row kind folded delimiter text max_nodes is 0 to (length text) TooDeep
   -- it isn't, and has too many nodes
   large : {is : List Item} {to groups : ℕ} (bs : List Tree) →
-      item_at kind delimiter text (last_of None is) to ≡ Ends → AreAlternatives 0 is bs groups →
+      item_at kind folded delimiter text (last_of None is) to ≡ Ends → AreAlternatives 0 is bs groups →
       depth (alternation bs) ≤ 600 → max_nodes < size (alternation bs) →
-      Row kind delimiter text max_nodes is 0 to (length text) TooManyNodes
+      Row kind folded delimiter text max_nodes is 0 to (length text) TooManyNodes
 
 -- the first fault of the text has this place and reason: what stands before it is cut into items, and each closing
 -- there has its opening
-pub record ExprFaulty (kind : Kind) (delimiter : Option ℕ) (text : List ℕ) (max_nodes place : ℕ)
+pub record ExprFaulty (kind : Kind) (folded : Bool) (delimiter : Option ℕ) (text : List ℕ) (max_nodes place : ℕ)
     (reason : Reason) : Type 0 where
   pub items : List Item
   pub to : ℕ
-  pub cut : Cut kind delimiter text None 0 items to
+  pub cut : Cut kind folded delimiter text None 0 items to
   pub opened : ℕ
   pub balanced : open_groups 0 items ≡ Some opened
-  pub row : Row kind delimiter text max_nodes items opened to place reason
+  pub row : Row kind folded delimiter text max_nodes items opened to place reason

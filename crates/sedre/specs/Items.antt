@@ -1,7 +1,7 @@
 -- The items of a text: bytes and sets of bytes, anchors, groups, alternations and repetitions (XBD 9.3, 9.4).
 use Rattle.std.specs.Prelude.{ℕ, ◌+◌, ◌<◌, ◌≤◌, List, drop, Bool, true, false, not, ◌&&◌, Option, Some, None, Result}
 use Rattle.std.specs.Prelude.{Ok, Err}
-use Rattle.sedre.specs.Sets.{only, any_byte}
+use Rattle.sedre.specs.Sets.{only, any_byte, matching}
 use Rattle.sedre.specs.Brackets.{list_at}
 use Rattle.sedre.specs.Symbols.{symbol}
 use Rattle.sedre.specs.Intervals.{interval}
@@ -86,31 +86,33 @@ dollar_item Basic true behind = Is AtEnd behind
 dollar_item Basic false behind = Is (Byte (only 36)) behind
 dollar_item Extended last behind = Is AtEnd behind
 
--- what a symbol is, behind an item
-abbrev pub item_for : Kind → Option ℕ → List ℕ → Option Item → (at : ℕ) → Option (Symbol × ℕ) → Here
-item_for kind delimiter text before at None = Ends
-item_for kind delimiter text before at (Some (Literal b, n)) = Is (Byte (only b)) (at + n)
-item_for kind delimiter text before at (Some (AnyByte, n)) = Is (Byte any_byte) (at + n)
-item_for kind delimiter text before at (Some (Opening, n)) = Is Open (at + n)
-item_for kind delimiter text before at (Some (Closing, n)) = Is Close (at + n)
-item_for kind delimiter text before at (Some (Parting, n)) = Is Bar (at + n)
-item_for kind delimiter text before at (Some (Star, n)) = star_item kind (is_repeatable before) at (at + n)
-item_for kind delimiter text before at (Some (Plus, n)) =
+-- what a symbol is, behind an item. Where case is folded, a literal byte stands for both cases of its letter (this project's
+-- own); those of * ^ and $ are no letters
+abbrev pub item_for : Kind → (folded : Bool) → Option ℕ → List ℕ → Option Item → (at : ℕ) → Option (Symbol × ℕ) → Here
+item_for kind folded delimiter text before at None = Ends
+item_for kind folded delimiter text before at (Some (Literal b, n)) = Is (Byte (matching folded (only b))) (at + n)
+item_for kind folded delimiter text before at (Some (AnyByte, n)) = Is (Byte any_byte) (at + n)
+item_for kind folded delimiter text before at (Some (Opening, n)) = Is Open (at + n)
+item_for kind folded delimiter text before at (Some (Closing, n)) = Is Close (at + n)
+item_for kind folded delimiter text before at (Some (Parting, n)) = Is Bar (at + n)
+item_for kind folded delimiter text before at (Some (Star, n)) = star_item kind (is_repeatable before) at (at + n)
+item_for kind folded delimiter text before at (Some (Plus, n)) =
     repeats (is_repeatable before) at (Is (Repeat 1 None) (at + n))
-item_for kind delimiter text before at (Some (Question, n)) =
+item_for kind folded delimiter text before at (Some (Question, n)) =
     question_item kind (is_repeatable before) (is_repeat before) at (at + n)
-item_for kind delimiter text before at (Some (Interval, n)) =
+item_for kind folded delimiter text before at (Some (Interval, n)) =
     repeats (is_repeatable before) at (interval_item (interval kind delimiter (drop (at + n) text)) at (at + n))
-item_for kind delimiter text before at (Some (IntervalEnd, n)) = fault at BadInterval
-item_for kind delimiter text before at (Some (BracketOpening, n)) = list_item (list_at delimiter text at)
-item_for kind delimiter text before at (Some (Caret, n)) = caret_item kind (is_first before) (at + n)
-item_for kind delimiter text before at (Some (Dollar, n)) =
+item_for kind folded delimiter text before at (Some (IntervalEnd, n)) = fault at BadInterval
+item_for kind folded delimiter text before at (Some (BracketOpening, n)) = list_item (list_at folded delimiter text at)
+item_for kind folded delimiter text before at (Some (Caret, n)) = caret_item kind (is_first before) (at + n)
+item_for kind folded delimiter text before at (Some (Dollar, n)) =
     dollar_item kind (ends_alternative (symbol kind delimiter (drop (at + n) text))) (at + n)
-item_for kind delimiter text before at (Some (Unknown reason, n)) = fault at reason
+item_for kind folded delimiter text before at (Some (Unknown reason, n)) = fault at reason
 
 -- what stands at a place of a text behind an item
-unfoldable pub item_at : Kind → Option ℕ → List ℕ → Option Item → (at : ℕ) → Here
-item_at kind delimiter text before at = item_for kind delimiter text before at (symbol kind delimiter (drop at text))
+unfoldable pub item_at : Kind → (folded : Bool) → Option ℕ → List ℕ → Option Item → (at : ℕ) → Here
+item_at kind folded delimiter text before at =
+    item_for kind folded delimiter text before at (symbol kind delimiter (drop at text))
 
 -- an item ends behind its place, and a fault is reported within the text
 abbrev pub IsBehind : (at len : ℕ) → Here → Type 0

@@ -1,5 +1,5 @@
 -- Sets of bytes: lists of 256 truth values, one for each byte.
-use Rattle.std.specs.Prelude.{ℕ, ◌==◌, List, Bool, false, not, ◌&&◌, ◌||◌, map, nat_le, slice_index_or}
+use Rattle.std.specs.Prelude.{ℕ, ◌+◌, ◌-◌, ◌==◌, List, Bool, true, false, not, ◌&&◌, ◌||◌, if◌then◌else◌, map, nat_le, slice_index_or}
 use Rattle.std.specs.List.{range_with_len}
 
 -- the bytes that pass a test
@@ -28,6 +28,20 @@ any_byte = set_of (λ c. not (c == 0))
 -- the bytes of either set
 abbrev pub union : List Bool → List Bool → List Bool
 union these those = set_of (λ c. has these c || has those c)
+
+-- the letter that differs from a byte in its case alone, or the byte itself where there is none
+abbrev pub other_case : ℕ → ℕ
+other_case c = if between 65 90 c then c + 32 else if between 97 122 c then c - 32 else c
+
+-- a set closed under the change of ASCII case: a byte is in it where the byte, or the letter that differs from it in case
+-- alone, is in the set
+abbrev pub folded_set : List Bool → List Bool
+folded_set set = set_of (λ c. has set c || has set (other_case c))
+
+-- the bytes that match for those of a set, where case counts or is folded
+abbrev pub matching : (folded : Bool) → List Bool → List Bool
+matching false set = set
+matching true set = folded_set set
 
 -- the bytes that are not in a set
 abbrev pub complement : List Bool → List Bool

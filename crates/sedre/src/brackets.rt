@@ -1,7 +1,7 @@
 //! Bracket expressions (XBD 9.3.5): the bytes that a list matches, or the first fault, in one pass.
 ghost use Rattle.std.specs.Prelude.{◌≡◌, ◌<◌, ◌≤◌, ◌+◌, length, drop, IfSome, IfOk, IfErr, IsTrue};
 ghost use Rattle.sedre.specs.ListReading.{is_range, members_at, items_start, is_closing};
-ghost use Rattle.sedre.specs.Brackets.{end_of, single, between_ends, range, is_negated, list_at, list_end};
+ghost use Rattle.sedre.specs.Brackets.{end_of, single, between_ends, range, is_negated, matched, list_at, list_end};
 
 use crate::byte_set::ByteSet;
 use crate::elements::{Element, item_at};
@@ -129,17 +129,35 @@ fn is_closing(text: &[u8], start: usize, at: usize) -> bool
     text[at] == b']' && at != start
 }
 
+/// The bytes that a list matches whose items list a set.
+fn matched(folded: bool, negated: bool, set: ByteSet) -> ByteSet
+    ensures { result ≡ matched folded negated set }
+{
+    let matching = set.matching(folded);
+    if negated {
+        matching.complement()
+    } else {
+        matching
+    }
+}
+
 /// Reads the bracket expression whose `[` stands at a place: its bytes, and the place behind its `]`.
-/// With a delimiter, a backslash and the delimiter are the delimiter as a literal.
+/// With a delimiter, a backslash and the delimiter are the delimiter as a literal. Where case is folded, what is
+/// listed is closed under its change, before `^` takes the others.
 ///
 /// # Errors
 ///
 /// The first fault from the left: a list or a form that isn't closed, at the list's `[`; an unknown
 /// class or a form of more than one byte, at the form's `[`; a range that is none, at the first byte
 /// of its first item.
-pub fn list_at(delimiter: Option<u8>, text: &[u8], at: usize) -> Result<(ByteSet, usize), ExprFault>
+pub fn list_at(
+    folded: bool,
+    delimiter: Option<u8>,
+    text: &[u8],
+    at: usize,
+) -> Result<(ByteSet, usize), ExprFault>
     requires { at < length text.now }
-    ensures is { result ≡ list_at delimiter text.now at }
+    ensures is { result ≡ list_at folded delimiter text.now at }
     ensures behind { IfOk result (λ found. (at < found.1) × (found.1 ≤ length text.now)) }
     ensures fault { IfErr result (λ f. (at ≤ f.place) × (f.place < length text.now)) }
 {
@@ -149,7 +167,7 @@ pub fn list_at(delimiter: Option<u8>, text: &[u8], at: usize) -> Result<(ByteSet
     let mut place = start;
     while place < text.len() {
         if is_closing(text, start, place) {
-            return Ok((if negated { set.complement() } else { set }, place + 1));
+            return Ok((matched(folded, negated, set), place + 1));
         }
         let (members, behind) = members_at(delimiter, text, place)?;
         set = set.union(&members);

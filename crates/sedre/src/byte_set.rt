@@ -1,8 +1,9 @@
 //! Sets of bytes, as a node of an expression holds them.
-ghost use Rattle.std.specs.Prelude.{◌≡◌, ◌≢◌, ℕ, ◌<◌, ◌-◌, ◌+◌, ◌*◌, ◌/◌, ◌%◌, ◌↔◌, eqb, max, false, slice_get};
+ghost use Rattle.std.specs.Prelude.{◌≡◌, ◌≢◌, ◌||◌, ℕ, ◌<◌, ◌-◌, ◌+◌, ◌*◌, ◌/◌, ◌%◌, ◌↔◌, eqb, max, false, slice_get};
 ghost use Rattle.std.specs.Prelude.{slice_index_or, IfSome, MatchOption, IsTrue};
 ghost use Rattle.std.specs.Int.{bit_at};
 ghost use Rattle.sedre.specs.Sets.{set_of, has, only, any_byte, no_byte, between, union, complement};
+ghost use Rattle.sedre.specs.Sets.{other_case, folded_set, matching};
 ghost use Rattle.sedre.specs.Classes.{in_class};
 ghost use Rattle.sedre.specs.Words.{words_of};
 
@@ -144,6 +145,44 @@ impl ByteSet {
         ByteSet {
             words: [!a, !b, !c, !d],
         }
+    }
+
+    /// Whether the byte, or the letter that differs from it in its case alone, is in the set.
+    fn has_in_either_case(&self, b: u8) -> bool
+        ensures { result ≡ (has self.now b || has self.now (other_case b)) }
+    {
+        self.has(b) || self.has(other_case(b))
+    }
+
+    /// The set closed under the change of ASCII case.
+    fn folded(&self) -> Self
+        ensures { result ≡ folded_set self.now }
+    {
+        let mut set = ByteSet::none();
+        for b in 0..=255 {
+            if self.has_in_either_case(b) {
+                set.insert(b);
+            }
+        }
+        set
+    }
+
+    /// The bytes that match for those of the set, where case counts or is folded.
+    pub(crate) fn matching(&self, folded: bool) -> Self
+        ensures { result ≡ matching folded self.now }
+    {
+        if folded { self.folded() } else { *self }
+    }
+}
+
+/// The letter that differs from a byte in its case alone, or the byte itself where there is none.
+fn other_case(b: u8) -> u8
+    ensures { result ≡ other_case b }
+{
+    match b {
+        b'A'..=b'Z' => b + 32,
+        b'a'..=b'z' => b - 32,
+        _ => b,
     }
 }
 

@@ -45,7 +45,7 @@ fn fault(place: usize, reason: Reason) -> Here
     Here::Bad(ExprFault { place, reason })
 }
 
-/// A literal byte.
+/// A literal byte that is no letter.
 fn literal(b: u8, next: usize) -> Here
     ensures { result ≡ Here.Is (Item.Byte (only b)) next }
 {
@@ -128,17 +128,18 @@ fn dollar_item(kind: Kind, last: bool, next: usize) -> Here
     }
 }
 
-/// What stands at a place of a text behind an item.
+/// What stands at a place of a text behind an item, where case counts or is folded.
 #[tactic(auto, unfolding(crate::specs::Items::item_at))]
 pub fn item_at(
     kind: Kind,
+    folded: bool,
     delimiter: Option<u8>,
     text: &[u8],
     before: Option<Item>,
     at: usize,
 ) -> Here
     requires { at ≤ length text.now }
-    ensures item { result ≡ item_at kind delimiter text.now before at }
+    ensures item { result ≡ item_at kind folded delimiter text.now before at }
     ensures behind { IsBehind at (length text.now) result }
 {
     let Some((symbol, width)) = symbol_at(kind, delimiter, text, at) else {
@@ -147,7 +148,7 @@ pub fn item_at(
     let next = at + width;
     let may = is_repeatable(&before);
     match symbol {
-        Symbol::Literal(b) => literal(b, next),
+        Symbol::Literal(b) => Here::Is(Item::Byte(ByteSet::only(b).matching(folded)), next),
         Symbol::AnyByte => Here::Is(Item::Byte(ByteSet::any()), next),
         Symbol::Opening => Here::Is(Item::Open, next),
         Symbol::Closing => Here::Is(Item::Close, next),
@@ -160,7 +161,7 @@ pub fn item_at(
             repeats(may, at, interval_item(interval, at, next))
         }
         Symbol::IntervalEnd => fault(at, Reason::BadInterval),
-        Symbol::BracketOpening => list_item(list_at(delimiter, text, at)),
+        Symbol::BracketOpening => list_item(list_at(folded, delimiter, text, at)),
         Symbol::Caret => caret_item(kind, is_first(&before), next),
         Symbol::Dollar => {
             let last = ends_alternative(symbol_at(kind, delimiter, text, next));

@@ -1,21 +1,21 @@
 //! Laws of the grammar of expressions, for the contracts of other crates. The calls do nothing.
-ghost use Rattle.std.specs.Prelude.{◌≡◌, ◌≤◌, ℕ, List, Option};
+ghost use Rattle.std.specs.Prelude.{◌≡◌, ◌≤◌, ℕ, List, Bool, Option};
 ghost use Rattle.sedre.specs.declared.types.Kind.{Kind};
 ghost use Rattle.sedre.specs.declared.types.Reason.{Reason};
 ghost use Rattle.sedre.specs.Tree.{Tree, size, depth};
 ghost use Rattle.sedre.specs.Grammar.{ReadsAs, ExprFaulty};
 
-/// A text reads as one expression, with one number of groups.
+/// A text reads as one expression, with one number of groups, and as one where case is folded.
 pub fn reads_as_one()
-    ensures { (kind : Kind) (delimiter : Option ℕ) (text : List ℕ) (one other : Tree) (groups more : ℕ) →
-        ReadsAs kind delimiter text one groups → ReadsAs kind delimiter text other more →
+    ensures { (kind : Kind) (folded : Bool) (delimiter : Option ℕ) (text : List ℕ) (one other : Tree) (groups more : ℕ) →
+        ReadsAs kind folded delimiter text one groups → ReadsAs kind folded delimiter text other more →
         (one ≡ other) × (groups ≡ more) }
 {}
 
 /// A text that reads as an expression within the limits has no fault.
 pub fn reads_without_fault()
-    ensures { (kind : Kind) (delimiter : Option ℕ) (text : List ℕ) (expression : Tree) (groups max_nodes place : ℕ)
-        (reason : Reason) →
-        ReadsAs kind delimiter text expression groups → depth expression ≤ 600 → size expression ≤ max_nodes →
-        ExprFaulty kind delimiter text max_nodes place reason → ⊥ }
+    ensures { (kind : Kind) (folded : Bool) (delimiter : Option ℕ) (text : List ℕ) (expression : Tree)
+        (groups max_nodes place : ℕ) (reason : Reason) →
+        ReadsAs kind folded delimiter text expression groups → depth expression ≤ 600 → size expression ≤ max_nodes →
+        ExprFaulty kind folded delimiter text max_nodes place reason → ⊥ }
 {}

@@ -1,7 +1,7 @@
 //! Regular expressions of both POSIX kinds (XBD 9.3, 9.4), read from bytes and written out as nodes.
 //!
-//! [`read`] goes once over the text. Its work grows with the length of the text times `max_nodes`, its memory with
-//! their sum; it uses no recursion. [`delimited`] finds where an expression ends in a script.
+//! [`read`] and [`read_folded`] go once over the text. Their work grows with the length of the text times `max_nodes`,
+//! their memory with the sum of the two; they use no recursion. [`delimited`] finds where an expression ends in a script.
 #![tactic(auto)]
 
 mod brackets;
@@ -27,7 +27,7 @@ pub mod types;
 
 pub use byte_set::ByteSet;
 pub use delimiter::delimited;
-pub use reader::read;
+pub use reader::{read, read_folded};
 pub use sight::Nodes;
 pub use steps::Steps;
 pub use table::Expr;

@@ -1,5 +1,5 @@
 //! Reading of an expression: once over the text, with a stack of its own.
-ghost use Rattle.std.specs.Prelude.{◌≡◌, ◌≢◌, ◌≤◌, ◌<◌, ◌⊎◌, [], ℕ, Some, length, OnOk, IfOk, IfErr, vec_len};
+ghost use Rattle.std.specs.Prelude.{◌≡◌, ◌≢◌, true, false, ◌≤◌, ◌<◌, ◌⊎◌, [], ℕ, Some, length, OnOk, IfOk, IfErr, vec_len};
 ghost use Rattle.std.specs.Bool.{OnTrue, OnFalse};
 ghost use Rattle.sedre.specs.declared.types.Reason.{Reason};
 ghost use Rattle.sedre.specs.Grammar.{ReadsAs, ExprFaulty};
@@ -63,14 +63,11 @@ fn is_stray(builder: &Builder, item: &Item) -> bool
     matches!(item, Item::Close) && builder.below.is_empty()
 }
 
-/// Reads a text as an expression, or answers its first fault.
-///
-/// With a delimiter, a backslash and the delimiter are the delimiter as a literal. Conditions: `max_nodes` is 1 to
-/// 65,536, the delimiter is neither backslash nor newline. E14 at 0 is answered only where a request for memory was
-/// refused.
-pub fn read(
+/// Reads a text, where case counts or is folded.
+fn read_with(
     alloc: Global,
     kind: Kind,
+    folded: bool,
     text: &[u8],
     delimiter: Option<u8>,
     max_nodes: usize,
@@ -79,24 +76,19 @@ pub fn read(
     requires most { max_nodes ≤ 65536 }
     requires not_backslash { delimiter ≢ Some 92 }
     requires not_newline { delimiter ≢ Some 10 }
-    // What is answered is what the text reads as.
-    ensures reads { IfOk result (λ e. ReadsAs kind delimiter text.now (tree e) e.groups) }
-    // It has as many nodes as it has when it is written out, and no more than allowed.
+    ensures reads { IfOk result (λ e. ReadsAs kind folded delimiter text.now (tree e) e.groups) }
     ensures size { IfOk result (λ e. (length e.nodes ≡ size (tree e)) × (length e.nodes ≤ max_nodes)) }
-    // No fault is passed over.
     ensures no_fault { OnOk result ((place : ℕ) (reason : Reason) →
-        ExprFaulty kind delimiter text.now max_nodes place reason → ⊥) }
-    // A fault is the first one of the text, or memory was wanting.
+        ExprFaulty kind folded delimiter text.now max_nodes place reason → ⊥) }
     ensures fault { IfErr result (λ f.
-        ExprFaulty kind delimiter text.now max_nodes f.place f.reason ⊎ (f ≡ NO_MEMORY)) }
-    // A fault is reported in the text or at its end.
+        ExprFaulty kind folded delimiter text.now max_nodes f.place f.reason ⊎ (f ≡ NO_MEMORY)) }
     ensures within { IfErr result (λ f. f.place ≤ length text.now) }
 {
     let mut builder = Builder::new(alloc, max_nodes + 1);
     let mut before: Option<Item> = None;
     let mut at = 0;
     'items: loop {
-        match item_at(kind, delimiter, text, before, at) {
+        match item_at(kind, folded, delimiter, text, before, at) {
             Here::Bad(fault) => return Err(fault),
             Here::Ends => {
                 if builder.below.len() > 0 {
@@ -122,4 +114,65 @@ pub fn read(
             }
         }
     }
+}
+
+/// Reads a text as an expression, or answers its first fault.
+///
+/// With a delimiter, a backslash and the delimiter are the delimiter as a literal. Conditions: `max_nodes` is 1 to
+/// 65,536, the delimiter is neither backslash nor newline. E14 at 0 is answered only where a request for memory was
+/// refused.
+pub fn read(
+    alloc: Global,
+    kind: Kind,
+    text: &[u8],
+    delimiter: Option<u8>,
+    max_nodes: usize,
+) -> Result<Expr, ExprFault>
+    requires some { 1 ≤ max_nodes }
+    requires most { max_nodes ≤ 65536 }
+    requires not_backslash { delimiter ≢ Some 92 }
+    requires not_newline { delimiter ≢ Some 10 }
+    // What is answered is what the text reads as.
+    ensures reads { IfOk result (λ e. ReadsAs kind false delimiter text.now (tree e) e.groups) }
+    // It has as many nodes as it has when it is written out, and no more than allowed.
+    ensures size { IfOk result (λ e. (length e.nodes ≡ size (tree e)) × (length e.nodes ≤ max_nodes)) }
+    // No fault is passed over.
+    ensures no_fault { OnOk result ((place : ℕ) (reason : Reason) →
+        ExprFaulty kind false delimiter text.now max_nodes place reason → ⊥) }
+    // A fault is the first one of the text, or memory was wanting.
+    ensures fault { IfErr result (λ f.
+        ExprFaulty kind false delimiter text.now max_nodes f.place f.reason ⊎ (f ≡ NO_MEMORY)) }
+    // A fault is reported in the text or at its end.
+    ensures within { IfErr result (λ f. f.place ≤ length text.now) }
+{
+    read_with(alloc, kind, false, text, delimiter, max_nodes)
+}
+
+/// Reads a text as [`read`] does, with ASCII letters that match without regard to case: a literal byte, and the bytes
+/// that a list lists before its `^`, stand for both cases of their letters.
+pub fn read_folded(
+    alloc: Global,
+    kind: Kind,
+    text: &[u8],
+    delimiter: Option<u8>,
+    max_nodes: usize,
+) -> Result<Expr, ExprFault>
+    requires some { 1 ≤ max_nodes }
+    requires most { max_nodes ≤ 65536 }
+    requires not_backslash { delimiter ≢ Some 92 }
+    requires not_newline { delimiter ≢ Some 10 }
+    // What is answered is what the text reads as.
+    ensures reads { IfOk result (λ e. ReadsAs kind true delimiter text.now (tree e) e.groups) }
+    // It has as many nodes as it has when it is written out, and no more than allowed.
+    ensures size { IfOk result (λ e. (length e.nodes ≡ size (tree e)) × (length e.nodes ≤ max_nodes)) }
+    // No fault is passed over.
+    ensures no_fault { OnOk result ((place : ℕ) (reason : Reason) →
+        ExprFaulty kind true delimiter text.now max_nodes place reason → ⊥) }
+    // A fault is the first one of the text, or memory was wanting.
+    ensures fault { IfErr result (λ f.
+        ExprFaulty kind true delimiter text.now max_nodes f.place f.reason ⊎ (f ≡ NO_MEMORY)) }
+    // A fault is reported in the text or at its end.
+    ensures within { IfErr result (λ f. f.place ≤ length text.now) }
+{
+    read_with(alloc, kind, true, text, delimiter, max_nodes)
 }

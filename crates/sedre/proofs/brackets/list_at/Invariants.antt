@@ -10,7 +10,7 @@ invariant-loop-place l = record {
   low : l.start ≤ l.place;
   inside : l.place ≤ length l.text;
   normal : union l.set no_byte ≡ l.set;
-  whole : list_at l.delimiter l.text l.at ≡ comes_to l.delimiter l.text l.negated l.at l.start l.place l.set;
+  whole : list_at l.folded l.delimiter l.text l.at ≡ comes_to l.delimiter l.text l.folded l.negated l.at l.start l.place l.set;
 }
 
 abbrev pub decreases-loop-place : goal.decreases-loop-place

@@ -2,4 +2,4 @@ use Rattle.sedre.proofs.Exclusive.{no_fault}
 use Rattle.sedre.proofs.laws.reads_without_fault.Goals as goal
 
 pub returns : goal.returns
-returns c = λ kind delimiter text expression groups max_nodes place reason r shallow small f. no_fault kind delimiter text r shallow small f
+returns c = λ kind folded delimiter text expression groups max_nodes place reason r shallow small f. no_fault kind folded delimiter text r shallow small f

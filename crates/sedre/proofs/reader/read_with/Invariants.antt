@@ -1,13 +1,13 @@
 use Rattle.std.proofs.Common.{◌≤◌, ◌-◌, ◌+◌, length}
 use Rattle.sedre.specs.Stacks.{State, Represents}
 use Rattle.sedre.proofs.Reading.{Reading}
-use Rattle.sedre.proofs.reader.read.Given as goal
+use Rattle.sedre.proofs.reader.read_with.Given as goal
 
 abbrev pub invariant-items : goal.invariant-items
 invariant-items l = record {
   within : l.at ≤ length l.text;
   few : l.builder.opened ≤ l.at;
-  state : (s : State) × Represents (l.max_nodes + 1) l.builder s × Reading l.kind l.delimiter l.text l.before l.at s;
+  state : (s : State) × Represents (l.max_nodes + 1) l.builder s × Reading l.kind l.folded l.delimiter l.text l.before l.at s;
 }
 
 abbrev pub decreases-items : goal.decreases-items
