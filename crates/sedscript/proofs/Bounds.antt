@@ -31,15 +31,15 @@ use Rattle.sedscript.specs.declared.items.Here.TheVariants.{Is, Ends}
 use Rattle.sedscript.specs.Bytes.{past, part, run_of, is_digit, is_byte, with_digits}
 use Rattle.sedscript.specs.declared.items.Flags.{Flags}
 use Rattle.sedscript.specs.declared.items.Strings.{Strings}
-use Rattle.sedscript.specs.declared.types.Reason.TheVariants.{TrailingBytes, RepeatedFlag}
+use Rattle.sedscript.specs.declared.types.Reason.TheVariants.{TrailingBytes, RepeatedFlag, FlagOnEmpty}
 use Rattle.sedscript.specs.Functions.{fault, allowed, item_of, ended, may_end, text_of, text_from, file_of, name_from, ◌>>=◌ as ◌then◌}
 use Rattle.sedscript.specs.Replacement.{replacement_fault}
-use Rattle.sedscript.specs.Flags.{no_flags, numbered, with_number, with_flag, with_file, ends_flags, flags_from}
+use Rattle.sedscript.specs.Flags.{no_flags, numbered, with_number, with_flag, with_file, ends_flags, flags_from, folds}
 use Rattle.sedscript.specs.Transliteration.{strings_fault, counterpart, table_of}
-use Rattle.sedscript.specs.Between.{own_delimiter, substitute_strings, transliterate_strings, unless_fault, transliterate_at, substituted}
+use Rattle.sedscript.specs.Between.{own_delimiter, substitute_strings, transliterate_strings, unless_fault, transliterate_at, flags_behind, substituted}
 use Rattle.sedscript.specs.Items.{substitute_with, substitute_at, function_of, function_with, function_at, function_behind, item_with, item_from, item_at}
 use Rattle.sedscript.specs.Reading.{Reading, plainly, expression, ◌>>=◌}
-use Rattle.sedscript.specs.Addresses.{Addressed, Headed, line_of, match_to, match_at, own_match, address_of, address_at, with_second, second_at, behind_first, addresses_at, with_bang}
+use Rattle.sedscript.specs.Addresses.{Addressed, Headed, line_of, folds_at, empty_match, match_to, match_at, own_match, address_of, address_at, with_second, second_at, behind_first, addresses_at, with_bang}
 use Rattle.sedscript.specs.Expressions.{Gives, value, behind}
 use Rattle.sedscript.specs.Targets.{leaves, counted, commands_in, label_in, is_label, close_in, is_close, depth_behind, block_end}
 use Rattle.sedscript.specs.declared.script.Named.{Named}
@@ -224,19 +224,24 @@ line_bounds count from to None = tt
 line_bounds count from to (Some zero) = tt
 line_bounds count from to (Some (suc n)) = (omega arith, omega arith)
 
-match_if : (b : Bool) (count delimiter place to : ℕ) → Bounds AddressedWithin count
-    (if b then plainly (Ok (record { address = Some (Match None); at = to + 1; count = count }))
-    else expression (record { from = place + 1; to = to; delimiter = delimiter }) (λ groups. plainly (Ok (record { address = Some (Match (Some count)); at = to + 1; count = count + 1 }))))
-match_if true count delimiter place to = (omega arith, tt)
-match_if false count delimiter place to = λ groups. (omega arith, omega arith)
+bounds_if : {A : Type 0} (P : ℕ → A → Type 0) (count : ℕ) (b : Bool) (r s : Reading A) → Bounds P count r → Bounds P count s → Bounds P count (if b then r else s)
+bounds_if P count true r s h g = h
+bounds_if P count false r s h g = g
+
+empty_bounds : (text : List ℕ) (count at : ℕ) → Bounds AddressedWithin count (plainly (empty_match text count at))
+empty_bounds text count at = by_flag (folds_at text at)
+  where
+    by_flag : (b : Bool) → Bounds AddressedWithin count (plainly (if b then fault FlagOnEmpty at else Ok (record { address = Some (Match None); at = at; count = count })))
+    by_flag true = tt
+    by_flag false = (omega arith, tt)
 
 match_bounds : (text : List ℕ) (count delimiter place : ℕ) → Bounds AddressedWithin count (match_at text count delimiter place)
 unfolding match_at
 match_bounds text count delimiter place = by_end (delimiter_at text (place + 1) delimiter)
   where
-    by_end : (o : Option ℕ) → Bounds AddressedWithin count (match_to count delimiter place o)
+    by_end : (o : Option ℕ) → Bounds AddressedWithin count (match_to text count delimiter place o)
     by_end None = tt
-    by_end (Some to) = match_if (to == place + 1) count delimiter place to
+    by_end (Some to) = bounds_if AddressedWithin count (to == place + 1) _ _ (empty_bounds text count (to + 1)) (λ groups. (omega arith, omega arith))
 
 own_bounds : (text : List ℕ) (count place : ℕ) (o : Option ℕ) → Bounds AddressedWithin count (own_match text count place o)
 own_bounds text count place None = tt
@@ -244,10 +249,6 @@ own_bounds text count place (Some d) = match_bounds text count d place
 
 nothing_bounds : (count at : ℕ) → Bounds AddressedWithin count (plainly (Ok (record { address = None; at = at; count = count })))
 nothing_bounds count at = (omega arith, tt)
-
-bounds_if : {A : Type 0} (P : ℕ → A → Type 0) (count : ℕ) (b : Bool) (r s : Reading A) → Bounds P count r → Bounds P count s → Bounds P count (if b then r else s)
-bounds_if P count true r s h g = h
-bounds_if P count false r s h g = g
 
 address_bounds : (text : List ℕ) (count at : ℕ) → Bounds AddressedWithin count (address_at text count at)
 unfolding address_at
@@ -354,9 +355,11 @@ flags_if : (b : Bool) (r s : Result Flags ScriptFault) → IfOk r FlagsWithin �
 flags_if true r s h g = h
 flags_if false r s h g = g
 
-flag_within : (f : Flags) (at b : ℕ) → FlagsWithin f → IfOk (with_flag f at b) FlagsWithin
-flag_within f at b h =
-    flags_if (b == 103) _ _ (flags_if f.global _ _ tt h) (flags_if (b == 112) _ _ (flags_if f.print _ _ tt h) tt)
+flag_within : (empty : Bool) (f : Flags) (at b : ℕ) → FlagsWithin f → IfOk (with_flag empty f at b) FlagsWithin
+flag_within empty f at b h =
+    flags_if (b == 103) _ _ (flags_if f.global _ _ tt h)
+    (flags_if (b == 112) _ _ (flags_if f.print _ _ tt h)
+    (flags_if (b == 73) _ _ (flags_if empty _ _ tt (flags_if f.folded _ _ tt h)) tt))
 
 abbrev ReadWithin : Flags × ℕ → Type 0
 ReadWithin found = FlagsWithin found.0
@@ -365,30 +368,30 @@ file_flag_within : (f : Flags) (at : ℕ) (o : Option (ℕ × ℕ)) → FlagsWit
 file_flag_within f at None h = tt
 file_flag_within f at (Some name) h = h
 
-flags_within : (text : List ℕ) (f : Flags) (skip at : ℕ) (bs : List ℕ) → FlagsWithin f → IfOk (flags_from text f skip at bs) ReadWithin
-flags_within text f skip at [] h = h
-flags_within text f (suc skip) at (b ∷ bs) h = flags_within text f skip (suc at) bs h
-flags_within text f zero at (b ∷ bs) h = by_digit (λ g skip. flags_within text g skip (suc at) bs) (is_digit b)
+flags_within : (text : List ℕ) (empty : Bool) (f : Flags) (skip at : ℕ) (bs : List ℕ) → FlagsWithin f → IfOk (flags_from text empty f skip at bs) ReadWithin
+flags_within text empty f skip at [] h = h
+flags_within text empty f (suc skip) at (b ∷ bs) h = flags_within text empty f skip (suc at) bs h
+flags_within text empty f zero at (b ∷ bs) h = by_digit (λ g skip. flags_within text empty g skip (suc at) bs) (is_digit b)
   where
     Rest : Type 0
-    Rest = (g : Flags) (skip : ℕ) → FlagsWithin g → IfOk (flags_from text g skip (suc at) bs) ReadWithin
+    Rest = (g : Flags) (skip : ℕ) → FlagsWithin g → IfOk (flags_from text empty g skip (suc at) bs) ReadWithin
 
-    behind : Rest → (skip : ℕ) (r : Result Flags ScriptFault) → IfOk r FlagsWithin → IfOk (◌then◌ r (λ (g : Flags). flags_from text g skip (suc at) bs)) ReadWithin
+    behind : Rest → (skip : ℕ) (r : Result Flags ScriptFault) → IfOk r FlagsWithin → IfOk (◌then◌ r (λ (g : Flags). flags_from text empty g skip (suc at) bs)) ReadWithin
     behind rest skip (Ok g) k = rest g skip k
     behind rest skip (Err e) k = tt
 
-    by_file : Rest → (t : Bool) → IfOk (if t then with_file f at (name_from text (at + 1)) else ◌then◌ (with_flag f at b) (λ (g : Flags). flags_from text g zero (suc at) bs)) ReadWithin
+    by_file : Rest → (t : Bool) → IfOk (if t then with_file f at (name_from text (at + 1)) else ◌then◌ (with_flag empty f at b) (λ (g : Flags). flags_from text empty g zero (suc at) bs)) ReadWithin
     by_file rest true = file_flag_within f at (name_from text (at + 1)) h
-    by_file rest false = behind rest zero (with_flag f at b) (flag_within f at b h)
+    by_file rest false = behind rest zero (with_flag empty f at b) (flag_within empty f at b h)
 
     by_end : Rest → (t : Bool) →
-        IfOk (if t then Ok (f, at) else if b == 119 then with_file f at (name_from text (at + 1)) else ◌then◌ (with_flag f at b) (λ (g : Flags). flags_from text g zero (suc at) bs)) ReadWithin
+        IfOk (if t then Ok (f, at) else if b == 119 then with_file f at (name_from text (at + 1)) else ◌then◌ (with_flag empty f at b) (λ (g : Flags). flags_from text empty g zero (suc at) bs)) ReadWithin
     by_end rest true = h
     by_end rest false = by_file rest (b == 119)
 
-    by_digit : Rest → (t : Bool) → IfOk (if t then ◌then◌ (with_number f at (b ∷ take (run_of Digit bs) bs)) (λ (g : Flags). flags_from text g (run_of Digit bs) (suc at) bs)
+    by_digit : Rest → (t : Bool) → IfOk (if t then ◌then◌ (with_number f at (b ∷ take (run_of Digit bs) bs)) (λ (g : Flags). flags_from text empty g (run_of Digit bs) (suc at) bs)
         else if ends_flags b then Ok (f, at) else if b == 119 then with_file f at (name_from text (at + 1))
-        else ◌then◌ (with_flag f at b) (λ (g : Flags). flags_from text g zero (suc at) bs)) ReadWithin
+        else ◌then◌ (with_flag empty f at b) (λ (g : Flags). flags_from text empty g zero (suc at) bs)) ReadWithin
     by_digit rest true = behind rest (run_of Digit bs) (with_number f at (b ∷ take (run_of Digit bs) bs)) (number_within f at (b ∷ take (run_of Digit bs) bs))
     by_digit rest false = by_end rest (ends_flags b)
 
@@ -396,7 +399,7 @@ substituted_within : (text : List ℕ) (s : Strings) (e limit : Option ℕ) (n :
 unfolding substituted
 substituted_within text s e limit n h =
     unless_within n (replacement_fault s.delimiter limit false (s.middle + 1) (part text (s.middle + 1) s.to)) _
-    (by_flags (flags_from text no_flags 0 (s.to + 1) (drop (s.to + 1) text)) (flags_within text no_flags 0 (s.to + 1) (drop (s.to + 1) text) (omega arith)))
+    (by_flags (flags_from text (not (is_some e)) no_flags 0 (s.to + 1) (drop (s.to + 1) text)) (flags_within text (not (is_some e)) no_flags 0 (s.to + 1) (drop (s.to + 1) text) (omega arith)))
   where
     by_flags : (r : Result (Flags × ℕ) ScriptFault) → IfOk r ReadWithin → IfOk (◌then◌ r (λ (found : Flags × ℕ). ended text (Substitute s e found.0) found.1)) (FoundWithin n)
     by_flags (Ok found) k = ended_within text n found.1 (Substitute s e found.0) (h, k)
@@ -406,7 +409,7 @@ substitute_bounds : (text : List ℕ) (count : ℕ) (s : Strings) → Bounds Fou
 substitute_bounds text count s = by_length (s.middle == s.from)
   where
     by_length : (b : Bool) → Bounds FoundWithin count
-        (if b then plainly (substituted text s None None) else expression (record { from = s.from; to = s.middle; delimiter = s.delimiter }) (λ groups. plainly (substituted text s (Some count) (Some groups))))
+        (if b then plainly (substituted text s None None) else expression (record { from = s.from; to = s.middle; delimiter = s.delimiter; folded = folds (flags_behind text s false) }) (λ groups. plainly (substituted text s (Some count) (Some groups))))
     by_length true = substituted_within text s None None count tt
     by_length false = λ groups. substituted_within text s (Some count) (Some groups) (suc count) (omega arith)
 

@@ -20,10 +20,11 @@ use Rattle.sedscript.specs.declared.items.Here.{Here}
 use Rattle.sedscript.specs.declared.items.Here.TheVariants.{Is, Ends}
 use Rattle.sedscript.specs.Bytes.{part, past, is_byte, is_digit, with_digits}
 use Rattle.sedscript.specs.Reading.{Pattern, Reading, plainly, expression, ◌>>=◌}
-use Rattle.sedscript.specs.Addresses.{Addressed, found, headed, match_at, match_to, own_match, addresses_at, behind_first, address_at, address_of, line_of}
+use Rattle.sedscript.specs.Addresses.{Addressed, found, headed, folds_at, past_flag, empty_match, match_at, match_to, own_match, addresses_at, behind_first, address_at, address_of, line_of}
 use Rattle.sedscript.specs.declared.items.Strings.{Strings}
 use Rattle.sedscript.specs.declared.items.Function.{Function}
-use Rattle.sedscript.specs.Between.{own_delimiter, substitute_strings, substituted}
+use Rattle.sedscript.specs.Between.{own_delimiter, substitute_strings, flags_behind, substituted}
+use Rattle.sedscript.specs.Flags.{folds}
 use Rattle.sedscript.specs.Letters.{verb_of}
 use Rattle.sedscript.specs.declared.letters.Verb.{Verb}
 use Rattle.sedscript.specs.declared.letters.Verb.TheVariants.{Reads}
@@ -98,14 +99,14 @@ pub match_open : (text : List ℕ) (kind : Kind) (m count d place : ℕ) → del
     Fails text kind m (match_at text count d place) (record { place = place; reason = OpenDelimiter })
 unfolding match_at
 match_open text kind m count d place e =
-    subst (λ (o : Option ℕ). Fails text kind m (match_to count d place o) (record { place = place; reason = OpenDelimiter })) (sym e) own
+    subst (λ (o : Option ℕ). Fails text kind m (match_to text count d place o) (record { place = place; reason = OpenDelimiter })) (sym e) own
 
 -- a fault of the reader of expressions, by whether memory was wanting
 not_memory : (r : ExprReason) → is_no_memory r ≡ false → r ≡ NoMemory → ⊥
 not_memory r e is = let g : true ≡ false = sym (ap is_no_memory is) ∙ e in cc
 
 fails_in_script : {A : Type 0} (text : List ℕ) (kind : Kind) (m : ℕ) (p : Pattern) (k : ℕ → Reading A) (f : ExprFault) (b : Bool) → is_no_memory f.reason ≡ b →
-    ExprFaulty kind (Some p.delimiter) (part text p.from p.to) m f.place f.reason ⊎ (f ≡ no_expr_memory) →
+    ExprFaulty kind p.folded (Some p.delimiter) (part text p.from p.to) m f.place f.reason ⊎ (f ≡ no_expr_memory) →
     Fails text kind m (expression p k) (if b then NO_MEMORY else in_script p.from f) ⊎ ((if b then NO_MEMORY else in_script p.from f) ≡ NO_MEMORY)
 fails_in_script text kind m p k f true is h = inr refl
 fails_in_script text kind m p k f false is (inl h) = inl (no_expression {f = f} h)
@@ -113,7 +114,7 @@ fails_in_script text kind m p k f false is (inr e) = absurd (not_memory f.reason
 
 -- a fault of the reader of expressions, in the script
 pub fails_as_read : {A : Type 0} (text : List ℕ) (kind : Kind) (m : ℕ) (p : Pattern) (k : ℕ → Reading A) (f : ExprFault) →
-    ExprFaulty kind (Some p.delimiter) (part text p.from p.to) m f.place f.reason ⊎ (f ≡ no_expr_memory) →
+    ExprFaulty kind p.folded (Some p.delimiter) (part text p.from p.to) m f.place f.reason ⊎ (f ≡ no_expr_memory) →
     Fails text kind m (expression p k) (fault_of p.from f) ⊎ (fault_of p.from f ≡ NO_MEMORY)
 fails_as_read text kind m p k f h = fails_in_script text kind m p k f (is_no_memory f.reason) refl h
 
@@ -124,28 +125,37 @@ expression_comes text kind m p old new e groups same read grown =
     subst (λ (n : ℕ). Comes text kind m old new as_groups (Ok n) (expression p (λ (groups : ℕ). plainly (Ok groups)))) (sym same) (e ∷ [], behind e read value, grown)
 
 -- an address with an expression is what stands behind the expression alone
-pub match_is : (text : List ℕ) (count d place to : ℕ) → delimiter_at text (place + 1) d ≡ Some to → to ≢ place + 1 →
-    match_at text count d place ≡ (expression (record { from = place + 1; to = to; delimiter = d }) (λ (groups : ℕ). plainly (Ok groups)) >>= λ (groups : ℕ). plainly (found (Some (Match (Some count))) (to + 1) (count + 1)))
+pub match_is : (text : List ℕ) (count d place to : ℕ) (folded : Bool) → delimiter_at text (place + 1) d ≡ Some to → to ≢ place + 1 → folded ≡ folds_at text (to + 1) →
+    match_at text count d place ≡ (expression (record { from = place + 1; to = to; delimiter = d; folded = folded }) (λ (groups : ℕ). plainly (Ok groups)) >>= λ (groups : ℕ). plainly (found (Some (Match (Some count))) (past_flag text (to + 1)) (count + 1)))
 unfolding match_at
-match_is text count d place to e n = ap (match_to count d place) e ∙ if_false _ _ (to == place + 1) (not_equal to (place + 1) n)
+match_is text count d place to folded e n f =
+    subst (λ (b : Bool). match_at text count d place ≡ (expression (record { from = place + 1; to = to; delimiter = d; folded = b }) (λ (groups : ℕ). plainly (Ok groups)) >>= λ (groups : ℕ). plainly (found (Some (Match (Some count))) (past_flag text (to + 1)) (count + 1)))) (sym f)
+    (ap (match_to text count d place) e ∙ if_false _ _ (to == place + 1) (not_equal to (place + 1) n))
 
-match_agrees : (old new number at : ℕ) → number ≡ old → new ≡ old + 1 → Agrees as_addressed new (Ok (Some (Match (Some number)), at)) (found (Some (Match (Some old))) at (old + 1))
-match_agrees old new number at e f = cc
+match_agrees : (old new number at next : ℕ) → number ≡ old → new ≡ old + 1 → next ≡ at → Agrees as_addressed new (Ok (Some (Match (Some number)), next)) (found (Some (Match (Some old))) at (old + 1))
+match_agrees old new number at next e f g = cc
 
-pub match_comes : (text : List ℕ) (kind : Kind) (m d place to number groups : ℕ) (old new : List Written) → delimiter_at text (place + 1) d ≡ Some to → to ≢ place + 1 → number ≡ length old → length new ≡ length old + 1 →
-    Comes text kind m old new as_groups (Ok groups) (expression (record { from = place + 1; to = to; delimiter = d }) (λ (groups : ℕ). plainly (Ok groups))) →
-    Comes text kind m old new as_addressed (Ok (Some (Match (Some number)), to + 1)) (match_at text (length old) d place)
-match_comes text kind m d place to number groups old new e n same one h =
-    subst (λ (r : Reading Addressed). Comes text kind m old new as_addressed (Ok (Some (Match (Some number)), to + 1)) r) (sym (match_is text (length old) d place to e n))
-    (comes_then text kind m old new new (expression (record { from = place + 1; to = to; delimiter = d }) (λ (groups : ℕ). plainly (Ok groups)))
-    (λ (groups : ℕ). plainly (found (Some (Match (Some (length old)))) (to + 1) (length old + 1))) groups as_addressed (Ok (Some (Match (Some number)), to + 1)) h
-    (comes_plain text kind m new new as_addressed (Ok (Some (Match (Some number)), to + 1)) (found (Some (Match (Some (length old)))) (to + 1) (length old + 1)) refl
-    (match_agrees (length old) (length new) number (to + 1) same one)))
+pub match_comes : (text : List ℕ) (kind : Kind) (m d place to number groups next : ℕ) (folded : Bool) (old new : List Written) → delimiter_at text (place + 1) d ≡ Some to → to ≢ place + 1 → folded ≡ folds_at text (to + 1) →
+    number ≡ length old → length new ≡ length old + 1 → next ≡ past_flag text (to + 1) →
+    Comes text kind m old new as_groups (Ok groups) (expression (record { from = place + 1; to = to; delimiter = d; folded = folded }) (λ (groups : ℕ). plainly (Ok groups))) →
+    Comes text kind m old new as_addressed (Ok (Some (Match (Some number)), next)) (match_at text (length old) d place)
+match_comes text kind m d place to number groups next folded old new e n f same one past h =
+    subst (λ (r : Reading Addressed). Comes text kind m old new as_addressed (Ok (Some (Match (Some number)), next)) r) (sym (match_is text (length old) d place to folded e n f))
+    (comes_then text kind m old new new (expression (record { from = place + 1; to = to; delimiter = d; folded = folded }) (λ (groups : ℕ). plainly (Ok groups)))
+    (λ (groups : ℕ). plainly (found (Some (Match (Some (length old)))) (past_flag text (to + 1)) (length old + 1))) groups as_addressed (Ok (Some (Match (Some number)), next)) h
+    (comes_plain text kind m new new as_addressed (Ok (Some (Match (Some number)), next)) (found (Some (Match (Some (length old)))) (past_flag text (to + 1)) (length old + 1)) refl
+    (match_agrees (length old) (length new) number (past_flag text (to + 1)) next same one past)))
 
-pub match_empty : (text : List ℕ) (count d place to : ℕ) → delimiter_at text (place + 1) d ≡ Some to → to ≡ place + 1 →
-    match_at text count d place ≡ plainly (found (Some (Match None)) (to + 1) count)
+match_empty : (text : List ℕ) (count d place to : ℕ) → delimiter_at text (place + 1) d ≡ Some to → to ≡ place + 1 →
+    match_at text count d place ≡ plainly (empty_match text count (to + 1))
 unfolding match_at
-match_empty text count d place to e same = ap (match_to count d place) e ∙ if_true _ _ (to == place + 1) (equal to (place + 1) same)
+match_empty text count d place to e same = ap (match_to text count d place) e ∙ if_true _ _ (to == place + 1) (equal to (place + 1) same)
+
+pub empty_comes : (text : List ℕ) (kind : Kind) (m d place to : ℕ) (old : List Written) (result : Result (Option Address × ℕ) ScriptFault) → delimiter_at text (place + 1) d ≡ Some to → to ≡ place + 1 →
+    Agrees as_addressed (length old) result (empty_match text (length old) (to + 1)) → Comes text kind m old old as_addressed result (match_at text (length old) d place)
+empty_comes text kind m d place to old result e same h =
+    subst (λ (r : Reading Addressed). Comes text kind m old old as_addressed result r) (sym (match_empty text (length old) d place to e same))
+    (comes_plain text kind m old old as_addressed result (empty_match text (length old) (to + 1)) refl h)
 
 pub own_none : (text : List ℕ) (kind : Kind) (m count place : ℕ) (o : Option ℕ) → o ≡ None → Fails text kind m (own_match text count place o) (record { place = place; reason = BadDelimiter })
 own_none text kind m count place o e = subst (λ (o : Option ℕ). Fails text kind m (own_match text count place o) (record { place = place; reason = BadDelimiter })) (sym e) own
@@ -208,16 +218,19 @@ functions_agree n (Err x) r e = sym e
 pub substitute_empty : (text : List ℕ) (count : ℕ) (s : Strings) → s.middle ≡ s.from → substitute_with text count s ≡ plainly (substituted text s None None)
 substitute_empty text count s e = if_true _ _ (s.middle == s.from) (equal s.middle s.from e)
 
-pub substitute_is : (text : List ℕ) (count : ℕ) (s : Strings) → s.middle ≢ s.from →
-    substitute_with text count s ≡ (expression (record { from = s.from; to = s.middle; delimiter = s.delimiter }) (λ (groups : ℕ). plainly (Ok groups)) >>= λ (groups : ℕ). plainly (substituted text s (Some count) (Some groups)))
-substitute_is text count s n = if_false _ _ (s.middle == s.from) (not_equal s.middle s.from n)
+pub substitute_is : (text : List ℕ) (count : ℕ) (s : Strings) (folded : Bool) → s.middle ≢ s.from → folded ≡ folds (flags_behind text s false) →
+    substitute_with text count s ≡ (expression (record { from = s.from; to = s.middle; delimiter = s.delimiter; folded = folded }) (λ (groups : ℕ). plainly (Ok groups)) >>= λ (groups : ℕ). plainly (substituted text s (Some count) (Some groups)))
+substitute_is text count s folded n f =
+    subst (λ (b : Bool). substitute_with text count s ≡ (expression (record { from = s.from; to = s.middle; delimiter = s.delimiter; folded = b }) (λ (groups : ℕ). plainly (Ok groups)) >>= λ (groups : ℕ). plainly (substituted text s (Some count) (Some groups)))) (sym f)
+    (if_false _ _ (s.middle == s.from) (not_equal s.middle s.from n))
 
-pub substitute_comes : (text : List ℕ) (kind : Kind) (m number groups : ℕ) (s : Strings) (old new : List Written) (result : Result (Function × ℕ) ScriptFault) → s.middle ≢ s.from → number ≡ length old →
-    Comes text kind m old new as_groups (Ok groups) (expression (record { from = s.from; to = s.middle; delimiter = s.delimiter }) (λ (groups : ℕ). plainly (Ok groups))) →
+pub substitute_comes : (text : List ℕ) (kind : Kind) (m number groups : ℕ) (s : Strings) (folded : Bool) (old new : List Written) (result : Result (Function × ℕ) ScriptFault) → s.middle ≢ s.from →
+    folded ≡ folds (flags_behind text s false) → number ≡ length old →
+    Comes text kind m old new as_groups (Ok groups) (expression (record { from = s.from; to = s.middle; delimiter = s.delimiter; folded = folded }) (λ (groups : ℕ). plainly (Ok groups))) →
     result ≡ substituted text s (Some number) (Some groups) → Comes text kind m old new as_function result (substitute_with text (length old) s)
-substitute_comes text kind m number groups s old new result n same h is =
-    subst (λ (r : Reading (Function × ℕ)). Comes text kind m old new as_function result r) (sym (substitute_is text (length old) s n))
-    (comes_then text kind m old new new (expression (record { from = s.from; to = s.middle; delimiter = s.delimiter }) (λ (groups : ℕ). plainly (Ok groups)))
+substitute_comes text kind m number groups s folded old new result n f same h is =
+    subst (λ (r : Reading (Function × ℕ)). Comes text kind m old new as_function result r) (sym (substitute_is text (length old) s folded n f))
+    (comes_then text kind m old new new (expression (record { from = s.from; to = s.middle; delimiter = s.delimiter; folded = folded }) (λ (groups : ℕ). plainly (Ok groups)))
     (λ (groups : ℕ). plainly (substituted text s (Some (length old)) (Some groups))) groups as_function result h
     (comes_plain text kind m new new as_function result (substituted text s (Some (length old)) (Some groups)) refl
     (functions_agree (length new) result _ (is ∙ ap (λ (k : ℕ). substituted text s (Some k) (Some groups)) same))))

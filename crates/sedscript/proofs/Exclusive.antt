@@ -1,5 +1,5 @@
 -- A text that means a script has no fault.
-use Rattle.std.proofs.Common.{◌≡◌, ℕ, suc, ◌+◌, List, [], ◌∷◌, length, Option, Some, None, refl, sym, ap, subst, ◌∙◌, arith, length-append}
+use Rattle.std.proofs.Common.{Bool, ◌≡◌, ℕ, suc, ◌+◌, List, [], ◌∷◌, length, Option, Some, None, refl, sym, ap, subst, ◌∙◌, arith, length-append}
 use Rattle.sedre.specs.declared.types.Kind.{Kind}
 use Rattle.sedre.specs.Arena.{Written, tree}
 use Rattle.sedre.specs.Tree.{Tree}
@@ -20,12 +20,12 @@ use Rattle.sedscript.specs.Targets.{late}
 
 -- a text reads as one expression, with one number of groups
 abbrev pub ReadsAsOne : Type 0
-ReadsAsOne = (kind : Kind) (delimiter : Option ℕ) (text : List ℕ) (one other : Tree) (groups more : ℕ) →
-    ReadsAs kind delimiter text one groups → ReadsAs kind delimiter text other more → (one ≡ other) × (groups ≡ more)
+ReadsAsOne = (kind : Kind) (folded : Bool) (delimiter : Option ℕ) (text : List ℕ) (one other : Tree) (groups more : ℕ) →
+    ReadsAs kind folded delimiter text one groups → ReadsAs kind folded delimiter text other more → (one ≡ other) × (groups ≡ more)
 
 -- what stands behind one reading of a pattern stands behind the other
 as_other : (text : List ℕ) (kind : Kind) (m : ℕ) (p : Pattern) (d e : Written) → ReadsAsOne → IsRead text kind m p d → IsRead text kind m p e → d.groups ≡ e.groups
-as_other text kind m p d e one h g = (one kind (Some p.delimiter) (part text p.from p.to) (tree d) (tree e) d.groups e.groups h.reads g.reads).1
+as_other text kind m p d e one h g = (one kind p.folded (Some p.delimiter) (part text p.from p.to) (tree d) (tree e) d.groups e.groups h.reads g.reads).1
 
 -- what is read is one value, with one number of expressions
 pub gives_one : {A : Type 0} (text : List ℕ) (kind : Kind) (m : ℕ) (r : Reading A) (es fs : List Written) (a b : A) → ReadsAsOne →

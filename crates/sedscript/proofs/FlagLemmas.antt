@@ -10,10 +10,10 @@ use Rattle.sedscript.specs.Flags.{ends_flags, flags_from, with_number, with_file
 use Rattle.sedscript.specs.Answers.{with_rest}
 
 -- digits that were read are passed over
-skipped : (text : List ℕ) (f : Flags) (k at : ℕ) (bs : List ℕ) → k ≤ length bs → flags_from text f k at bs ≡ flags_from text f 0 (at + k) (drop k bs)
-skipped text f zero at bs h = ap (λ (n : ℕ). flags_from text f 0 n bs) (omega arith)
-skipped text f (suc k) at [] h = absurd (omega (arith, h))
-skipped text f (suc k) at (b ∷ bs) h = skipped text f k (suc at) bs (omega (arith, h)) ∙ ap (λ (n : ℕ). flags_from text f 0 n (drop k bs)) (omega arith)
+skipped : (text : List ℕ) (empty : Bool) (f : Flags) (k at : ℕ) (bs : List ℕ) → k ≤ length bs → flags_from text empty f k at bs ≡ flags_from text empty f 0 (at + k) (drop k bs)
+skipped text empty f zero at bs h = ap (λ (n : ℕ). flags_from text empty f 0 n bs) (omega arith)
+skipped text empty f (suc k) at [] h = absurd (omega (arith, h))
+skipped text empty f (suc k) at (b ∷ bs) h = skipped text empty f k (suc at) bs (omega (arith, h)) ∙ ap (λ (n : ℕ). flags_from text empty f 0 n (drop k bs)) (omega arith)
 
 short_if : (d : Bool) (n m : ℕ) → n ≤ m → (if d then suc n else 0) ≤ suc m
 short_if true n m h = omega (arith, h)
@@ -24,74 +24,74 @@ run_short [] = omega arith
 run_short (b ∷ bs) = short_if (is_digit b) (run_of Digit bs) (length bs) (run_short bs)
 
 -- the flags of a number at the front
-digits_front : (text : List ℕ) (f : Flags) (at n b : ℕ) (bs : List ℕ) → is_digit b ≡ true → n ≡ run_of Digit (b ∷ bs) →
-    flags_from text f 0 at (b ∷ bs) ≡ (with_number f at (take n (b ∷ bs)) >>= λ g. flags_from text g 0 (at + n) (drop n (b ∷ bs)))
-digits_front text f at n b bs d e =
+digits_front : (text : List ℕ) (empty : Bool) (f : Flags) (at n b : ℕ) (bs : List ℕ) → is_digit b ≡ true → n ≡ run_of Digit (b ∷ bs) →
+    flags_from text empty f 0 at (b ∷ bs) ≡ (with_number f at (take n (b ∷ bs)) >>= λ g. flags_from text empty g 0 (at + n) (drop n (b ∷ bs)))
+digits_front text empty f at n b bs d e =
     let long : n ≡ suc (run_of Digit bs) = e ∙ rw d refl in
-    subst (λ (k : ℕ). flags_from text f 0 at (b ∷ bs) ≡ (with_number f at (take k (b ∷ bs)) >>= λ g. flags_from text g 0 (at + k) (drop k (b ∷ bs)))) (sym long)
+    subst (λ (k : ℕ). flags_from text empty f 0 at (b ∷ bs) ≡ (with_number f at (take k (b ∷ bs)) >>= λ g. flags_from text empty g 0 (at + k) (drop k (b ∷ bs)))) (sym long)
     (rw d (go (with_number f at (b ∷ take (run_of Digit bs) bs))))
   where
-    go : (r : Result Flags ScriptFault) → (r >>= λ g. flags_from text g (run_of Digit bs) (suc at) bs) ≡ (r >>= λ g. flags_from text g 0 (at + suc (run_of Digit bs)) (drop (run_of Digit bs) bs))
-    go (Ok g) = skipped text g (run_of Digit bs) (suc at) bs (run_short bs) ∙ ap (λ (n : ℕ). flags_from text g 0 n (drop (run_of Digit bs) bs)) (omega arith)
+    go : (r : Result Flags ScriptFault) → (r >>= λ g. flags_from text empty g (run_of Digit bs) (suc at) bs) ≡ (r >>= λ g. flags_from text empty g 0 (at + suc (run_of Digit bs)) (drop (run_of Digit bs) bs))
+    go (Ok g) = skipped text empty g (run_of Digit bs) (suc at) bs (run_short bs) ∙ ap (λ (n : ℕ). flags_from text empty g 0 n (drop (run_of Digit bs) bs)) (omega arith)
     go (Err x) = refl
 
 -- the flags of a number at a place, up to another
-number_read : (text : List ℕ) (f : Flags) (at to d : ℕ) → at < length text → is_digit (get_or text at d) ≡ true → to ≡ past Digit text at →
-    flags_from text f 0 at (drop at text) ≡ (with_number f at (part text at to) >>= λ g. flags_from text g 0 to (drop to text))
+number_read : (text : List ℕ) (empty : Bool) (f : Flags) (at to d : ℕ) → at < length text → is_digit (get_or text at d) ≡ true → to ≡ past Digit text at →
+    flags_from text empty f 0 at (drop at text) ≡ (with_number f at (part text at to) >>= λ g. flags_from text empty g 0 to (drop to text))
 unfolding past
-number_read text f at to d h digit e =
+number_read text empty f at to d h digit e =
     let front : drop at text ≡ get_or text at d ∷ drop (suc at) text = drop-cons text at d h in
     let n : to - at ≡ run_of Digit (get_or text at d ∷ drop (suc at) text) = let same : run_of Digit (drop at text) ≡ run_of Digit (get_or text at d ∷ drop (suc at) text) = ap (run_of Digit) front in omega (arith, e, same) in
     let back : at + (to - at) ≡ to = omega (arith, e) in
     let rest : drop (to - at) (drop at text) ≡ drop to text = drop-drop (to - at) at text ∙ ap (λ (k : ℕ). drop k text) back in
-    let whole : flags_from text f 0 at (drop at text) ≡ (with_number f at (take (to - at) (drop at text)) >>= λ g. flags_from text g 0 (at + (to - at)) (drop (to - at) (drop at text))) =
-    subst (λ (l : List ℕ). flags_from text f 0 at l ≡ (with_number f at (take (to - at) l) >>= λ g. flags_from text g 0 (at + (to - at)) (drop (to - at) l))) (sym front)
-    (digits_front text f at (to - at) (get_or text at d) (drop (suc at) text) digit n) in
-    subst (λ (k : ℕ). flags_from text f 0 at (drop at text) ≡ (with_number f at (part text at to) >>= λ g. flags_from text g 0 k (drop to text))) back
-    (subst (λ (l : List ℕ). flags_from text f 0 at (drop at text) ≡ (with_number f at (part text at to) >>= λ g. flags_from text g 0 (at + (to - at)) l)) rest whole)
+    let whole : flags_from text empty f 0 at (drop at text) ≡ (with_number f at (take (to - at) (drop at text)) >>= λ g. flags_from text empty g 0 (at + (to - at)) (drop (to - at) (drop at text))) =
+    subst (λ (l : List ℕ). flags_from text empty f 0 at l ≡ (with_number f at (take (to - at) l) >>= λ g. flags_from text empty g 0 (at + (to - at)) (drop (to - at) l))) (sym front)
+    (digits_front text empty f at (to - at) (get_or text at d) (drop (suc at) text) digit n) in
+    subst (λ (k : ℕ). flags_from text empty f 0 at (drop at text) ≡ (with_number f at (part text at to) >>= λ g. flags_from text empty g 0 k (drop to text))) back
+    (subst (λ (l : List ℕ). flags_from text empty f 0 at (drop at text) ≡ (with_number f at (part text at to) >>= λ g. flags_from text empty g 0 (at + (to - at)) l)) rest whole)
 
-pub number_ok : (text digits : List ℕ) (f g : Flags) (at to d : ℕ) → at < length text → is_digit (get_or text at d) ≡ true → to ≡ past Digit text at → digits ≡ part text at to →
-    with_number f at digits ≡ Ok g → flags_from text f 0 at (drop at text) ≡ with_rest text (Ok (g, to))
-number_ok text digits f g at to d h digit e is r =
-    number_read text f at to d h digit e ∙ ap (λ (r : Result Flags ScriptFault). r >>= λ g. flags_from text g 0 to (drop to text)) (ap (with_number f at) (sym is) ∙ r)
+pub number_ok : (text digits : List ℕ) (empty : Bool) (f g : Flags) (at to d : ℕ) → at < length text → is_digit (get_or text at d) ≡ true → to ≡ past Digit text at → digits ≡ part text at to →
+    with_number f at digits ≡ Ok g → flags_from text empty f 0 at (drop at text) ≡ with_rest text empty (Ok (g, to))
+number_ok text digits empty f g at to d h digit e is r =
+    number_read text empty f at to d h digit e ∙ ap (λ (r : Result Flags ScriptFault). r >>= λ g. flags_from text empty g 0 to (drop to text)) (ap (with_number f at) (sym is) ∙ r)
 
-pub number_err : (text digits : List ℕ) (f : Flags) (x y : ScriptFault) (result : Result (Flags × ℕ) ScriptFault) (at to d : ℕ) → at < length text → is_digit (get_or text at d) ≡ true → to ≡ past Digit text at →
-    digits ≡ part text at to → with_number f at digits ≡ Err x → result ≡ Err y → y ≡ x → flags_from text f 0 at (drop at text) ≡ with_rest text result
-number_err text digits f x y result at to d h digit e is r bad same =
-    number_read text f at to d h digit e ∙ (ap (λ (r : Result Flags ScriptFault). r >>= λ g. flags_from text g 0 to (drop to text)) (ap (with_number f at) (sym is) ∙ r)
-    ∙ ap (with_rest text) (sym (bad ∙ ap (λ (z : ScriptFault). Err z) same)))
+pub number_err : (text digits : List ℕ) (empty : Bool) (f : Flags) (x y : ScriptFault) (result : Result (Flags × ℕ) ScriptFault) (at to d : ℕ) → at < length text → is_digit (get_or text at d) ≡ true → to ≡ past Digit text at →
+    digits ≡ part text at to → with_number f at digits ≡ Err x → result ≡ Err y → y ≡ x → flags_from text empty f 0 at (drop at text) ≡ with_rest text empty result
+number_err text digits empty f x y result at to d h digit e is r bad same =
+    number_read text empty f at to d h digit e ∙ (ap (λ (r : Result Flags ScriptFault). r >>= λ g. flags_from text empty g 0 to (drop to text)) (ap (with_number f at) (sym is) ∙ r)
+    ∙ ap (with_rest text empty) (sym (bad ∙ ap (λ (z : ScriptFault). Err z) same)))
 
 -- flags end where a line ends
-line_ends : (text : List ℕ) (g : Flags) (to : ℕ) (bs : List ℕ) → flags_from text g 0 to (drop (run_of Line bs) bs) ≡ Ok (g, to)
-line_ends text g to [] = refl
-line_ends text g to (b ∷ bs) = by_newline (line_ends text g to bs) (eqb_tells b 10)
+line_ends : (text : List ℕ) (empty : Bool) (g : Flags) (to : ℕ) (bs : List ℕ) → flags_from text empty g 0 to (drop (run_of Line bs) bs) ≡ Ok (g, to)
+line_ends text empty g to [] = refl
+line_ends text empty g to (b ∷ bs) = by_newline (line_ends text empty g to bs) (eqb_tells b 10)
   where
-    by_newline : flags_from text g 0 to (drop (run_of Line bs) bs) ≡ Ok (g, to) → ((b == 10) ≡ true) × (b ≡ 10) ⊎ ((b == 10) ≡ false) × (b ≢ 10) →
-        flags_from text g 0 to (drop (if not (b == 10) then suc (run_of Line bs) else 0) (b ∷ bs)) ≡ Ok (g, to)
+    by_newline : flags_from text empty g 0 to (drop (run_of Line bs) bs) ≡ Ok (g, to) → ((b == 10) ≡ true) × (b ≡ 10) ⊎ ((b == 10) ≡ false) × (b ≢ 10) →
+        flags_from text empty g 0 to (drop (if not (b == 10) then suc (run_of Line bs) else 0) (b ∷ bs)) ≡ Ok (g, to)
     by_newline rest (inl h) = rw h.1 refl
     by_newline rest (inr h) = rw h.0 rest
 
 -- after the name of a file flags end
-name_ends : (text : List ℕ) (g : Flags) (from : ℕ) → flags_from text g 0 (past Line text from) (drop (past Line text from) text) ≡ Ok (g, past Line text from)
+name_ends : (text : List ℕ) (empty : Bool) (g : Flags) (from : ℕ) → flags_from text empty g 0 (past Line text from) (drop (past Line text from) text) ≡ Ok (g, past Line text from)
 unfolding past
-name_ends text g from =
-    ap (flags_from text g 0 (from + run_of Line (drop from text))) (sym (drop-drop (run_of Line (drop from text)) from text))
-    ∙ line_ends text g (from + run_of Line (drop from text)) (drop from text)
+name_ends text empty g from =
+    ap (flags_from text empty g 0 (from + run_of Line (drop from text))) (sym (drop-drop (run_of Line (drop from text)) from text))
+    ∙ line_ends text empty g (from + run_of Line (drop from text)) (drop from text)
 
 -- the flags of a `w` at a place
-pub file_read : (text : List ℕ) (f : Flags) (result : Result (Flags × ℕ) ScriptFault) (at b d : ℕ) → at < length text → get_or text at d ≡ b → is_digit b ≡ false → ends_flags b ≡ false → b ≡ 119 →
-    result ≡ with_file f at (name_from text (at + 1)) → flags_from text f 0 at (drop at text) ≡ with_rest text result
+pub file_read : (text : List ℕ) (empty : Bool) (f : Flags) (result : Result (Flags × ℕ) ScriptFault) (at b d : ℕ) → at < length text → get_or text at d ≡ b → is_digit b ≡ false → ends_flags b ≡ false → b ≡ 119 →
+    result ≡ with_file f at (name_from text (at + 1)) → flags_from text empty f 0 at (drop at text) ≡ with_rest text empty result
 unfolding name_from
-file_read text f result at b d h is digit ends w e =
-    subst (λ (l : List ℕ). flags_from text f 0 at l ≡ with_rest text result) (sym (drop-cons text at d h))
-    (front ∙ (by_name (past Line text start == start) ∙ ap (with_rest text) (sym e)))
+file_read text empty f result at b d h is digit ends w e =
+    subst (λ (l : List ℕ). flags_from text empty f 0 at l ≡ with_rest text empty result) (sym (drop-cons text at d h))
+    (front ∙ (by_name (past Line text start == start) ∙ ap (with_rest text empty) (sym e)))
   where
     start : ℕ
     start = past Blank text (at + 1)
 
-    front : flags_from text f 0 at (get_or text at d ∷ drop (suc at) text) ≡ with_file f at (name_from text (at + 1))
+    front : flags_from text empty f 0 at (get_or text at d ∷ drop (suc at) text) ≡ with_file f at (name_from text (at + 1))
     front = rw (is ∙ w) refl
 
-    by_name : (t : Bool) → with_file f at (if t then None else Some (start, past Line text start)) ≡ with_rest text (with_file f at (if t then None else Some (start, past Line text start)))
+    by_name : (t : Bool) → with_file f at (if t then None else Some (start, past Line text start)) ≡ with_rest text empty (with_file f at (if t then None else Some (start, past Line text start)))
     by_name true = refl
-    by_name false = sym (name_ends text (record f { file = Some (start, past Line text start) }) start)
+    by_name false = sym (name_ends text empty (record f { file = Some (start, past Line text start) }) start)

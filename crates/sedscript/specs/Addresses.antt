@@ -1,9 +1,9 @@
 -- Addresses and what stands before a function (XCU sed, "Addresses in sed").
-use Rattle.std.specs.Prelude.{ℕ, zero, suc, ◌+◌, List, true, false, Option, Some, None}
+use Rattle.std.specs.Prelude.{ℕ, zero, suc, ◌+◌, List, Bool, true, false, Option, Some, None}
 use Rattle.std.specs.Prelude.{if◌then◌else◌, ◌==◌, slice_get, Result, Ok}
 use Rattle.sedscript.specs.declared.bytes.Sort.TheVariants.{Blank, Bang, Digit}
 use Rattle.sedscript.specs.declared.types.ScriptFault.{ScriptFault}
-use Rattle.sedscript.specs.declared.types.Reason.TheVariants.{BadAddress, OpenDelimiter, BadDelimiter}
+use Rattle.sedscript.specs.declared.types.Reason.TheVariants.{BadAddress, OpenDelimiter, BadDelimiter, FlagOnEmpty}
 use Rattle.sedscript.specs.declared.types.Address.{Address}
 use Rattle.sedscript.specs.declared.types.Address.TheVariants.{Line, Last, Match}
 use Rattle.sedscript.specs.declared.items.Addresses.{Addresses}
@@ -29,16 +29,28 @@ line_of count from to None = fault BadAddress from
 line_of count from to (Some zero) = fault BadAddress from
 line_of count from to (Some (suc n)) = found (Some (Line (suc n))) to count
 
--- a regular expression behind the delimiter at a place, up to where it ends. The empty one has no number
-abbrev pub match_to : ℕ → ℕ → ℕ → Option ℕ → Reading Addressed
-match_to count delimiter place None = plainly (fault OpenDelimiter place)
-match_to count delimiter place (Some to) =
-    if to == place + 1 then plainly (found (Some (Match None)) (to + 1) count)
-    else expression (record { from = place + 1; to = to; delimiter = delimiter })
-    (λ groups. plainly (found (Some (Match (Some count))) (to + 1) (count + 1)))
+-- whether the flag `I` stands at a place (this project's own)
+abbrev pub folds_at : List ℕ → ℕ → Bool
+folds_at text at = is_byte 73 (slice_get text at)
+
+-- the place behind the flag `I`, where it stands at a place
+abbrev pub past_flag : List ℕ → ℕ → ℕ
+past_flag text at = if folds_at text at then at + 1 else at
+
+-- the empty regular expression, up to a place. It has no number, and takes no flag
+abbrev pub empty_match : List ℕ → ℕ → ℕ → Result Addressed ScriptFault
+empty_match text count at = if folds_at text at then fault FlagOnEmpty at else found (Some (Match None)) at count
+
+-- a regular expression behind the delimiter at a place, up to where it ends, with the flag that may stand directly behind it
+abbrev pub match_to : List ℕ → ℕ → ℕ → ℕ → Option ℕ → Reading Addressed
+match_to text count delimiter place None = plainly (fault OpenDelimiter place)
+match_to text count delimiter place (Some to) =
+    if to == place + 1 then plainly (empty_match text count (to + 1))
+    else expression (record { from = place + 1; to = to; delimiter = delimiter; folded = folds_at text (to + 1) })
+    (λ groups. plainly (found (Some (Match (Some count))) (past_flag text (to + 1)) (count + 1)))
 
 unfoldable pub match_at : List ℕ → ℕ → ℕ → ℕ → Reading Addressed
-match_at text count delimiter place = match_to count delimiter place (delimiter_at text (place + 1) delimiter)
+match_at text count delimiter place = match_to text count delimiter place (delimiter_at text (place + 1) delimiter)
 
 -- a regular expression with a delimiter of its own, which stands at a place
 abbrev pub own_match : List ℕ → ℕ → ℕ → Option ℕ → Reading Addressed

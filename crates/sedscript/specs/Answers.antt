@@ -95,8 +95,8 @@ pub record IsJudged (text : List ℕ) (kind : Kind) (max_nodes : ℕ) (items : L
   pub judged : Judged text kind max_nodes items expressions to
 
 -- the flags with those that stand behind the place up to which they were read
-abbrev pub with_rest : List ℕ → Result (Flags × ℕ) ScriptFault → Result (Flags × ℕ) ScriptFault
-with_rest text read = read >>= λ found. flags_from text found.0 0 found.1 (drop found.1 text)
+abbrev pub with_rest : List ℕ → (empty : Bool) → Result (Flags × ℕ) ScriptFault → Result (Flags × ℕ) ScriptFault
+with_rest text empty read = read >>= λ found. flags_from text empty found.0 0 found.1 (drop found.1 text)
 
 -- the pieces of parts, and of bytes behind them
 abbrev pub pieces_with : List Part → List ℕ → List Piece

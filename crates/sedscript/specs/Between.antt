@@ -1,10 +1,11 @@
 -- What stands between delimiters behind `s` and `y` (XCU sed, "Editing Commands in sed").
-use Rattle.std.specs.Prelude.{ℕ, ◌+◌, List, Bool, true, false, ◌||◌, Option, Some, None, drop, slice_get}
+use Rattle.std.specs.Prelude.{ℕ, ◌+◌, List, Bool, true, false, not, ◌||◌, Option, Some, None, is_some, drop, slice_get}
 use Rattle.std.specs.Prelude.{if◌then◌else◌, ◌==◌, Result, Ok, Err}
 use Rattle.sedre.specs.Delimited.{delimiter_at}
 use Rattle.sedscript.specs.declared.types.ScriptFault.{ScriptFault}
 use Rattle.sedscript.specs.declared.types.Reason.TheVariants.{OpenDelimiter, BadDelimiter}
 use Rattle.sedscript.specs.declared.items.Strings.{Strings}
+use Rattle.sedscript.specs.declared.items.Flags.{Flags}
 use Rattle.sedscript.specs.declared.items.Function.{Function}
 use Rattle.sedscript.specs.declared.items.Function.TheVariants.{Substitute, Transliterate}
 use Rattle.sedscript.specs.Bytes.{part}
@@ -53,10 +54,13 @@ transliterate_at text at =
     transliterate_strings text (at + 1) (own_delimiter (slice_get text (at + 1))) >>= λ s.
     unless_fault (strings_fault text s.delimiter at s.from s.middle s.to) (ended text (Transliterate s) (s.to + 1))
 
+-- the flags of `s`, whose regular expression is empty or not, and the place after them
+abbrev pub flags_behind : List ℕ → Strings → (empty : Bool) → Result (Flags × ℕ) ScriptFault
+flags_behind text s empty = flags_from text empty no_flags 0 (s.to + 1) (drop (s.to + 1) text)
+
 -- the flags of `s`, and its end
 abbrev pub flagged : List ℕ → Strings → Option ℕ → Result (Function × ℕ) ScriptFault
-flagged text s e =
-    flags_from text no_flags 0 (s.to + 1) (drop (s.to + 1) text) >>= λ found. ended text (Substitute s e found.0) found.1
+flagged text s e = flags_behind text s (not (is_some e)) >>= λ found. ended text (Substitute s e found.0) found.1
 
 -- what stands behind the regular expression of `s`, which has this number in the script: a replacement, where no group
 -- may have a greater number than this, and flags

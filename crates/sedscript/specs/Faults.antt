@@ -6,7 +6,7 @@ use Rattle.sedscript.specs.declared.types.Reason.TheVariants.{OpenDelimiter, Bad
 use Rattle.sedscript.specs.declared.types.Reason.TheVariants.{BadNumber, UnknownLabel, RepeatedLabel}
 use Rattle.sedscript.specs.declared.types.Reason.TheVariants.{MissingLabel, OpenBlock, StrayClose, TrailingBytes}
 use Rattle.sedscript.specs.declared.types.Reason.TheVariants.{LengthsDiffer, RepeatedByte, BadEscape, MissingName}
-use Rattle.sedscript.specs.declared.types.Reason.TheVariants.{GroupAbsent, Expression, NoMemory}
+use Rattle.sedscript.specs.declared.types.Reason.TheVariants.{GroupAbsent, Expression, NoMemory, FlagOnEmpty}
 
 abbrev pub number_of : Reason → ℕ
 number_of UnknownCommand = 1
@@ -31,6 +31,7 @@ number_of MissingName = 19
 number_of GroupAbsent = 20
 number_of (Expression f) = 21
 number_of NoMemory = 22
+number_of FlagOnEmpty = 23
 
 abbrev pub name_of : Reason → List ℕ
 name_of UnknownCommand = codes "UnknownCommand"
@@ -55,3 +56,4 @@ name_of MissingName = codes "MissingName"
 name_of GroupAbsent = codes "GroupAbsent"
 name_of (Expression f) = codes "Expression"
 name_of NoMemory = codes "NoMemory"
+name_of FlagOnEmpty = codes "FlagOnEmpty"

@@ -1,15 +1,16 @@
 -- The flags of `s` (XCU sed, "Editing Commands in sed").
 use Rattle.std.specs.Prelude.{ℕ, zero, suc, ◌+◌, List, [], ◌∷◌, take, Bool, true, false, ◌||◌, Option, Some, None, is_some}
-use Rattle.std.specs.Prelude.{if◌then◌else◌, ◌==◌, Result, Ok}
+use Rattle.std.specs.Prelude.{if◌then◌else◌, ◌==◌, Result, Ok, Err}
 use Rattle.sedscript.specs.declared.bytes.Sort.TheVariants.{Digit}
 use Rattle.sedscript.specs.declared.types.ScriptFault.{ScriptFault}
 use Rattle.sedscript.specs.declared.types.Reason.TheVariants.{UnknownFlag, RepeatedFlag, BadNumber, MissingName}
+use Rattle.sedscript.specs.declared.types.Reason.TheVariants.{FlagOnEmpty}
 use Rattle.sedscript.specs.declared.items.Flags.{Flags}
 use Rattle.sedscript.specs.Bytes.{is_blank, is_digit, run_of, with_digits}
 use Rattle.sedscript.specs.Functions.{fault, may_end, name_from, ◌>>=◌}
 
 abbrev pub no_flags : Flags
-no_flags = record { number = None; global = false; print = false; file = None }
+no_flags = record { number = None; global = false; print = false; folded = false; file = None }
 
 -- whether flags end before this byte: a blank, or what ends a command
 abbrev pub ends_flags : ℕ → Bool
@@ -26,15 +27,20 @@ abbrev pub with_number : Flags → ℕ → List ℕ → Result Flags ScriptFault
 with_number f at digits =
     if is_some f.number then fault RepeatedFlag at else numbered f at (with_digits (Some 0) digits)
 
--- the flags with the one of a byte at a place: `g` or `p`, and none twice (this project's own)
-abbrev pub with_flag : Flags → ℕ → ℕ → Result Flags ScriptFault
-with_flag f at b =
+-- the flags with the one of a byte at a place: `g`, `p` or `I`, and none twice (this project's own). `I` (this project's
+-- own) may not stand where the regular expression is empty
+abbrev pub with_flag : (empty : Bool) → Flags → ℕ → ℕ → Result Flags ScriptFault
+with_flag empty f at b =
     if b == 103
     then if f.global then fault RepeatedFlag at
     else Ok (record f { global = true })
     else if b == 112
     then if f.print then fault RepeatedFlag at
     else Ok (record f { print = true })
+    else if b == 73
+    then if empty then fault FlagOnEmpty at
+    else if f.folded then fault RepeatedFlag at
+    else Ok (record f { folded = true })
     else fault UnknownFlag at
 
 -- the flags with the file of the `w` at a place, and the place after its name
@@ -43,13 +49,18 @@ with_file f at None = fault MissingName at
 with_file f at (Some name) = Ok (record f { file = Some name }, name.1)
 
 -- the flags from a place on, in any order, and the place after them. `w` is the last, since the rest of its line is a
--- file's name. So many bytes are digits that were read
-abbrev pub flags_from : List ℕ → Flags → ℕ → ℕ → List ℕ → Result (Flags × ℕ) ScriptFault
-flags_from text f skip at [] = Ok (f, at)
-flags_from text f (suc skip) at (b ∷ bs) = flags_from text f skip (suc at) bs
-flags_from text f zero at (b ∷ bs) =
+-- file's name. So many bytes are digits that were read, and the regular expression is empty or not
+abbrev pub flags_from : List ℕ → (empty : Bool) → Flags → ℕ → ℕ → List ℕ → Result (Flags × ℕ) ScriptFault
+flags_from text empty f skip at [] = Ok (f, at)
+flags_from text empty f (suc skip) at (b ∷ bs) = flags_from text empty f skip (suc at) bs
+flags_from text empty f zero at (b ∷ bs) =
     if is_digit b
-    then (with_number f at (b ∷ take (run_of Digit bs) bs) >>= λ g. flags_from text g (run_of Digit bs) (suc at) bs)
+    then (with_number f at (b ∷ take (run_of Digit bs) bs) >>= λ g. flags_from text empty g (run_of Digit bs) (suc at) bs)
     else if ends_flags b then Ok (f, at)
     else if b == 119 then with_file f at (name_from text (at + 1))
-    else (with_flag f at b >>= λ g. flags_from text g zero (suc at) bs)
+    else (with_flag empty f at b >>= λ g. flags_from text empty g zero (suc at) bs)
+
+-- whether letters match without regard to case, as the flags say that were read
+abbrev pub folds : Result (Flags × ℕ) ScriptFault → Bool
+folds (Ok found) = found.0.folded
+folds (Err f) = false

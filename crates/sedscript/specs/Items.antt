@@ -1,5 +1,5 @@
 -- The items of a script: functions with their addresses (XCU sed, "Extended Description").
-use Rattle.std.specs.Prelude.{ℕ, ◌+◌, List, Option, Some, None, if◌then◌else◌, ◌==◌, slice_get, Result, Ok}
+use Rattle.std.specs.Prelude.{ℕ, ◌+◌, List, false, Option, Some, None, if◌then◌else◌, ◌==◌, slice_get, Result, Ok}
 use Rattle.sedscript.specs.declared.bytes.Sort.TheVariants.{Separator, Blank, Line}
 use Rattle.sedscript.specs.declared.types.ScriptFault.{ScriptFault}
 use Rattle.sedscript.specs.declared.types.Reason.TheVariants.{UnknownCommand}
@@ -18,16 +18,18 @@ use Rattle.sedscript.specs.Bytes.{past}
 use Rattle.sedscript.specs.Functions.{fault, ended, label_of, branch_of, text_of, text_from, file_of, name_from}
 use Rattle.sedscript.specs.Functions.{allowed, item_of}
 use Rattle.sedscript.specs.Letters.{verb_of}
-use Rattle.sedscript.specs.Between.{own_delimiter, substitute_strings, substituted, transliterate_at}
+use Rattle.sedscript.specs.Between.{own_delimiter, substitute_strings, flags_behind, substituted}
+use Rattle.sedscript.specs.Between.{transliterate_at}
+use Rattle.sedscript.specs.Flags.{folds}
 use Rattle.sedscript.specs.Reading.{Reading, plainly, expression, ◌>>=◌}
 use Rattle.sedscript.specs.Addresses.{Headed, addresses_at, with_bang}
 
 -- what stands behind the strings of `s`, with so many regular expressions before it. The empty one has no number, and
--- sets no limit to the groups of the replacement (this project's own)
+-- sets no limit to the groups of the replacement (this project's own). The flags say how the others are read
 abbrev pub substitute_with : List ℕ → ℕ → Strings → Reading (Function × ℕ)
 substitute_with text count s =
     if s.middle == s.from then plainly (substituted text s None None)
-    else expression (record { from = s.from; to = s.middle; delimiter = s.delimiter })
+    else expression (record { from = s.from; to = s.middle; delimiter = s.delimiter; folded = folds (flags_behind text s false) })
     (λ groups. plainly (substituted text s (Some count) (Some groups)))
 
 -- `s`, whose letter stands at a place

@@ -1,13 +1,15 @@
 -- What is read from a place of a script, where regular expressions may stand in it: what is read behind an expression
 -- may depend on the number of its groups.
-use Rattle.std.specs.Prelude.{ℕ, Result, Ok, Err}
+use Rattle.std.specs.Prelude.{ℕ, Bool, Result, Ok, Err}
 use Rattle.sedscript.specs.declared.types.ScriptFault.{ScriptFault}
 
--- a regular expression in a script: where it begins, where it ends, and the delimiter that stands there
+-- a regular expression in a script: where it begins, where it ends, the delimiter that stands there, and whether its flag `I`
+-- makes letters match without regard to case (this project's own)
 pub record Pattern : Type 0 where
   pub from : ℕ
   pub to : ℕ
   pub delimiter : ℕ
+  pub folded : Bool
 
 -- what is read: a value or a fault; or a regular expression, and by the number of its groups what is read behind it
 pub data Reading (A : Type 0) : Type 0 where

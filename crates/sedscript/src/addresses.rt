@@ -3,7 +3,8 @@
 ghost use Rattle.std.specs.Prelude.{◌≡◌, ◌≢◌, ◌≤◌, ◌<◌, ◌+◌, ℕ, List, Option, Some, length, slice_get, IfOk, IfSome};
 ghost use Rattle.sedscript.specs.declared.types.Address.{Address};
 ghost use Rattle.sedscript.specs.Bytes.{part, with_digits};
-ghost use Rattle.sedscript.specs.Addresses.{match_at, own_match, address_at, behind_first, second_at};
+ghost use Rattle.sedscript.specs.Addresses.{folds_at, past_flag, empty_match, match_at, own_match, address_at};
+ghost use Rattle.sedscript.specs.Addresses.{behind_first, second_at};
 ghost use Rattle.sedscript.specs.Addresses.{with_second, addresses_at, with_bang, addresses_of, line_of};
 ghost use Rattle.sedscript.specs.Between.{own_delimiter};
 ghost use Rattle.sedscript.specs.Answers.{as_addressed, as_headed, ComesFrom, Agrees};
@@ -31,7 +32,38 @@ fn line_at(text: &[u8], from: usize, to: usize) -> Result<(Option<Address>, usiz
     }
 }
 
-/// The expression behind the delimiter at a place.
+/// Whether the flag `I` stands at a place.
+fn folds_at(text: &[u8], at: usize) -> bool
+    ensures { result ≡ folds_at text.now at }
+{
+    is_byte(b'I', byte_at(text, at))
+}
+
+/// The place behind the flag `I`, where it stands at a place.
+fn past_flag(text: &[u8], at: usize) -> usize
+    requires { at ≤ length text.now }
+    ensures is { result ≡ past_flag text.now at }
+    ensures within { (at ≤ result) × (result ≤ length text.now) }
+{
+    if folds_at(text, at) { at + 1 } else { at }
+}
+
+/// The address of the empty expression, up to a place.
+fn empty_match(text: &[u8], at: usize) -> Result<(Option<Address>, usize), ScriptFault>
+    ensures is { (count : ℕ) → Agrees as_addressed count result (empty_match text.now count at) }
+    ensures at { IfOk result (λ found. found.1 ≡ at) }
+{
+    if folds_at(text, at) {
+        Err(ScriptFault {
+            place: at,
+            reason: Reason::FlagOnEmpty,
+        })
+    } else {
+        Ok((Some(Address::Match(None)), at))
+    }
+}
+
+/// The expression behind the delimiter at a place, with the flag that may stand behind it.
 #[tactic(auto, unfolding(crate::specs::Addresses::match_at))]
 fn match_at(
     source: &Source,
@@ -53,12 +85,13 @@ fn match_at(
         });
     };
     if to == from {
-        return Ok((Some(Address::Match(None)), to + 1));
+        return empty_match(source.text, to + 1);
     }
+    let folded = folds_at(source.text, to + 1);
     let number = exprs.len();
-    match expression_at(source, exprs, delimiter, from, to) {
+    match expression_at(source, exprs, delimiter, folded, from, to) {
         Err(fault) => Err(fault),
-        Ok(_) => Ok((Some(Address::Match(Some(number))), to + 1)),
+        Ok(_) => Ok((Some(Address::Match(Some(number))), past_flag(source.text, to + 1))),
     }
 }
 

@@ -4,7 +4,8 @@ ghost use Rattle.std.specs.Prelude.{◌≡◌, ◌≢◌, ◌≤◌, ◌<◌, �
 ghost use Rattle.sedre.specs.Delimited.{delimiter_at};
 ghost use Rattle.sedscript.specs.Strings.{string_end};
 ghost use Rattle.sedscript.specs.Between.{own_delimiter, strings_behind, substitute_strings, transliterate_strings};
-ghost use Rattle.sedscript.specs.Between.{unless_fault, transliterate_at, flagged, substituted};
+ghost use Rattle.sedscript.specs.Between.{unless_fault, transliterate_at, flags_behind, flagged, substituted};
+ghost use Rattle.sedscript.specs.Flags.{folds};
 ghost use Rattle.sedscript.specs.Answers.{AreStrings};
 
 use crate::bytes::byte_at;
@@ -130,6 +131,18 @@ pub fn transliterate_at(text: &[u8], at: usize) -> Result<(Function, usize), Scr
     ended(text, Function::Transliterate(strings), strings.to + 1)
 }
 
+/// Whether the flags of `s`, whose regular expression isn't empty, make letters match without regard to case. They stand
+/// behind the expression and are looked at before it is read; their faults are told after its own.
+pub fn folds(text: &[u8], strings: Strings) -> bool
+    requires { strings.to < length text.now }
+    ensures { result ≡ folds (flags_behind text.now strings false) }
+{
+    match flags_at(text, false, strings.to + 1) {
+        Ok((flags, _)) => flags.folded,
+        Err(_) => false,
+    }
+}
+
 /// The flags of `s`, and its end.
 fn flagged(
     text: &[u8],
@@ -140,7 +153,7 @@ fn flagged(
     ensures is { result ≡ flagged text.now strings expression }
     ensures within { IfOk result (λ found. (strings.to < found.1) × (found.1 ≤ length text.now)) }
 {
-    let (flags, end) = flags_at(text, strings.to + 1)?;
+    let (flags, end) = flags_at(text, expression.is_none(), strings.to + 1)?;
     ended(text, Function::Substitute(strings, expression, flags), end)
 }
 

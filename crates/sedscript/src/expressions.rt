@@ -1,12 +1,17 @@
 //! Regular expressions in a script.
 
-ghost use Rattle.std.specs.Prelude.{◌≡◌, ◌≢◌, ◌≤◌, ◌<◌, ◌+◌, Ok, length, IfOk};
+ghost use Rattle.std.specs.Prelude.{◌≡◌, ◌≢◌, ◌≤◌, ◌<◌, ◌+◌, ◌⊎◌, ℕ, Ok, Some, length, IfOk, IfErr, OnOk};
+ghost use Rattle.sedre.specs.declared.types.Reason.{Reason as ExprReason};
+ghost use Rattle.sedre.specs.declared.types.TheConstants.{NO_MEMORY as NO_EXPR_MEMORY};
+ghost use Rattle.sedre.specs.Arena.{tree};
+ghost use Rattle.sedre.specs.Grammar.{ReadsAs, ExprFaulty};
+ghost use Rattle.sedscript.specs.Bytes.{part};
 ghost use Rattle.sedscript.specs.Reading.{plainly, expression};
 ghost use Rattle.sedscript.specs.Answers.{as_groups, ComesFrom, is_no_memory, fault_of};
 
 use crate::items::Source;
 use crate::types::{ExprFault, NO_MEMORY, Reason, ScriptFault};
-use sedre::Expr;
+use sedre::{Expr, read_folded};
 
 fn is_no_memory(reason: sedre::Reason) -> bool
     ensures { result ≡ is_no_memory reason }
@@ -29,27 +34,53 @@ fn fault_of(from: usize, fault: ExprFault) -> ScriptFault
     }
 }
 
-/// Reads the expression that stands between two places, and adds it. Answers the number of its groups.
+/// Reads the expression that stands between two places, where case counts or is folded.
+fn expression_between(
+    source: &Source,
+    delimiter: u8,
+    folded: bool,
+    from: usize,
+    to: usize,
+) -> Result<Expr, ExprFault>
+    requires delimiter { (delimiter ≢ 92) × (delimiter ≢ 10) }
+    requires place { (from ≤ to) × (to ≤ length source.now.text.now) }
+    ensures reads { IfOk result (λ e.
+        ReadsAs source.now.kind folded (Some delimiter) (part source.now.text.now from to) (tree e) e.groups) }
+    ensures fits { IfOk result (λ e. length e.nodes ≤ source.now.max_nodes) }
+    ensures no_fault { OnOk result ((place : ℕ) (reason : ExprReason) →
+        ExprFaulty source.now.kind folded (Some delimiter) (part source.now.text.now from to) source.now.max_nodes
+        place reason → ⊥) }
+    ensures fault { IfErr result (λ f.
+        ExprFaulty source.now.kind folded (Some delimiter) (part source.now.text.now from to) source.now.max_nodes
+        f.place f.reason ⊎ (f ≡ NO_EXPR_MEMORY)) }
+    ensures within { IfErr result (λ f. from + f.place ≤ to) }
+{
+    let text = &source.text[from..to];
+    if folded {
+        read_folded(source.alloc, source.kind, text, Some(delimiter), source.max_nodes)
+    } else {
+        sedre::read(source.alloc, source.kind, text, Some(delimiter), source.max_nodes)
+    }
+}
+
+/// Reads the expression that stands between two places, where case counts or is folded, and adds it. Answers the number
+/// of its groups.
 pub fn expression_at(
     source: &Source,
     exprs: &mut Vec<Expr>,
     delimiter: u8,
+    folded: bool,
     from: usize,
     to: usize,
 ) -> Result<usize, ScriptFault>
     requires delimiter { (delimiter ≢ 92) × (delimiter ≢ 10) }
     requires place { (from ≤ to) × (to ≤ length source.now.text.now) }
     ensures comes { ComesFrom source.now exprs.old.items exprs.new.items as_groups result
-        (expression (record { from = from; to = to; delimiter = delimiter }) (λ groups. plainly (Ok groups))) }
+        (expression (record { from = from; to = to; delimiter = delimiter; folded = folded })
+        (λ groups. plainly (Ok groups))) }
     ensures one { IfOk result (λ groups. length exprs.new.items ≡ length exprs.old.items + 1) }
 {
-    match sedre::read(
-        source.alloc,
-        source.kind,
-        &source.text[from..to],
-        Some(delimiter),
-        source.max_nodes,
-    ) {
+    match expression_between(source, delimiter, folded, from, to) {
         Ok(expr) => {
             let groups = expr.groups();
             if exprs.push(expr).is_err() {

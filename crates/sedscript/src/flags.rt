@@ -36,9 +36,9 @@ fn with_number(flags: Flags, at: usize, digits: &[u8]) -> Result<Flags, ScriptFa
     }
 }
 
-/// The flags with the one of the byte at a place.
-fn with_flag(flags: Flags, at: usize, b: u8) -> Result<Flags, ScriptFault>
-    ensures { result ≡ with_flag flags at b }
+/// The flags with the one of the byte at a place, where the regular expression is `empty` or not.
+fn with_flag(empty: bool, flags: Flags, at: usize, b: u8) -> Result<Flags, ScriptFault>
+    ensures { result ≡ with_flag empty flags at b }
 {
     match b {
         b'g' if !flags.global => Ok(Flags {
@@ -49,7 +49,15 @@ fn with_flag(flags: Flags, at: usize, b: u8) -> Result<Flags, ScriptFault>
             print: true,
             ..flags
         }),
-        b'g' | b'p' => Err(ScriptFault {
+        b'I' if empty => Err(ScriptFault {
+            place: at,
+            reason: Reason::FlagOnEmpty,
+        }),
+        b'I' if !flags.folded => Ok(Flags {
+            folded: true,
+            ..flags
+        }),
+        b'g' | b'p' | b'I' => Err(ScriptFault {
             place: at,
             reason: Reason::RepeatedFlag,
         }),
@@ -82,10 +90,15 @@ fn with_file(text: &[u8], flags: Flags, at: usize) -> Result<(Flags, usize), Scr
 }
 
 /// The flags with the one that begins at a place, and the place behind it.
-fn flag_at(text: &[u8], flags: Flags, at: usize) -> Result<(Flags, usize), ScriptFault>
+fn flag_at(
+    text: &[u8],
+    empty: bool,
+    flags: Flags,
+    at: usize,
+) -> Result<(Flags, usize), ScriptFault>
     requires inside { at < length text.now }
     requires flag { ends_flags (slice_index text.now at) ≡ false }
-    ensures is { flags_from text.now flags 0 at (drop at text.now) ≡ with_rest text.now result }
+    ensures is { flags_from text.now empty flags 0 at (drop at text.now) ≡ with_rest text.now empty result }
     ensures within { IfOk result (λ next. (at < next.1) × (next.1 ≤ length text.now)) }
 {
     let b = text[at];
@@ -95,25 +108,26 @@ fn flag_at(text: &[u8], flags: Flags, at: usize) -> Result<(Flags, usize), Scrip
     } else if b == b'w' {
         with_file(text, flags, at)
     } else {
-        Ok((with_flag(flags, at, b)?, at + 1))
+        Ok((with_flag(empty, flags, at, b)?, at + 1))
     }
 }
 
-/// The flags from a place on, and the place behind them.
-pub fn flags_at(text: &[u8], from: usize) -> Result<(Flags, usize), ScriptFault>
+/// The flags from a place on, where the regular expression is `empty` or not, and the place behind them.
+pub fn flags_at(text: &[u8], empty: bool, from: usize) -> Result<(Flags, usize), ScriptFault>
     requires { from ≤ length text.now }
-    ensures is { result ≡ flags_from text.now no_flags 0 from (drop from text.now) }
+    ensures is { result ≡ flags_from text.now empty no_flags 0 from (drop from text.now) }
     ensures within { IfOk result (λ found. (from ≤ found.1) × (found.1 ≤ length text.now)) }
 {
     let mut flags = Flags {
         number: None,
         global: false,
         print: false,
+        folded: false,
         file: None,
     };
     let mut at = from;
     'flags: while at < text.len() && !ends_flags(text[at]) {
-        let (more, next) = flag_at(text, flags, at)?;
+        let (more, next) = flag_at(text, empty, flags, at)?;
         flags = more;
         at = next;
     }

@@ -25,12 +25,14 @@ pub struct Addresses {
     pub negate: bool,
 }
 
-/// The flags of `s`: a number where one stands, `g` and `p`, and where the name stands that follows `w`.
+/// The flags of `s`: a number where one stands, `g`, `p` and `I`, and where the name stands that follows `w`.
 #[derive(Clone, Copy)]
 pub struct Flags {
     pub number: Option<u64>,
     pub global: bool,
     pub print: bool,
+    /// `I`: letters match without regard to case.
+    pub folded: bool,
     pub file: Option<(usize, usize)>,
 }
 

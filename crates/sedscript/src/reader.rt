@@ -75,7 +75,7 @@ fn named_of<'a>(
 /// The work and the memory grow with the text, and for its regular expressions with `max_nodes`.
 ///
 /// # Errors
-/// The first fault from left to right (S1 to S9, S12 or S15 to S21, with its place). Where there is none, the
+/// The first fault from left to right (S1 to S9, S12, S15 to S21 or S23, with its place). Where there is none, the
 /// fault of labels and blocks with the least place (S10, S11, S13 or S14). S22 at 0 where a request for memory was
 /// refused.
 pub fn read(alloc: Global, text: &[u8], kind: Kind, max_nodes: usize) -> Result<Script, ScriptFault>

@@ -7,7 +7,7 @@ ghost use Rattle.sedscript.specs.Functions.{item_of};
 ghost use Rattle.sedscript.specs.Answers.{as_function, as_headed, as_here, ComesFrom, AreStrings, IsBehind, IsHere};
 
 use crate::addresses::{addresses_at, with_bang};
-use crate::between::{substitute_strings, substituted, transliterate_at};
+use crate::between::{folds, substitute_strings, substituted, transliterate_at};
 use crate::bytes::{Sort, byte_at, past};
 use crate::expressions::expression_at;
 use crate::functions::{allowed, branch_of, ended, file_of, label_of, text_of};
@@ -35,6 +35,7 @@ fn substitute_with(
         source,
         exprs,
         strings.delimiter,
+        folds(source.text, strings),
         strings.from,
         strings.middle,
     ) {

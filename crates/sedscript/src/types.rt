@@ -12,7 +12,7 @@ pub enum Address {
     Line(u64),
     /// `$`: the last line.
     Last,
-    /// `/RE/` or `\cREc`: pattern spaces that match the script's regular expression of this number, counted from 0.
+    /// `/RE/` or `\cREc`, with or without the flag `I`: pattern spaces that match the script's regular expression of this number, counted from 0.
     /// None stands for the empty RE, the one last used.
     Match(Option<usize>),
 }
@@ -134,6 +134,8 @@ pub enum Reason {
     Expression(ExprFault),
     /// S22: a request for memory was refused.
     NoMemory,
+    /// S23: the flag `I` stands behind an empty regular expression.
+    FlagOnEmpty,
 }
 
 impl Reason {
@@ -164,6 +166,7 @@ impl Reason {
             Reason::GroupAbsent => 20,
             Reason::Expression(_) => 21,
             Reason::NoMemory => 22,
+            Reason::FlagOnEmpty => 23,
         }
     }
 
@@ -194,6 +197,7 @@ impl Reason {
             Reason::GroupAbsent => "GroupAbsent",
             Reason::Expression(_) => "Expression",
             Reason::NoMemory => "NoMemory",
+            Reason::FlagOnEmpty => "FlagOnEmpty",
         }
     }
 }

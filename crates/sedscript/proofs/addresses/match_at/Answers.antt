@@ -3,7 +3,7 @@ use Rattle.sedscript.specs.declared.types.TheConstants.{NO_MEMORY}
 use Rattle.sedscript.specs.Expressions.{Fails}
 use Rattle.sedscript.specs.Reading.{Reading}
 use Rattle.sedscript.specs.Addresses.{Addressed, match_at}
-use Rattle.sedscript.proofs.Coming.{gives_plain, comes_err, match_open, match_empty, match_is, match_comes}
+use Rattle.sedscript.proofs.Coming.{comes_err, match_open, empty_comes, match_is, match_comes}
 use Rattle.sedscript.proofs.addresses.match_at.Goals as goal
 
 pub returns-in_default-clause-comes : goal.returns-in_default-clause-comes
@@ -12,15 +12,16 @@ returns-in_default-clause-comes c = inl (match_open c.args.source.now.text.now c
 pub returns-in-Err-clause-comes : goal.returns-in-Err-clause-comes
 returns-in-Err-clause-comes c =
     subst (λ (r : Reading Addressed). Fails c.args.source.now.text.now c.args.source.now.kind c.args.source.now.max_nodes r c.in-Err.fault ⊎ (c.in-Err.fault ≡ NO_MEMORY))
-    (sym (match_is c.args.source.now.text.now (length c.args.exprs.now.items) c.args.delimiter c.args.place c.in-Some.to (sym c.delimited.ensures.is ∙ c.in-Some.is) c.if-to-from.false))
+    (sym (match_is c.args.source.now.text.now (length c.args.exprs.now.items) c.args.delimiter c.args.place c.in-Some.to c.folds_at-folded.result (sym c.delimited.ensures.is ∙ c.in-Some.is) c.if-to-from.false c.folds_at-folded.ensures))
     (comes_err c.args.source.now.text.now c.args.source.now.kind c.args.source.now.max_nodes _ _ c.in-Err.fault c.in-Err.ensures.comes)
 
 pub returns-then-to-from-clause-comes : goal.returns-then-to-from-clause-comes
 returns-then-to-from-clause-comes c =
-    gives_plain c.args.source.now.text.now c.args.source.now.kind c.args.source.now.max_nodes c.args.exprs.now.items (match_at c.args.source.now.text.now (length c.args.exprs.now.items) c.args.delimiter c.args.place) _
-    (match_empty c.args.source.now.text.now (length c.args.exprs.now.items) c.args.delimiter c.args.place c.in-Some.to (sym c.delimited.ensures.is ∙ c.in-Some.is) c.if-to-from.true)
+    empty_comes c.args.source.now.text.now c.args.source.now.kind c.args.source.now.max_nodes c.args.delimiter c.args.place c.in-Some.to c.args.exprs.now.items c.empty_match.result
+    (sym c.delimited.ensures.is ∙ c.in-Some.is) c.if-to-from.true (c.empty_match.ensures.is (length c.args.exprs.now.items))
 
 pub returns-in-Ok-clause-comes : goal.returns-in-Ok-clause-comes
 returns-in-Ok-clause-comes c =
-    match_comes c.args.source.now.text.now c.args.source.now.kind c.args.source.now.max_nodes c.args.delimiter c.args.place c.in-Some.to c.len-number.result _ c.args.exprs.now.items c.expression_at.new.exprs.items
-    (sym c.delimited.ensures.is ∙ c.in-Some.is) c.if-to-from.false (omega (arith, c.len-number.ensures)) c.in-Ok.ensures.one c.in-Ok.ensures.comes
+    match_comes c.args.source.now.text.now c.args.source.now.kind c.args.source.now.max_nodes c.args.delimiter c.args.place c.in-Some.to c.len-number.result _ c.past_flag.result c.folds_at-folded.result
+    c.args.exprs.now.items c.expression_at.new.exprs.items (sym c.delimited.ensures.is ∙ c.in-Some.is) c.if-to-from.false c.folds_at-folded.ensures (omega (arith, c.len-number.ensures)) c.in-Ok.ensures.one
+    c.past_flag.ensures.is c.in-Ok.ensures.comes

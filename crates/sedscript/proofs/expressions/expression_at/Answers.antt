@@ -8,10 +8,10 @@ use Rattle.sedscript.proofs.expressions.expression_at.Goals as goal
 
 pub returns-in-Err-clause-comes : goal.returns-in-Err-clause-comes
 returns-in-Err-clause-comes c =
-    subst (λ (x : ScriptFault). Fails c.args.source.now.text.now c.args.source.now.kind c.args.source.now.max_nodes (expression (record { from = c.args.from; to = c.args.to; delimiter = c.args.delimiter }) (λ (groups : ℕ). plainly (Ok groups))) x ⊎ (x ≡ NO_MEMORY)) (sym c.fault_of.ensures)
-    (fails_as_read c.args.source.now.text.now c.args.source.now.kind c.args.source.now.max_nodes (record { from = c.args.from; to = c.args.to; delimiter = c.args.delimiter }) (λ (groups : ℕ). plainly (Ok groups)) c.in-Err.fault c.in-Err.ensures.fault)
+    subst (λ (x : ScriptFault). Fails c.args.source.now.text.now c.args.source.now.kind c.args.source.now.max_nodes (expression (record { from = c.args.from; to = c.args.to; delimiter = c.args.delimiter; folded = c.args.folded }) (λ (groups : ℕ). plainly (Ok groups))) x ⊎ (x ≡ NO_MEMORY)) (sym c.fault_of.ensures)
+    (fails_as_read c.args.source.now.text.now c.args.source.now.kind c.args.source.now.max_nodes (record { from = c.args.from; to = c.args.to; delimiter = c.args.delimiter; folded = c.args.folded }) (λ (groups : ℕ). plainly (Ok groups)) c.in-Err.fault c.in-Err.ensures.fault)
 
 pub returns-else-is_err-clause-comes : goal.returns-else-is_err-clause-comes
 returns-else-is_err-clause-comes c =
-    expression_comes c.args.source.now.text.now c.args.source.now.kind c.args.source.now.max_nodes (record { from = c.args.from; to = c.args.to; delimiter = c.args.delimiter }) c.args.exprs.now.items c.push.new.self.items c.in-Ok.expr c.groups-groups.result c.groups-groups.ensures.value
-    (record { reads = c.in-Ok.ensures.reads; no_fault = c.in-Ok.ensures.no_fault; fits = c.in-Ok.ensures.size.1 }) (c.push.ensures.items ∙ if_true _ _ _ c.if-is_err.ensures.negation)
+    expression_comes c.args.source.now.text.now c.args.source.now.kind c.args.source.now.max_nodes (record { from = c.args.from; to = c.args.to; delimiter = c.args.delimiter; folded = c.args.folded }) c.args.exprs.now.items c.push.new.self.items c.in-Ok.expr c.groups-groups.result c.groups-groups.ensures.value
+    (record { reads = c.in-Ok.ensures.reads; no_fault = c.in-Ok.ensures.no_fault; fits = c.in-Ok.ensures.fits }) (c.push.ensures.items ∙ if_true _ _ _ c.if-is_err.ensures.negation)

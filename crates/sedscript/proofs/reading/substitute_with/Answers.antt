@@ -16,10 +16,10 @@ returns-then-strings-clause-comes c =
 pub returns-in-Err-clause-comes : goal.returns-in-Err-clause-comes
 returns-in-Err-clause-comes c =
     subst (λ (r : Reading (Function × ℕ)). Fails c.args.source.now.text.now c.args.source.now.kind c.args.source.now.max_nodes r c.in-Err.fault ⊎ (c.in-Err.fault ≡ NO_MEMORY))
-    (sym (substitute_is c.args.source.now.text.now (length c.args.exprs.now.items) c.args.strings c.if-strings.false))
+    (sym (substitute_is c.args.source.now.text.now (length c.args.exprs.now.items) c.args.strings c.folds.result c.if-strings.false c.folds.ensures))
     (comes_err c.args.source.now.text.now c.args.source.now.kind c.args.source.now.max_nodes _ _ c.in-Err.fault c.in-Err.ensures.comes)
 
 pub returns-in-Ok-clause-comes : goal.returns-in-Ok-clause-comes
 returns-in-Ok-clause-comes c =
-    substitute_comes c.args.source.now.text.now c.args.source.now.kind c.args.source.now.max_nodes c.len-number.result c.in-Ok.groups c.args.strings c.args.exprs.now.items c.expression_at.new.exprs.items c.substituted-in-Ok.result
-    c.if-strings.false (omega (arith, c.len-number.ensures)) c.in-Ok.ensures.comes c.substituted-in-Ok.ensures.is
+    substitute_comes c.args.source.now.text.now c.args.source.now.kind c.args.source.now.max_nodes c.len-number.result c.in-Ok.groups c.args.strings c.folds.result c.args.exprs.now.items c.expression_at.new.exprs.items c.substituted-in-Ok.result
+    c.if-strings.false c.folds.ensures (omega (arith, c.len-number.ensures)) c.in-Ok.ensures.comes c.substituted-in-Ok.ensures.is
