@@ -91,7 +91,10 @@ fn match_at(
     let number = exprs.len();
     match expression_at(source, exprs, delimiter, folded, from, to) {
         Err(fault) => Err(fault),
-        Ok(_) => Ok((Some(Address::Match(Some(number))), past_flag(source.text, to + 1))),
+        Ok(_) => Ok((
+            Some(Address::Match(Some(number))),
+            past_flag(source.text, to + 1),
+        )),
     }
 }
 

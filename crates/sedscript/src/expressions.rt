@@ -57,9 +57,21 @@ fn expression_between(
 {
     let text = &source.text[from..to];
     if folded {
-        read_folded(source.alloc, source.kind, text, Some(delimiter), source.max_nodes)
+        read_folded(
+            source.alloc,
+            source.kind,
+            text,
+            Some(delimiter),
+            source.max_nodes,
+        )
     } else {
-        sedre::read(source.alloc, source.kind, text, Some(delimiter), source.max_nodes)
+        sedre::read(
+            source.alloc,
+            source.kind,
+            text,
+            Some(delimiter),
+            source.max_nodes,
+        )
     }
 }
 

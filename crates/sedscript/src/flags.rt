@@ -90,12 +90,7 @@ fn with_file(text: &[u8], flags: Flags, at: usize) -> Result<(Flags, usize), Scr
 }
 
 /// The flags with the one that begins at a place, and the place behind it.
-fn flag_at(
-    text: &[u8],
-    empty: bool,
-    flags: Flags,
-    at: usize,
-) -> Result<(Flags, usize), ScriptFault>
+fn flag_at(text: &[u8], empty: bool, flags: Flags, at: usize) -> Result<(Flags, usize), ScriptFault>
     requires inside { at < length text.now }
     requires flag { ends_flags (slice_index text.now at) ≡ false }
     ensures is { flags_from text.now empty flags 0 at (drop at text.now) ≡ with_rest text.now empty result }

@@ -2,7 +2,7 @@ use Rattle.std.proofs.Common.{arith, ◌≡◌, inl, sym, subst, ◌∙◌, ◌�
 use Rattle.sedscript.specs.declared.types.TheConstants.{NO_MEMORY}
 use Rattle.sedscript.specs.Expressions.{Fails}
 use Rattle.sedscript.specs.Reading.{Reading}
-use Rattle.sedscript.specs.Addresses.{Addressed, match_at}
+use Rattle.sedscript.specs.Addresses.{Addressed}
 use Rattle.sedscript.proofs.Coming.{comes_err, match_open, empty_comes, match_is, match_comes}
 use Rattle.sedscript.proofs.addresses.match_at.Goals as goal
 

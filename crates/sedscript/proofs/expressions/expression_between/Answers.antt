@@ -1,4 +1,4 @@
-use Rattle.std.proofs.Common.{◌≡◌, ℕ, Bool, Some, OnOk, sym, subst}
+use Rattle.std.proofs.Common.{ℕ, Bool, Some, OnOk, sym, subst}
 use Rattle.sedre.specs.declared.types.Reason.{Reason as ExprReason}
 use Rattle.sedre.specs.Grammar.{ExprFaulty}
 use Rattle.sedscript.specs.Bytes.{part}
