@@ -1,5 +1,5 @@
 -- Sets of bytes, and the words that stand for them.
-use Rattle.std.proofs.Common.{◌≡◌, ◌≢◌, ℕ, zero, suc, ◌+◌, ◌-◌, ◌/◌, ◌%◌, ◌^◌, ◌<◌, ◌≤◌, ◌==◌, Bool, true, false, not, ◌||◌, ◌&&◌, nat_lt, nat_le, rules, tests, eqb, eq-eqb, inl, inr, max, List, [], ◌∷◌, length, refl, sym, ap, ◌∙◌, arith, ⊎_elim, slice_index_or, slice_set, slice_get, Some}
+use Rattle.std.proofs.Common.{◌≡◌, ◌≢◌, ◌⊎◌, ℕ, zero, suc, ◌+◌, ◌-◌, ◌/◌, ◌%◌, ◌^◌, ◌<◌, ◌≤◌, ◌==◌, Bool, true, false, not, ◌||◌, ◌&&◌, nat_lt, nat_le, rules, tests, eqb, eq-eqb, inl, inr, max, List, [], ◌∷◌, length, refl, sym, ap, ◌∙◌, arith, ⊎_elim, slice_index_or, slice_set, slice_get, Some}
 use Rattle.std.specs.Bool.{IsTrue, Decides}
 use Rattle.std.specs.Cmp.Lexicographic.{pointwise}
 use Rattle.std.proofs.lemmas.Bool.{false≢true, eqb-true}
@@ -13,7 +13,7 @@ use Rattle.std.proofs.lemmas.Bool.{cases_eq, cases_lt, lt-ltb, le-ltb}
 use Rattle.std.proofs.lemmas.Option.{slice_get-get_or}
 use Rattle.std.proofs.lemmas.Bool.Decides.{eqb_tells}
 use Rattle.std.proofs.lemmas.Nat.Bits.{bit_at-zero, bit_at-lt}
-use Rattle.sedre.specs.Sets.{set_of, has, union, complement, only, between}
+use Rattle.sedre.specs.Sets.{set_of, has, union, complement, only, between, other_case, folded_set}
 use Rattle.sedre.specs.Words.{words_of, is_set, set_of_words, AreWords}
 use Rattle.sedre.specs.WordLaws.{has-set_of, words_of-set_of_words}
 
@@ -220,6 +220,61 @@ filled_all test b set none filled = filled ∙ set_of-same (λ c. test c && nat_
 pub filled_full : (test : ℕ → Bool) (b : ℕ) (set : List Bool) → 256 ≤ b → set ≡ set_of (λ c. test c && nat_lt c b) → set ≡ set_of test
 filled_full test b set full filled =
     filled ∙ set_of-same (λ c. test c && nat_lt c b) test (λ c lt. ap (λ x. test c && x) (lt-ltb c b (omega arith)) ∙ and_true (test c))
+
+-- ---- letters in either case
+
+between_under : (least most c : ℕ) → c < least → between least most c ≡ false
+between_under least most c low = let under : nat_le least c ≡ false = search (rules, tests) in ap (λ x. x && nat_le c most) under
+
+-- an upper case letter, a lower case letter, or another byte
+letters : (c : ℕ) → (65 ≤ c) × (c ≤ 90) × (other_case c ≡ c + 32) ⊎ (97 ≤ c) × (c ≤ 122) × (other_case c ≡ c - 32) ⊎ (other_case c ≡ c)
+letters c = elim (cases_lt c 65) [
+  | inl w ↦ inr (inr (rw (between_under 65 90 c w, between_under 97 122 c (omega arith)) refl))
+  | inr w ↦ elim (cases_lt c 91) [
+    | inl v ↦ inl (w, omega arith, rw (between_true 65 90 c w (omega arith)) refl)
+    | inr v ↦ elim (cases_lt c 97) [
+      | inl u ↦ inr (inr (rw (between_false 65 90 c (omega arith), between_under 97 122 c u) refl))
+      | inr u ↦ elim (cases_lt c 123) [
+        | inl t ↦ inr (inl (u, omega arith, rw (between_false 65 90 c (omega arith), between_true 97 122 c u (omega arith)) refl))
+        | inr t ↦ inr (inr (rw (between_false 65 90 c (omega arith), between_false 97 122 c (omega arith)) refl))
+      ]
+    ]
+  ]
+]
+
+upper_back : (c : ℕ) → 65 ≤ c → c ≤ 90 → other_case (c + 32) ≡ c
+upper_back c low high = rw (between_false 65 90 (c + 32) (omega arith), between_true 97 122 (c + 32) (omega arith) (omega arith)) (omega arith)
+
+lower_back : (c : ℕ) → 97 ≤ c → c ≤ 122 → other_case (c - 32) ≡ c
+lower_back c low high = rw (between_true 65 90 (c - 32) (omega arith) (omega arith)) (omega arith)
+
+-- the other case of the other case
+other_back : (c : ℕ) → other_case (other_case c) ≡ c
+other_back c = elim (letters c) [
+  | inl w ↦ ap other_case w.2 ∙ upper_back c w.0 w.1
+  | inr (inl w) ↦ ap other_case w.2 ∙ lower_back c w.0 w.1
+  | inr (inr w) ↦ ap other_case w ∙ w
+]
+
+other_same : (b c : ℕ) → (c == other_case b) ≡ (other_case c == b)
+other_same b c = elim (eqb_tells c (other_case b)) [
+  | inl w ↦ w.0 ∙ sym (eq-eqb (other_case c) b (ap other_case w.1 ∙ other_back b))
+  | inr w ↦ w.0 ∙ sym (apart_false (other_case c) b (λ e. w.1 (sym (other_back c) ∙ ap other_case e)))
+]
+
+other_small : (c : ℕ) → c < 256 → other_case c < 256
+other_small c lt = elim (letters c) [
+  | inl w ↦ omega (arith, w.1, w.2)
+  | inr (inl w) ↦ omega (arith, w.1, w.2)
+  | inr (inr w) ↦ omega (arith, w)
+]
+
+-- a byte and its other case are the set of the byte closed under the change of case
+pub folded_only : (b other : ℕ) (one set : List Bool) → other ≡ other_case b → one ≡ only b → set ≡ union one (only other) → set ≡ folded_set (only b)
+folded_only b other one set is_other is_one is =
+    is ∙ ap (λ s. union s (only other)) is_one ∙ ap (λ x. union (only b) (only x)) is_other
+    ∙ set_of-same (λ c. has (only b) c || has (only (other_case b)) c) (λ c. has (only b) c || has (only b) (other_case c))
+    (λ c lt. ap (λ x. has (only b) c || x) (has-set_of (λ d. d == other_case b) c lt ∙ other_same b c ∙ sym (has-set_of (λ d. d == b) (other_case c) (other_small c lt))))
 
 -- ---- equal sets, and sets of one byte
 

@@ -167,6 +167,26 @@ impl ByteSet {
         set
     }
 
+    /// A byte, and the letter that differs from it in its case alone.
+    fn in_either_case(b: u8) -> Self
+        ensures { result ≡ folded_set (only b) }
+    {
+        let mut set = ByteSet::only(b);
+        set.insert(other_case(b));
+        set
+    }
+
+    /// The bytes that match for a literal one, where case counts or is folded.
+    pub(crate) fn literal(b: u8, folded: bool) -> Self
+        ensures { result ≡ matching folded (only b) }
+    {
+        if folded {
+            ByteSet::in_either_case(b)
+        } else {
+            ByteSet::only(b)
+        }
+    }
+
     /// The bytes that match for those of the set, where case counts or is folded.
     pub(crate) fn matching(&self, folded: bool) -> Self
         ensures { result ≡ matching folded self.now }

@@ -148,7 +148,7 @@ pub fn item_at(
     let next = at + width;
     let may = is_repeatable(&before);
     match symbol {
-        Symbol::Literal(b) => Here::Is(Item::Byte(ByteSet::only(b).matching(folded)), next),
+        Symbol::Literal(b) => Here::Is(Item::Byte(ByteSet::literal(b, folded)), next),
         Symbol::AnyByte => Here::Is(Item::Byte(ByteSet::any()), next),
         Symbol::Opening => Here::Is(Item::Open, next),
         Symbol::Closing => Here::Is(Item::Close, next),
