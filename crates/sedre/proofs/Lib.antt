@@ -22,3 +22,4 @@ pub mod MirrorLemmas
 pub mod Holding
 pub mod Numbers
 pub mod Ended
+mod Folding

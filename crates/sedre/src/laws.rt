@@ -19,3 +19,11 @@ pub fn reads_without_fault()
         ReadsAs kind folded delimiter text expression groups → depth expression ≤ 600 → size expression ≤ max_nodes →
         ExprFaulty kind folded delimiter text max_nodes place reason → ⊥ }
 {}
+
+/// What is a fault, and where, doesn't depend on whether case is folded.
+pub fn faults_in_either_case()
+    ensures { (kind : Kind) (folded other : Bool) (delimiter : Option ℕ) (text : List ℕ) (max_nodes place : ℕ)
+        (reason : Reason) →
+        ExprFaulty kind folded delimiter text max_nodes place reason →
+        ExprFaulty kind other delimiter text max_nodes place reason }
+{}

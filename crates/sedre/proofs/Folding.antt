@@ -1,0 +1,295 @@
+-- What is a fault doesn't depend on whether case is folded: items and trees are the same but for the sets in them.
+use Rattle.std.proofs.Common.{◌≡◌, ℕ, zero, suc, ◌+◌, ◌-◌, false, Bool, List, [], ◌∷◌, ◌++◌, drop, Option, Some, None, Ok, Err, refl, ap, subst, sym, ◌∙◌, arith}
+use Rattle.std.specs.Prelude.{nat_eq}
+use Rattle.sedre.specs.declared.types.Kind.{Kind}
+use Rattle.sedre.specs.declared.types.Reason.{Reason}
+use Rattle.sedre.specs.declared.types.ExprFault.{ExprFault}
+use Rattle.sedre.specs.declared.syntax.Symbol.{Symbol}
+use Rattle.sedre.specs.declared.syntax.Symbol.TheVariants.{Literal, AnyByte, Opening, Closing, Parting, Star, Plus, Question, Interval, IntervalEnd, BracketOpening, Caret, Dollar, Unknown}
+use Rattle.sedre.specs.declared.syntax.Here.{Here}
+use Rattle.sedre.specs.declared.syntax.Here.TheVariants.{Is, Ends, Bad}
+use Rattle.sedre.specs.declared.syntax.Item.{Item}
+use Rattle.sedre.specs.declared.syntax.Item.TheVariants.{Byte, Open, Close, Bar, Repeat, AtBegin, AtEnd}
+use Rattle.sedre.specs.Tree.{Tree, size, depth, alternatives_depth}
+use Rattle.sedre.specs.Tree as t
+use Rattle.sedre.specs.Repeats.{concatenation, alternation, copies, optional, further, repetition}
+use Rattle.sedre.specs.Brackets.{Listing, judged, list_at, listed, items_behind, is_negated}
+use Rattle.sedre.specs.Symbols.{symbol}
+use Rattle.sedre.specs.Items.{item_at, item_for, list_item}
+use Rattle.sedre.specs.Grammar.{AreAlternatives, ArePieces, IsPiece, first, another, none, more, byte, begin_anchor, end_anchor, subexpression, repeated, Cut, done, item, last_of, open_groups, Row, bad, stray, unclosed, deep, large, ExprFaulty}
+
+-- ---- trees
+
+data Same : Tree → Tree → Type 0 where
+  sets : {m n : List Bool} → Same (t.set m) (t.set n)
+  same : {a : Tree} → Same a a
+  seqs : {a b c d : Tree} → Same a c → Same b d → Same (t.seq a b) (t.seq c d)
+  alts : {a b c d : Tree} → Same a c → Same b d → Same (t.alt a b) (t.alt c d)
+  groups : {k : ℕ} {a b : Tree} → Same a b → Same (t.group k a) (t.group k b)
+  stars : {mark : Bool} {a b : Tree} → Same a b → Same (t.star a mark) (t.star b mark)
+  opts : {mark : Bool} {a b : Tree} → Same a b → Same (t.opt a mark) (t.opt b mark)
+
+data SameAll : List Tree → List Tree → Type 0 where
+  nothing : SameAll [] []
+  also : {a b : Tree} {ts us : List Tree} → Same a b → SameAll ts us → SameAll (a ∷ ts) (b ∷ us)
+
+size-same : {a b : Tree} → Same a b → size a ≡ size b
+size-same sets = refl
+size-same same = refl
+size-same (seqs p q) = omega (arith, size-same p, size-same q)
+size-same (alts p q) = omega (arith, size-same p, size-same q)
+size-same (groups p) = omega (arith, size-same p)
+size-same (stars p) = omega (arith, size-same p)
+size-same (opts p) = omega (arith, size-same p)
+
+mutual
+  depth-same : {a b : Tree} → Same a b → depth a ≡ depth b
+  depth-same sets = refl
+  depth-same same = refl
+  depth-same (seqs p q) = rw (depth-same p, depth-same q) refl
+  depth-same (alts p q) = rw (depth-same p, alternatives-same q) refl
+  depth-same (groups p) = omega (arith, depth-same p)
+  depth-same (stars p) = omega (arith, depth-same p)
+  depth-same (opts p) = omega (arith, depth-same p)
+
+  alternatives-same : {c d : Tree} → Same c d → alternatives_depth c ≡ alternatives_depth d
+  alternatives-same sets = refl
+  alternatives-same same = refl
+  alternatives-same (seqs p q) = rw (depth-same p, depth-same q) refl
+  alternatives-same (alts p q) = rw (depth-same p, alternatives-same q) refl
+  alternatives-same (groups p) = omega (arith, depth-same p)
+  alternatives-same (stars p) = omega (arith, depth-same p)
+  alternatives-same (opts p) = omega (arith, depth-same p)
+
+concatenation-same : {ts us : List Tree} → SameAll ts us → Same (concatenation ts) (concatenation us)
+concatenation-same nothing = same
+concatenation-same (also p nothing) = p
+concatenation-same (also p (also q r)) = seqs p (concatenation-same (also q r))
+
+alternation-same : {ts us : List Tree} → SameAll ts us → Same (alternation ts) (alternation us)
+alternation-same nothing = same
+alternation-same (also p nothing) = p
+alternation-same (also p (also q r)) = alts p (alternation-same (also q r))
+
+copies-same : (n : ℕ) {a b : Tree} {ts us : List Tree} → Same a b → SameAll ts us → SameAll (copies n a ts) (copies n b us)
+copies-same zero p r = r
+copies-same (suc n) p r = also p (copies-same n p r)
+
+optional-same : (n : ℕ) (mark : Bool) {a b : Tree} → Same a b → Same (optional n a mark) (optional n b mark)
+optional-same zero mark p = opts p
+optional-same (suc n) mark p = opts (seqs p (optional-same n false p))
+
+further-same : (n : ℕ) (mark : Bool) {a b : Tree} → Same a b → SameAll (further n a mark) (further n b mark)
+further-same zero mark p = nothing
+further-same (suc n) mark p = also (optional-same n mark p) nothing
+
+repetition-same : (least : ℕ) (most : Option ℕ) {a b : Tree} → Same a b → Same (repetition least most a) (repetition least most b)
+repetition-same least None p = concatenation-same (copies-same least p (also (stars p) nothing))
+repetition-same least (Some most) p = concatenation-same (copies-same least p (further-same (most - least) (nat_eq least 0) p))
+
+append-same : {ts us vs ws : List Tree} → SameAll ts us → SameAll vs ws → SameAll (ts ++ vs) (us ++ ws)
+append-same nothing q = q
+append-same (also p r) q = also p (append-same r q)
+
+-- ---- items
+
+data AlikeItem : Item → Item → Type 0 where
+  bytes : {m n : List Bool} → AlikeItem (Byte m) (Byte n)
+  one : {i : Item} → AlikeItem i i
+
+data Alike : List Item → List Item → Type 0 where
+  empty : Alike [] []
+  next : {i j : Item} {is js : List Item} → AlikeItem i j → Alike is js → Alike (i ∷ is) (j ∷ js)
+
+record Split (is js ks : List Item) : Type 0 where
+  pub left : List Item
+  pub right : List Item
+  pub whole : left ++ right ≡ ks
+  pub lefts : Alike is left
+  pub rights : Alike js right
+
+split : (is : List Item) {js ks : List Item} → Alike (is ++ js) ks → Split is js ks
+split [] {ks = ks} a = record { left = []; right = ks; whole = refl; lefts = empty; rights = a }
+split (i ∷ is) (next {j = j} x a) =
+    let s = split is a in
+    record { left = j ∷ s.left; right = s.right; whole = ap (λ (l : List Item). j ∷ l) s.whole; lefts = next x s.lefts; rights = s.rights }
+
+behind_bar : {js ks : List Item} → Alike (Bar ∷ js) ks → (rest : List Item) × (Bar ∷ rest ≡ ks) × Alike js rest
+behind_bar (next {js = rest} one a) = (rest, refl, a)
+
+only_close : {ks : List Item} → Alike (Close ∷ []) ks → Close ∷ [] ≡ ks
+only_close (next one empty) = refl
+
+only_repeat : {least : ℕ} {most : Option ℕ} {ks : List Item} → Alike (Repeat least most ∷ []) ks → Repeat least most ∷ [] ≡ ks
+only_repeat (next one empty) = refl
+
+behind_open : {js ks : List Item} → Alike (Open ∷ js) ks → (rest : List Item) × (Open ∷ rest ≡ ks) × Alike js rest
+behind_open (next {js = rest} one a) = (rest, refl, a)
+
+mutual
+  alternatives_alike : {g h : ℕ} {is js : List Item} {bs : List Tree} → AreAlternatives g is bs h → Alike is js → (ds : List Tree) × AreAlternatives g js ds h × SameAll bs ds
+  alternatives_alike (first p) a =
+      let q = pieces_alike p a in
+      (concatenation q.0 ∷ [], first q.1, also (concatenation-same q.2) nothing)
+  alternatives_alike {g = g} {h = h} (another {is = is} b p) a =
+      let s = split is a in
+      let r = behind_bar s.rights in
+      let c = alternatives_alike b s.lefts in
+      let q = pieces_alike p r.2 in
+      let R : List Item → Type 0 = λ l. AreAlternatives g l (c.0 ++ concatenation q.0 ∷ []) h in
+      (c.0 ++ concatenation q.0 ∷ [], subst R (ap (λ (l : List Item). s.left ++ l) r.1 ∙ s.whole) (another c.1 q.1), append-same c.2 (also (concatenation-same q.2) nothing))
+
+  pieces_alike : {g h : ℕ} {is js : List Item} {ts : List Tree} → ArePieces g is ts h → Alike is js → (us : List Tree) × ArePieces g js us h × SameAll ts us
+  pieces_alike none empty = ([], none, nothing)
+  pieces_alike {g = g} {h = h} (more {is = is} p q) a =
+      let s = split is a in
+      let c = pieces_alike p s.lefts in
+      let d = piece_alike q s.rights in
+      let R : List Item → Type 0 = λ l. ArePieces g l (c.0 ++ d.0 ∷ []) h in
+      (c.0 ++ d.0 ∷ [], subst R s.whole (more c.1 d.1), append-same c.2 (also d.2 nothing))
+
+  piece_alike : {g h : ℕ} {is js : List Item} {a : Tree} → IsPiece g is a h → Alike is js → (b : Tree) × IsPiece g js b h × Same a b
+  piece_alike (byte {members = m}) (next one empty) = (t.set m, byte, same)
+  piece_alike byte (next (bytes {n = n}) empty) = (t.set n, byte, sets)
+  piece_alike begin_anchor (next one empty) = (t.begin, begin_anchor, same)
+  piece_alike end_anchor (next one empty) = (t.end, end_anchor, same)
+  piece_alike {g = g} {h = h} (subexpression {is = is} b) a =
+      let o = behind_open a in
+      let s = split is o.2 in
+      let c = alternatives_alike b s.lefts in
+      let R : List Item → Type 0 = λ l. IsPiece g l (t.group (suc g) (alternation c.0)) h in
+      (t.group (suc g) (alternation c.0), subst R (ap (λ (l : List Item). Open ∷ s.left ++ l) (only_close s.rights) ∙ ap (λ (l : List Item). Open ∷ l) s.whole ∙ o.1) (subexpression c.1), groups (alternation-same c.2))
+  piece_alike {g = g} {h = h} (repeated least most {is = is} q) a =
+      let s = split is a in
+      let c = piece_alike q s.lefts in
+      let R : List Item → Type 0 = λ l. IsPiece g l (repetition least most c.0) h in
+      (repetition least most c.0, subst R (ap (λ (l : List Item). s.left ++ l) (only_repeat s.rights) ∙ s.whole) (repeated least most c.1), repetition-same least most c.2)
+
+same_open : (i : Item) (is js : List Item) → ((n : ℕ) → open_groups n is ≡ open_groups n js) → (n : ℕ) → open_groups n (i ∷ is) ≡ open_groups n (i ∷ js)
+same_open (Byte m) is js f n = f n
+same_open Open is js f n = f (suc n)
+same_open Close is js f zero = refl
+same_open Close is js f (suc n) = f n
+same_open Bar is js f n = f n
+same_open (Repeat least most) is js f n = f n
+same_open AtBegin is js f n = f n
+same_open AtEnd is js f n = f n
+
+open_alike : {is js : List Item} → Alike is js → (n : ℕ) → open_groups n is ≡ open_groups n js
+open_alike empty n = refl
+open_alike (next bytes a) n = open_alike a n
+open_alike (next {is = is} {js = js} (one {i = i}) a) n = same_open i is js (open_alike a) n
+
+-- ---- what stands at a place
+
+data AlikeHere : Here → Here → Type 0 where
+  stands : {i j : Item} {n : ℕ} → AlikeItem i j → AlikeHere (Is i n) (Is j n)
+  this : {h : Here} → AlikeHere h h
+
+data AlikeBefore : Option Item → Option Item → Type 0 where
+  nowhere : AlikeBefore None None
+  there : {i j : Item} → AlikeItem i j → AlikeBefore (Some i) (Some j)
+
+list_alike : (f g negated : Bool) (at : ℕ) (l : Listing) (end : Option ℕ) → AlikeHere (list_item (judged f negated at l end)) (list_item (judged g negated at l end))
+list_alike f g negated at (Err x) end = this
+list_alike f g negated at (Ok set) None = this
+list_alike f g negated at (Ok set) (Some behind) = stands bytes
+
+is_alike : {x y : Here} {i : Item} {n : ℕ} → AlikeHere x y → x ≡ Is i n → (j : Item) × (y ≡ Is j n) × AlikeItem i j
+is_alike {i = i} this e = (i, e, one)
+is_alike {i = i} {n = n} (stands {i = k} {j = j} {n = m} a) e =
+    let items : k ≡ i = cc in
+    let places : m ≡ n = cc in
+    (j, ap (λ (p : ℕ). Is j p) places, subst (λ (x : Item). AlikeItem x j) items a)
+
+ends_alike : {x y : Here} → AlikeHere x y → x ≡ Ends → y ≡ Ends
+ends_alike this e = e
+ends_alike (stands a) e = absurd cc
+
+bad_alike : {x y : Here} {r : ExprFault} → AlikeHere x y → x ≡ Bad r → y ≡ Bad r
+bad_alike this e = e
+bad_alike (stands a) e = absurd cc
+
+close_alike : {j : Item} → AlikeItem Close j → j ≡ Close
+close_alike one = refl
+
+module _ (kind : Kind) (f g : Bool) (delimiter : Option ℕ) (text : List ℕ) where
+  folded_for : (before : Option Item) (at : ℕ) (s : Option (Symbol × ℕ)) → AlikeHere (item_for kind f delimiter text before at s) (item_for kind g delimiter text before at s)
+  unfolding list_at
+  folded_for before at None = this
+  folded_for before at (Some (Literal b, n)) = stands bytes
+  folded_for before at (Some (AnyByte, n)) = this
+  folded_for before at (Some (Opening, n)) = this
+  folded_for before at (Some (Closing, n)) = this
+  folded_for before at (Some (Parting, n)) = this
+  folded_for before at (Some (Star, n)) = this
+  folded_for before at (Some (Plus, n)) = this
+  folded_for before at (Some (Question, n)) = this
+  folded_for before at (Some (Interval, n)) = this
+  folded_for before at (Some (IntervalEnd, n)) = this
+  folded_for before at (Some (BracketOpening, n)) =
+      list_alike f g (is_negated (drop (at + 1) text)) at (listed (items_behind delimiter (at + 1) (drop (at + 1) text)).0) (items_behind delimiter (at + 1) (drop (at + 1) text)).1
+  folded_for before at (Some (Caret, n)) = this
+  folded_for before at (Some (Dollar, n)) = this
+  folded_for before at (Some (Unknown reason, n)) = this
+
+  behind_byte : (m n : List Bool) (at : ℕ) (s : Option (Symbol × ℕ)) → item_for kind g delimiter text (Some (Byte m)) at s ≡ item_for kind g delimiter text (Some (Byte n)) at s
+  behind_byte m n at None = refl
+  behind_byte m n at (Some (Literal b, k)) = refl
+  behind_byte m n at (Some (AnyByte, k)) = refl
+  behind_byte m n at (Some (Opening, k)) = refl
+  behind_byte m n at (Some (Closing, k)) = refl
+  behind_byte m n at (Some (Parting, k)) = refl
+  behind_byte m n at (Some (Star, k)) = refl
+  behind_byte m n at (Some (Plus, k)) = refl
+  behind_byte m n at (Some (Question, k)) = refl
+  behind_byte m n at (Some (Interval, k)) = refl
+  behind_byte m n at (Some (IntervalEnd, k)) = refl
+  behind_byte m n at (Some (BracketOpening, k)) = refl
+  behind_byte m n at (Some (Caret, k)) = refl
+  behind_byte m n at (Some (Dollar, k)) = refl
+  behind_byte m n at (Some (Unknown reason, k)) = refl
+
+  here_alike : {before after : Option Item} (at : ℕ) → AlikeBefore before after → AlikeHere (item_at kind f delimiter text before at) (item_at kind g delimiter text after at)
+  unfolding item_at
+  here_alike at nowhere = folded_for None at (symbol kind delimiter (drop at text))
+  here_alike at (there (one {i = i})) = folded_for (Some i) at (symbol kind delimiter (drop at text))
+  here_alike at (there (bytes {m = m} {n = n})) =
+      let s = symbol kind delimiter (drop at text) in
+      subst (λ (h : Here). AlikeHere (item_for kind f delimiter text (Some (Byte m)) at s) h) (behind_byte m n at s) (folded_for (Some (Byte m)) at s)
+
+  record CutAlike (before after : Option Item) (at : ℕ) (is : List Item) (to : ℕ) : Type 0 where
+    pub items : List Item
+    pub cut : Cut kind g delimiter text after at items to
+    pub alike : Alike is items
+    pub last : AlikeBefore (last_of before is) (last_of after items)
+
+  cut_alike : {before after : Option Item} {at to : ℕ} {is : List Item} → Cut kind f delimiter text before at is to → AlikeBefore before after → CutAlike before after at is to
+  cut_alike done b = record { items = []; cut = done; alike = empty; last = b }
+  cut_alike {at = at} (item e c) b =
+      let h = is_alike (here_alike at b) e in
+      let r = cut_alike c (there h.2) in
+      record { items = h.0 ∷ r.items; cut = item h.1 r.cut; alike = next h.2 r.alike; last = r.last }
+
+  row_alike : {max_nodes opened to place : ℕ} {reason : Reason} {is js : List Item} → Alike is js → AlikeBefore (last_of None is) (last_of None js) →
+      Row kind f delimiter text max_nodes is opened to place reason → Row kind g delimiter text max_nodes js opened to place reason
+  row_alike {to = to} a b (bad e) = bad (bad_alike (here_alike to b) e)
+  row_alike {to = to} a b (stray {next = n} e) =
+      let h = is_alike (here_alike to b) e in
+      stray (h.1 ∙ ap (λ (j : Item). Is j n) (close_alike h.2))
+  row_alike {to = to} a b (unclosed e) = unclosed (ends_alike (here_alike to b) e)
+  row_alike {to = to} a b (deep bs e r d) =
+      let c = alternatives_alike r a in
+      let s : depth (alternation bs) ≡ depth (alternation c.0) = depth-same (alternation-same c.2) in
+      deep c.0 (ends_alike (here_alike to b) e) c.1 (omega (arith, d, s))
+  row_alike {to = to} a b (large bs e r d n) =
+      let c = alternatives_alike r a in
+      let s : depth (alternation bs) ≡ depth (alternation c.0) = depth-same (alternation-same c.2) in
+      let k : size (alternation bs) ≡ size (alternation c.0) = size-same (alternation-same c.2) in
+      large c.0 (ends_alike (here_alike to b) e) c.1 (omega (arith, d, s)) (omega (arith, n, k))
+
+  -- a fault is one whether case is folded or not
+  pub faulty_alike : {max_nodes place : ℕ} {reason : Reason} → ExprFaulty kind f delimiter text max_nodes place reason → ExprFaulty kind g delimiter text max_nodes place reason
+  faulty_alike x =
+      let c = cut_alike x.cut nowhere in
+      record { items = c.items; to = x.to; cut = c.cut; opened = x.opened; balanced = sym (open_alike c.alike 0) ∙ x.balanced; row = row_alike c.alike c.last x.row }
