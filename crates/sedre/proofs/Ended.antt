@@ -13,7 +13,7 @@ use Rattle.sedre.specs.declared.syntax.Item.TheVariants.{Byte, Open, Close, Bar,
 use Rattle.sedre.specs.Items.{item_at}
 use Rattle.sedre.specs.Tree.{Tree, size, depth}
 use Rattle.sedre.specs.Arena.{Written, tree, IsExpr}
-use Rattle.sedre.specs.Grammar.{ReadsAs, ExprFaulty}
+use Rattle.sedre.specs.Grammar.{ReadsAs, FaultyWith}
 use Rattle.sedre.specs.Stacks.{State, CanTake, whole, Stored, postorder, written, part_of}
 use Rattle.sedre.specs.Finished.{Numbered, IsFinished, IsOverLimit}
 use Rattle.sedre.proofs.Written.{length-postorder}
@@ -41,6 +41,10 @@ if_err P Q (Err e) f p = f e p
 pub ok_on : {A E : Type 0} (P : A → Type 0) (Q : Type 0) (r : Result A E) → ((x : A) → P x → Q) → IfOk r P → OnOk r Q
 ok_on P Q (Ok x) f p = f x p
 ok_on P Q (Err e) f p = tt
+
+pub ok_of : {A E P Q : Type 0} (r : Result A E) → OnOk r P → (P → Q) → OnOk r Q
+ok_of (Ok x) p f = f p
+ok_of (Err e) p f = tt
 
 -- a list of length 0
 pub no_length : {A : Type 0} (ls : List A) → length ls ≡ 0 → ls ≡ []
@@ -100,17 +104,17 @@ module _ (kind : Kind) (folded : Bool) (delimiter : Option ℕ) (text : List ℕ
       subst (λ (g : ℕ). R (tree e) g) (sym d.groups) (subst (λ (t : Tree). R t s.opened) (sym d.tree_is) (reading_whole kind folded delimiter text r f none))
 
   pub finished_no_fault : {before : Option Item} {at : ℕ} (s : State) (max_nodes : ℕ) (e : Written) → Reading kind folded delimiter text before at s → item_at kind folded delimiter text before at ≡ Ends → s.below ≡ [] →
-      IsFinished s (max_nodes + 1) e → (place : ℕ) (reason : Reason) → ExprFaulty kind folded delimiter text max_nodes place reason → ⊥
+      IsFinished s (max_nodes + 1) e → (place : ℕ) (reason : Reason) → FaultyWith kind folded delimiter text max_nodes place reason → ⊥
   finished_no_fault s max_nodes e r f none d place reason = no_fault kind folded delimiter text (reading_whole kind folded delimiter text r f none) d.shallow (omega (arith, d.small))
 
   pub over_limit : {before : Option Item} {at : ℕ} (s : State) (max_nodes : ℕ) (fault : ExprFault) → Reading kind folded delimiter text before at s → item_at kind folded delimiter text before at ≡ Ends → s.below ≡ [] →
-      IsOverLimit s (max_nodes + 1) (length text) fault ⊎ (fault ≡ NO_MEMORY) → ExprFaulty kind folded delimiter text max_nodes fault.place fault.reason ⊎ (fault ≡ NO_MEMORY)
+      IsOverLimit s (max_nodes + 1) (length text) fault ⊎ (fault ≡ NO_MEMORY) → FaultyWith kind folded delimiter text max_nodes fault.place fault.reason ⊎ (fault ≡ NO_MEMORY)
   over_limit s max_nodes fault r f none (inr m) = inr m
   over_limit s max_nodes fault r f none (inl (inl d)) =
-      let F : ExprFault → Type 0 = λ x. ExprFaulty kind folded delimiter text max_nodes x.place x.reason in
+      let F : ExprFault → Type 0 = λ x. FaultyWith kind folded delimiter text max_nodes x.place x.reason in
       inl (subst F (sym d.0) ((reading_limits kind folded delimiter text max_nodes r f none).0 d.1))
   over_limit s max_nodes fault r f none (inl (inr d)) =
-      let F : ExprFault → Type 0 = λ x. ExprFaulty kind folded delimiter text max_nodes x.place x.reason in
+      let F : ExprFault → Type 0 = λ x. FaultyWith kind folded delimiter text max_nodes x.place x.reason in
       inl (subst F (sym d.0) ((reading_limits kind folded delimiter text max_nodes r f none).1 d.1 (omega (arith, d.2))))
 
 -- a fault at the end

@@ -8,7 +8,7 @@ use Rattle.sedre.specs.declared.syntax.Item.TheVariants.{Byte, Open, Close, Bar,
 use Rattle.sedre.specs.Tree.{Tree, size, depth}
 use Rattle.sedre.specs.Repeats.{concatenation, alternation}
 use Rattle.sedre.specs.Items.{item_at}
-use Rattle.sedre.specs.Grammar.{AreAlternatives, ArePieces, IsPiece, first, another, none, more, byte, begin_anchor, end_anchor, subexpression, repeated, Cut, done, item, last_of, open_groups, ReadsAs, Row, bad, stray, unclosed, deep, large, ExprFaulty}
+use Rattle.sedre.specs.Grammar.{AreAlternatives, ArePieces, IsPiece, first, another, none, more, byte, begin_anchor, end_anchor, subexpression, repeated, Cut, done, item, last_of, open_groups, ReadsAs, Row, bad, stray, unclosed, deep, large, FaultyWith}
 use Rattle.sedre.specs.Stacks.{State}
 use Rattle.sedre.proofs.Complete.{alternatives_read, at as state_at}
 
@@ -130,7 +130,7 @@ module _ (kind : Kind) (folded : Bool) (delimiter : Option ℕ) (text : List ℕ
 
   -- what reads as an expression within the limits has no fault
   pub no_fault : {max_nodes place groups : ℕ} {reason : Reason} {t : Tree} → ReadsAs kind folded delimiter text t groups → depth t ≤ 600 → size t ≤ max_nodes →
-      ExprFaulty kind folded delimiter text max_nodes place reason → ⊥
+      FaultyWith kind folded delimiter text max_nodes place reason → ⊥
   no_fault {max_nodes = max_nodes} {t = t} r shallow small f =
       let D : Tree → Type 0 = λ x. depth x ≤ 600 in
       let S : Tree → Type 0 = λ x. size x ≤ max_nodes in

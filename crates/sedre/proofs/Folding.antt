@@ -1,9 +1,10 @@
 -- What is a fault doesn't depend on whether case is folded: items and trees are the same but for the sets in them.
-use Rattle.std.proofs.Common.{◌≡◌, ℕ, zero, suc, ◌+◌, ◌-◌, false, Bool, List, [], ◌∷◌, ◌++◌, drop, Option, Some, None, Ok, Err, refl, ap, subst, sym, ◌∙◌, arith}
+use Rattle.std.proofs.Common.{◌≡◌, ◌⊎◌, inl, inr, ℕ, zero, suc, ◌+◌, ◌-◌, false, Bool, List, [], ◌∷◌, ◌++◌, drop, Option, Some, None, Ok, Err, refl, ap, subst, sym, ◌∙◌, arith}
 use Rattle.std.specs.Prelude.{nat_eq}
 use Rattle.sedre.specs.declared.types.Kind.{Kind}
 use Rattle.sedre.specs.declared.types.Reason.{Reason}
 use Rattle.sedre.specs.declared.types.ExprFault.{ExprFault}
+use Rattle.sedre.specs.declared.types.TheConstants.{NO_MEMORY}
 use Rattle.sedre.specs.declared.syntax.Symbol.{Symbol}
 use Rattle.sedre.specs.declared.syntax.Symbol.TheVariants.{Literal, AnyByte, Opening, Closing, Parting, Star, Plus, Question, Interval, IntervalEnd, BracketOpening, Caret, Dollar, Unknown}
 use Rattle.sedre.specs.declared.syntax.Here.{Here}
@@ -16,7 +17,7 @@ use Rattle.sedre.specs.Repeats.{concatenation, alternation, copies, optional, fu
 use Rattle.sedre.specs.Brackets.{Listing, judged, list_at, listed, items_behind, is_negated}
 use Rattle.sedre.specs.Symbols.{symbol}
 use Rattle.sedre.specs.Items.{item_at, item_for, list_item}
-use Rattle.sedre.specs.Grammar.{AreAlternatives, ArePieces, IsPiece, first, another, none, more, byte, begin_anchor, end_anchor, subexpression, repeated, Cut, done, item, last_of, open_groups, Row, bad, stray, unclosed, deep, large, ExprFaulty}
+use Rattle.sedre.specs.Grammar.{AreAlternatives, ArePieces, IsPiece, first, another, none, more, byte, begin_anchor, end_anchor, subexpression, repeated, Cut, done, item, last_of, open_groups, Row, bad, stray, unclosed, deep, large, FaultyWith}
 
 -- ---- trees
 
@@ -289,7 +290,11 @@ module _ (kind : Kind) (f g : Bool) (delimiter : Option ℕ) (text : List ℕ) w
       large c.0 (ends_alike (here_alike to b) e) c.1 (omega (arith, d, s)) (omega (arith, n, k))
 
   -- a fault is one whether case is folded or not
-  pub faulty_alike : {max_nodes place : ℕ} {reason : Reason} → ExprFaulty kind f delimiter text max_nodes place reason → ExprFaulty kind g delimiter text max_nodes place reason
+  pub faulty_alike : {max_nodes place : ℕ} {reason : Reason} → FaultyWith kind f delimiter text max_nodes place reason → FaultyWith kind g delimiter text max_nodes place reason
   faulty_alike x =
       let c = cut_alike x.cut nowhere in
       record { items = c.items; to = x.to; cut = c.cut; opened = x.opened; balanced = sym (open_alike c.alike 0) ∙ x.balanced; row = row_alike c.alike c.last x.row }
+
+  pub fault_alike : {max_nodes : ℕ} (x : ExprFault) → FaultyWith kind f delimiter text max_nodes x.place x.reason ⊎ (x ≡ NO_MEMORY) → FaultyWith kind g delimiter text max_nodes x.place x.reason ⊎ (x ≡ NO_MEMORY)
+  fault_alike x (inl h) = inl (faulty_alike h)
+  fault_alike x (inr e) = inr e

@@ -9,7 +9,7 @@ use Rattle.sedre.specs.declared.syntax.Item.TheVariants.{Byte, Open, Close, Bar,
 use Rattle.sedre.specs.Tree.{Tree, set, size, depth}
 use Rattle.sedre.specs.Repeats.{alternation, repetition}
 use Rattle.sedre.specs.Items.{item_at, is_repeatable}
-use Rattle.sedre.specs.Grammar.{none, byte, begin_anchor, end_anchor, Cut, done, item, last_of, open_groups, ReadsAs, bad, stray, unclosed, deep, large, ExprFaulty}
+use Rattle.sedre.specs.Grammar.{none, byte, begin_anchor, end_anchor, Cut, done, item, last_of, open_groups, ReadsAs, bad, stray, unclosed, deep, large, FaultyWith}
 use Rattle.sedre.specs.Stacks.{Level, State, start, step, with_last, all_alternatives}
 use Rattle.sedre.proofs.Sound.{Stands, base, only as only_pieces, stands_piece, stands_bar, stands_repeat, stands_open, stands_close, stands_whole}
 use Rattle.sedre.proofs.Exclusive.{open-append, go_on}
@@ -94,29 +94,29 @@ module _ (kind : Kind) (folded : Bool) (delimiter : Option ℕ) (text : List ℕ
 
   -- the faults
   pub reading_bad : {before : Option Item} {at : ℕ} {s : State} {place : ℕ} {reason : Reason} (max_nodes : ℕ) → Reading kind folded delimiter text before at s →
-      item_at kind folded delimiter text before at ≡ Bad (record { place = place; reason = reason }) → ExprFaulty kind folded delimiter text max_nodes place reason
+      item_at kind folded delimiter text before at ≡ Bad (record { place = place; reason = reason }) → FaultyWith kind folded delimiter text max_nodes place reason
   reading_bad {at = at} {s = s} max_nodes r f =
       record { items = r.items; to = at; cut = r.cut; opened = length s.below; balanced = r.balanced; row = bad (ap (λ (x : Option Item). item_at kind folded delimiter text x at) r.last ∙ f) }
 
   pub reading_stray : {before : Option Item} {at next : ℕ} {s : State} (max_nodes : ℕ) → Reading kind folded delimiter text before at s →
-      item_at kind folded delimiter text before at ≡ Is Close next → s.below ≡ [] → ExprFaulty kind folded delimiter text max_nodes at StrayClose
+      item_at kind folded delimiter text before at ≡ Is Close next → s.below ≡ [] → FaultyWith kind folded delimiter text max_nodes at StrayClose
   reading_stray {at = at} max_nodes r f e =
       record { items = r.items; to = at; cut = r.cut; opened = 0; balanced = r.balanced ∙ ap (λ (x : List Level). Some (length x)) e; row = stray (ap (λ (x : Option Item). item_at kind folded delimiter text x at) r.last ∙ f) }
 
   pub reading_unclosed : {before : Option Item} {at : ℕ} {s : State} (max_nodes : ℕ) → Reading kind folded delimiter text before at s →
-      item_at kind folded delimiter text before at ≡ Ends → 0 < length s.below → ExprFaulty kind folded delimiter text max_nodes (length text) OpenGroup
+      item_at kind folded delimiter text before at ≡ Ends → 0 < length s.below → FaultyWith kind folded delimiter text max_nodes (length text) OpenGroup
   reading_unclosed {at = at} {s = s} max_nodes r f more_than =
       let f' = ap (λ (x : Option Item). item_at kind folded delimiter text x at) r.last ∙ f in
       by_levels s.below r.balanced more_than f'
     where
-      by_levels : (ls : List Level) → open_groups 0 r.items ≡ Some (length ls) → 0 < length ls → item_at kind folded delimiter text (last_of None r.items) at ≡ Ends → ExprFaulty kind folded delimiter text max_nodes (length text) OpenGroup
+      by_levels : (ls : List Level) → open_groups 0 r.items ≡ Some (length ls) → 0 < length ls → item_at kind folded delimiter text (last_of None r.items) at ≡ Ends → FaultyWith kind folded delimiter text max_nodes (length text) OpenGroup
       by_levels [] o h g = absurd (omega (arith, h))
       by_levels (k ∷ ks) o h g = record { items = r.items; to = at; cut = r.cut; opened = suc (length ks); balanced = o; row = unclosed g }
 
   pub reading_limits : {before : Option Item} {at : ℕ} {s : State} (max_nodes : ℕ) → Reading kind folded delimiter text before at s →
       item_at kind folded delimiter text before at ≡ Ends → s.below ≡ [] →
-      (600 < depth (alternation (all_alternatives s.top)) → ExprFaulty kind folded delimiter text max_nodes (length text) TooDeep)
-      × (depth (alternation (all_alternatives s.top)) ≤ 600 → max_nodes < size (alternation (all_alternatives s.top)) → ExprFaulty kind folded delimiter text max_nodes (length text) TooManyNodes)
+      (600 < depth (alternation (all_alternatives s.top)) → FaultyWith kind folded delimiter text max_nodes (length text) TooDeep)
+      × (depth (alternation (all_alternatives s.top)) ≤ 600 → max_nodes < size (alternation (all_alternatives s.top)) → FaultyWith kind folded delimiter text max_nodes (length text) TooManyNodes)
   unfolding reading_whole
   reading_limits {at = at} {s = s} max_nodes r f e =
       let w = reading_whole r f e in

@@ -1,6 +1,6 @@
 -- The grammar of expressions over items (XBD 9.5.2, 9.5.3): a text is alternatives, an alternative is pieces, a piece
 -- is an atom with its repetitions; and the first fault of a text that is none.
-use Rattle.std.specs.Prelude.{◌≡◌, ℕ, zero, suc, List, [], ◌∷◌, ◌++◌, length, ◌<◌, ◌≤◌, Bool, Option, Some, None}
+use Rattle.std.specs.Prelude.{◌≡◌, ℕ, zero, suc, List, [], ◌∷◌, ◌++◌, length, ◌<◌, ◌≤◌, Bool, false, Option, Some, None}
 use Rattle.sedre.specs.declared.syntax.Item.{Item}
 use Rattle.sedre.specs.declared.syntax.Item.TheVariants.{Byte, Open, Close, Bar, Repeat, AtBegin, AtEnd}
 use Rattle.sedre.specs.declared.types.Kind.{Kind}
@@ -98,9 +98,9 @@ pub data Row (kind : Kind) (folded : Bool) (delimiter : Option ℕ) (text : List
       depth (alternation bs) ≤ 600 → max_nodes < size (alternation bs) →
       Row kind folded delimiter text max_nodes is 0 to (length text) TooManyNodes
 
--- the first fault of the text has this place and reason: what stands before it is cut into items, and each closing
--- there has its opening
-pub record ExprFaulty (kind : Kind) (folded : Bool) (delimiter : Option ℕ) (text : List ℕ) (max_nodes place : ℕ)
+-- the first fault of the text, read in one way, has this place and reason: what stands before it is cut into items, and each
+-- closing there has its opening
+pub record FaultyWith (kind : Kind) (folded : Bool) (delimiter : Option ℕ) (text : List ℕ) (max_nodes place : ℕ)
     (reason : Reason) : Type 0 where
   pub items : List Item
   pub to : ℕ
@@ -108,3 +108,7 @@ pub record ExprFaulty (kind : Kind) (folded : Bool) (delimiter : Option ℕ) (te
   pub opened : ℕ
   pub balanced : open_groups 0 items ≡ Some opened
   pub row : Row kind folded delimiter text max_nodes items opened to place reason
+
+-- the first fault of the text; whether case is folded makes no difference to it
+abbrev pub ExprFaulty : Kind → Option ℕ → List ℕ → (max_nodes place : ℕ) → Reason → Type 0
+ExprFaulty kind = FaultyWith kind false

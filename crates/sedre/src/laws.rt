@@ -12,18 +12,10 @@ pub fn reads_as_one()
         (one ≡ other) × (groups ≡ more) }
 {}
 
-/// A text that reads as an expression within the limits has no fault.
+/// A text that reads as an expression within the limits, where case counts or is folded, has no fault.
 pub fn reads_without_fault()
     ensures { (kind : Kind) (folded : Bool) (delimiter : Option ℕ) (text : List ℕ) (expression : Tree)
         (groups max_nodes place : ℕ) (reason : Reason) →
         ReadsAs kind folded delimiter text expression groups → depth expression ≤ 600 → size expression ≤ max_nodes →
-        ExprFaulty kind folded delimiter text max_nodes place reason → ⊥ }
-{}
-
-/// What is a fault, and where, doesn't depend on whether case is folded.
-pub fn faults_in_either_case()
-    ensures { (kind : Kind) (folded other : Bool) (delimiter : Option ℕ) (text : List ℕ) (max_nodes place : ℕ)
-        (reason : Reason) →
-        ExprFaulty kind folded delimiter text max_nodes place reason →
-        ExprFaulty kind other delimiter text max_nodes place reason }
+        ExprFaulty kind delimiter text max_nodes place reason → ⊥ }
 {}

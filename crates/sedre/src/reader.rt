@@ -2,7 +2,7 @@
 ghost use Rattle.std.specs.Prelude.{◌≡◌, ◌≢◌, true, false, ◌≤◌, ◌<◌, ◌⊎◌, [], ℕ, Some, length, OnOk, IfOk, IfErr, vec_len};
 ghost use Rattle.std.specs.Bool.{OnTrue, OnFalse};
 ghost use Rattle.sedre.specs.declared.types.Reason.{Reason};
-ghost use Rattle.sedre.specs.Grammar.{ReadsAs, ExprFaulty};
+ghost use Rattle.sedre.specs.Grammar.{ReadsAs, FaultyWith, ExprFaulty};
 ghost use Rattle.sedre.specs.Arena.{tree};
 ghost use Rattle.sedre.specs.Tree.{size};
 ghost use Rattle.sedre.specs.Stacks.{State, Represents, whole};
@@ -79,9 +79,9 @@ fn read_with(
     ensures reads { IfOk result (λ e. ReadsAs kind folded delimiter text.now (tree e) e.groups) }
     ensures size { IfOk result (λ e. (length e.nodes ≡ size (tree e)) × (length e.nodes ≤ max_nodes)) }
     ensures no_fault { OnOk result ((place : ℕ) (reason : Reason) →
-        ExprFaulty kind folded delimiter text.now max_nodes place reason → ⊥) }
+        FaultyWith kind folded delimiter text.now max_nodes place reason → ⊥) }
     ensures fault { IfErr result (λ f.
-        ExprFaulty kind folded delimiter text.now max_nodes f.place f.reason ⊎ (f ≡ NO_MEMORY)) }
+        FaultyWith kind folded delimiter text.now max_nodes f.place f.reason ⊎ (f ≡ NO_MEMORY)) }
     ensures within { IfErr result (λ f. f.place ≤ length text.now) }
 {
     let mut builder = Builder::new(alloc, max_nodes + 1);
@@ -138,10 +138,10 @@ pub fn read(
     ensures size { IfOk result (λ e. (length e.nodes ≡ size (tree e)) × (length e.nodes ≤ max_nodes)) }
     // No fault is passed over.
     ensures no_fault { OnOk result ((place : ℕ) (reason : Reason) →
-        ExprFaulty kind false delimiter text.now max_nodes place reason → ⊥) }
+        ExprFaulty kind delimiter text.now max_nodes place reason → ⊥) }
     // A fault is the first one of the text, or memory was wanting.
     ensures fault { IfErr result (λ f.
-        ExprFaulty kind false delimiter text.now max_nodes f.place f.reason ⊎ (f ≡ NO_MEMORY)) }
+        ExprFaulty kind delimiter text.now max_nodes f.place f.reason ⊎ (f ≡ NO_MEMORY)) }
     // A fault is reported in the text or at its end.
     ensures within { IfErr result (λ f. f.place ≤ length text.now) }
 {
@@ -167,10 +167,10 @@ pub fn read_folded(
     ensures size { IfOk result (λ e. (length e.nodes ≡ size (tree e)) × (length e.nodes ≤ max_nodes)) }
     // No fault is passed over.
     ensures no_fault { OnOk result ((place : ℕ) (reason : Reason) →
-        ExprFaulty kind true delimiter text.now max_nodes place reason → ⊥) }
+        ExprFaulty kind delimiter text.now max_nodes place reason → ⊥) }
     // A fault is the first one of the text, or memory was wanting.
     ensures fault { IfErr result (λ f.
-        ExprFaulty kind true delimiter text.now max_nodes f.place f.reason ⊎ (f ≡ NO_MEMORY)) }
+        ExprFaulty kind delimiter text.now max_nodes f.place f.reason ⊎ (f ≡ NO_MEMORY)) }
     // A fault is reported in the text or at its end.
     ensures within { IfErr result (λ f. f.place ≤ length text.now) }
 {

@@ -106,7 +106,7 @@ not_memory : (r : ExprReason) → is_no_memory r ≡ false → r ≡ NoMemory �
 not_memory r e is = let g : true ≡ false = sym (ap is_no_memory is) ∙ e in cc
 
 fails_in_script : {A : Type 0} (text : List ℕ) (kind : Kind) (m : ℕ) (p : Pattern) (k : ℕ → Reading A) (f : ExprFault) (b : Bool) → is_no_memory f.reason ≡ b →
-    ExprFaulty kind p.folded (Some p.delimiter) (part text p.from p.to) m f.place f.reason ⊎ (f ≡ no_expr_memory) →
+    ExprFaulty kind (Some p.delimiter) (part text p.from p.to) m f.place f.reason ⊎ (f ≡ no_expr_memory) →
     Fails text kind m (expression p k) (if b then NO_MEMORY else in_script p.from f) ⊎ ((if b then NO_MEMORY else in_script p.from f) ≡ NO_MEMORY)
 fails_in_script text kind m p k f true is h = inr refl
 fails_in_script text kind m p k f false is (inl h) = inl (no_expression {f = f} h)
@@ -114,7 +114,7 @@ fails_in_script text kind m p k f false is (inr e) = absurd (not_memory f.reason
 
 -- a fault of the reader of expressions, in the script
 pub fails_as_read : {A : Type 0} (text : List ℕ) (kind : Kind) (m : ℕ) (p : Pattern) (k : ℕ → Reading A) (f : ExprFault) →
-    ExprFaulty kind p.folded (Some p.delimiter) (part text p.from p.to) m f.place f.reason ⊎ (f ≡ no_expr_memory) →
+    ExprFaulty kind (Some p.delimiter) (part text p.from p.to) m f.place f.reason ⊎ (f ≡ no_expr_memory) →
     Fails text kind m (expression p k) (fault_of p.from f) ⊎ (fault_of p.from f ≡ NO_MEMORY)
 fails_as_read text kind m p k f h = fails_in_script text kind m p k f (is_no_memory f.reason) refl h
 

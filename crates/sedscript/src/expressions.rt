@@ -48,10 +48,10 @@ fn expression_between(
         ReadsAs source.now.kind folded (Some delimiter) (part source.now.text.now from to) (tree e) e.groups) }
     ensures fits { IfOk result (λ e. length e.nodes ≤ source.now.max_nodes) }
     ensures no_fault { OnOk result ((place : ℕ) (reason : ExprReason) →
-        ExprFaulty source.now.kind folded (Some delimiter) (part source.now.text.now from to) source.now.max_nodes
+        ExprFaulty source.now.kind (Some delimiter) (part source.now.text.now from to) source.now.max_nodes
         place reason → ⊥) }
     ensures fault { IfErr result (λ f.
-        ExprFaulty source.now.kind folded (Some delimiter) (part source.now.text.now from to) source.now.max_nodes
+        ExprFaulty source.now.kind (Some delimiter) (part source.now.text.now from to) source.now.max_nodes
         f.place f.reason ⊎ (f ≡ NO_EXPR_MEMORY)) }
     ensures within { IfErr result (λ f. from + f.place ≤ to) }
 {
