@@ -38,8 +38,9 @@ mutual
     repeated : {g h : ℕ} (least : ℕ) (most : Option ℕ) {is : List Item} {t : Tree} →
         IsPiece g is t h → IsPiece g (is ++ Repeat least most ∷ []) (repetition least most t) h
 
--- the text is cut into these items, from one place, behind an item, up to another
-pub data Cut (kind : Kind) (folded : Bool) (delimiter : Option ℕ) (text : List ℕ) : Option Item → ℕ → List Item → ℕ → Type 0 where
+-- the text is cut into these items, from one place, behind an item, up to another, where case counts or is folded
+pub data Cut (kind : Kind) (folded : Bool) (delimiter : Option ℕ) (text : List ℕ) :
+    Option Item → ℕ → List Item → ℕ → Type 0 where
   done : {before : Option Item} {at : ℕ} → Cut kind folded delimiter text before at [] at
   item : {before : Option Item} {at next to : ℕ} {i : Item} {is : List Item} →
       item_at kind folded delimiter text before at ≡ Is i next → Cut kind folded delimiter text (Some i) next is to →
@@ -62,8 +63,9 @@ open_groups n (Repeat least most ∷ is) = open_groups n is
 open_groups n (AtBegin ∷ is) = open_groups n is
 open_groups n (AtEnd ∷ is) = open_groups n is
 
--- the text reads as this expression with so many groups
-pub record ReadsAs (kind : Kind) (folded : Bool) (delimiter : Option ℕ) (text : List ℕ) (e : Tree) (groups : ℕ) : Type 0 where
+-- the text reads as this expression with so many groups, where case counts or is folded (this project's own)
+pub record ReadsAs (kind : Kind) (folded : Bool) (delimiter : Option ℕ) (text : List ℕ) (e : Tree) (groups : ℕ) :
+    Type 0 where
   pub items : List Item
   pub to : ℕ
   pub cut : Cut kind folded delimiter text None 0 items to
@@ -98,8 +100,8 @@ pub data Row (kind : Kind) (folded : Bool) (delimiter : Option ℕ) (text : List
       depth (alternation bs) ≤ 600 → max_nodes < size (alternation bs) →
       Row kind folded delimiter text max_nodes is 0 to (length text) TooManyNodes
 
--- the first fault of the text, read in one way, has this place and reason: what stands before it is cut into items, and each
--- closing there has its opening
+-- the first fault of the text, where case counts or is folded, has this place and reason: what stands before it is cut
+-- into items, and each closing there has its opening
 pub record FaultyWith (kind : Kind) (folded : Bool) (delimiter : Option ℕ) (text : List ℕ) (max_nodes place : ℕ)
     (reason : Reason) : Type 0 where
   pub items : List Item

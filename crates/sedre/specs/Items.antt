@@ -86,8 +86,8 @@ dollar_item Basic true behind = Is AtEnd behind
 dollar_item Basic false behind = Is (Byte (only 36)) behind
 dollar_item Extended last behind = Is AtEnd behind
 
--- what a symbol is, behind an item. Where case is folded, a literal byte stands for both cases of its letter (this project's
--- own); those of * ^ and $ are no letters
+-- what a symbol is, behind an item. Where case is folded, a literal byte stands for both cases of its letter (this
+-- project's own); those of * ^ and $ are no letters
 abbrev pub item_for : Kind → (folded : Bool) → Option ℕ → List ℕ → Option Item → (at : ℕ) → Option (Symbol × ℕ) → Here
 item_for kind folded delimiter text before at None = Ends
 item_for kind folded delimiter text before at (Some (Literal b, n)) = Is (Byte (matching folded (only b))) (at + n)

@@ -1,5 +1,6 @@
 -- Sets of bytes: lists of 256 truth values, one for each byte.
-use Rattle.std.specs.Prelude.{ℕ, ◌+◌, ◌-◌, ◌==◌, List, Bool, true, false, not, ◌&&◌, ◌||◌, if◌then◌else◌, map, nat_le, slice_index_or}
+use Rattle.std.specs.Prelude.{ℕ, ◌+◌, ◌-◌, ◌==◌, List, Bool, true, false, not, ◌&&◌, ◌||◌, if◌then◌else◌, map, nat_le}
+use Rattle.std.specs.Prelude.{slice_index_or}
 use Rattle.std.specs.List.{range_with_len}
 
 -- the bytes that pass a test
@@ -33,8 +34,8 @@ union these those = set_of (λ c. has these c || has those c)
 abbrev pub other_case : ℕ → ℕ
 other_case c = if between 65 90 c then c + 32 else if between 97 122 c then c - 32 else c
 
--- a set closed under the change of ASCII case: a byte is in it where the byte, or the letter that differs from it in case
--- alone, is in the set
+-- a set closed under the change of ASCII case: a byte is in it where the byte, or the letter that differs from it in its
+-- case alone, is in the set
 abbrev pub folded_set : List Bool → List Bool
 folded_set set = set_of (λ c. has set c || has set (other_case c))
 

@@ -7,7 +7,8 @@ ghost use Rattle.sedre.specs.Grammar.{ReadsAs, ExprFaulty};
 
 /// A text reads as one expression, with one number of groups, and as one where case is folded.
 pub fn reads_as_one()
-    ensures { (kind : Kind) (folded : Bool) (delimiter : Option ℕ) (text : List ℕ) (one other : Tree) (groups more : ℕ) →
+    ensures { (kind : Kind) (folded : Bool) (delimiter : Option ℕ) (text : List ℕ) (one other : Tree)
+        (groups more : ℕ) →
         ReadsAs kind folded delimiter text one groups → ReadsAs kind folded delimiter text other more →
         (one ≡ other) × (groups ≡ more) }
 {}

@@ -1,7 +1,8 @@
 //! Regular expressions of both POSIX kinds (XBD 9.3, 9.4), read from bytes and written out as nodes.
 //!
 //! [`read`] and [`read_folded`] go once over the text. Their work grows with the length of the text times `max_nodes`,
-//! their memory with the sum of the two; they use no recursion. [`delimited`] finds where an expression ends in a script.
+//! their memory with the sum of the two; they use no recursion. [`delimited`] finds where an expression ends in a
+//! script.
 #![tactic(auto)]
 
 mod brackets;

@@ -41,7 +41,8 @@ past_flag text at = if folds_at text at then at + 1 else at
 abbrev pub empty_match : List ℕ → ℕ → ℕ → Result Addressed ScriptFault
 empty_match text count at = if folds_at text at then fault FlagOnEmpty at else found (Some (Match None)) at count
 
--- a regular expression behind the delimiter at a place, up to where it ends, with the flag that may stand directly behind it
+-- a regular expression behind the delimiter at a place, up to where it ends, with the flag that may stand directly
+-- behind it
 abbrev pub match_to : List ℕ → ℕ → ℕ → ℕ → Option ℕ → Reading Addressed
 match_to text count delimiter place None = plainly (fault OpenDelimiter place)
 match_to text count delimiter place (Some to) =

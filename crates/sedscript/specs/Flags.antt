@@ -27,8 +27,8 @@ abbrev pub with_number : Flags → ℕ → List ℕ → Result Flags ScriptFault
 with_number f at digits =
     if is_some f.number then fault RepeatedFlag at else numbered f at (with_digits (Some 0) digits)
 
--- the flags with the one of a byte at a place: `g`, `p` or `I`, and none twice (this project's own). `I` (this project's
--- own) may not stand where the regular expression is empty
+-- the flags with the one of a byte at a place: `g`, `p` or `I` (this project's own), and none twice (this project's own).
+-- `I` may not stand where the regular expression is empty
 abbrev pub with_flag : (empty : Bool) → Flags → ℕ → ℕ → Result Flags ScriptFault
 with_flag empty f at b =
     if b == 103
@@ -55,7 +55,8 @@ flags_from text empty f skip at [] = Ok (f, at)
 flags_from text empty f (suc skip) at (b ∷ bs) = flags_from text empty f skip (suc at) bs
 flags_from text empty f zero at (b ∷ bs) =
     if is_digit b
-    then (with_number f at (b ∷ take (run_of Digit bs) bs) >>= λ g. flags_from text empty g (run_of Digit bs) (suc at) bs)
+    then (with_number f at (b ∷ take (run_of Digit bs) bs) >>= λ g.
+    flags_from text empty g (run_of Digit bs) (suc at) bs)
     else if ends_flags b then Ok (f, at)
     else if b == 119 then with_file f at (name_from text (at + 1))
     else (with_flag empty f at b >>= λ g. flags_from text empty g zero (suc at) bs)

@@ -29,7 +29,12 @@ use Rattle.sedscript.specs.Addresses.{Headed, addresses_at, with_bang}
 abbrev pub substitute_with : List ℕ → ℕ → Strings → Reading (Function × ℕ)
 substitute_with text count s =
     if s.middle == s.from then plainly (substituted text s None None)
-    else expression (record { from = s.from; to = s.middle; delimiter = s.delimiter; folded = folds (flags_behind text s false) })
+    else expression (record {
+      from = s.from;
+      to = s.middle;
+      delimiter = s.delimiter;
+      folded = folds (flags_behind text s false);
+    })
     (λ groups. plainly (substituted text s (Some count) (Some groups)))
 
 -- `s`, whose letter stands at a place

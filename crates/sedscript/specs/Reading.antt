@@ -3,8 +3,8 @@
 use Rattle.std.specs.Prelude.{ℕ, Bool, Result, Ok, Err}
 use Rattle.sedscript.specs.declared.types.ScriptFault.{ScriptFault}
 
--- a regular expression in a script: where it begins, where it ends, the delimiter that stands there, and whether its flag `I`
--- makes letters match without regard to case (this project's own)
+-- a regular expression in a script: where it begins, where it ends, the delimiter that stands there, and whether its
+-- flag `I` makes letters match without regard to case (this project's own)
 pub record Pattern : Type 0 where
   pub from : ℕ
   pub to : ℕ

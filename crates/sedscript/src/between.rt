@@ -131,8 +131,8 @@ pub fn transliterate_at(text: &[u8], at: usize) -> Result<(Function, usize), Scr
     ended(text, Function::Transliterate(strings), strings.to + 1)
 }
 
-/// Whether the flags of `s`, whose regular expression isn't empty, make letters match without regard to case. They stand
-/// behind the expression and are looked at before it is read; their faults are told after its own.
+/// Whether the flags of `s`, whose regular expression isn't empty, make letters match without regard to case. They
+/// stand behind the expression and are looked at before it is read; their faults are told after its own.
 pub fn folds(text: &[u8], strings: Strings) -> bool
     requires { strings.to < length text.now }
     ensures { result ≡ folds (flags_behind text.now strings false) }

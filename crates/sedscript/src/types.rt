@@ -12,8 +12,8 @@ pub enum Address {
     Line(u64),
     /// `$`: the last line.
     Last,
-    /// `/RE/` or `\cREc`, with or without the flag `I`: pattern spaces that match the script's regular expression of this number, counted from 0.
-    /// None stands for the empty RE, the one last used.
+    /// `/RE/` or `\cREc`, with or without the flag `I`: pattern spaces that match the script's regular expression of this
+    /// number, counted from 0. None stands for the empty RE, the one last used.
     Match(Option<usize>),
 }
 
