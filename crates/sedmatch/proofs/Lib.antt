@@ -11,6 +11,8 @@ pub mod CostLemmas
 pub mod SweepLemmas
 pub mod RegionLemmas
 pub mod SkipLemmas
+pub mod NeededLemmas
+pub mod NarrowLemmas
 pub mod BytesLemmas
 pub mod SpanLemmas
 pub mod MirrorLemmas

@@ -15,6 +15,7 @@ pub mod Tables
 pub mod Linear
 pub mod Quick
 pub mod Skip
+pub mod Needed
 pub mod Ahead
 pub mod Runs
 pub mod Search

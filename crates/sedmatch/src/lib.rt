@@ -19,6 +19,7 @@ mod groups;
 mod laws;
 mod linear;
 mod matcher;
+mod needed;
 mod passes;
 mod quick;
 mod region;

@@ -4,6 +4,7 @@ ghost use Rattle.sedre.specs.Arena.{tree};
 ghost use Rattle.sedmatch.specs.Fits.{FitsNodes, SameMarks};
 ghost use Rattle.sedmatch.specs.Spans.{Found as IsFound, NotFound, SomeFound};
 ghost use Rattle.sedmatch.specs.Skip.{AllBegin};
+ghost use Rattle.sedmatch.specs.Needed.{IsNeeded};
 ghost use Rattle.sedmatch.specs.Tables.{IsTable, IsCut};
 ghost use Rattle.sedmatch.specs.Reach.{Longest};
 ghost use Rattle.sedmatch.specs.Answer.{span_found};
@@ -17,6 +18,7 @@ use crate::counted::{Bytes, Text};
 use crate::groups::report;
 use crate::linear::{anchored_by, first_end_in, leftmost_by};
 use crate::matcher::{Found, find, find_span};
+use crate::needed::{Needed, find_needed, narrowed};
 use crate::runs::is_sight;
 use crate::scratch::{Scratch, Sets};
 use crate::search::{better, longest_on};
@@ -31,6 +33,7 @@ fn some_by(
     expr: &Expr,
     root: usize,
     begins: &Begins,
+    needed: &Option<Needed>,
     text: &Text,
     from: usize,
     every: &mut Table,
@@ -43,12 +46,13 @@ fn some_by(
     requires short { length text.now ≤ 2 ^ 30 }
     requires from { from ≤ length text.now }
     requires begins { AllBegin (tree expr.now) begins.now }
+    requires needed { IsNeeded (tree expr.now) needed.now }
     requires every { IsTable expr.now.nodes root every.old }
     requires every_sweeps { IsTrue every.old.sweeps }
     requires single { IsTable expr.now.nodes root single.old }
     requires single_sweeps { single.old.sweeps ≡ false }
     requires fits { FitsNodes (length expr.now.nodes) sets.old }
-    requires room { steps.old < 2 ^ 109 }
+    requires room { steps.old < 2 ^ 108 }
     ensures every { IsTable expr.now.nodes root every.new }
     ensures every_sweeps { IsTrue every.new.sweeps }
     ensures single { IsTable expr.now.nodes root single.new }
@@ -60,7 +64,10 @@ fn some_by(
 {
     match begins {
         Begins::AtStart => anchored_by(expr, root, text, from, single, sets, steps).is_some(),
-        _ => some_anywhere(expr, root, begins, text, from, every, sets, steps),
+        _ => match narrowed(needed, text, from, steps) {
+            None => false,
+            Some(start) => some_anywhere(expr, root, begins, text, start, every, sets, steps),
+        },
     }
 }
 
@@ -89,7 +96,7 @@ fn some_anywhere(
     ensures marks { SameMarks sets.old sets.new }
     ensures matches { IsTrue result ↔ SomeFound (tree expr.now) text.now from }
     ensures grows { steps.old ≤ steps.new }
-    ensures cost { steps.new ≤ steps.old + 64 * length expr.now.nodes * (length text.now + 1) }
+    ensures cost { let m = length expr.now.nodes in steps.new ≤ steps.old + 41 * m + 43 * m * length text.now }
 {
     match next_start(begins, text, from, steps) {
         None => false,
@@ -201,6 +208,7 @@ fn find_by(
     expr: &Expr,
     root: usize,
     begins: &Begins,
+    needed: &Option<Needed>,
     text: &Text,
     from: usize,
     every: &mut Table,
@@ -215,6 +223,7 @@ fn find_by(
     requires text_fits { length text.now ≤ scratch.old.text }
     requires expr_fits { length expr.now.nodes ≤ scratch.old.nodes }
     requires begins { AllBegin (tree expr.now) begins.now }
+    requires needed { IsNeeded (tree expr.now) needed.now }
     requires every { IsTable expr.now.nodes root every.old }
     requires every_sweeps { IsTrue every.old.sweeps }
     requires single { IsTable expr.now.nodes root single.old }
@@ -247,7 +256,7 @@ fn find_by(
 {
     let sets = &mut scratch.sets;
     let (start, end) = leftmost_by(
-        expr, root, begins, text, from, every, single, back, sets, steps,
+        expr, root, begins, needed, text, from, every, single, back, sets, steps,
     )?;
     let groups = report(
         expr,
@@ -323,6 +332,7 @@ pub struct TableMatcher {
     expr: Expr,
     root: usize,
     begins: Begins,
+    needed: Option<Needed>,
     // Whether a look at the text tells as much as the tables would.
     sight: bool,
     every: Table,
@@ -339,7 +349,7 @@ impl Model for TableMatcher {
 
     ghost view = { λ m. m.expr };
 
-    ghost invariant = { λ m. IsReady m.expr m.root m.begins m.every m.single m.back };
+    ghost invariant = { λ m. IsReady m.expr m.root m.begins m.needed m.every m.single m.back };
 }
 
 impl TableMatcher {
@@ -369,10 +379,12 @@ impl TableMatcher {
         let back = mirror_table_of(alloc, expr, root, &classes, states)?;
         let mut steps = Steps::new();
         let begins = how_begins(expr, &mut steps);
+        let needed = find_needed(alloc, expr, &mut steps)?;
         Ok(TableMatcher {
             expr: expr.copy(alloc)?,
             root,
             begins,
+            needed,
             sight: root == 0 || is_sight(expr),
             every,
             single,
@@ -410,6 +422,7 @@ impl TableMatcher {
             &self.expr,
             self.root,
             &self.begins,
+            &self.needed,
             text,
             from,
             &mut self.every,
@@ -452,6 +465,7 @@ impl TableMatcher {
             &self.expr,
             self.root,
             &self.begins,
+            &self.needed,
             text,
             from,
             &mut self.every,
@@ -498,6 +512,7 @@ impl TableMatcher {
             &self.expr,
             self.root,
             &self.begins,
+            &self.needed,
             text,
             from,
             &mut self.every,

@@ -4,10 +4,11 @@ use Rattle.sedmatch.proofs.quick.TableMatcher.with_states.Goals as goal
 
 pub invariant_of-result : goal.invariant_of-result
 invariant_of-result c =
-    subst (λ e. IsReady e c.index-root.result c.how_begins-begins.result c.in_ok-every.every c.in_ok-single.single c.in_ok-back.back) (sym c.in_ok-copy.ensures)
+    subst (λ e. IsReady e c.index-root.result c.how_begins-begins.result c.in_ok-needed.needed c.in_ok-every.every c.in_ok-single.single c.in_ok-back.back) (sym c.in_ok-copy.ensures)
     (record {
       whole = omega arith;
       begins_so = c.how_begins-begins.ensures.begins;
+      needed_so = c.in_ok-needed.ensures.needed;
       every_table = c.in_ok-every.ensures.table;
       every_sweeps = c.in_ok-every.ensures.sweeps;
       single_table = c.in_ok-single.ensures.table;
