@@ -1,9 +1,9 @@
 -- A search that begins at the first place at which a match can begin.
-use Rattle.std.proofs.Common.{◌≡◌, ℕ, ◌<◌, ◌≤◌, ◌↔◌, Bool, true, false, List, length, Option, Some, None, IsTrue, sym, subst, ⊎_elim, true≢false, arith}
+use Rattle.std.proofs.Common.{ℕ, ◌<◌, ◌≤◌, ◌↔◌, Bool, false, List, Option, Some, None, IsTrue, sym, ⊎_elim, true≢false, arith}
 use Rattle.std.specs.Prelude.{IfNone}
 use Rattle.std.proofs.lemmas.Bool.{cases_lt}
 use Rattle.sedre.specs.Tree.{Tree}
-use Rattle.sedmatch.specs.Spans.{Spans, NotFound, SomeFound}
+use Rattle.sedmatch.specs.Spans.{NotFound, SomeFound}
 use Rattle.sedmatch.specs.Search.{NoneIn}
 
 -- what follows where there is nothing

@@ -1,5 +1,5 @@
 -- Literals that the spans of an expression hold.
-use Rattle.std.proofs.Common.{◌≡◌, ℕ, ◌+◌, ◌-◌, ◌<◌, ◌≤◌, ◌⊎◌, Bool, false, List, [], ◌∷◌, ◌++◌, length, get_or, take, drop, Option, Some, None, IsTrue, refl, sym, ap, ◌∙◌, subst, inl, inr, ⊎_elim, true≢false, arith, length-append, length-drop}
+use Rattle.std.proofs.Common.{◌≡◌, ℕ, ◌+◌, ◌-◌, ◌<◌, ◌≤◌, ◌⊎◌, Bool, false, List, [], ◌∷◌, ◌++◌, length, take, drop, Option, Some, None, IsTrue, refl, sym, ap, ◌∙◌, subst, inl, inr, ⊎_elim, true≢false, arith, length-append, length-drop}
 use Rattle.std.specs.Prelude.{slice_get, slice_index, slice_index_or}
 use Rattle.std.proofs.lemmas.Bool.{cases_lt}
 use Rattle.std.proofs.lemmas.List.{take_rest, get_or-drop, get_or_append_left, get_or-append-add}
@@ -10,9 +10,8 @@ use Rattle.sedre.specs.Arena.{IsArena, tree_at}
 use Rattle.sedre.specs.declared.types.Node.{Node}
 use Rattle.sedre.specs.declared.types.NodeId.{NodeId}
 use Rattle.sedre.specs.declared.types.Node.TheVariants.{Set, Seq, Group}
-use Rattle.sedmatch.specs.Spans.{Spans, NotFound}
+use Rattle.sedmatch.specs.Spans.{NotFound}
 use Rattle.sedmatch.specs.Reach.{At}
-use Rattle.sedmatch.specs.Search.{NoneIn}
 use Rattle.sedmatch.specs.Needed.{IsByte, LinksTo, BeginsAs, IsLiteral, GoesOnAs, IsUpTo, AllHold, AllEndWith, IsNeeded, FirstLiteral, Narrowed}
 use Rattle.sedmatch.specs.declared.needed.Needed.{Needed}
 use Rattle.sedmatch.specs.declared.needed.Literal.{Literal}

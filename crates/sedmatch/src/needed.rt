@@ -102,7 +102,10 @@ fn literal_from(
     let mut index = from;
     loop {
         if bytes.len() >= MAX_LITERAL {
-            return Ok(Literal { bytes, rest: Some(index) });
+            return Ok(Literal {
+                bytes,
+                rest: Some(index),
+            });
         }
         match link_of(expr, index, steps) {
             Link::Byte(byte, next) => {
@@ -114,7 +117,10 @@ fn literal_from(
                 return Ok(Literal { bytes, rest: None });
             }
             Link::Inner(part) => index = part,
-            Link::Other => return Ok(Literal { bytes, rest: Some(index) }),
+            Link::Other => return Ok(Literal {
+                bytes,
+                rest: Some(index),
+            }),
         }
     }
 }
@@ -139,7 +145,11 @@ fn second_of(expr: &Expr, index: usize, steps: &mut Steps) -> Option<usize>
 fn longer(first: Vec<u8>, second: Vec<u8>) -> Vec<u8>
     ensures { (result.items ≡ first.items) ⊎ (result.items ≡ second.items) }
 {
-    if first.len() < second.len() { second } else { first }
+    if first.len() < second.len() {
+        second
+    } else {
+        first
+    }
 }
 
 /// The longest of the literals that the spans of the node hold one behind another.

@@ -4,6 +4,7 @@ ghost use Rattle.sedre.specs.Arena.{tree};
 ghost use Rattle.sedmatch.specs.Fits.{FitsNodes, SameMarks};
 ghost use Rattle.sedmatch.specs.Spans.{Found as IsFound, NotFound, SomeFound};
 ghost use Rattle.sedmatch.specs.Skip.{AllBegin};
+ghost use Rattle.sedmatch.specs.Few.{AllFew};
 ghost use Rattle.sedmatch.specs.Needed.{IsNeeded};
 ghost use Rattle.sedmatch.specs.Tables.{IsTable, IsCut};
 ghost use Rattle.sedmatch.specs.Reach.{Longest};
@@ -13,16 +14,18 @@ ghost use Rattle.sedmatch.specs.Matching.{found, report};
 ghost use Rattle.sedmatch.specs.Parts.{SpanIn, span_of};
 ghost use Rattle.sedre.specs.Mirror.{seen};
 
+use crate::ahead::Lead;
 use crate::classes::{Classes, find_classes};
 use crate::counted::{Bytes, Text};
+use crate::few::{Few, few_of, first_place};
 use crate::groups::report;
 use crate::linear::{anchored_by, first_end_in, leftmost_by};
 use crate::matcher::{Found, find, find_span};
 use crate::needed::{Needed, find_needed, narrowed};
-use crate::runs::is_sight;
 use crate::scratch::{Scratch, Sets};
 use crate::search::{better, longest_on};
-use crate::skip::{Begins, how_begins, next_start};
+use crate::sight::{Sight, sight_matches, sight_of, sight_span};
+use crate::skip::{Begins, how_begins};
 use crate::tables::{Next, Table, first_state, follow_past, go, new_table, stay};
 use sedre::{Expr, Nodes, Steps};
 use std::alloc::{AllocError, Global};
@@ -34,6 +37,7 @@ fn some_by(
     root: usize,
     begins: &Begins,
     needed: &Option<Needed>,
+    few: &Option<Few>,
     text: &Text,
     from: usize,
     every: &mut Table,
@@ -47,6 +51,7 @@ fn some_by(
     requires from { from ≤ length text.now }
     requires begins { AllBegin (tree expr.now) begins.now }
     requires needed { IsNeeded (tree expr.now) needed.now }
+    requires begins_few { AllFew (tree expr.now) few.now }
     requires every { IsTable expr.now.nodes root every.old }
     requires every_sweeps { IsTrue every.old.sweeps }
     requires single { IsTable expr.now.nodes root single.old }
@@ -66,7 +71,7 @@ fn some_by(
         Begins::AtStart => anchored_by(expr, root, text, from, single, sets, steps).is_some(),
         _ => match narrowed(needed, text, from, steps) {
             None => false,
-            Some(start) => some_anywhere(expr, root, begins, text, start, every, sets, steps),
+            Some(start) => some_anywhere(expr, root, begins, few, text, start, every, sets, steps),
         },
     }
 }
@@ -76,6 +81,7 @@ fn some_anywhere(
     expr: &Expr,
     root: usize,
     begins: &Begins,
+    few: &Option<Few>,
     text: &Text,
     from: usize,
     table: &mut Table,
@@ -87,6 +93,7 @@ fn some_anywhere(
     requires short { length text.now ≤ 2 ^ 30 }
     requires from { from ≤ length text.now }
     requires begins { AllBegin (tree expr.now) begins.now }
+    requires begins_few { AllFew (tree expr.now) few.now }
     requires table { IsTable expr.now.nodes root table.old }
     requires sweeps { IsTrue table.old.sweeps }
     requires fits { FitsNodes (length expr.now.nodes) sets.old }
@@ -96,11 +103,14 @@ fn some_anywhere(
     ensures marks { SameMarks sets.old sets.new }
     ensures matches { IsTrue result ↔ SomeFound (tree expr.now) text.now from }
     ensures grows { steps.old ≤ steps.new }
-    ensures cost { let m = length expr.now.nodes in steps.new ≤ steps.old + 41 * m + 43 * m * length text.now }
+    ensures cost { let m = length expr.now.nodes in steps.new ≤ steps.old + 48 * m + 42 * m * length text.now }
 {
-    match next_start(begins, text, from, steps) {
+    match first_place(expr, begins, few, text, from, steps) {
         None => false,
-        Some(start) => first_end_in(expr, root, text, start, table, sets, steps).is_some(),
+        Some((start, lead)) => match lead {
+            Lead::To(_) => true,
+            _ => first_end_in(expr, root, text, start, table, sets, steps).is_some(),
+        },
     }
 }
 
@@ -333,8 +343,9 @@ pub struct TableMatcher {
     root: usize,
     begins: Begins,
     needed: Option<Needed>,
-    // Whether a look at the text tells as much as the tables would.
-    sight: bool,
+    few: Option<Few>,
+    // Where a look at the text tells as much as the tables would.
+    sight: Option<Sight>,
     every: Table,
     single: Table,
     back: Table,
@@ -349,7 +360,7 @@ impl Model for TableMatcher {
 
     ghost view = { λ m. m.expr };
 
-    ghost invariant = { λ m. IsReady m.expr m.root m.begins m.needed m.every m.single m.back };
+    ghost invariant = { λ m. IsReady m.expr m.root m.begins m.needed m.few m.sight m.every m.single m.back };
 }
 
 impl TableMatcher {
@@ -379,13 +390,15 @@ impl TableMatcher {
         let back = mirror_table_of(alloc, expr, root, &classes, states)?;
         let mut steps = Steps::new();
         let begins = how_begins(expr, &mut steps);
+        let sight = sight_of(expr, &mut steps);
         let needed = find_needed(alloc, expr, &mut steps)?;
         Ok(TableMatcher {
             expr: expr.copy(alloc)?,
             root,
             begins,
             needed,
-            sight: root == 0 || is_sight(expr),
+            few: few_of(&begins),
+            sight,
             every,
             single,
             back,
@@ -418,16 +431,21 @@ impl TableMatcher {
         ensures grows { steps.old ≤ steps.new }
         ensures cost { steps.new ≤ steps.old + 64 * length self.old.nodes * (length text.now + 1) }
     {
+        let sets = &mut scratch.sets;
+        if let Some(sight) = &self.sight {
+            return sight_matches(sight, text, from, steps);
+        }
         some_by(
             &self.expr,
             self.root,
             &self.begins,
             &self.needed,
+            &self.few,
             text,
             from,
             &mut self.every,
             &mut self.single,
-            &mut scratch.sets,
+            sets,
             steps,
         )
     }
@@ -458,8 +476,12 @@ impl TableMatcher {
         ensures cost_of_none { let m = length self.old.nodes in let n = length text.now in
             IfNone result (steps.new ≤ steps.old + 64 * m * (n + 1)) }
     {
-        if self.sight {
+        if self.root == 0 && self.sight.is_none() {
             return find_span(&self.expr, text, from, scratch, steps);
+        }
+        let sets = &mut scratch.sets;
+        if let Some(sight) = &self.sight {
+            return sight_span(sight, text, from, steps);
         }
         leftmost_by(
             &self.expr,
@@ -471,10 +493,11 @@ impl TableMatcher {
             &mut self.every,
             &mut self.single,
             &mut self.back,
-            &mut scratch.sets,
+            sets,
             steps,
         )
     }
+
     /// The leftmost-longest match that begins at `from` or later, with its groups. None just where there is none.
     pub fn find(
         &mut self,
@@ -505,7 +528,7 @@ impl TableMatcher {
         ensures cost_of_none { let m = length self.old.nodes in let n = length text.now in
             IfNone result (steps.new ≤ steps.old + 64 * m * (n + 1)) }
     {
-        if self.sight || self.root == 0 {
+        if self.sight.is_some() || self.root == 0 {
             return find(&self.expr, text, from, scratch, steps);
         }
         find_by(

@@ -2,7 +2,8 @@ use Rattle.std.proofs.Common.{◌↔◌, IsTrue, length, sym, subst, arith}
 use Rattle.sedre.specs.Arena.{tree}
 use Rattle.sedmatch.specs.Skip.{CanBegin}
 use Rattle.sedmatch.specs.Spans.{SomeFound}
-use Rattle.sedmatch.proofs.LinearLemmas.{found_tells, none_linear}
+use Rattle.sedmatch.proofs.LinearLemmas.{found_tells}
+use Rattle.sedmatch.proofs.StartLemmas.{some_linear}
 use Rattle.sedmatch.proofs.NarrowLemmas.{not_some, some_before}
 use Rattle.sedmatch.proofs.quick.some_by.Goals as goal
 
@@ -28,5 +29,5 @@ returns-in-Some-clause-matches c =
 
 pub returns-in-Some-clause-cost : goal.returns-in-Some-clause-cost
 returns-in-Some-clause-cost c =
-    none_linear (length c.args.expr.now.nodes) (length c.args.text.now) c.args.steps.now c.narrowed.new.steps c.some_anywhere.new.steps
+    some_linear (length c.args.expr.now.nodes) (length c.args.text.now) c.args.steps.now c.narrowed.new.steps c.some_anywhere.new.steps
     (omega arith) (omega (arith, c.in-Some.ensures.cost)) c.some_anywhere.ensures.cost
