@@ -12,6 +12,9 @@ use crate::skip::{Begins, Either, next_start};
 use memchr::{memchr, memchr2, memchr3};
 use sedre::{Expr, Steps};
 
+/// How many bytes are passed over at least, so that a look ahead at the place found is worth its cost.
+const FAR: usize = 24;
+
 /// Up to three bytes.
 #[derive(Clone, Copy)]
 pub enum Few {
@@ -64,7 +67,13 @@ pub fn few_of(begins: &Begins) -> Option<Few>
     }
 }
 
-/// The first place from `from` on at which a match can begin, by its first byte and by what comes first in it.
+/// Whether so few bytes were passed over that a table tells more of them in the same time.
+fn is_near(place: usize, start: usize) -> bool {
+    start.saturating_sub(place) < FAR
+}
+
+/// The first place from `from` on at which a match can begin, by its first byte and, where that is rare, by what comes
+/// first in it.
 fn few_place(
     expr: &Expr,
     few: &Few,
@@ -85,6 +94,9 @@ fn few_place(
     let _count = expr.nodes();
     let mut place = from;
     while let Some(start) = text.find_few(few, place, steps) {
+        if is_near(place, start) {
+            return Some((start, Lead::Unknown));
+        }
         match look_ahead(expr, text, start, steps) {
             Lead::Nowhere => place = start + 1,
             lead => return Some((start, lead)),

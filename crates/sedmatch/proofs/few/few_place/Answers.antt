@@ -1,5 +1,6 @@
 use Rattle.std.proofs.Common.{◌+◌, length, arith}
 use Rattle.sedre.specs.Arena.{tree}
+use Rattle.sedmatch.specs.declared.ahead.Lead.TheVariants.{Unknown}
 use Rattle.sedmatch.proofs.CostLemmas.{place_step}
 use Rattle.sedmatch.proofs.SweepLemmas.{none_there}
 use Rattle.sedmatch.proofs.FewLemmas.{few_inside, few_step, few_nowhere, few_sought}
@@ -20,6 +21,17 @@ loop-start-preserved c =
       missed = few_step e w c.args.from c.loop-start.place c.in-Some.start (c.in-Some.start + 1) c.args.few.now c.requires.begins first.2 c.loop-start.invariant.missed
           (none_there e w c.in-Some.start c.in-Nowhere.ensures.leads);
     }
+
+pub returns-then-is_near-clause-sought : goal.returns-then-is_near-clause-sought
+returns-then-is_near-clause-sought c =
+    few_sought (tree c.args.expr.now) c.args.text.now c.args.from c.loop-start.place c.in-Some.start c.args.few.now Unknown c.requires.begins c.in-Some.ensures.first
+    c.loop-start.invariant.after c.loop-start.invariant.missed tt
+
+pub returns-then-is_near-clause-cost : goal.returns-then-is_near-clause-cost
+returns-then-is_near-clause-cost c =
+    let first = c.in-Some.ensures.first in
+    place_step (length c.args.expr.now.nodes) c.args.from c.loop-start.place c.in-Some.start c.args.steps.now c.loop-start.steps c.find_few.new.steps c.find_few.new.steps
+    (omega arith) first.0 c.loop-start.invariant.cost (omega (arith, first.0, c.in-Some.ensures.cost)) (omega arith)
 
 pub returns-in_default-look_ahead-clause-sought : goal.returns-in_default-look_ahead-clause-sought
 returns-in_default-look_ahead-clause-sought c =
