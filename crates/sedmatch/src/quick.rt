@@ -335,8 +335,8 @@ const STATES: usize = 64;
 ///
 /// It holds a copy of the expression and three tables: for a pass in which every place is a start, for one from a
 /// single start, and for one backwards. All their room is taken in [`TableMatcher::new`], a few kilobytes for a common
-/// expression, and for each some 30 bytes a node. Where an expression is used once, [`crate::find`] and its like are
-/// the better choice: they need no table.
+/// expression, and for each some 30 bytes a node. A literal that all matches hold, of 32 bytes at most, is found out then
+/// too. Where an expression is used once, [`crate::find`] and its like are the better choice: they need no table.
 #[derive(Drop)]
 pub struct TableMatcher {
     expr: Expr,

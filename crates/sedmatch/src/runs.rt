@@ -116,6 +116,7 @@ fn near_first(expr: &Expr, index: usize, steps: &mut Steps) -> Node
 }
 
 /// The end of the run of bytes of the set that begins at the place.
+#[inline(always)]
 pub fn run_end(set: &ByteSet, text: &Text, from: usize, steps: &mut Steps) -> usize
     requires from { from ≤ length text.now }
     requires short { length text.now ≤ 2 ^ 30 }

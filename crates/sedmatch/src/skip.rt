@@ -192,6 +192,7 @@ pub fn how_begins(expr: &Expr, steps: &mut Steps) -> Begins
 }
 
 /// The first place from `from` on whose byte is in the set. Counts one look for each byte.
+#[inline(always)]
 pub fn find_member(set: &ByteSet, text: &Text, from: usize, steps: &mut Steps) -> Option<usize>
     requires from { from ≤ length text.now }
     requires short { length text.now ≤ 2 ^ 30 }
