@@ -11,6 +11,11 @@ pub mod CostLemmas
 pub mod SweepLemmas
 pub mod RegionLemmas
 pub mod SkipLemmas
+pub mod NeededLemmas
+pub mod NarrowLemmas
+pub mod SightLemmas
+pub mod FewLemmas
+pub mod StartLemmas
 pub mod BytesLemmas
 pub mod SpanLemmas
 pub mod MirrorLemmas

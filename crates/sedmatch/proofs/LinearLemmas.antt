@@ -235,15 +235,40 @@ module _ (m n from start p bound s0 s1 s2 s3 s4 : ℕ) (some : 0 < m) (low : sta
       (cases_lt 0 n)
 
 -- the steps where there is no match
-pub none_steps : (m n from start s0 s1 s2 : ℕ) → 0 < m → start ≤ n → s1 + from ≤ s0 + (start + 1) → s2 + 42 * m * start ≤ s1 + 40 * m + 42 * m * n → s2 ≤ s0 + 64 * m * (n + 1)
+pub none_steps : (m n from start s0 s1 s2 : ℕ) → 0 < m → start ≤ n → s1 + from ≤ s0 + (start + 1) → s2 + 42 * m * start ≤ s1 + 40 * m + 42 * m * n → s2 ≤ s0 + 41 * m + 43 * m * n
 none_steps m n from start s0 s1 s2 some low skip sweep =
     let one : 1 ≤ m = omega arith in
     let places = mul-le-mul_left n one in
     omega (arith, places)
 
-pub none_linear : (m n s0 s : ℕ) → s ≤ s0 + 64 * m * (n + 1) → s ≤ s0 + 128 * m * (n + 1)
-none_linear m n s0 s less = omega (arith, less)
+-- a literal was sought before
+module _ (m n s0 s1 s2 : ℕ) (some : 0 < m) (sought : s1 ≤ s0 + n) where
+  pub none_linear : s2 ≤ s1 + 41 * m + 43 * m * n → s2 ≤ s0 + 64 * m * (n + 1)
+  none_linear less =
+      let one : 1 ≤ m = omega arith in
+      let places = mul-le-mul_left n one in
+      omega (arith, places)
 
+  pub whole_linear : s2 ≤ s1 + 123 * m + 127 * m * n → s2 ≤ s0 + 128 * m * (n + 1)
+  whole_linear less =
+      let one : 1 ≤ m = omega arith in
+      let places = mul-le-mul_left n one in
+      omega (arith, places)
+
+  pub whole_square : s2 ≤ s1 + 123 * m + 127 * m * n → s2 ≤ s1 + 64 * m * (n + 1) * (n + 1) → s2 ≤ s0 + 64 * m * (n + 1) * (n + 1)
+  whole_square less short =
+      ⊎_elim
+      (λ (lt : 0 < n).
+      let one : 1 ≤ n = omega arith in
+      let many : 1 ≤ m = omega arith in
+      let a = mul-le-mul_left m one in
+      let b = mul-le-mul_left (m * n) one in
+      let places = mul-le-mul_left n many in
+      omega (arith, a, b, places, less))
+      (λ (ge : n ≤ 0). omega (arith, short))
+      (cases_lt 0 n)
+
+-- not found, and so neither in the square of the places
 pub none_square : (m n s0 s : ℕ) → s ≤ s0 + 64 * m * (n + 1) → s ≤ s0 + 64 * m * (n + 1) * (n + 1)
 none_square m n s0 s less =
     let one : 1 ≤ n + 1 = omega arith in

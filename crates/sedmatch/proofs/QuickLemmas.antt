@@ -162,13 +162,13 @@ pub none_later : (e : Tree) (w : List ℕ) (from : ℕ) (begins : Begins) → Al
 none_later e w from begins all none = (λ h. absurd (true≢false (sym h)), λ some. absurd (none some.0 some.2 some.3 (all w some.0 some.1 some.4)))
 
 -- the bytes that are passed over, and the rest
-pub some_cost : (m n from start p s0 s1 s2 : ℕ) → 0 < m → start ≤ n → p ≤ n → s1 + from ≤ s0 + (start + 1) → s2 + 42 * m * start ≤ s1 + 40 * m + 42 * m * p → s2 ≤ s0 + 64 * m * (n + 1)
+pub some_cost : (m n from start p s0 s1 s2 : ℕ) → 0 < m → start ≤ n → p ≤ n → s1 + from ≤ s0 + (start + 1) → s2 + 42 * m * start ≤ s1 + 40 * m + 42 * m * p → s2 ≤ s0 + 41 * m + 43 * m * n
 some_cost m n from start p s0 s1 s2 some low high skip sweep =
     let up = mul-le-mul_left (42 * m) high in
     let most = mul-le-mul_left (n + 1) (let h : 1 ≤ m = omega arith in h) in
     omega (arith, most, up)
 
-pub none_cost : (m n from s0 s1 : ℕ) → 0 < m → s1 + from ≤ s0 + (n + 1) → s1 ≤ s0 + 64 * m * (n + 1)
+pub none_cost : (m n from s0 s1 : ℕ) → 0 < m → s1 + from ≤ s0 + (n + 1) → s1 ≤ s0 + 41 * m + 43 * m * n
 none_cost m n from s0 s1 some skip =
     let most = mul-le-mul_left (n + 1) (let h : 1 ≤ m = omega arith in h) in
     omega (arith, most)

@@ -15,8 +15,11 @@ pub mod Tables
 pub mod Linear
 pub mod Quick
 pub mod Skip
+pub mod Needed
 pub mod Ahead
 pub mod Runs
+pub mod Sight
+pub mod Few
 pub mod Search
 pub mod Cuts
 pub mod Work

@@ -5,11 +5,15 @@ ghost use Rattle.std.specs.Prelude.{vec_len};
 ghost use Rattle.std.specs.Int.{bit_at};
 ghost use Rattle.std.specs.Prelude.{reverse};
 ghost use Rattle.sedmatch.specs.Bytes.{FirstAt, looked_at, in_order};
+ghost use Rattle.sedmatch.specs.Few.{FirstFew};
+ghost use Rattle.sedmatch.specs.Needed.{FirstLiteral, passed_to};
 ghost use Rattle.sedmatch.specs.Words.{marks_of};
 
 mod rows;
 
+use crate::few::Few;
 use memchr::memchr;
+use memchr::memmem::Finder;
 pub use rows::Rows;
 use sedre::Steps;
 use std::alloc::{AllocError, Global};
@@ -90,6 +94,48 @@ impl<'a> Text<'a> {
             Some(k) => {
                 steps.add(k + 1);
                 Some(from + k)
+            }
+        }
+    }
+
+    /// The first place from `from` on at which the literal stands.
+    /// Counts a look for each byte from `from` to the literal's end, or to the end where there is none.
+    pub fn find_literal(&self, finder: &Finder, from: usize, steps: &mut Steps) -> Option<usize>
+        requires from { from ≤ length self.now }
+        requires room { steps.old < 2 ^ 120 }
+        ensures first { FirstLiteral self.now finder.now from result }
+        ensures cost { steps.new ≡ steps.old + passed_to (length self.now) from (length finder.now) result }
+    {
+        let behind = &self.bytes[from..];
+        match finder.find(behind) {
+            None => {
+                steps.add(behind.len());
+                None
+            }
+            Some(k) => {
+                steps.add(k + finder.needle().len());
+                Some(from + k)
+            }
+        }
+    }
+
+    /// The first place from `from` on at which one of the few bytes stands.
+    /// Counts a look for each byte from `from` to that place, or to the end where there is none.
+    pub fn find_few(&self, few: &Few, from: usize, steps: &mut Steps) -> Option<usize>
+        requires from { from ≤ length self.now }
+        requires room { steps.old < 2 ^ 120 }
+        ensures first { FirstFew few.now self.now from result }
+        ensures cost { steps.new ≡ steps.old + looked_at (length self.now) from result }
+    {
+        let behind = &self.bytes[from..];
+        match few.find(behind) {
+            None => {
+                steps.add(behind.len());
+                None
+            }
+            Some(place) => {
+                steps.add(place + 1);
+                Some(from + place)
             }
         }
     }

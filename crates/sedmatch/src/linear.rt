@@ -9,11 +9,13 @@ ghost use Rattle.sedmatch.specs.Spans.{Spans, Found as IsFound, NotFound};
 ghost use Rattle.sedmatch.specs.Reach.{At, SomeSpan};
 ghost use Rattle.sedmatch.specs.Search.{IsRegion, LastEnd, IsEarliest, starts_to};
 ghost use Rattle.sedmatch.specs.Skip.{AllBegin};
+ghost use Rattle.sedmatch.specs.Needed.{IsNeeded};
 ghost use Rattle.sedmatch.specs.States.{IsAt};
 ghost use Rattle.sedmatch.specs.Tables.{IsTable, NextIs, starts_from};
 ghost use Rattle.sedmatch.specs.Linear.{NoneBefore, IsFirstEnd, ended_to, IsBound};
 
 use crate::counted::{Bytes, Text};
+use crate::needed::{Needed, narrowed};
 use crate::passes::{Starts, advance};
 use crate::quick::longest_in;
 use crate::region::Region;
@@ -677,6 +679,7 @@ pub fn leftmost_by(
     expr: &Expr,
     root: usize,
     begins: &Begins,
+    needed: &Option<Needed>,
     text: &Text,
     from: usize,
     every: &mut Table,
@@ -690,6 +693,7 @@ pub fn leftmost_by(
     requires short { length text.now ≤ 2 ^ 30 }
     requires from { from ≤ length text.now }
     requires begins { AllBegin (tree expr.now) begins.now }
+    requires needed { IsNeeded (tree expr.now) needed.now }
     requires every { IsTable expr.now.nodes root every.old }
     requires every_sweeps { IsTrue every.old.sweeps }
     requires single { IsTable expr.now.nodes root single.old }
@@ -718,9 +722,12 @@ pub fn leftmost_by(
 {
     match begins {
         Begins::AtStart => anchored_by(expr, root, text, from, single, sets, steps),
-        _ => anywhere_by(
-            expr, root, begins, text, from, every, single, back, sets, steps,
-        ),
+        _ => match narrowed(needed, text, from, steps) {
+            None => None,
+            Some(start) => anywhere_by(
+                expr, root, begins, text, start, every, single, back, sets, steps,
+            ),
+        },
     }
 }
 
@@ -749,7 +756,7 @@ fn anywhere_by(
     requires back { IsTable (seen true expr.now).nodes root back.old }
     requires back_sweeps { IsTrue back.old.sweeps }
     requires fits { FitsNodes (length expr.now.nodes) sets.old }
-    requires room { steps.old ≤ 2 ^ 100 }
+    requires room { steps.old ≤ 2 ^ 101 }
     ensures every { IsTable expr.now.nodes root every.new }
     ensures every_sweeps { IsTrue every.new.sweeps }
     ensures single { IsTable expr.now.nodes root single.new }
@@ -762,11 +769,11 @@ fn anywhere_by(
     ensures lies { IfSome result (λ f. (f.0 ≤ f.1) × (f.1 ≤ length text.now)) }
     ensures grows { steps.old ≤ steps.new }
     ensures cost { let m = length expr.now.nodes in let n = length text.now in
-        steps.new ≤ steps.old + 128 * m * (n + 1) }
+        steps.new ≤ steps.old + 123 * m + 127 * m * n }
     ensures short_cost { let m = length expr.now.nodes in let n = length text.now in
         steps.new ≤ steps.old + 64 * m * (n + 1) * (n + 1) }
     ensures none_cost { let m = length expr.now.nodes in let n = length text.now in
-        IfNone result (steps.new ≤ steps.old + 64 * m * (n + 1)) }
+        IfNone result (steps.new ≤ steps.old + 41 * m + 43 * m * n) }
 {
     let Some(start) = next_start(begins, text, from, steps) else {
         return None;

@@ -4,6 +4,8 @@ ghost use Rattle.sedre.specs.Arena.{tree};
 ghost use Rattle.sedmatch.specs.Fits.{FitsNodes, SameMarks};
 ghost use Rattle.sedmatch.specs.Spans.{Found as IsFound, NotFound, SomeFound};
 ghost use Rattle.sedmatch.specs.Skip.{AllBegin};
+ghost use Rattle.sedmatch.specs.Few.{AllFew};
+ghost use Rattle.sedmatch.specs.Needed.{IsNeeded};
 ghost use Rattle.sedmatch.specs.Tables.{IsTable, IsCut};
 ghost use Rattle.sedmatch.specs.Reach.{Longest};
 ghost use Rattle.sedmatch.specs.Answer.{span_found};
@@ -12,15 +14,18 @@ ghost use Rattle.sedmatch.specs.Matching.{found, report};
 ghost use Rattle.sedmatch.specs.Parts.{SpanIn, span_of};
 ghost use Rattle.sedre.specs.Mirror.{seen};
 
+use crate::ahead::Lead;
 use crate::classes::{Classes, find_classes};
 use crate::counted::{Bytes, Text};
+use crate::few::{Few, few_of, first_place};
 use crate::groups::report;
 use crate::linear::{anchored_by, first_end_in, leftmost_by};
 use crate::matcher::{Found, find, find_span};
-use crate::runs::is_sight;
+use crate::needed::{Needed, find_needed, narrowed};
 use crate::scratch::{Scratch, Sets};
 use crate::search::{better, longest_on};
-use crate::skip::{Begins, how_begins, next_start};
+use crate::sight::{Sight, sight_matches, sight_of, sight_span};
+use crate::skip::{Begins, how_begins};
 use crate::tables::{Next, Table, first_state, follow_past, go, new_table, stay};
 use sedre::{Expr, Nodes, Steps};
 use std::alloc::{AllocError, Global};
@@ -31,6 +36,8 @@ fn some_by(
     expr: &Expr,
     root: usize,
     begins: &Begins,
+    needed: &Option<Needed>,
+    few: &Option<Few>,
     text: &Text,
     from: usize,
     every: &mut Table,
@@ -43,12 +50,14 @@ fn some_by(
     requires short { length text.now ≤ 2 ^ 30 }
     requires from { from ≤ length text.now }
     requires begins { AllBegin (tree expr.now) begins.now }
+    requires needed { IsNeeded (tree expr.now) needed.now }
+    requires begins_few { AllFew (tree expr.now) few.now }
     requires every { IsTable expr.now.nodes root every.old }
     requires every_sweeps { IsTrue every.old.sweeps }
     requires single { IsTable expr.now.nodes root single.old }
     requires single_sweeps { single.old.sweeps ≡ false }
     requires fits { FitsNodes (length expr.now.nodes) sets.old }
-    requires room { steps.old < 2 ^ 109 }
+    requires room { steps.old < 2 ^ 108 }
     ensures every { IsTable expr.now.nodes root every.new }
     ensures every_sweeps { IsTrue every.new.sweeps }
     ensures single { IsTable expr.now.nodes root single.new }
@@ -60,7 +69,10 @@ fn some_by(
 {
     match begins {
         Begins::AtStart => anchored_by(expr, root, text, from, single, sets, steps).is_some(),
-        _ => some_anywhere(expr, root, begins, text, from, every, sets, steps),
+        _ => match narrowed(needed, text, from, steps) {
+            None => false,
+            Some(start) => some_anywhere(expr, root, begins, few, text, start, every, sets, steps),
+        },
     }
 }
 
@@ -69,6 +81,7 @@ fn some_anywhere(
     expr: &Expr,
     root: usize,
     begins: &Begins,
+    few: &Option<Few>,
     text: &Text,
     from: usize,
     table: &mut Table,
@@ -80,6 +93,7 @@ fn some_anywhere(
     requires short { length text.now ≤ 2 ^ 30 }
     requires from { from ≤ length text.now }
     requires begins { AllBegin (tree expr.now) begins.now }
+    requires begins_few { AllFew (tree expr.now) few.now }
     requires table { IsTable expr.now.nodes root table.old }
     requires sweeps { IsTrue table.old.sweeps }
     requires fits { FitsNodes (length expr.now.nodes) sets.old }
@@ -89,11 +103,14 @@ fn some_anywhere(
     ensures marks { SameMarks sets.old sets.new }
     ensures matches { IsTrue result ↔ SomeFound (tree expr.now) text.now from }
     ensures grows { steps.old ≤ steps.new }
-    ensures cost { steps.new ≤ steps.old + 64 * length expr.now.nodes * (length text.now + 1) }
+    ensures cost { let m = length expr.now.nodes in steps.new ≤ steps.old + 48 * m + 42 * m * length text.now }
 {
-    match next_start(begins, text, from, steps) {
+    match first_place(expr, begins, few, text, from, steps) {
         None => false,
-        Some(start) => first_end_in(expr, root, text, start, table, sets, steps).is_some(),
+        Some((start, lead)) => match lead {
+            Lead::To(_) => true,
+            _ => first_end_in(expr, root, text, start, table, sets, steps).is_some(),
+        },
     }
 }
 
@@ -201,6 +218,7 @@ fn find_by(
     expr: &Expr,
     root: usize,
     begins: &Begins,
+    needed: &Option<Needed>,
     text: &Text,
     from: usize,
     every: &mut Table,
@@ -215,6 +233,7 @@ fn find_by(
     requires text_fits { length text.now ≤ scratch.old.text }
     requires expr_fits { length expr.now.nodes ≤ scratch.old.nodes }
     requires begins { AllBegin (tree expr.now) begins.now }
+    requires needed { IsNeeded (tree expr.now) needed.now }
     requires every { IsTable expr.now.nodes root every.old }
     requires every_sweeps { IsTrue every.old.sweeps }
     requires single { IsTable expr.now.nodes root single.old }
@@ -247,7 +266,7 @@ fn find_by(
 {
     let sets = &mut scratch.sets;
     let (start, end) = leftmost_by(
-        expr, root, begins, text, from, every, single, back, sets, steps,
+        expr, root, begins, needed, text, from, every, single, back, sets, steps,
     )?;
     let groups = report(
         expr,
@@ -316,15 +335,17 @@ const STATES: usize = 64;
 ///
 /// It holds a copy of the expression and three tables: for a pass in which every place is a start, for one from a
 /// single start, and for one backwards. All their room is taken in [`TableMatcher::new`], a few kilobytes for a common
-/// expression, and for each some 30 bytes a node. Where an expression is used once, [`crate::find`] and its like are
-/// the better choice: they need no table.
+/// expression, and for each some 30 bytes a node. A literal that all matches hold, of 32 bytes at most, is found out then
+/// too. Where an expression is used once, [`crate::find`] and its like are the better choice: they need no table.
 #[derive(Drop)]
 pub struct TableMatcher {
     expr: Expr,
     root: usize,
     begins: Begins,
-    // Whether a look at the text tells as much as the tables would.
-    sight: bool,
+    needed: Option<Needed>,
+    few: Option<Few>,
+    // Where a look at the text tells as much as the tables would.
+    sight: Option<Sight>,
     every: Table,
     single: Table,
     back: Table,
@@ -339,7 +360,7 @@ impl Model for TableMatcher {
 
     ghost view = { λ m. m.expr };
 
-    ghost invariant = { λ m. IsReady m.expr m.root m.begins m.every m.single m.back };
+    ghost invariant = { λ m. IsReady m.expr m.root m.begins m.needed m.few m.sight m.every m.single m.back };
 }
 
 impl TableMatcher {
@@ -369,11 +390,15 @@ impl TableMatcher {
         let back = mirror_table_of(alloc, expr, root, &classes, states)?;
         let mut steps = Steps::new();
         let begins = how_begins(expr, &mut steps);
+        let sight = sight_of(expr, &mut steps);
+        let needed = find_needed(alloc, expr, &mut steps)?;
         Ok(TableMatcher {
             expr: expr.copy(alloc)?,
             root,
             begins,
-            sight: root == 0 || is_sight(expr),
+            needed,
+            few: few_of(&begins),
+            sight,
             every,
             single,
             back,
@@ -406,15 +431,21 @@ impl TableMatcher {
         ensures grows { steps.old ≤ steps.new }
         ensures cost { steps.new ≤ steps.old + 64 * length self.old.nodes * (length text.now + 1) }
     {
+        let sets = &mut scratch.sets;
+        if let Some(sight) = &self.sight {
+            return sight_matches(sight, text, from, steps);
+        }
         some_by(
             &self.expr,
             self.root,
             &self.begins,
+            &self.needed,
+            &self.few,
             text,
             from,
             &mut self.every,
             &mut self.single,
-            &mut scratch.sets,
+            sets,
             steps,
         )
     }
@@ -445,22 +476,28 @@ impl TableMatcher {
         ensures cost_of_none { let m = length self.old.nodes in let n = length text.now in
             IfNone result (steps.new ≤ steps.old + 64 * m * (n + 1)) }
     {
-        if self.sight {
+        if self.root == 0 && self.sight.is_none() {
             return find_span(&self.expr, text, from, scratch, steps);
+        }
+        let sets = &mut scratch.sets;
+        if let Some(sight) = &self.sight {
+            return sight_span(sight, text, from, steps);
         }
         leftmost_by(
             &self.expr,
             self.root,
             &self.begins,
+            &self.needed,
             text,
             from,
             &mut self.every,
             &mut self.single,
             &mut self.back,
-            &mut scratch.sets,
+            sets,
             steps,
         )
     }
+
     /// The leftmost-longest match that begins at `from` or later, with its groups. None just where there is none.
     pub fn find(
         &mut self,
@@ -491,13 +528,14 @@ impl TableMatcher {
         ensures cost_of_none { let m = length self.old.nodes in let n = length text.now in
             IfNone result (steps.new ≤ steps.old + 64 * m * (n + 1)) }
     {
-        if self.sight || self.root == 0 {
+        if self.sight.is_some() || self.root == 0 {
             return find(&self.expr, text, from, scratch, steps);
         }
         find_by(
             &self.expr,
             self.root,
             &self.begins,
+            &self.needed,
             text,
             from,
             &mut self.every,

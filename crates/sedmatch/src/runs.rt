@@ -77,7 +77,7 @@ fn star_set_of(expr: &Expr, index: usize, node: &Node, steps: &mut Steps) -> Opt
 }
 
 /// The set of which the node at the index is a repetition, alone or in a group, if it is one.
-fn star_set(expr: &Expr, index: usize, steps: &mut Steps) -> Option<ByteSet>
+pub fn star_set(expr: &Expr, index: usize, steps: &mut Steps) -> Option<ByteSet>
     requires inside { index < length expr.now.nodes }
     requires room { steps.old < 2 ^ 118 }
     ensures repeats { IfSome result (λ s. AllRepeat expr.now.nodes index s) }
@@ -116,7 +116,8 @@ fn near_first(expr: &Expr, index: usize, steps: &mut Steps) -> Node
 }
 
 /// The end of the run of bytes of the set that begins at the place.
-fn run_end(set: &ByteSet, text: &Text, from: usize, steps: &mut Steps) -> usize
+#[inline(always)]
+pub fn run_end(set: &ByteSet, text: &Text, from: usize, steps: &mut Steps) -> usize
     requires from { from ≤ length text.now }
     requires short { length text.now ≤ 2 ^ 30 }
     requires room { steps.old < 2 ^ 119 }
@@ -385,24 +386,5 @@ pub fn none_before(
         Node::Set(next) => none_in(&next, text, from, to, steps),
         Node::End => true,
         _ => false,
-    }
-}
-
-/// Whether the expression is a set, a run of its bytes or one and a run, so that the first place at which a match can
-/// begin is mostly one at which it does, and where it ends is seen there.
-pub fn is_sight(expr: &Expr) -> bool
-    requires few { length expr.now.nodes ≤ 65536 }
-{
-    let _count = expr.nodes();
-    let mut steps = Steps::new();
-    let root = expr.root();
-    match expr.look(root, &mut steps) {
-        Node::Set(_) => true,
-        Node::Seq(a, b) => {
-            let first = expr.look(a, &mut steps);
-            let run = star_set(expr, b.index(), &mut steps);
-            matches!(first, Node::Set(_)) && run.is_some()
-        }
-        _ => star_set(expr, root.index(), &mut steps).is_some(),
     }
 }

@@ -2,7 +2,7 @@
 ghost use Rattle.std.specs.Prelude.{◌≡◌, ◌+◌, ◌*◌, ◌^◌, ◌<◌, ◌≤◌, ◌↔◌, length, IfSome, IsTrue};
 ghost use Rattle.sedre.specs.Arena.{tree};
 ghost use Rattle.sedmatch.specs.declared.skip.Begins.TheVariants.{WithSet, WithEither};
-ghost use Rattle.sedmatch.specs.Skip.{AllBegin, AllAt, NextStart, skip_cost, left_part, LeafBegins, IsLeaf};
+ghost use Rattle.sedmatch.specs.Skip.{AllBegin, AllAt, CanBegin, NextStart, skip_cost, left_part, LeafBegins, IsLeaf};
 ghost use Rattle.sedmatch.specs.Skip.{EitherHas, with_set, alternatives};
 
 use crate::counted::Text;
@@ -192,11 +192,13 @@ pub fn how_begins(expr: &Expr, steps: &mut Steps) -> Begins
 }
 
 /// The first place from `from` on whose byte is in the set. Counts one look for each byte.
-fn find_member(set: &ByteSet, text: &Text, from: usize, steps: &mut Steps) -> Option<usize>
+#[inline(always)]
+pub fn find_member(set: &ByteSet, text: &Text, from: usize, steps: &mut Steps) -> Option<usize>
     requires from { from ≤ length text.now }
     requires short { length text.now ≤ 2 ^ 30 }
     requires room { steps.old < 2 ^ 117 }
     ensures next { NextStart (WithSet set.now) text.now from result }
+    ensures here { IfSome result (λ k. CanBegin (WithSet set.now) text.now k) }
     ensures grows { steps.old ≤ steps.new }
     ensures cost { steps.new + from ≤ steps.old + skip_cost (length text.now) result }
 {

@@ -2,7 +2,7 @@ use Rattle.std.proofs.Common.{◌*◌, length, ap, subst, arith}
 use Rattle.std.proofs.lemmas.Option.{IfSome_then}
 use Rattle.sedre.specs.Arena.{tree}
 use Rattle.sedmatch.specs.Spans.{Found}
-use Rattle.sedmatch.proofs.LinearLemmas.{found_first, none_second, linear_steps, square_steps}
+use Rattle.sedmatch.proofs.LinearLemmas.{found_first, none_second, all_steps, square_steps}
 use Rattle.sedmatch.proofs.linear.anywhere_by.Goals as goal
 
 pub returns-in_default-first_end_in-clause-none : goal.returns-in_default-first_end_in-clause-none
@@ -23,7 +23,7 @@ returns-clause-cost c =
     let start_is = c.region_by-region.ensures.start in
     let region = c.region_by-region.ensures.region in
     let e1 = ap (λ v. 84 * m * v) start_is in
-    linear_steps m (length c.args.text.now) c.args.from c.in-Some.start c.in-Some-first_end_in.first.place c.region_by-region.result.bound
+    all_steps m (length c.args.text.now) c.args.from c.in-Some.start c.in-Some-first_end_in.first.place c.region_by-region.result.bound
     c.args.steps.now c.next_start.new.steps c.first_end_in.new.steps c.region_by-region.new.steps c.span_by.new.steps
     (omega arith) (omega arith) region.inside (omega (arith, region.bounded, c.region_by-region.ensures.last)) (omega (arith, c.in-Some-first_end_in.ensures.first.0))
     c.in-Some.ensures.cost c.in-Some-first_end_in.ensures.cost c.region_by-region.ensures.cost (omega (arith, e1, c.span_by.ensures.cost))

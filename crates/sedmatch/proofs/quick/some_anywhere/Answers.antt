@@ -1,26 +1,28 @@
-use Rattle.std.proofs.Common.{◌↔◌, length, IsTrue, sym, subst, arith}
+use Rattle.std.proofs.Common.{◌↔◌, length, IsTrue, sym, subst}
 use Rattle.sedre.specs.Arena.{tree}
 use Rattle.sedmatch.specs.Spans.{SomeFound}
 use Rattle.sedmatch.specs.Linear.{ended_to}
-use Rattle.sedmatch.proofs.QuickLemmas.{some_later, none_later, some_cost, none_cost, first_tells, ended_within}
+use Rattle.sedmatch.proofs.NarrowLemmas.{not_some, some_before}
+use Rattle.sedmatch.proofs.QuickLemmas.{first_tells, ended_within}
+use Rattle.sedmatch.proofs.StartLemmas.{some_steps, ended_after}
 use Rattle.sedmatch.proofs.quick.some_anywhere.Goals as goal
 
 pub returns-in-None-clause-matches : goal.returns-in-None-clause-matches
-returns-in-None-clause-matches c = none_later (tree c.args.expr.now) c.args.text.now c.args.from c.args.begins.now c.requires.begins c.in-None.ensures.next
+returns-in-None-clause-matches c = not_some (tree c.args.expr.now) c.args.text.now c.args.from c.in-None.ensures.sought
 
-pub returns-in-None-clause-cost : goal.returns-in-None-clause-cost
-returns-in-None-clause-cost c = none_cost (length c.args.expr.now.nodes) (length c.args.text.now) c.args.from c.args.steps.now c.next_start.new.steps (omega arith) c.in-None.ensures.cost
-
-pub returns-in-Some-clause-matches : goal.returns-in-Some-clause-matches
-returns-in-Some-clause-matches c =
-    let next = c.in-Some.ensures.next in
+pub returns-in_default-clause-matches : goal.returns-in_default-clause-matches
+returns-in_default-clause-matches c =
+    let sought = c.in-Some.ensures.sought in
     let first = c.first_end_in.result in
-    some_later (tree c.args.expr.now) c.args.text.now c.args.from c.in-Some.start c.args.begins.now c.is_some.result c.requires.begins next.0 next.2
+    some_before (tree c.args.expr.now) c.args.text.now c.args.from c.in-Some.start sought.2 c.is_some.result sought.0
     (subst (λ b. IsTrue b ↔ SomeFound (tree c.args.expr.now) c.args.text.now c.in-Some.start) (sym c.is_some.ensures)
     (first_tells c.args.expr.now.nodes c.args.text.now c.args.root c.in-Some.start c.requires.root c.first_end_in.new.sets.entered first c.first_end_in.ensures.first))
 
-pub returns-in-Some-clause-cost : goal.returns-in-Some-clause-cost
-returns-in-Some-clause-cost c =
+pub returns-in_default-clause-cost : goal.returns-in_default-clause-cost
+returns-in_default-clause-cost c =
+    let sought = c.in-Some.ensures.sought in
     let first = c.first_end_in.result in
-    some_cost (length c.args.expr.now.nodes) (length c.args.text.now) c.args.from c.in-Some.start (ended_to (length c.args.text.now) first) c.args.steps.now c.next_start.new.steps c.first_end_in.new.steps (omega arith) c.in-Some.ensures.next.1
-    (ended_within c.args.expr.now.nodes c.args.text.now c.args.root c.in-Some.start c.first_end_in.new.sets.entered first c.first_end_in.ensures.first) c.in-Some.ensures.cost c.first_end_in.ensures.cost
+    some_steps (length c.args.expr.now.nodes) (length c.args.text.now) c.args.from c.in-Some.start (ended_to (length c.args.text.now) first) c.args.steps.now c.first_place.new.steps c.first_end_in.new.steps
+    sought.1 (ended_after c.args.expr.now.nodes c.args.text.now c.args.root c.in-Some.start c.first_end_in.new.sets.entered first sought.1 c.first_end_in.ensures.first)
+    (ended_within c.args.expr.now.nodes c.args.text.now c.args.root c.in-Some.start c.first_end_in.new.sets.entered first c.first_end_in.ensures.first)
+    c.in-Some.ensures.cost c.first_end_in.ensures.cost

@@ -1,8 +1,10 @@
-use Rattle.std.proofs.Common.{◌↔◌, IsTrue, sym, subst}
+use Rattle.std.proofs.Common.{◌↔◌, IsTrue, length, sym, subst, arith}
 use Rattle.sedre.specs.Arena.{tree}
 use Rattle.sedmatch.specs.Skip.{CanBegin}
 use Rattle.sedmatch.specs.Spans.{SomeFound}
 use Rattle.sedmatch.proofs.LinearLemmas.{found_tells}
+use Rattle.sedmatch.proofs.StartLemmas.{some_linear}
+use Rattle.sedmatch.proofs.NarrowLemmas.{not_some, some_before}
 use Rattle.sedmatch.proofs.quick.some_by.Goals as goal
 
 pub anchored_by-requires-clause-begins : goal.anchored_by-requires-clause-begins
@@ -12,3 +14,20 @@ pub returns-in-AtStart-clause-matches : goal.returns-in-AtStart-clause-matches
 returns-in-AtStart-clause-matches c =
     subst (λ b. IsTrue b ↔ SomeFound (tree c.args.expr.now) c.args.text.now c.args.from) (sym c.is_some.ensures)
     (found_tells (tree c.args.expr.now) c.args.text.now c.args.from c.anchored_by.result c.anchored_by.ensures.found c.anchored_by.ensures.none c.anchored_by.ensures.lies)
+
+pub returns-in-None-clause-matches : goal.returns-in-None-clause-matches
+returns-in-None-clause-matches c =
+    not_some (tree c.args.expr.now) c.args.text.now c.args.from (c.in-None.ensures.narrowed (tree c.args.expr.now) c.requires.needed)
+
+pub some_anywhere-requires-clause-from : goal.some_anywhere-requires-clause-from
+some_anywhere-requires-clause-from c = (c.in-Some.ensures.narrowed (tree c.args.expr.now) c.requires.needed).1
+
+pub returns-in-Some-clause-matches : goal.returns-in-Some-clause-matches
+returns-in-Some-clause-matches c =
+    let h = c.in-Some.ensures.narrowed (tree c.args.expr.now) c.requires.needed in
+    some_before (tree c.args.expr.now) c.args.text.now c.args.from c.in-Some.start h.2 c.some_anywhere.result h.0 c.some_anywhere.ensures.matches
+
+pub returns-in-Some-clause-cost : goal.returns-in-Some-clause-cost
+returns-in-Some-clause-cost c =
+    some_linear (length c.args.expr.now.nodes) (length c.args.text.now) c.args.steps.now c.narrowed.new.steps c.some_anywhere.new.steps
+    (omega arith) (omega (arith, c.in-Some.ensures.cost)) c.some_anywhere.ensures.cost

@@ -1,0 +1,198 @@
+-- Literals that the spans of an expression hold.
+use Rattle.std.proofs.Common.{◌≡◌, ℕ, ◌+◌, ◌-◌, ◌<◌, ◌≤◌, ◌⊎◌, Bool, false, List, [], ◌∷◌, ◌++◌, length, take, drop, Option, Some, None, IsTrue, refl, sym, ap, ◌∙◌, subst, inl, inr, ⊎_elim, true≢false, arith, length-append, length-drop}
+use Rattle.std.specs.Prelude.{slice_get, slice_index, slice_index_or}
+use Rattle.std.proofs.lemmas.Bool.{cases_lt}
+use Rattle.std.proofs.lemmas.List.{take_rest, get_or-drop, get_or_append_left, get_or-append-add}
+use Rattle.std.proofs.lemmas.Option.{slice_get_within, get_or_from_slice_get}
+use Rattle.memchr.specs.Find.{OccursAt, Nowhere, NoneBefore as FirstOf}
+use Rattle.sedre.specs.Tree.{Tree}
+use Rattle.sedre.specs.Arena.{IsArena, tree_at}
+use Rattle.sedre.specs.declared.types.Node.{Node}
+use Rattle.sedre.specs.declared.types.NodeId.{NodeId}
+use Rattle.sedre.specs.declared.types.Node.TheVariants.{Set, Seq, Group}
+use Rattle.sedmatch.specs.Spans.{NotFound}
+use Rattle.sedmatch.specs.Reach.{At}
+use Rattle.sedmatch.specs.Needed.{IsByte, LinksTo, BeginsAs, IsLiteral, GoesOnAs, IsUpTo, AllHold, AllEndWith, IsNeeded, FirstLiteral, Narrowed}
+use Rattle.sedmatch.specs.declared.needed.Needed.{Needed}
+use Rattle.sedmatch.specs.declared.needed.Literal.{Literal}
+use Rattle.sedmatch.specs.declared.needed.Link.TheVariants.{Byte, Last, Inner}
+use Rattle.sedmatch.proofs.ReachLemmas.{open_at}
+use Rattle.sedmatch.proofs.SpanLemmas.{Spans-forward, Spans-within}
+
+-- one more byte of a literal
+pub occurs_more : (w bytes : List ℕ) (i byte : ℕ) → OccursAt w bytes i → slice_get w (i + length bytes) ≡ Some byte → OccursAt w (bytes ++ byte ∷ []) i
+occurs_more w bytes i byte here is =
+    let inside = slice_get_within w (i + length bytes) byte is in
+    let long = length-append bytes (byte ∷ []) in
+    record {
+      fits = omega (arith, inside, long);
+      reads = λ j lt.
+          ⊎_elim
+          (λ (old : j < length bytes). here.reads j old ∙ sym (get_or_append_left bytes (byte ∷ []) 0 j old))
+          (λ (new : length bytes ≤ j).
+          let same : j ≡ length bytes + 0 = omega (arith, long) in
+          let read : slice_index w (i + length bytes) ≡ byte = get_or_from_slice_get w (i + length bytes) byte 0 is in
+          let there : slice_index w (i + j) ≡ byte = ap (λ v. slice_index w v) (let e : i + j ≡ i + length bytes = omega arith in e) ∙ read in
+          there ∙ sym (ap (λ v. slice_index (bytes ++ byte ∷ []) v) same ∙ get_or-append-add bytes (byte ∷ []) 0 0))
+          (cases_lt j (length bytes));
+    }
+
+-- the empty literal
+pub occurs_empty : (w : List ℕ) (i : ℕ) → i ≤ length w → OccursAt w [] i
+occurs_empty w i within = record { fits = omega arith; reads = λ j lt. absurd (omega arith) }
+
+module _ (nodes : List Node) (arena : IsArena nodes) (x : ℕ) where
+  -- a set of one byte
+  pub set_byte : (members : List Bool) (byte : ℕ) → slice_get nodes x ≡ Some (Set members) → ((c : ℕ) → IsTrue (slice_index_or members c false) → c ≡ byte) → IsByte nodes x byte
+  set_byte members byte is sole w i j at =
+      let f = open_at nodes w x (Set members) arena is i j at in
+      (subst (λ b. slice_get w i ≡ Some b) (sole f.0 f.2) f.1, f.3)
+
+  -- the parts of a concatenation stand before it
+  pub seq_below : (a b : NodeId) → slice_get nodes x ≡ Some (Seq a b) → (a.index < x) × (b.index < x)
+  seq_below a b is = (arena.below x a.index (Seq a b) is (inl refl), arena.below x b.index (Seq a b) is (inr refl))
+
+  -- a byte, and what stands behind it
+  pub byte_links : (a b : NodeId) (y left byte : ℕ) → slice_get nodes x ≡ Some (Seq a b) → left ≡ a.index → y ≡ b.index → IsByte nodes left byte → LinksTo nodes x (Byte byte y)
+  byte_links a b y left byte is left_is y_is first =
+      let below = seq_below a b is in (
+        omega (arith, below.1),
+        λ w i j at.
+            let f = open_at nodes w x (Seq a b) arena is i j at in
+            let h = first w i f.0 (subst (λ v. At nodes w v i f.0) (sym left_is) f.1) in
+            (h.0, subst (λ p. At nodes w y p j) h.1 (subst (λ v. At nodes w v f.0 j) (sym y_is) f.2)),
+      )
+
+  -- a group
+  pub group_links : (g : ℕ) (a : NodeId) (y : ℕ) → slice_get nodes x ≡ Some (Group g a) → y ≡ a.index → LinksTo nodes x (Inner y)
+  group_links g a y is y_is =
+      let below = arena.below x a.index (Group g a) is refl in (
+        omega (arith, below),
+        λ w i j at. subst (λ v. At nodes w v i j) (sym y_is) (open_at nodes w x (Group g a) arena is i j at),
+      )
+
+  -- the second part of a concatenation
+  pub second_ends : (a b : NodeId) (y : ℕ) → slice_get nodes x ≡ Some (Seq a b) → y ≡ b.index → AllEndWith nodes x y
+  second_ends a b y is y_is w i j within at =
+      let f = open_at nodes w x (Seq a b) arena is i j at in
+      (f.0, Spans-forward (tree_at nodes a.index) w i f.0 f.1, Spans-within (tree_at nodes a.index) w i f.0 within f.1, subst (λ v. At nodes w v f.0 j) (sym y_is) f.2)
+
+module _ (nodes : List Node) (x : ℕ) where
+  -- no bytes yet
+  pub begins_empty : BeginsAs nodes x [] x
+  begins_empty w i j within at = (occurs_empty w i within, let same : i ≡ i + 0 = omega arith in subst (λ v. At nodes w x v j) same at)
+
+  -- one more byte
+  pub begins_byte : (bytes : List ℕ) (y byte z : ℕ) → BeginsAs nodes x bytes y → LinksTo nodes y (Byte byte z) → BeginsAs nodes x (bytes ++ byte ∷ []) z
+  begins_byte bytes y byte z begins link w i j within at =
+      let h = begins w i j within at in
+      let k = link.1 w (i + length bytes) j h.1 in
+      let long = length-append bytes (byte ∷ []) in
+      let same : i + length bytes + 1 ≡ i + length (bytes ++ byte ∷ []) = omega (arith, long) in
+      (occurs_more w bytes i byte h.0 k.0, subst (λ v. At nodes w z v j) same k.1)
+
+  -- the last byte
+  pub begins_last : (bytes : List ℕ) (y byte : ℕ) → BeginsAs nodes x bytes y → LinksTo nodes y (Last byte) →
+      (w : List ℕ) (i j : ℕ) → i ≤ length w → At nodes w x i j → OccursAt w (bytes ++ byte ∷ []) i
+  begins_last bytes y byte begins link w i j within at =
+      let h = begins w i j within at in
+      let k = link w (i + length bytes) j h.1 in
+      occurs_more w bytes i byte h.0 k.0
+
+  -- the same in a group
+  pub begins_inner : (bytes : List ℕ) (y z : ℕ) → BeginsAs nodes x bytes y → LinksTo nodes y (Inner z) → BeginsAs nodes x bytes z
+  begins_inner bytes y z begins link w i j within at =
+      let h = begins w i j within at in (h.0, link.1 w (i + length bytes) j h.1)
+
+  pub ends_empty : AllEndWith nodes x x
+  ends_empty w i j within at = (i, omega arith, within, at)
+
+  pub hold_empty : AllHold nodes x []
+  hold_empty w i j within at = (i, omega arith, occurs_empty w i within)
+
+  -- the longer of what it holds and what a part at its end begins with
+  pub hold_longer : (y : ℕ) (l : Literal) (these result : List ℕ) → AllEndWith nodes x y → IsLiteral nodes y l → AllHold nodes x these →
+      (result ≡ these) ⊎ (result ≡ l.bytes.items) → AllHold nodes x result
+  hold_longer y l these result ends literal first which =
+      ⊎_elim
+      (λ (e : result ≡ these). subst (AllHold nodes x) (sym e) first)
+      (λ (e : result ≡ l.bytes.items).
+      subst (AllHold nodes x) (sym e) (λ w i j within at. let f = ends w i j within at in (f.0, f.1, (literal w f.0 j f.2 f.3).0)))
+      which
+
+  -- a part of the rest behind a literal
+  pub ends_behind : (y r z : ℕ) (l : Literal) → l.rest ≡ Some r → AllEndWith nodes x y → IsLiteral nodes y l → AllEndWith nodes r z → AllEndWith nodes x z
+  ends_behind y r z l rest ends literal second w i j within at =
+      let f = ends w i j within at in
+      let h = literal w f.0 j f.2 f.3 in
+      let there : At nodes w r (f.0 + length l.bytes.items) j = subst (GoesOnAs nodes w (f.0 + length l.bytes.items) j) rest h.1 in
+      let g = second w (f.0 + length l.bytes.items) j h.0.fits there in
+      (g.0, omega (arith, f.1, g.1), g.2, g.3)
+
+pub up_to_some : (x r : ℕ) (o : Option ℕ) → o ≡ Some r → IsUpTo x o → r ≤ x
+up_to_some x r o e h = subst (IsUpTo x) e h
+
+module _ (w rest : List ℕ) (p : ℕ) (from : p ≤ length w) (e : rest ≡ take (length w - p) (drop p w)) (literal : List ℕ) where
+  same_rest : rest ≡ drop p w
+  same_rest = e ∙ take_rest w p
+
+  length-rest : length rest ≡ length w - p
+  length-rest = ap length same_rest ∙ length-drop p w
+
+  rest_at : (k : ℕ) → slice_index rest k ≡ slice_index w (p + k)
+  rest_at k = ap (λ l. slice_index l k) same_rest ∙ get_or-drop p w k 0
+
+  -- where the literal stands in the text from p on, it does in the rest
+  to_rest : (k : ℕ) → p ≤ k → OccursAt w literal k → OccursAt rest literal (k - p)
+  to_rest k low here = record {
+    fits = omega (arith, here.fits, length-rest);
+    reads = λ j lt. rest_at (k - p + j) ∙ ap (λ v. slice_index w v) (let same : p + (k - p + j) ≡ k + j = omega arith in same) ∙ here.reads j lt;
+  }
+
+  -- and the other way round
+  from_rest : (k : ℕ) → OccursAt rest literal k → OccursAt w literal (p + k)
+  from_rest k here = record {
+    fits = omega (arith, here.fits, length-rest);
+    reads = λ j lt. ap (λ v. slice_index w v) (let same : p + k + j ≡ p + (k + j) = omega arith in same) ∙ sym (rest_at (k + j)) ∙ here.reads j lt;
+  }
+
+  pub literal_none : Nowhere (OccursAt rest literal) 0 (length rest + 1) → FirstLiteral w literal p None
+  literal_none none k low here =
+      let there = to_rest k low here in
+      none (k - p) (omega arith) (omega (arith, there.fits)) there
+
+  pub literal_some : (k : ℕ) → FirstOf (OccursAt rest literal) 0 (length rest + 1) k → OccursAt rest literal k → FirstLiteral w literal p (Some (p + k))
+  literal_some k least here = (omega arith, from_rest k here, λ h low high is. least.before (h - p) (omega arith) (omega arith) (to_rest h low is))
+
+  pub literal_steps : (k : ℕ) → OccursAt rest literal k → p + (k + length literal) ≤ length w
+  literal_steps k here = omega (arith, here.fits, length-rest)
+
+module _ (e : Tree) (w : List ℕ) (p : ℕ) (n : Needed) (holds : IsNeeded e (Some n)) where
+  -- a text without the literal has no match
+  pub needed_none : FirstLiteral w n.finder p None → NotFound e w p
+  needed_none none i k low within s = let h = holds w i k within s in none h.0 (omega (arith, h.1)) h.3
+
+  -- where each match begins with it, none begins before it
+  pub needed_first : (place : ℕ) → IsTrue n.leads → FirstLiteral w n.finder p (Some place) → Narrowed e w p (Some place)
+  needed_first place leads first =
+      let within : place ≤ length w = omega (arith, first.1.fits) in (
+        first.0,
+        within,
+        λ i k low lt s.
+            let h = holds w i k (omega arith) s in
+            first.2 i low lt (subst (OccursAt w n.finder) (h.2 leads) h.3),
+      )
+
+module _ (nodes : List Node) (r last : ℕ) (same : last ≡ r) (n : Needed) where
+  -- a literal with which all spans begin
+  pub needed_leads : (l : Literal) → n.finder ≡ l.bytes.items → IsLiteral nodes r l → IsNeeded (tree_at nodes last) (Some n)
+  needed_leads l is literal w i j within s =
+      let at : At nodes w r i j = subst (λ x. At nodes w x i j) same s in
+      (i, omega arith, λ leads. refl, subst (λ v. OccursAt w v i) (sym is) (literal w i j within at).0)
+
+  -- one that they hold somewhere
+  pub needed_holds : (l : List ℕ) → n.finder ≡ l → n.leads ≡ false → AllHold nodes r l → IsNeeded (tree_at nodes last) (Some n)
+  needed_holds l is leads holds w i j within s =
+      let at : At nodes w r i j = subst (λ x. At nodes w x i j) same s in
+      let h = holds w i j within at in
+      (h.0, h.1, λ yes. absurd (true≢false (sym yes ∙ leads)), subst (λ v. OccursAt w v h.0) (sym is) h.2)

@@ -1,0 +1,148 @@
+-- Expressions whose matches are seen at the first look.
+use Rattle.std.proofs.Common.{◌≡◌, ℕ, ◌+◌, ◌*◌, ◌<◌, ◌≤◌, ◌↔◌, Bool, List, length, Option, Some, None, IsTrue, refl, sym, subst, true≢false, arith, mul-le-mul_left}
+use Rattle.std.specs.Prelude.{slice_get, IfSome, is_some}
+use Rattle.std.proofs.lemmas.Option.{slice_get_within}
+use Rattle.sedre.specs.Tree.{Tree, set}
+use Rattle.sedre.specs.Arena.{IsArena, tree_at}
+use Rattle.sedre.specs.declared.types.Node.{Node}
+use Rattle.sedre.specs.declared.types.NodeId.{NodeId}
+use Rattle.sedre.specs.declared.types.Node.TheVariants.{Set, Seq}
+use Rattle.sedmatch.specs.Spans.{Spans, Found, NotFound, SomeFound, IsIn, no_copy}
+use Rattle.sedmatch.specs.Bytes.{FirstAt}
+use Rattle.sedmatch.specs.Reach.{At}
+use Rattle.sedmatch.specs.Skip.{CanBegin, NextStart}
+use Rattle.sedmatch.specs.declared.skip.Begins.TheVariants.{WithSet}
+use Rattle.sedmatch.specs.Runs.{AllRepeat, IsRun}
+use Rattle.sedmatch.specs.Sight.{IsFirst, StartsWith, SightSpans, IsSight, CanStart, FirstWith, FirstStart, EndsAt}
+use Rattle.sedmatch.specs.declared.sight.First.{First}
+use Rattle.sedmatch.specs.declared.sight.First.TheVariants.{Byte, Member}
+use Rattle.sedmatch.specs.declared.sight.Sight.{Sight}
+use Rattle.sedmatch.specs.declared.sight.Sight.TheVariants.{One, Run, Led}
+use Rattle.sedmatch.proofs.ReachLemmas.{open_at, close_at}
+use Rattle.sedmatch.proofs.RunLemmas.{run_far}
+use Rattle.sedmatch.proofs.SpanLemmas.{Copies-forward}
+
+-- the only member of a set, and one of it
+pub first_sole : (members : List Bool) (b : ℕ) → IsIn b members → ((c : ℕ) → IsIn c members → c ≡ b) → (c : ℕ) → IsFirst (Byte b) c ↔ IsIn c members
+first_sole members b has sole c = ((λ (e : c ≡ b). subst (λ v. IsIn v members) (sym e) has), sole c)
+
+-- a span of a set
+set_spans : (members : List Bool) (first : First) → ((c : ℕ) → IsFirst first c ↔ IsIn c members) → (w : List ℕ) (i j : ℕ) →
+    Spans (set members) w i j ↔ (StartsWith first w i × (j ≡ i + 1))
+set_spans members first same w i j = (
+  (λ s. ((s.0, s.1, (same s.0).1 s.2), s.3)),
+  (λ h. (h.0.0, h.0.1, (same h.0.0).0 h.0.2, h.1)),
+)
+
+module _ (nodes : List Node) (arena : IsArena nodes) (x last : ℕ) (whole : last ≡ x) where
+  to_node : (w : List ℕ) (i j : ℕ) → Spans (tree_at nodes last) w i j → At nodes w x i j
+  to_node w i j s = subst (λ v. At nodes w v i j) whole s
+
+  from_node : (w : List ℕ) (i j : ℕ) → At nodes w x i j → Spans (tree_at nodes last) w i j
+  from_node w i j at = subst (λ v. At nodes w v i j) (sym whole) at
+
+  -- a set
+  pub sight_one : (members : List Bool) (first : First) → slice_get nodes x ≡ Some (Set members) → ((c : ℕ) → IsFirst first c ↔ IsIn c members) → IsSight (tree_at nodes last) (One first)
+  sight_one members first is same w i j =
+      let spans = set_spans members first same w i j in (
+        (λ s. spans.0 (open_at nodes w x (Set members) arena is i j (to_node w i j s))),
+        (λ h. from_node w i j (close_at nodes w x (Set members) arena is i j (spans.1 h))),
+      )
+
+  -- a run
+  pub sight_run : (members : List Bool) → AllRepeat nodes x members → IsSight (tree_at nodes last) (Run members)
+  sight_run members repeats w i j = ((λ s. (repeats w i j).0 (to_node w i j s)), (λ h. from_node w i j ((repeats w i j).1 h)))
+
+  -- a byte of a set, and a run
+  pub sight_led : (a b : NodeId) (these : List Bool) (first : First) (y : ℕ) (members : List Bool) → slice_get nodes x ≡ Some (Seq a b) → slice_get nodes a.index ≡ Some (Set these) → y ≡ b.index →
+      ((c : ℕ) → IsFirst first c ↔ IsIn c these) → AllRepeat nodes y members → IsSight (tree_at nodes last) (Led first members)
+  sight_led a b these first y members is there y_is same repeats w i j = (
+    (λ s.
+        let f = open_at nodes w x (Seq a b) arena is i j (to_node w i j s) in
+        let h = (set_spans these first same w i f.0).0 (open_at nodes w a.index (Set these) arena there i f.0 f.1) in
+        (h.0, (repeats w (i + 1) j).0 (subst (λ v. At nodes w v (i + 1) j) (sym y_is) (subst (λ v. At nodes w b.index v j) h.1 f.2)))),
+    (λ h.
+        let left : At nodes w a.index i (i + 1) = close_at nodes w a.index (Set these) arena there i (i + 1) ((set_spans these first same w i (i + 1)).1 (h.0, refl)) in
+        let right : At nodes w b.index (i + 1) j = subst (λ v. At nodes w v (i + 1) j) y_is ((repeats w (i + 1) j).1 h.1) in
+        from_node w i j (close_at nodes w x (Seq a b) arena is i j (i + 1, left, right))),
+  )
+
+-- the byte that is sought
+pub first_byte : (b : ℕ) (w : List ℕ) (p : ℕ) (r : Option ℕ) → FirstAt w b p r → FirstWith (Byte b) w p r
+first_byte b w p None none = λ k low starts. none k low (subst (λ v. slice_get w k ≡ Some v) starts.2 starts.1)
+first_byte b w p (Some k) first = (first.0, (b, first.1, refl), λ h low lt starts. first.2 h low lt (subst (λ v. slice_get w h ≡ Some v) starts.2 starts.1))
+
+pub first_member : (s : List Bool) (w : List ℕ) (p : ℕ) (r : Option ℕ) → NextStart (WithSet s) w p r → IfSome r (λ k. CanBegin (WithSet s) w k) → FirstWith (Member s) w p r
+first_member s w p None none here = λ k low starts. none k low (let inside = slice_get_within w k starts.0 starts.1 in omega arith) starts
+first_member s w p (Some k) next here = (next.0, here, λ h low lt starts. next.2 h low lt starts)
+
+-- what can come first tells where a match begins
+pub start_one : (first : First) (w : List ℕ) (p : ℕ) (r : Option ℕ) → FirstWith first w p r → FirstStart (One first) w p r
+start_one first w p None none = λ k low within starts. none k low starts
+start_one first w p (Some k) here = (here.0, (let inside = slice_get_within w k here.1.0 here.1.1 in omega arith), here.1, here.2)
+
+pub start_led : (first : First) (members : List Bool) (w : List ℕ) (p : ℕ) (r : Option ℕ) → FirstWith first w p r → FirstStart (Led first members) w p r
+start_led first members w p None none = λ k low within starts. none k low starts
+start_led first members w p (Some k) here = (here.0, (let inside = slice_get_within w k here.1.0 here.1.1 in omega arith), here.1, here.2)
+
+pub starts_inside : (first : First) (w : List ℕ) (i : ℕ) → StartsWith first w i → i < length w
+starts_inside first w i starts = slice_get_within w i starts.0 starts.1
+
+-- where the longest ends
+pub end_one : (first : First) (w : List ℕ) (i : ℕ) → StartsWith first w i → EndsAt (One first) w i (i + 1)
+end_one first w i starts = ((starts, refl), (let inside = starts_inside first w i starts in omega arith), λ k h. omega (arith, h.1))
+
+pub end_run : (members : List Bool) (w : List ℕ) (i k : ℕ) → IsRun members w i k → EndsAt (Run members) w i k
+end_run members w i k run = let far = run_far members w i k run in (far.1, far.0, far.2)
+
+pub end_led : (first : First) (members : List Bool) (w : List ℕ) (i k : ℕ) → StartsWith first w i → IsRun members w (i + 1) k → EndsAt (Led first members) w i k
+end_led first members w i k starts run = let far = run_far members w (i + 1) k run in ((starts, far.1), far.0, λ j h. far.2 j h.1)
+
+-- a match begins where it can
+spans_start : (sight : Sight) (w : List ℕ) (i j : ℕ) → SightSpans sight w i j → CanStart sight w i
+spans_start (One first) w i j s = s.0
+spans_start (Run members) w i j s = tt
+spans_start (Led first members) w i j s = s.0
+
+-- and where it can, one does
+start_spans : (sight : Sight) (w : List ℕ) (i : ℕ) → CanStart sight w i → (j : ℕ) × SightSpans sight w i j
+start_spans (One first) w i can = (i + 1, (can, refl))
+start_spans (Run members) w i can = (i, no_copy)
+start_spans (Led first members) w i can = (i + 1, (can, no_copy))
+
+module _ (e : Tree) (sight : Sight) (is : IsSight e sight) (w : List ℕ) (p : ℕ) where
+  pub sight_found : (i j : ℕ) → FirstStart sight w p (Some i) → EndsAt sight w i j → Found e w p i j
+  sight_found i j start end = record {
+    after = start.0;
+    spans = (is w i j).1 end.0;
+    longest = λ k s. end.2 k ((is w i k).0 s);
+    leftmost = λ h k low lt s. start.3 h low lt (spans_start sight w h k ((is w h k).0 s));
+  }
+
+  pub sight_some : (r : Option ℕ) → FirstStart sight w p r → IsTrue (is_some r) ↔ SomeFound e w p
+  sight_some None none = (
+    (λ h. absurd (true≢false (sym h))),
+    (λ some. absurd (none some.0 some.2 some.3 (spans_start sight w some.0 some.1 ((is w some.0 some.1).0 some.4)))),
+  )
+  sight_some (Some i) start =
+      let span = start_spans sight w i start.2 in
+      ((λ h. (i, span.0, start.0, start.1, (is w i span.0).1 span.1)), (λ some. refl))
+
+  pub sight_none : FirstStart sight w p None → NotFound e w p
+  sight_none none i k low within s = none i low within (spans_start sight w i k ((is w i k).0 s))
+
+ends_on : (sight : Sight) (w : List ℕ) (i j : ℕ) → SightSpans sight w i j → i ≤ j
+ends_on (One first) w i j s = omega (arith, s.1)
+ends_on (Run members) w i j s = Copies-forward (Spans (set members) w) j i s
+ends_on (Led first members) w i j s = omega (arith, Copies-forward (Spans (set members) w) j (i + 1) s.1)
+
+-- the longest from a place ends there or behind it
+pub ends_after : (sight : Sight) (w : List ℕ) (i j : ℕ) → EndsAt sight w i j → i ≤ j
+ends_after sight w i j end = ends_on sight w i j end.0
+
+-- the steps, of which there are two for each byte at most
+pub sight_steps : (m n s0 s : ℕ) → 0 < m → s ≤ s0 + 2 * (n + 1) → s ≤ s0 + 64 * m * (n + 1)
+sight_steps m n s0 s some less =
+    let one : 1 ≤ m = omega arith in
+    let all = mul-le-mul_left (n + 1) one in
+    omega (arith, all)

@@ -1,0 +1,55 @@
+-- Whether a match begins at the first place at which one can.
+use Rattle.std.proofs.Common.{◌≡◌, ℕ, ◌+◌, ◌*◌, ◌<◌, ◌≤◌, ◌↔◌, Bool, true, List, length, Option, Some, None, IsTrue, refl, subst, arith, mul-le-mul_left}
+use Rattle.std.specs.Prelude.{IfSome, IfNone}
+use Rattle.sedre.specs.Tree.{Tree}
+use Rattle.sedre.specs.declared.types.Node.{Node}
+use Rattle.sedmatch.specs.declared.linear.FirstEnd.{FirstEnd}
+use Rattle.sedmatch.specs.Linear.{IsFirstEnd, ended_to}
+use Rattle.sedmatch.specs.Spans.{Spans, SomeFound}
+use Rattle.sedmatch.specs.Ahead.{LeadsTo}
+use Rattle.sedmatch.specs.declared.ahead.Lead.{Lead}
+use Rattle.sedmatch.specs.declared.ahead.Lead.TheVariants.{To}
+use Rattle.sedmatch.specs.declared.sight.Sight.{Sight}
+use Rattle.sedmatch.specs.Sight.{IsSight, IsSightOf}
+
+-- where a look ahead tells its end
+pub some_at : (e : Tree) (w : List ℕ) (p start end : ℕ) (lead : Lead) → p ≤ start → start ≤ length w → lead ≡ To end → LeadsTo (length w) (Spans e w start) lead → IsTrue true ↔ SomeFound e w p
+some_at e w p start end lead low within is leads =
+    let h = subst (LeadsTo (length w) (Spans e w start)) is leads in
+    ((λ yes. (start, end, low, within, (h.1 end).1 refl)), (λ some. refl))
+
+-- a pass ends at its start or behind it
+pub ended_after : (nodes : List Node) (w : List ℕ) (r start : ℕ) (marks : List Bool) (o : Option FirstEnd) → start ≤ length w → IsFirstEnd nodes w r start marks o → start ≤ ended_to (length w) o
+ended_after nodes w r start marks None within none = within
+ended_after nodes w r start marks (Some f) within told = told.0
+
+-- the steps to it, and those of the pass from there on
+pub some_steps : (m n from start p s0 s1 s2 : ℕ) → start ≤ n → start ≤ p → p ≤ n → s1 + 8 * m * from ≤ s0 + 8 * m * (start + 1) → s2 + 42 * m * start ≤ s1 + 40 * m + 42 * m * p →
+    s2 ≤ s0 + 48 * m + 42 * m * n
+some_steps m n from start p s0 s1 s2 low ordered high skip sweep =
+    let up = mul-le-mul_left (42 * m) high in
+    omega (arith, up)
+
+pub seek_steps : (m n from start s0 s1 : ℕ) → start ≤ n → s1 + 8 * m * from ≤ s0 + 8 * m * (start + 1) → s1 ≤ s0 + 48 * m + 42 * m * n
+seek_steps m n from start s0 s1 low skip =
+    let up = mul-le-mul_left (8 * m) low in
+    omega (arith, up)
+
+-- a literal was sought before
+pub some_linear : (m n s0 s1 s2 : ℕ) → 0 < m → s1 ≤ s0 + n → s2 ≤ s1 + 48 * m + 42 * m * n → s2 ≤ s0 + 64 * m * (n + 1)
+some_linear m n s0 s1 s2 some sought less =
+    let one : 1 ≤ m = omega arith in
+    let places = mul-le-mul_left n one in
+    omega (arith, places)
+
+pub sight_known : (e : Tree) (o : Option Sight) → IfSome o (λ s. IsSight e s) → IsSightOf e o
+sight_known e None is = tt
+sight_known e (Some s) is = is
+
+pub sight_is : (e : Tree) (o : Option Sight) (s : Sight) → o ≡ Some s → IsSightOf e o → IsSight e s
+sight_is e o s same is = subst (IsSightOf e) same is
+
+-- what holds anyhow
+pub none_given : (o : Option (ℕ × ℕ)) (P : Type 0) → P → IfNone o P
+none_given None P is = is
+none_given (Some f) P is = tt

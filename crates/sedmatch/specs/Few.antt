@@ -1,0 +1,42 @@
+-- Private to this crate: expressions whose matches begin with one of a few bytes.
+use Rattle.std.specs.Prelude.{◌≡◌, ◌⊎◌, ℕ, ◌<◌, ◌≤◌, List, slice_get, Option, Some, None}
+use Rattle.sedre.specs.Tree.{Tree}
+use Rattle.sedmatch.specs.Spans.{Spans}
+use Rattle.sedmatch.specs.Skip.{CanBegin, EitherHas}
+use Rattle.sedmatch.specs.declared.skip.Begins.{Begins}
+use Rattle.sedmatch.specs.declared.skip.Either.{Either}
+use Rattle.sedmatch.specs.declared.few.Few.{Few}
+use Rattle.sedmatch.specs.declared.few.Few.TheVariants.{One, Two, Three}
+
+-- the byte is one of the few
+abbrev pub HasFew : Few → ℕ → Type 0
+HasFew (One a) c = c ≡ a
+HasFew (Two a b) c = (c ≡ a) ⊎ (c ≡ b)
+HasFew (Three a b d) c = (c ≡ a) ⊎ ((c ≡ b) ⊎ (c ≡ d))
+
+-- one of the few stands at the place
+abbrev pub FewAt : Few → List ℕ → ℕ → Type 0
+FewAt few w i = (c : ℕ) × (slice_get w i ≡ Some c) × HasFew few c
+
+-- the first place from p on at which one of the few stands
+abbrev pub FirstFew : Few → List ℕ → ℕ → Option ℕ → Type 0
+FirstFew few w p None = (k : ℕ) → p ≤ k → FewAt few w k → ⊥
+FirstFew few w p (Some k) = (p ≤ k) × FewAt few w k × ((h : ℕ) → p ≤ h → h < k → FewAt few w h → ⊥)
+
+-- what begins so begins with one of the few
+abbrev pub IsFewOf : Begins → Few → Type 0
+IsFewOf begins few = (w : List ℕ) (i : ℕ) → CanBegin begins w i → FewAt few w i
+
+-- the same, where they are known
+abbrev pub FewOf : Begins → Option Few → Type 0
+FewOf begins None = Unit {0}
+FewOf begins (Some few) = IsFewOf begins few
+
+-- all members of the sets are among the few
+abbrev pub HoldsAll : Either → Few → Type 0
+HoldsAll sets few = (c : ℕ) → EitherHas sets c → HasFew few c
+
+-- all spans of the expression begin with one of the few, where they are known
+abbrev pub AllFew : Tree → Option Few → Type 0
+AllFew e None = Unit {0}
+AllFew e (Some few) = (w : List ℕ) (i j : ℕ) → Spans e w i j → FewAt few w i

@@ -1,0 +1,69 @@
+-- Private to this crate: literals that the spans of an expression hold.
+use Rattle.std.specs.Prelude.{◌≡◌, ℕ, ◌+◌, ◌-◌, ◌<◌, ◌≤◌, List, length, slice_get, Option, Some, None, IsTrue}
+use Rattle.memchr.specs.Find.{OccursAt}
+use Rattle.sedre.specs.Tree.{Tree}
+use Rattle.sedre.specs.declared.types.Node.{Node}
+use Rattle.sedmatch.specs.Spans.{Spans, NotFound}
+use Rattle.sedmatch.specs.Reach.{At}
+use Rattle.sedmatch.specs.Search.{NoneIn}
+use Rattle.sedmatch.specs.declared.needed.Link.{Link}
+use Rattle.sedmatch.specs.declared.needed.Link.TheVariants.{Byte, Last, Inner, Other}
+use Rattle.sedmatch.specs.declared.needed.Literal.{Literal}
+use Rattle.sedmatch.specs.declared.needed.Needed.{Needed}
+
+-- the spans of the node x are of the one byte
+abbrev pub IsByte : List Node → ℕ → ℕ → Type 0
+IsByte nodes x byte = (w : List ℕ) (i j : ℕ) → At nodes w x i j → (slice_get w i ≡ Some byte) × (j ≡ i + 1)
+
+-- how the spans of the node x begin
+abbrev pub LinksTo : List Node → ℕ → Link → Type 0
+LinksTo nodes x (Byte byte y) = (y < x) × ((w : List ℕ) (i j : ℕ) → At nodes w x i j → (slice_get w i ≡ Some byte) × At nodes w y (i + 1) j)
+LinksTo nodes x (Last byte) = IsByte nodes x byte
+LinksTo nodes x (Inner y) = (y < x) × ((w : List ℕ) (i j : ℕ) → At nodes w x i j → At nodes w y i j)
+LinksTo nodes x Other = Unit {0}
+
+-- the node y, if there is one, is spanned from i to j
+abbrev pub GoesOnAs : List Node → List ℕ → ℕ → ℕ → Option ℕ → Type 0
+GoesOnAs nodes w i j None = Unit {0}
+GoesOnAs nodes w i j (Some y) = At nodes w y i j
+
+-- the spans of the node x begin with the bytes, behind which they go on as those of the node y
+abbrev pub BeginsAs : List Node → ℕ → List ℕ → ℕ → Type 0
+BeginsAs nodes x bytes y = (w : List ℕ) (i j : ℕ) → i ≤ length w → At nodes w x i j → OccursAt w bytes i × At nodes w y (i + length bytes) j
+
+-- the spans of the node x begin with the literal, behind which they go on as the spans of the rest
+abbrev pub IsLiteral : List Node → ℕ → Literal → Type 0
+IsLiteral nodes x l = (w : List ℕ) (i j : ℕ) → i ≤ length w → At nodes w x i j → OccursAt w l.bytes.items i × GoesOnAs nodes w (i + length l.bytes.items) j l.rest
+
+-- the rest, if there is one, is the node or stands before it
+abbrev pub IsUpTo : ℕ → Option ℕ → Type 0
+IsUpTo x None = Unit {0}
+IsUpTo x (Some y) = y ≤ x
+
+-- each span of the node x holds the literal
+abbrev pub AllHold : List Node → ℕ → List ℕ → Type 0
+AllHold nodes x literal = (w : List ℕ) (i j : ℕ) → i ≤ length w → At nodes w x i j → (k : ℕ) × (i ≤ k) × OccursAt w literal k
+
+-- each span of the node x ends with one of the node y
+abbrev pub AllEndWith : List Node → ℕ → ℕ → Type 0
+AllEndWith nodes x y = (w : List ℕ) (i j : ℕ) → i ≤ length w → At nodes w x i j → (k : ℕ) × (i ≤ k) × (k ≤ length w) × At nodes w y k j
+
+-- each span of the expression holds the literal, at its beginning where it leads
+abbrev pub IsNeeded : Tree → Option Needed → Type 0
+IsNeeded e None = Unit {0}
+IsNeeded e (Some n) = (w : List ℕ) (i j : ℕ) → i ≤ length w → Spans e w i j → (k : ℕ) × (i ≤ k) × (IsTrue n.leads → k ≡ i) × OccursAt w n.finder k
+
+-- the first place from p on at which the literal stands, if there is one
+abbrev pub FirstLiteral : List ℕ → List ℕ → ℕ → Option ℕ → Type 0
+FirstLiteral w literal p None = (k : ℕ) → p ≤ k → OccursAt w literal k → ⊥
+FirstLiteral w literal p (Some k) = (p ≤ k) × OccursAt w literal k × ((h : ℕ) → p ≤ h → h < k → OccursAt w literal h → ⊥)
+
+-- how many bytes are passed from p to the end of the literal of m bytes, or to the end n of the text
+abbrev pub passed_to : ℕ → ℕ → ℕ → Option ℕ → ℕ
+passed_to n p m None = n - p
+passed_to n p m (Some k) = k + m - p
+
+-- the first place from p on at which a match can begin
+abbrev pub Narrowed : Tree → List ℕ → ℕ → Option ℕ → Type 0
+Narrowed e w p None = NotFound e w p
+Narrowed e w p (Some q) = (p ≤ q) × (q ≤ length w) × NoneIn e w p q

@@ -1,0 +1,53 @@
+-- Private to this crate: expressions whose matches are seen at the first look.
+use Rattle.std.specs.Prelude.{◌≡◌, ℕ, ◌+◌, ◌<◌, ◌≤◌, ◌↔◌, List, length, slice_get, Option, Some, None}
+use Rattle.sedre.specs.Tree.{Tree}
+use Rattle.sedmatch.specs.Spans.{Spans, IsIn}
+use Rattle.sedmatch.specs.Runs.{Repeated}
+use Rattle.sedmatch.specs.declared.sight.First.{First}
+use Rattle.sedmatch.specs.declared.sight.First.TheVariants.{Byte, Member}
+use Rattle.sedmatch.specs.declared.sight.Sight.{Sight}
+use Rattle.sedmatch.specs.declared.sight.Sight.TheVariants.{One, Run, Led}
+
+-- the byte can come first
+abbrev pub IsFirst : First → ℕ → Type 0
+IsFirst (Byte b) c = c ≡ b
+IsFirst (Member s) c = IsIn c s
+
+-- the byte at the place can come first
+abbrev pub StartsWith : First → List ℕ → ℕ → Type 0
+StartsWith first w i = (c : ℕ) × (slice_get w i ≡ Some c) × IsFirst first c
+
+-- what matches from i to j
+abbrev pub SightSpans : Sight → List ℕ → ℕ → ℕ → Type 0
+SightSpans (One first) w i j = StartsWith first w i × (j ≡ i + 1)
+SightSpans (Run members) w i j = Repeated members w i j
+SightSpans (Led first members) w i j = StartsWith first w i × Repeated members w (i + 1) j
+
+-- the spans of the expression are these
+abbrev pub IsSight : Tree → Sight → Type 0
+IsSight e sight = (w : List ℕ) (i j : ℕ) → Spans e w i j ↔ SightSpans sight w i j
+
+-- the same, where it is known
+abbrev pub IsSightOf : Tree → Option Sight → Type 0
+IsSightOf e None = Unit {0}
+IsSightOf e (Some sight) = IsSight e sight
+
+-- what matches can begin at the place
+abbrev pub CanStart : Sight → List ℕ → ℕ → Type 0
+CanStart (One first) w i = StartsWith first w i
+CanStart (Run members) w i = Unit {0}
+CanStart (Led first members) w i = StartsWith first w i
+
+-- the first place from p on at which the byte can come first
+abbrev pub FirstWith : First → List ℕ → ℕ → Option ℕ → Type 0
+FirstWith first w p None = (k : ℕ) → p ≤ k → StartsWith first w k → ⊥
+FirstWith first w p (Some k) = (p ≤ k) × StartsWith first w k × ((h : ℕ) → p ≤ h → h < k → StartsWith first w h → ⊥)
+
+-- the first place from p on at which a match begins
+abbrev pub FirstStart : Sight → List ℕ → ℕ → Option ℕ → Type 0
+FirstStart sight w p None = (k : ℕ) → p ≤ k → k ≤ length w → CanStart sight w k → ⊥
+FirstStart sight w p (Some k) = (p ≤ k) × (k ≤ length w) × CanStart sight w k × ((h : ℕ) → p ≤ h → h < k → CanStart sight w h → ⊥)
+
+-- the longest match from i ends at j
+abbrev pub EndsAt : Sight → List ℕ → ℕ → ℕ → Type 0
+EndsAt sight w i j = SightSpans sight w i j × (j ≤ length w) × ((k : ℕ) → SightSpans sight w i k → k ≤ j)

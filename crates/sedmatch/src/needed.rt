@@ -1,0 +1,235 @@
+//! A literal that every match of an expression holds: a text without it has no match.
+//!
+//! A concatenation is followed from part to part, and single bytes that stand one behind another in it are a literal.
+ghost use Rattle.std.specs.Prelude.{◌≡◌, ℕ, ◌+◌, ◌*◌, ◌^◌, ◌<◌, ◌≤◌, ◌⊎◌, length, IfOk, IfSome};
+ghost use Rattle.sedre.specs.Arena.{tree};
+ghost use Rattle.sedre.specs.Tree.{Tree};
+ghost use Rattle.sedmatch.specs.Needed.{IsByte, LinksTo, IsLiteral, IsUpTo, AllHold, AllEndWith, IsNeeded, Narrowed};
+
+use crate::counted::Text;
+use memchr::memmem::Finder;
+use sedre::{Expr, Node, Steps};
+use std::alloc::{AllocError, Global};
+
+/// The most bytes of a literal.
+const MAX_LITERAL: usize = 32;
+
+/// How the spans of a node begin.
+#[derive(Clone, Copy)]
+pub enum Link {
+    /// With this byte, behind which they go on as the spans of this node.
+    Byte(u8, usize),
+    /// They are of this one byte.
+    Last(u8),
+    /// As the spans of this node.
+    Inner(usize),
+    /// That isn't known.
+    Other,
+}
+
+/// The bytes with which the spans of a node begin.
+#[derive(Drop)]
+pub struct Literal {
+    /// The bytes.
+    pub bytes: Vec<u8>,
+    /// The node as whose spans they go on behind these.
+    pub rest: Option<usize>,
+}
+
+/// A literal that every match holds.
+#[derive(Drop)]
+pub struct Needed {
+    /// A search for it.
+    pub finder: Finder<'static>,
+    /// Whether every match begins with it.
+    pub leads: bool,
+}
+
+/// The byte of which the spans of the node are, if it is one byte alone.
+fn sole_byte(expr: &Expr, index: usize, steps: &mut Steps) -> Option<u8>
+    requires inside { index < length expr.now.nodes }
+    requires room { steps.old < 2 ^ 119 }
+    ensures byte { IfSome result (λ b. IsByte expr.now.nodes index b) }
+    ensures cost { steps.new ≡ steps.old + 1 }
+{
+    let _count = expr.nodes();
+    match expr.look(expr.id(index), steps) {
+        Node::Set(set) => set.sole(),
+        _ => None,
+    }
+}
+
+/// How the spans of the node begin.
+fn link_of(expr: &Expr, index: usize, steps: &mut Steps) -> Link
+    requires inside { index < length expr.now.nodes }
+    requires room { steps.old < 2 ^ 118 }
+    ensures links { LinksTo expr.now.nodes index result }
+    ensures grows { steps.old ≤ steps.new }
+    ensures cost { steps.new ≤ steps.old + 2 }
+{
+    let _count = expr.nodes();
+    let node = expr.look(expr.id(index), steps);
+    match node {
+        Node::Seq(a, b) => match sole_byte(expr, a.index(), steps) {
+            Some(byte) => Link::Byte(byte, b.index()),
+            None => Link::Other,
+        },
+        Node::Group(_, a) => Link::Inner(a.index()),
+        _ => match sole_byte(expr, index, steps) {
+            Some(byte) => Link::Last(byte),
+            None => Link::Other,
+        },
+    }
+}
+
+/// The literal with which the spans of the node begin.
+fn literal_from(
+    alloc: Global,
+    expr: &Expr,
+    from: usize,
+    steps: &mut Steps,
+) -> Result<Literal, AllocError>
+    requires inside { from < length expr.now.nodes }
+    requires few { length expr.now.nodes ≤ 65536 }
+    requires room { steps.old < 2 ^ 117 }
+    ensures literal { IfOk result (λ l. IsLiteral expr.now.nodes from l) }
+    ensures up_to { IfOk result (λ l. IsUpTo from l.rest) }
+    ensures grows { steps.old ≤ steps.new }
+    ensures cost { steps.new ≤ steps.old + 131074 }
+{
+    let _count = expr.nodes();
+    let mut bytes = Vec::new(alloc);
+    let mut index = from;
+    loop {
+        if bytes.len() >= MAX_LITERAL {
+            return Ok(Literal {
+                bytes,
+                rest: Some(index),
+            });
+        }
+        match link_of(expr, index, steps) {
+            Link::Byte(byte, next) => {
+                bytes.push(byte)?;
+                index = next;
+            }
+            Link::Last(byte) => {
+                bytes.push(byte)?;
+                return Ok(Literal { bytes, rest: None });
+            }
+            Link::Inner(part) => index = part,
+            Link::Other => return Ok(Literal {
+                bytes,
+                rest: Some(index),
+            }),
+        }
+    }
+}
+
+/// The second part of a node that is a concatenation.
+fn second_of(expr: &Expr, index: usize, steps: &mut Steps) -> Option<usize>
+    requires inside { index < length expr.now.nodes }
+    requires room { steps.old < 2 ^ 118 }
+    ensures below { IfSome result (λ y. y < index) }
+    ensures ends { IfSome result (λ y. AllEndWith expr.now.nodes index y) }
+    ensures cost { steps.new ≡ steps.old + 1 }
+{
+    let _count = expr.nodes();
+    let node = expr.look(expr.id(index), steps);
+    match node {
+        Node::Seq(_, b) => Some(b.index()),
+        _ => None,
+    }
+}
+
+/// The longer of two literals.
+fn longer(first: Vec<u8>, second: Vec<u8>) -> Vec<u8>
+    ensures { (result.items ≡ first.items) ⊎ (result.items ≡ second.items) }
+{
+    if first.len() < second.len() {
+        second
+    } else {
+        first
+    }
+}
+
+/// The longest of the literals that the spans of the node hold one behind another.
+fn longest_literal(
+    alloc: Global,
+    expr: &Expr,
+    from: usize,
+    steps: &mut Steps,
+) -> Result<Vec<u8>, AllocError>
+    requires inside { from < length expr.now.nodes }
+    requires few { length expr.now.nodes ≤ 65536 }
+    requires room { steps.old < 2 ^ 110 }
+    ensures holds { IfOk result (λ v. AllHold expr.now.nodes from v.items) }
+{
+    let _count = expr.nodes();
+    let mut best = Vec::new(alloc);
+    let mut index = from;
+    loop {
+        let Literal { bytes, rest } = literal_from(alloc, expr, index, steps)?;
+        best = longer(best, bytes);
+        let Some(rest) = rest else {
+            return Ok(best);
+        };
+        let Some(next) = second_of(expr, rest, steps) else {
+            return Ok(best);
+        };
+        index = next;
+    }
+}
+
+/// A search for the literal.
+fn search_for(alloc: Global, literal: &[u8], leads: bool) -> Result<Needed, AllocError>
+    ensures literal { IfOk result (λ n. n.finder ≡ literal.now) }
+    ensures leads { IfOk result (λ n. n.leads ≡ leads) }
+{
+    let finder = Finder::new(literal).into_owned(alloc)?;
+    Ok(Needed { finder, leads })
+}
+
+/// A literal that every match of the expression holds, where one is found that is worth a search: one of two bytes or
+/// more with which all begin, or the longest of the others.
+pub fn find_needed(
+    alloc: Global,
+    expr: &Expr,
+    steps: &mut Steps,
+) -> Result<Option<Needed>, AllocError>
+    requires few { length expr.now.nodes ≤ 65536 }
+    requires room { steps.old < 2 ^ 100 }
+    ensures needed { IfOk result (λ n. IsNeeded (tree expr.now) n) }
+{
+    let root = expr.root().index();
+    let first = literal_from(alloc, expr, root, steps)?;
+    if first.bytes.len() >= 2 {
+        return Ok(Some(search_for(alloc, &first.bytes, true)?));
+    }
+    let best = longest_literal(alloc, expr, root, steps)?;
+    if best.is_empty() {
+        return Ok(None);
+    }
+    Ok(Some(search_for(alloc, &best, false)?))
+}
+
+/// The first place from `from` on at which a match can begin, as far as the literal tells that each of them holds.
+pub fn narrowed(
+    needed: &Option<Needed>,
+    text: &Text,
+    from: usize,
+    steps: &mut Steps,
+) -> Option<usize>
+    requires from { from ≤ length text.now }
+    requires room { steps.old < 2 ^ 118 }
+    ensures narrowed { (e : Tree) → IsNeeded e needed.now → Narrowed e text.now from result }
+    ensures grows { steps.old ≤ steps.new }
+    ensures cost { steps.new + from ≤ steps.old + length text.now }
+{
+    match needed {
+        None => Some(from),
+        Some(needed) => match text.find_literal(&needed.finder, from, steps) {
+            None => None,
+            Some(place) => Some(if needed.leads { place } else { from }),
+        },
+    }
+}

@@ -1,0 +1,155 @@
+//! Expressions whose matches are seen at the first look: a set, a run of its bytes, or one byte and a run.
+//!
+//! Where such a match begins is told by one byte, and where the longest ends by the bytes that follow, so that nothing
+//! has to be found out of the expression in a search.
+ghost use Rattle.std.specs.Prelude.{◌≡◌, ℕ, ◌+◌, ◌*◌, ◌^◌, ◌<◌, ◌≤◌, ◌↔◌, length, IfSome, IfNone, IsTrue};
+ghost use Rattle.sedre.specs.Arena.{tree};
+ghost use Rattle.sedre.specs.Tree.{Tree};
+ghost use Rattle.sedmatch.specs.Spans.{Found as IsFound, NotFound, SomeFound, IsIn};
+ghost use Rattle.sedmatch.specs.Sight.{IsFirst, FirstWith, IsSight, CanStart, FirstStart, EndsAt};
+
+use crate::counted::Text;
+use crate::runs::{run_end, star_set};
+use crate::skip::find_member;
+use sedre::{ByteSet, Expr, Node, Steps};
+
+/// The byte that comes first in a match.
+#[derive(Clone, Copy)]
+pub enum First {
+    /// This one.
+    Byte(u8),
+    /// One of this set.
+    Member(ByteSet),
+}
+
+/// How the matches of an expression look.
+#[derive(Clone, Copy)]
+pub enum Sight {
+    /// One byte.
+    One(First),
+    /// Bytes of the set, any number of them.
+    Run(ByteSet),
+    /// One byte, and bytes of the set, any number of them.
+    Led(First, ByteSet),
+}
+
+/// A member of a set, as it is sought.
+fn first_of(set: &ByteSet) -> First
+    ensures { (c : ℕ) → IsFirst result c ↔ IsIn c set.now }
+{
+    match set.sole() {
+        Some(byte) => if set.has(byte) {
+            First::Byte(byte)
+        } else {
+            First::Member(*set)
+        },
+        None => First::Member(*set),
+    }
+}
+
+/// How the matches of the expression look, if they are seen at the first look.
+pub fn sight_of(expr: &Expr, steps: &mut Steps) -> Option<Sight>
+    requires few { length expr.now.nodes ≤ 65536 }
+    requires room { steps.old < 2 ^ 110 }
+    ensures sight { IfSome result (λ s. IsSight (tree expr.now) s) }
+    ensures cost { steps.new ≤ steps.old + 5 }
+{
+    let _count = expr.nodes();
+    let root = expr.root().index();
+    match expr.look(expr.id(root), steps) {
+        Node::Set(set) => Some(Sight::One(first_of(&set))),
+        Node::Seq(a, b) => match expr.look(a, steps) {
+            Node::Set(set) => match star_set(expr, b.index(), steps) {
+                Some(members) => Some(Sight::Led(first_of(&set), members)),
+                None => None,
+            },
+            _ => None,
+        },
+        _ => match star_set(expr, root, steps) {
+            Some(members) => Some(Sight::Run(members)),
+            None => None,
+        },
+    }
+}
+
+/// The first place from `from` on whose byte can come first.
+fn find_first(first: &First, text: &Text, from: usize, steps: &mut Steps) -> Option<usize>
+    requires from { from ≤ length text.now }
+    requires short { length text.now ≤ 2 ^ 30 }
+    requires room { steps.old < 2 ^ 117 }
+    ensures first { FirstWith first.now text.now from result }
+    ensures grows { steps.old ≤ steps.new }
+    ensures cost { steps.new + from ≤ steps.old + (length text.now + 1) }
+{
+    match first {
+        First::Byte(byte) => text.find_byte(*byte, from, steps),
+        First::Member(set) => find_member(set, text, from, steps),
+    }
+}
+
+/// The first place from `from` on at which a match begins.
+pub fn sight_start(sight: &Sight, text: &Text, from: usize, steps: &mut Steps) -> Option<usize>
+    requires from { from ≤ length text.now }
+    requires short { length text.now ≤ 2 ^ 30 }
+    requires room { steps.old < 2 ^ 116 }
+    ensures start { FirstStart sight.now text.now from result }
+    ensures grows { steps.old ≤ steps.new }
+    ensures cost { steps.new + from ≤ steps.old + (length text.now + 1) }
+{
+    match sight {
+        Sight::One(first) => find_first(first, text, from, steps),
+        Sight::Led(first, _) => find_first(first, text, from, steps),
+        Sight::Run(_) => Some(from),
+    }
+}
+
+/// Whether any match begins at `from` or later.
+pub fn sight_matches(sight: &Sight, text: &Text, from: usize, steps: &mut Steps) -> bool
+    requires from { from ≤ length text.now }
+    requires short { length text.now ≤ 2 ^ 30 }
+    requires room { steps.old < 2 ^ 116 }
+    ensures matches { (e : Tree) → IsSight e sight.now → IsTrue result ↔ SomeFound e text.now from }
+    ensures grows { steps.old ≤ steps.new }
+    ensures cost { steps.new ≤ steps.old + 2 * (length text.now + 1) }
+{
+    sight_start(sight, text, from, steps).is_some()
+}
+
+/// Where the longest match ends that begins at `start`.
+fn sight_end(sight: &Sight, text: &Text, start: usize, steps: &mut Steps) -> usize
+    requires start { start ≤ length text.now }
+    requires can { CanStart sight.now text.now start }
+    requires short { length text.now ≤ 2 ^ 30 }
+    requires room { steps.old < 2 ^ 117 }
+    ensures end { EndsAt sight.now text.now start result }
+    ensures grows { steps.old ≤ steps.new }
+    ensures cost { steps.new ≤ steps.old + length text.now }
+{
+    match sight {
+        Sight::One(_) => start + 1,
+        Sight::Led(_, members) => run_end(members, text, start + 1, steps),
+        Sight::Run(members) => run_end(members, text, start, steps),
+    }
+}
+
+/// The leftmost-longest match that begins at `from` or later.
+pub fn sight_span(
+    sight: &Sight,
+    text: &Text,
+    from: usize,
+    steps: &mut Steps,
+) -> Option<(usize, usize)>
+    requires from { from ≤ length text.now }
+    requires short { length text.now ≤ 2 ^ 30 }
+    requires room { steps.old < 2 ^ 116 }
+    ensures found { (e : Tree) → IsSight e sight.now → IfSome result (λ f. IsFound e text.now from f.0 f.1) }
+    ensures none { (e : Tree) → IsSight e sight.now → IfNone result (NotFound e text.now from) }
+    ensures lies { IfSome result (λ f. (f.0 ≤ f.1) × (f.1 ≤ length text.now)) }
+    ensures grows { steps.old ≤ steps.new }
+    ensures cost { steps.new ≤ steps.old + 2 * (length text.now + 1) }
+{
+    match sight_start(sight, text, from, steps) {
+        None => None,
+        Some(start) => Some((start, sight_end(sight, text, start, steps))),
+    }
+}
