@@ -12,10 +12,9 @@ use Rattle.sedengine.specs.State.{Entry, Task, do_at, State, Move, Setting}
 use Rattle.sedengine.specs.Select.{Choice, selects}
 use Rattle.sedengine.specs.Move.{move, comes_to, performs, acts, passes, writing, quietly, queueing, then_do, none_left, in_table, is_active, tells_at}
 use Rattle.sedengine.specs.Ends.{Fits, comes, reads, asks_last, is_next, names_last}
-use Rattle.sedengine.specs.Held.{SameLengths}
 use Rattle.sedengine.specs.Meters.{Sent, Tally}
 use Rattle.sedengine.specs.Calls.{Puts}
-use Rattle.sedengine.specs.Run.{Run, at_lines, setting, size_of, starts_cycle}
+use Rattle.sedengine.specs.Run.{Run, at_lines, setting}
 use Rattle.sedengine.specs.Choose.{Judges, as_choice, come_with, current}
 use Rattle.sedengine.specs.Queueing.{QueuesOrFull, queued_more}
 use Rattle.sedengine.specs.Steps.{ComesTo, HasAction, Moves, Performs, PerformsSteps, Steps, TakesLines}
@@ -23,7 +22,7 @@ use Rattle.sedengine.specs.Inside.{run_of, entry_by, entry_for, IsRun}
 use Rattle.sedengine.specs.declared.machine.Machine.TheInside.{Inside}
 use Rattle.sedengine.specs.declared.select.Chosen.{Chosen}
 use Rattle.sedengine.specs.declared.ends.Ended.{Ended}
-use Rattle.sedengine.specs.declared.ends.Ended.TheVariants.{Done, PatternFull, HoldFull, QueueFull, TurnsSpent, NoPrevious, InputBroken, OutputBroken}
+use Rattle.sedengine.specs.declared.ends.Ended.TheVariants.{QueueFull, TurnsSpent, NoPrevious, InputBroken}
 use Rattle.sedengine.proofs.Streams.{TakesAtMost-more, lines_same}
 use Rattle.sedengine.proofs.Moves.{move_at, ran_quietly, stopped_here, moves_writing}
 use Rattle.sedengine.proofs.NextLines.{looked_moves, looked_then, none_taken}

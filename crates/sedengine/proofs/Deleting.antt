@@ -1,17 +1,16 @@
 -- The pattern space is deleted, or its first line, and a cycle starts.
-use Rattle.std.proofs.Common.{◌≡◌, ℕ, zero, suc, ◌<◌, ◌≤◌, Bool, true, false, cond, List, [], ◌∷◌, length, Option, Some, Result, Ok, Err, refl, subst, sym, ap, ◌∙◌, arith}
-use Rattle.std.specs.Prelude.{IsTrue, slice_get, slice_index_or, ◌||◌}
-use Rattle.std.specs.List.{All, Contains, after_first}
-use Rattle.std.proofs.lemmas.Bool.{false≢true}
+use Rattle.std.proofs.Common.{◌≡◌, ℕ, zero, suc, Bool, true, false, cond, List, [], ◌∷◌, length, Option, Some, Result, Err, refl, subst, sym, ap, ◌∙◌, arith}
+use Rattle.std.specs.Prelude.{slice_get, ◌||◌}
+use Rattle.std.specs.List.{Contains, after_first}
 use Rattle.sedscript.specs.declared.types.Action.TheVariants.{Change, Delete, DeleteFirst}
 use Rattle.sedspace.specs.Spaces.{Contents}
 use Rattle.sedspace.specs.Lines.{HasNoNewline, is_newline}
-use Rattle.sedengine.specs.State.{Task, begin, rebegin, flush, State, Move, Setting}
+use Rattle.sedengine.specs.State.{begin, rebegin, flush, State, Move}
 use Rattle.sedengine.specs.Move.{acts, has_newline, line_to, quietly, text_of, then_do, writing}
 use Rattle.sedengine.specs.Ends.{Fits}
 use Rattle.sedengine.specs.Meters.{Sent, Tally}
 use Rattle.sedengine.specs.Calls.{Puts}
-use Rattle.sedengine.specs.Run.{Run, at_lines, setting, starts_cycle}
+use Rattle.sedengine.specs.Run.{Run, at_lines, setting}
 use Rattle.sedengine.specs.Steps.{Moves, Performs}
 use Rattle.sedengine.specs.Inside.{run_of, tasks_of, IsRun}
 use Rattle.sedengine.specs.declared.machine.Machine.TheInside.{Inside}

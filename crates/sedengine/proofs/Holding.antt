@@ -12,7 +12,7 @@ use Rattle.sedengine.specs.Holding.{BecomesOrFull}
 use Rattle.sedengine.specs.Inside.{run_of, IsRun}
 use Rattle.sedengine.specs.declared.machine.Machine.TheInside.{Inside}
 use Rattle.sedengine.specs.declared.ends.Ended.{Ended}
-use Rattle.sedengine.specs.declared.ends.Ended.TheVariants.{Done, PatternFull, HoldFull, QueueFull, TurnsSpent, NoPrevious, InputBroken, OutputBroken}
+use Rattle.sedengine.specs.declared.ends.Ended.TheVariants.{PatternFull, HoldFull}
 use Rattle.sedengine.proofs.Moves.{stopped_here}
 use Rattle.sedengine.proofs.Tasks.{fits_of}
 use Rattle.sedengine.proofs.Acts.{acts_leading}

@@ -6,7 +6,7 @@ use Rattle.sedengine.specs.Limits.{Limits}
 use Rattle.sedengine.specs.State.{State, Setting}
 use Rattle.sedengine.specs.Devices.{part, FillsSink, GainedWithin}
 use Rattle.sedengine.specs.Ends.{Cause, WholeOrCut, named_sink}
-use Rattle.sedengine.specs.Meters.{Counts, Frame, FullSink, InLimit, Meter, Sent, Tally, counted}
+use Rattle.sedengine.specs.Meters.{Frame, FullSink, InLimit, Meter, Sent, Tally, counted}
 use Rattle.sedengine.specs.Run.{Cycles, Ending, Run, Sends, at_lines, outcome, setting}
 use Rattle.sedengine.specs.declared.ends.Ended.{Ended}
 use Rattle.sedengine.specs.declared.ends.Ended.TheVariants.{OutputFull}

@@ -1,6 +1,5 @@
 -- Further lines come within a cycle.
-use Rattle.std.proofs.Common.{◌≡◌, ℕ, ◌+◌, ◌-◌, ◌<◌, ◌≤◌, Bool, true, false, List, [], ◌∷◌, ◌++◌, length, Option, Some, None, Result, Ok, Err, refl, subst, sym, ap, ◌∙◌, arith, length-append, append_assoc}
-use Rattle.std.specs.Prelude.{OnOk, OnErr}
+use Rattle.std.proofs.Common.{◌≡◌, ℕ, ◌+◌, ◌<◌, ◌≤◌, Bool, true, false, List, [], ◌∷◌, ◌++◌, length, Option, Some, None, Result, Ok, Err, refl, subst, sym, ap, ◌∙◌, arith, length-append, append_assoc}
 use Rattle.std.proofs.lemmas.Bool.{false≢true}
 use Rattle.sedspace.specs.Spaces.{Contents}
 use Rattle.sedspace.specs.Stream.{Stream, left, lines_left, GivesLine, NoneLeft, TakesAtMost, TakesLine}
@@ -14,7 +13,7 @@ use Rattle.sedengine.specs.Ends.{Fits, IsCause, named_sink, line_at, reads, take
 use Rattle.sedengine.specs.Held.{SameLengths}
 use Rattle.sedengine.specs.Meters.{Sent, Tally}
 use Rattle.sedengine.specs.Run.{Run, at_lines, setting, size_of, starts_cycle}
-use Rattle.sedengine.specs.Steps.{ComesTo, Halted, Moves, PerformsSteps, Ran, StepsFrom, TakesLines, lost}
+use Rattle.sedengine.specs.Steps.{Moves, PerformsSteps, Ran, StepsFrom, TakesLines, lost}
 use Rattle.sedengine.specs.Bringing.{Brings, brought}
 use Rattle.sedengine.specs.Choose.{TellsLine}
 use Rattle.sedengine.specs.declared.place.Place.TheVariants as p

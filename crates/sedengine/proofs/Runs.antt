@@ -11,7 +11,7 @@ use Rattle.sedengine.specs.Held.{HoldsAt, SameLengths}
 use Rattle.sedengine.specs.Run.{Run, setting, setting_of, at_lines, size_of, more_at, Takes, Ending, EndingInCycle, Cycled, InOneCycle, starts_cycle}
 use Rattle.sedengine.specs.Steps.{Ran, TakesLines, Halted, Steps, lost, KeepsRun}
 use Rattle.sedengine.specs.declared.ends.Ended.{Ended}
-use Rattle.sedengine.specs.declared.ends.Ended.TheVariants.{Done, PatternFull, HoldFull, QueueFull, TurnsSpent, NoPrevious, InputBroken, OutputBroken}
+use Rattle.sedengine.specs.declared.ends.Ended.TheVariants.{PatternFull, InputBroken}
 use Rattle.sedengine.proofs.Sending.{Sent-append, Sent-none}
 use Rattle.sedengine.proofs.Streams.{TakesLines-then, TakesAtMost-then, TakesAtMost-more, source_takes, lines_same, size_of-append}
 use Rattle.sedengine.proofs.Moves.{after-add, written-add, Within-add, Cause-add, HoldsAt-add, InOneCycle-add, within_none, after_none, written_none}

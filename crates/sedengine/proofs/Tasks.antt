@@ -1,5 +1,5 @@
 -- What the engine does with its fields are moves.
-use Rattle.std.proofs.Common.{◌≡◌, ℕ, suc, zero, ◌<◌, ◌+◌, ◌-◌, ◌≤◌, Bool, true, false, cond, List, [], ◌∷◌, ◌++◌, length, map, Option, Some, None, Result, Ok, Err, refl, subst, sym, ap, ◌∙◌, arith, zero-add}
+use Rattle.std.proofs.Common.{◌≡◌, ℕ, suc, zero, ◌<◌, ◌+◌, ◌-◌, ◌≤◌, Bool, true, false, List, [], ◌∷◌, ◌++◌, length, map, Option, Some, None, Result, Ok, Err, refl, subst, sym, ap, ◌∙◌, arith, zero-add}
 use Rattle.std.specs.Prelude.{slice_get, is_some}
 use Rattle.std.specs.Io.KnownBytes.{Keeps}
 use Rattle.std.proofs.lemmas.List.{length-map}
@@ -7,14 +7,13 @@ use Rattle.sedscript.specs.Script.{Program}
 use Rattle.sedspace.specs.Spaces.{Contents}
 use Rattle.sedspace.specs.Stream.{Stream, left, lines_left, TakesLine, GivesLine, NoneLeft, FirstIsLonger, KeepsLines, TakesAtMost}
 use Rattle.sedengine.specs.Limits.{Limits}
-use Rattle.sedengine.specs.State.{Task, begin, do_at, print_pattern, empty_pattern, flush, State, Setting}
-use Rattle.sedengine.specs.Move.{move, start, comes_to, writing, quietly, then_do, at_end, flushes, line_to}
+use Rattle.sedengine.specs.State.{Task, begin, do_at, State, Setting}
+use Rattle.sedengine.specs.Move.{move, start, quietly, then_do}
 use Rattle.sedengine.specs.Ends.{Fits, IsCause, line_at, any_left, takes_turn, reads, named_sink}
 use Rattle.sedengine.specs.Held.{SameLengths}
 use Rattle.sedengine.specs.Meters.{Sent, Tally}
-use Rattle.sedengine.specs.Calls.{Puts}
 use Rattle.sedengine.specs.Run.{Run, at_lines, setting}
-use Rattle.sedengine.specs.Steps.{Ran, Stopped, Moves, TakesLines, Halted, Steps, lost}
+use Rattle.sedengine.specs.Steps.{Ran, Moves, TakesLines, Halted, Steps, lost}
 use Rattle.sedengine.specs.Inside.{run_of, tasks_of, entries_of, IsRun, IsEmptied}
 use Rattle.sedengine.specs.declared.machine.Machine.TheInside.{Inside}
 use Rattle.sedengine.specs.declared.place.Place.{Place}
@@ -22,7 +21,7 @@ use Rattle.sedengine.specs.declared.place.Place.TheVariants as p
 use Rattle.sedengine.specs.declared.ends.Ended.{Ended}
 use Rattle.sedengine.specs.declared.ends.Ended.TheVariants.{Done, PatternFull, TurnsSpent, InputBroken}
 use Rattle.sedengine.proofs.Streams.{line_taken, lines_end, lines_stay, lines_same, TakesAtMost-more, TakesAtMost-none, TakesAtMost-kept}
-use Rattle.sedengine.proofs.Moves.{move_at, ran_once, ran_quietly, stopped_here, stopped_writing, Moves-then}
+use Rattle.sedengine.proofs.Moves.{move_at, ran_quietly, stopped_here}
 
 pub fits_at : (a : Inside) (ls : List (List ℕ)) → length a.pattern.bytes ≤ a.limits.space → length a.hold.bytes ≤ a.limits.space → length a.queue.items ≤ a.limits.queue → a.turns ≤ a.limits.turns → Fits a.limits (at_lines (run_of a) ls)
 fits_at a ls pattern hold queue turns = record { pattern = pattern; hold = hold; queue = rw length-map queue; turns = turns }

@@ -1,5 +1,5 @@
 -- Calls that write, one after another.
-use Rattle.std.proofs.Common.{◌≡◌, ◌≢◌, ℕ, suc, zero, ◌<◌, ◌+◌, ◌≤◌, ◌⊎◌, inl, inr, List, [], ◌∷◌, ◌++◌, length, Option, Some, Result, Ok, Err, refl, sym, ◌∙◌, arith, rules}
+use Rattle.std.proofs.Common.{◌≡◌, ◌≢◌, ℕ, suc, zero, ◌<◌, ◌+◌, ◌≤◌, ◌⊎◌, inl, inr, List, [], ◌∷◌, ◌++◌, length, Some, Result, Ok, Err, refl, sym, ◌∙◌, arith, rules}
 use Rattle.std.proofs.lemmas.List.{take-append-le}
 use Rattle.std.proofs.lemmas.Option.{slice_get_within}
 use Rattle.std.proofs.Math.Seq.{take-append-add}
@@ -7,7 +7,7 @@ use Rattle.std.proofs.Math.Nat.{suc-add}
 use Rattle.std.specs.Prelude.{slice_get}
 use Rattle.sedengine.specs.Devices.{FailedSink}
 use Rattle.sedengine.specs.Meters.{Sent, Tally, FullSink}
-use Rattle.sedengine.specs.Calls.{Puts, Writes, NoSinkFailed}
+use Rattle.sedengine.specs.Calls.{Puts, Writes, Delivers, NoSinkFailed}
 use Rattle.sedengine.specs.declared.ends.Ended.{Ended}
 use Rattle.sedengine.specs.declared.ends.Ended.TheVariants.{OutputBroken, OutputFull}
 use Rattle.sedengine.proofs.Sending.{Sent-append}
@@ -24,16 +24,28 @@ FailedSink-then a b c (Err (OutputFull k)) h i = λ j. i j ∙ h j
 FailedSink-then a b c (Err other) h i = tt
 
 -- one call after another
-pub Writes-then : {O : Type 0} (tally : O → Tally) (count : O → ℕ) (a b c : O) (r : Result Unit Ended) → Writes tally count a b (Ok tt) → Writes tally count b c r → Writes tally count a c r
-Writes-then tally count a b c r w v = record {
+pub Writes-then : {O : Type 0} (failures : O → ℕ → ℕ) (count : O → ℕ) (a b c : O) (r : Result Unit Ended) → Writes failures count a b (Ok tt) → Writes failures count b c r → Writes failures count a c r
+Writes-then failures count a b c r w v = record { same_count = v.same_count ∙ w.same_count; failed = FailedSink-then (failures a) (failures b) (failures c) r w.failed v.failed }
+
+at_all : (old new : ℕ → ℕ) (s k : ℕ) → new s ≡ old s → ((j : ℕ) → j ≢ s → new j ≡ old j) → (s ≡ k) ⊎ (s ≢ k) → new k ≡ old k
+at_all old new s k h others (inl same) = rw (← same) h
+at_all old new s k h others (inr other) = others k (λ e. other (sym e))
+
+-- a write that took bytes
+pub grown : {O : Type 0} (failures : O → ℕ → ℕ) (count : O → ℕ) (a b : O) (s : ℕ) → count b ≡ count a → failures b s ≡ failures a s → ((j : ℕ) → j ≢ s → failures b j ≡ failures a j) → Writes failures count a b (Ok tt)
+grown failures count a b s same here others = record { same_count = same; failed = λ k. at_all (failures a) (failures b) s k here others (same_or_not s k) }
+
+-- the same for sinks that are counted
+pub Delivers-then : {O : Type 0} (tally : O → Tally) (count : O → ℕ) (a b c : O) (r : Result Unit Ended) → Delivers tally count a b (Ok tt) → Delivers tally count b c r → Delivers tally count a c r
+Delivers-then tally count a b c r w v = record {
   same_count = v.same_count ∙ w.same_count;
   same_frame = v.same_frame ∙ w.same_frame;
   failed = FailedSink-then (tally a).failures (tally b).failures (tally c).failures r w.failed v.failed;
   full = v.full;
 }
 
-pub Writes-none : {O : Type 0} (tally : O → Tally) (count : O → ℕ) (a : O) → Writes tally count a a (Ok tt)
-Writes-none tally count a = record { same_count = refl; same_frame = refl; failed = λ k. refl; full = tt }
+pub Delivers-none : {O : Type 0} (tally : O → Tally) (count : O → ℕ) (a : O) → Delivers tally count a a (Ok tt)
+Delivers-none tally count a = record { same_count = refl; same_frame = refl; failed = λ k. refl; full = tt }
 
 slice_get-append_left : {A : Type 0} (xs ys : List A) (n : ℕ) (x : A) → slice_get xs n ≡ Some x → slice_get (xs ++ ys) n ≡ Some x
 slice_get-append_left [] ys zero x h = cc
@@ -64,5 +76,5 @@ unfilled t (OutputFull k) h = absurd h
 unfilled t other h = tt
 
 -- an end that comes without a write
-pub Writes-unwritten : {O : Type 0} (tally : O → Tally) (count : O → ℕ) (a : O) (end : Ended) → NoSinkFailed {T = Unit {0}} (Err end) → Writes tally count a a (Err end)
-Writes-unwritten tally count a end h = record { same_count = refl; same_frame = refl; failed = unwritten (tally a).failures end h; full = unfilled (tally a) end h }
+pub Delivers-unwritten : {O : Type 0} (tally : O → Tally) (count : O → ℕ) (a : O) (end : Ended) → NoSinkFailed {T = Unit {0}} (Err end) → Delivers tally count a a (Err end)
+Delivers-unwritten tally count a end h = record { same_count = refl; same_frame = refl; failed = unwritten (tally a).failures end h; full = unfilled (tally a) end h }

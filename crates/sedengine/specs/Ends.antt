@@ -5,7 +5,7 @@ use Rattle.sedscript.specs.declared.types.Address.TheVariants.{Line, Last, Match
 use Rattle.sedscript.specs.declared.types.Command.{Command}
 use Rattle.sedscript.specs.declared.types.Action.{Action}
 use Rattle.sedscript.specs.declared.types.Action.TheVariants.{NextLine}
-use Rattle.sedengine.specs.State.{Task, begin, rebegin, do_at, print_pattern, empty_pattern, flush, copy, fetch, join, State, Move, Setting}
+use Rattle.sedengine.specs.State.{Task, begin, rebegin, do_at, copy, fetch, join, State, Move, Setting}
 use Rattle.sedengine.specs.Move.{move, after, written}
 use Rattle.sedengine.specs.declared.limits.Limits.{Limits}
 use Rattle.sedengine.specs.declared.ends.Ended.{Ended}

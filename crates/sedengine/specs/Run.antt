@@ -5,7 +5,7 @@ use Rattle.sedmatch.specs.Matching.{found, report}
 use Rattle.sedscript.specs.Script.{Program}
 use Rattle.sedspace.specs.Stream.{TakesAtMost}
 use Rattle.sedengine.specs.Limits.{Limits}
-use Rattle.sedengine.specs.State.{Task, begin, rebegin, do_at, print_pattern, empty_pattern, flush, copy, fetch, join, State, Setting}
+use Rattle.sedengine.specs.State.{Task, begin, rebegin, State, Setting}
 use Rattle.sedengine.specs.Substitute.{Match}
 use Rattle.sedengine.specs.Move.{after, written}
 use Rattle.sedengine.specs.Devices.{part, GainedWithin}

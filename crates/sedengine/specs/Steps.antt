@@ -5,7 +5,7 @@ use Rattle.sedscript.specs.declared.types.Command.{Command}
 use Rattle.sedscript.specs.declared.types.Action.{Action}
 use Rattle.sedscript.specs.declared.types.Action.TheVariants.{NextLine, AppendNext}
 use Rattle.sedengine.specs.Limits.{Limits}
-use Rattle.sedengine.specs.State.{Task, begin, rebegin, do_at, print_pattern, empty_pattern, flush, copy, fetch, join, State, Move, Setting}
+use Rattle.sedengine.specs.State.{Task, do_at, State, Move, Setting}
 use Rattle.sedengine.specs.Move.{move, after, written}
 use Rattle.sedengine.specs.Ends.{Fits, HasTurn, Within, Cause, named_sink, comes, reads}
 use Rattle.sedengine.specs.Held.{HoldsAt, SameLengths}

@@ -3,7 +3,7 @@ ghost use Rattle.std.specs.Prelude.{◌≡◌, ◌<◌, ◌≤◌, [], ◌∷◌
 ghost use Rattle.std.specs.Io.KnownBytes.{Keeps};
 ghost use Rattle.sedengine.specs.State.{Entry, Task, copy, flush, State, Setting};
 ghost use Rattle.sedengine.specs.Meters.{Sent};
-ghost use Rattle.sedengine.specs.Calls.{Writes};
+ghost use Rattle.sedengine.specs.Calls.{Delivers};
 ghost use Rattle.sedengine.specs.Ends.{Fits};
 ghost use Rattle.sedengine.specs.Held.{SameLengths};
 ghost use Rattle.sedengine.specs.Run.{TellsFiles};
@@ -45,7 +45,7 @@ fn copy_file<O: Sinks, T: Texts>(
         SameLengths s now → s.lines ≡ now.lines →
         Copies limits.now g s (record s { tasks = rest; turns = turns.new }) now
         (Sent (O.tally outputs.old) (O.tally outputs.new)) result }
-    ensures output { Writes O.tally O.count outputs.old outputs.new result }
+    ensures output { Delivers O.tally O.count outputs.old outputs.new result }
     ensures input { result ≡ Err Ended.InputBroken → ⊥ }
     ensures limit { build.new.limit ≡ build.old.limit }
     ensures later { turns.old ≤ turns.new }
@@ -88,7 +88,7 @@ fn write_entry<O: Sinks, T: Texts>(
         Fits limits.now s → SameLengths s now → s.lines ≡ now.lines →
         Copies limits.now g s (record s { queue = later; tasks = flush ∷ rest; turns = turns.new }) now
         (Sent (O.tally outputs.old) (O.tally outputs.new)) result }
-    ensures output { Writes O.tally O.count outputs.old outputs.new result }
+    ensures output { Delivers O.tally O.count outputs.old outputs.new result }
     ensures input { result ≡ Err Ended.InputBroken → ⊥ }
     ensures limit { build.new.limit ≡ build.old.limit }
     ensures later { turns.old ≤ turns.new }
@@ -121,7 +121,7 @@ pub(crate) fn flush_queue<O: Sinks, T: Texts>(
         Fits limits.now s →
         Flushes limits.now g s (record s { queue = []; tasks = rest; turns = turns.new })
         (Sent (O.tally outputs.old) (O.tally outputs.new)) result }
-    ensures output { Writes O.tally O.count outputs.old outputs.new result }
+    ensures output { Delivers O.tally O.count outputs.old outputs.new result }
     ensures input { result ≡ Err Ended.InputBroken → ⊥ }
     ensures limit { build.new.limit ≡ build.old.limit }
     ensures later { turns.old ≤ turns.new }

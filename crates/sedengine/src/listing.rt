@@ -4,7 +4,7 @@ ghost use Rattle.sedengine.specs.Listing.{escape, item, listed, octal};
 ghost use Rattle.sedengine.specs.ListingParts.{ArePlain, Lists, plain, with_item, with_run};
 ghost use Rattle.sedengine.specs.Move.{to_sink};
 ghost use Rattle.sedengine.specs.Meters.{Sent};
-ghost use Rattle.sedengine.specs.Calls.{Puts, Writes};
+ghost use Rattle.sedengine.specs.Calls.{Puts, Delivers};
 
 use crate::ends::Ended;
 use crate::meter::Sinks;
@@ -25,7 +25,7 @@ const PART: usize = ROOM / 6 - 1;
 pub(crate) fn write_listing<O: Sinks>(outputs: &mut O, bytes: &[u8]) -> Result<(), Ended>
     requires { 0 < O.count outputs.old }
     ensures puts { Puts (Sent (O.tally outputs.old) (O.tally outputs.new)) (to_sink 0 (listed bytes.now)) result }
-    ensures devices { Writes O.tally O.count outputs.old outputs.new result }
+    ensures devices { Delivers O.tally O.count outputs.old outputs.new result }
 {
     let mut gathered = Gathered::new();
     let mut rest = bytes;

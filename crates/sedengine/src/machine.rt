@@ -6,7 +6,7 @@ ghost use Rattle.sedspace.specs.Failures.{Rose};
 ghost use Rattle.sedspace.specs.Stream.{lines_left};
 ghost use Rattle.sedengine.specs.Move.{start};
 ghost use Rattle.sedengine.specs.Devices.{FailedSource};
-ghost use Rattle.sedengine.specs.Calls.{Writes};
+ghost use Rattle.sedengine.specs.Calls.{Delivers};
 ghost use Rattle.sedengine.specs.Meters.{Sent};
 ghost use Rattle.sedengine.specs.Held.{total_of, bound_of};
 ghost use Rattle.sedengine.specs.Run.{outcome, Cycles, Ending, SameRun, TellsFiles, at_lines, end_of, setting};
@@ -178,7 +178,7 @@ impl Machine {
         ensures input { IsNone self.old.ended → lines.old.fault ≡ None →
             FailedSource (R.failures lines.old.source) (R.failures lines.new.source) (outcome result) }
         ensures output { IsNone self.old.ended →
-            Writes O.tally O.count outputs.old outputs.new (outcome result) }
+            Delivers O.tally O.count outputs.old outputs.new (outcome result) }
         ensures sound { result ≡ Progress.More → lines.old.fault ≡ None → lines.new.fault ≡ None }
         ensures ended { self.new.ended ≡ end_of result }
         ensures again { IfSome self.old.ended (λ end. (result ≡ Progress.Ended end) × (self.new ≡ self.old)
@@ -216,7 +216,7 @@ impl Machine {
             (R.remaining lines.old.source) (R.remaining lines.new.source) self.new.state result) }
         ensures input { result ≡ Ended.InputBroken → IsNone self.old.ended → lines.old.fault ≡ None →
             Rose (R.failures lines.old.source) (R.failures lines.new.source) }
-        ensures output { IsNone self.old.ended → Writes O.tally O.count outputs.old outputs.new (Err result) }
+        ensures output { IsNone self.old.ended → Delivers O.tally O.count outputs.old outputs.new (Err result) }
         ensures ended { self.new.ended ≡ Some result }
         ensures again { IfSome self.old.ended (λ end. (result ≡ end) × (self.new ≡ self.old)
             × (lines.new ≡ lines.old) × (outputs.new ≡ outputs.old) × (texts.new ≡ texts.old)) }

@@ -5,7 +5,7 @@
 ghost use Rattle.std.specs.Prelude.{◌≡◌, ◌≢◌, ◌<◌, ◌≤◌, [], ℕ, Some, Ok, Err, IfOk, IfErr, MatchResult, length, min, replicate, take};
 ghost use Rattle.sedengine.specs.Move.{to_sink};
 ghost use Rattle.sedengine.specs.Ends.{named_sink};
-ghost use Rattle.sedengine.specs.Calls.{Writes};
+ghost use Rattle.sedengine.specs.Calls.{Delivers};
 ghost use Rattle.sedengine.specs.Meters.{Counts, FitsIn, InLimit, IsFull, Meter, Sent, Tally, counted};
 
 use crate::ends::Ended;
@@ -94,8 +94,8 @@ pub(crate) trait Sinks {
         ensures sent { MatchResult result (λ n. Sent (tally self.old) (tally self.new) (to_sink sink (take n bytes.now)))
             (λ end. Sent (tally self.old) (tally self.new) []) }
         ensures refused { IfErr result (λ end. named_sink end ≡ Some sink) }
-        ensures devices { MatchResult result (λ n. Writes tally count self.old self.new (Ok tt))
-            (λ end. Writes tally count self.old self.new (Err end)) };
+        ensures devices { MatchResult result (λ n. Delivers tally count self.old self.new (Ok tt))
+            (λ end. Delivers tally count self.old self.new (Err end)) };
 }
 
 /// Outputs with a meter.

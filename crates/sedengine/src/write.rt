@@ -2,7 +2,7 @@
 ghost use Rattle.std.specs.Prelude.{◌≡◌, ◌<◌};
 ghost use Rattle.sedengine.specs.Move.{line_to, to_sink};
 ghost use Rattle.sedengine.specs.Meters.{Sent};
-ghost use Rattle.sedengine.specs.Calls.{Puts, Writes};
+ghost use Rattle.sedengine.specs.Calls.{Puts, Delivers};
 
 use crate::ends::Ended;
 use crate::meter::Sinks;
@@ -11,7 +11,7 @@ use crate::meter::Sinks;
 pub(crate) fn write_all<O: Sinks>(outputs: &mut O, sink: usize, bytes: &[u8]) -> Result<(), Ended>
     requires { sink < O.count outputs.old }
     ensures puts { Puts (Sent (O.tally outputs.old) (O.tally outputs.new)) (to_sink sink bytes.now) result }
-    ensures devices { Writes O.tally O.count outputs.old outputs.new result }
+    ensures devices { Delivers O.tally O.count outputs.old outputs.new result }
 {
     let mut done = 0;
     while done < bytes.len() {
@@ -27,7 +27,7 @@ pub(crate) fn write_all<O: Sinks>(outputs: &mut O, sink: usize, bytes: &[u8]) ->
 pub(crate) fn write_line<O: Sinks>(outputs: &mut O, sink: usize, bytes: &[u8]) -> Result<(), Ended>
     requires { sink < O.count outputs.old }
     ensures puts { Puts (Sent (O.tally outputs.old) (O.tally outputs.new)) (line_to sink bytes.now) result }
-    ensures devices { Writes O.tally O.count outputs.old outputs.new result }
+    ensures devices { Delivers O.tally O.count outputs.old outputs.new result }
 {
     write_all(outputs, sink, bytes)?;
     write_all(outputs, sink, b"\n")

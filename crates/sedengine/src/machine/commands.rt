@@ -10,7 +10,7 @@ ghost use Rattle.sedengine.specs.Listing.{listed};
 ghost use Rattle.sedengine.specs.Move.{acts, first_line, passes, line_to, tells_at, text_of, to_sink};
 ghost use Rattle.sedengine.specs.Ends.{comes, is_next};
 ghost use Rattle.sedengine.specs.Meters.{Sent, Tally};
-ghost use Rattle.sedengine.specs.Calls.{Puts, Reads, Writes};
+ghost use Rattle.sedengine.specs.Calls.{Puts, Reads, Delivers};
 ghost use Rattle.sedengine.specs.Run.{TellsFiles, at_lines, setting};
 ghost use Rattle.sedengine.specs.Steps.{HasAction, KeepsRun, Performs, PerformsSteps, Steps, takes_line, weight};
 
@@ -47,7 +47,7 @@ impl Machine {
             Steps R.remaining lines.old lines.new ls self.old.limits (setting self.old files) self.old self.new
             (Sent (O.tally outputs.old) (O.tally outputs.new)) result) }
         ensures input { Reads R.remaining R.failures R.reference lines.old lines.new result }
-        ensures output { Writes O.tally O.count outputs.old outputs.new result }
+        ensures output { Delivers O.tally O.count outputs.old outputs.new result }
         ensures falls { OnOk result (weight self.new < weight self.old) }
         ensures same { KeepsRun self.old self.new }
         ensures kept { (j : ℕ) → Keeps (T.text texts.old j) (T.text texts.new j) }
@@ -99,7 +99,7 @@ impl Machine {
             (acts (setting self.old files) (at_lines self.old ls) tells action) (is_next action) (at_lines self.old ls) self.new
             (Sent (O.tally outputs.old) (O.tally outputs.new)) result) }
         ensures input { Reads R.remaining R.failures R.reference lines.old lines.new result }
-        ensures output { Writes O.tally O.count outputs.old outputs.new result }
+        ensures output { Delivers O.tally O.count outputs.old outputs.new result }
         ensures falls { weight self.new ≤ weight self.old + 8 }
         ensures same { KeepsRun self.old self.new }
         ensures kept { (j : ℕ) → Keeps (T.text texts.old j) (T.text texts.new j) }
@@ -129,7 +129,7 @@ impl Machine {
             Performs self.old.limits (setting self.old files)
             (acts (setting self.old files) (at_lines self.old ls) tells action) (at_lines self.old ls) (at_lines self.new ls)
             (Sent (O.tally outputs.old) (O.tally outputs.new)) result }
-        ensures output { Writes O.tally O.count outputs.old outputs.new result }
+        ensures output { Delivers O.tally O.count outputs.old outputs.new result }
         ensures input { result ≡ Err Ended.InputBroken → ⊥ }
         ensures falls { weight self.new ≤ weight self.old + 8 }
         ensures same { KeepsRun self.old self.new }
@@ -211,7 +211,7 @@ impl Machine {
         requires sink { 0 < O.count outputs.old }
         ensures puts { Puts (Sent (O.tally outputs.old) (O.tally outputs.new))
             (line_to 0 (text_of (slice_get self.now.script.texts text))) result }
-        ensures output { Writes O.tally O.count outputs.old outputs.new result }
+        ensures output { Delivers O.tally O.count outputs.old outputs.new result }
     {
         write_line(outputs, 0, self.script.text(text))
     }
@@ -221,7 +221,7 @@ impl Machine {
         requires { 0 < O.count outputs.old }
         ensures puts { Puts (Sent (O.tally outputs.old) (O.tally outputs.new))
             (line_to 0 (decimal self.now.state.number)) result }
-        ensures output { Writes O.tally O.count outputs.old outputs.new result }
+        ensures output { Delivers O.tally O.count outputs.old outputs.new result }
     {
         let mut buffer = Buffer::new();
         write_line(outputs, 0, buffer.format(self.number).as_bytes())
@@ -232,7 +232,7 @@ impl Machine {
         requires { 0 < O.count outputs.old }
         ensures puts { Puts (Sent (O.tally outputs.old) (O.tally outputs.new))
             (to_sink 0 (listed self.now.state.pattern)) result }
-        ensures output { Writes O.tally O.count outputs.old outputs.new result }
+        ensures output { Delivers O.tally O.count outputs.old outputs.new result }
     {
         write_listing(outputs, self.pattern.bytes())
     }
@@ -242,7 +242,7 @@ impl Machine {
         requires { sink < O.count outputs.old }
         ensures puts { Puts (Sent (O.tally outputs.old) (O.tally outputs.new))
             (line_to sink self.now.state.pattern) result }
-        ensures output { Writes O.tally O.count outputs.old outputs.new result }
+        ensures output { Delivers O.tally O.count outputs.old outputs.new result }
     {
         write_all(outputs, sink, self.pattern.line())
     }
@@ -252,7 +252,7 @@ impl Machine {
         requires { 0 < O.count outputs.old }
         ensures puts { Puts (Sent (O.tally outputs.old) (O.tally outputs.new))
             (line_to 0 (first_line self.now.state.pattern)) result }
-        ensures output { Writes O.tally O.count outputs.old outputs.new result }
+        ensures output { Delivers O.tally O.count outputs.old outputs.new result }
     {
         write_all(outputs, 0, self.pattern.first_line())
     }

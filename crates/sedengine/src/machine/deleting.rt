@@ -4,7 +4,7 @@ ghost use Rattle.std.specs.Io.KnownBytes.{Keeps};
 ghost use Rattle.sedscript.specs.declared.types.Action.TheVariants.{Change, Delete, DeleteFirst};
 ghost use Rattle.sedengine.specs.Move.{acts};
 ghost use Rattle.sedengine.specs.Meters.{Sent};
-ghost use Rattle.sedengine.specs.Calls.{Writes};
+ghost use Rattle.sedengine.specs.Calls.{Delivers};
 ghost use Rattle.sedengine.specs.Run.{TellsFiles, at_lines, setting};
 ghost use Rattle.sedengine.specs.Steps.{KeepsRun, Performs, weight};
 
@@ -31,7 +31,7 @@ impl Machine {
             Performs self.old.limits (setting self.old files)
             (acts (setting self.old files) (at_lines self.old ls) tells (Change text)) (at_lines self.old ls)
             (at_lines self.new ls) (Sent (O.tally outputs.old) (O.tally outputs.new)) result }
-        ensures output { Writes O.tally O.count outputs.old outputs.new result }
+        ensures output { Delivers O.tally O.count outputs.old outputs.new result }
         ensures input { result ≡ Err Ended.InputBroken → ⊥ }
         ensures falls { weight self.new ≤ weight self.old + 8 }
         ensures same { KeepsRun self.old self.new }
@@ -58,7 +58,7 @@ impl Machine {
             Performs self.old.limits (setting self.old files)
             (acts (setting self.old files) (at_lines self.old ls) true Delete) (at_lines self.old ls)
             (at_lines self.new ls) (Sent (O.tally outputs.old) (O.tally outputs.new)) result }
-        ensures output { Writes O.tally O.count outputs.old outputs.new result }
+        ensures output { Delivers O.tally O.count outputs.old outputs.new result }
         ensures input { result ≡ Err Ended.InputBroken → ⊥ }
         ensures falls { weight self.new ≤ weight self.old + 8 }
         ensures same { KeepsRun self.old self.new }
@@ -80,7 +80,7 @@ impl Machine {
             Performs self.old.limits (setting self.old files)
             (acts (setting self.old files) (at_lines self.old ls) true DeleteFirst) (at_lines self.old ls)
             (at_lines self.new ls) (Sent (O.tally outputs.old) (O.tally outputs.new)) result }
-        ensures output { Writes O.tally O.count outputs.old outputs.new result }
+        ensures output { Delivers O.tally O.count outputs.old outputs.new result }
         ensures input { result ≡ Err Ended.InputBroken → ⊥ }
         ensures falls { weight self.new ≤ weight self.old + 8 }
         ensures same { KeepsRun self.old self.new }

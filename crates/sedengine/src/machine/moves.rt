@@ -4,7 +4,7 @@ ghost use Rattle.std.specs.Option.{ForSome};
 ghost use Rattle.std.specs.Io.KnownBytes.{Keeps};
 ghost use Rattle.sedspace.specs.Stream.{lines_left};
 ghost use Rattle.sedengine.specs.Meters.{Sent};
-ghost use Rattle.sedengine.specs.Calls.{Reads, Writes};
+ghost use Rattle.sedengine.specs.Calls.{Reads, Delivers};
 ghost use Rattle.sedengine.specs.Run.{Cycles, Ending, TellsFiles, at_lines, setting, starts_cycle, outcome};
 ghost use Rattle.sedengine.specs.Steps.{KeepsRun, Steps, weight};
 
@@ -28,7 +28,7 @@ impl Machine {
             Steps R.remaining lines.old lines.new ls self.old.limits (setting self.old files) self.old self.new
             (Sent (O.tally outputs.old) (O.tally outputs.new)) result) }
         ensures input { Reads R.remaining R.failures R.reference lines.old lines.new result }
-        ensures output { Writes O.tally O.count outputs.old outputs.new result }
+        ensures output { Delivers O.tally O.count outputs.old outputs.new result }
         ensures falls { OnOk result (weight self.new < weight self.old) }
         ensures same { KeepsRun self.old self.new }
         ensures kept { (j : ℕ) → Keeps (T.text texts.old j) (T.text texts.new j) }
@@ -57,7 +57,7 @@ impl Machine {
             (Sent (O.tally outputs.old) (O.tally outputs.new))
             (R.remaining lines.old.source) (R.remaining lines.new.source) self.new.state result) }
         ensures input { Reads {T = Unit {0}} R.remaining R.failures R.reference lines.old lines.new (Err result) }
-        ensures output { Writes O.tally O.count outputs.old outputs.new (Err result) }
+        ensures output { Delivers O.tally O.count outputs.old outputs.new (Err result) }
         ensures same { KeepsRun self.old self.new }
         ensures kept { (j : ℕ) → Keeps (T.text texts.old j) (T.text texts.new j) }
     {
@@ -93,7 +93,7 @@ impl Machine {
             (R.remaining lines.old.source) (R.remaining lines.new.source)
             self.new (lines_left R.remaining lines.new) result) }
         ensures input { Reads R.remaining R.failures R.reference lines.old lines.new (outcome result) }
-        ensures output { Writes O.tally O.count outputs.old outputs.new (outcome result) }
+        ensures output { Delivers O.tally O.count outputs.old outputs.new (outcome result) }
         ensures same { KeepsRun self.old self.new }
         ensures kept { (j : ℕ) → Keeps (T.text texts.old j) (T.text texts.new j) }
     {

@@ -9,7 +9,7 @@ ghost use Rattle.sedengine.specs.State.{empty_pattern, fetch, flush, join, print
 ghost use Rattle.sedengine.specs.Move.{acts, newline, then_do};
 ghost use Rattle.sedengine.specs.Ends.{comes};
 ghost use Rattle.sedengine.specs.Meters.{Sent, Tally};
-ghost use Rattle.sedengine.specs.Calls.{NoSinkFailed, Reads, Writes};
+ghost use Rattle.sedengine.specs.Calls.{NoSinkFailed, Reads, Delivers};
 ghost use Rattle.sedengine.specs.Run.{TellsFiles, at_lines, setting};
 ghost use Rattle.sedengine.specs.Steps.{KeepsRun, PerformsSteps, StepsFrom, weight};
 ghost use Rattle.sedengine.specs.Bringing.{Brings, brought};
@@ -39,7 +39,7 @@ impl Machine {
             (acts (setting self.old files) (at_lines self.old ls) true NextLine) true (at_lines self.old ls) self.new
             (Sent (O.tally outputs.old) (O.tally outputs.new)) result) }
         ensures input { Reads R.remaining R.failures R.reference lines.old lines.new result }
-        ensures output { Writes O.tally O.count outputs.old outputs.new result }
+        ensures output { Delivers O.tally O.count outputs.old outputs.new result }
         ensures falls { weight self.new ≤ weight self.old + 8 }
         ensures same { KeepsRun self.old self.new }
         ensures kept { (j : ℕ) → Keeps (T.text texts.old j) (T.text texts.new j) }
@@ -71,7 +71,7 @@ impl Machine {
             (then_do (print_pattern ∷ flush ∷ empty_pattern ∷ fetch ∷ self.old.state.tasks) (at_lines self.old ls)) self.new
             (Sent (O.tally outputs.old) (O.tally outputs.new)) result) }
         ensures input { Reads R.remaining R.failures R.reference lines.old lines.new result }
-        ensures output { Writes O.tally O.count outputs.old outputs.new result }
+        ensures output { Delivers O.tally O.count outputs.old outputs.new result }
         ensures falls { weight self.new ≤ weight self.old }
         ensures same { KeepsRun self.old self.new }
         ensures kept { (j : ℕ) → Keeps (T.text texts.old j) (T.text texts.new j) }
@@ -138,7 +138,7 @@ impl Machine {
             (acts (setting self.old files) (at_lines self.old ls) true AppendNext) false (at_lines self.old ls) self.new
             (Sent (O.tally outputs.old) (O.tally outputs.new)) result) }
         ensures input { Reads R.remaining R.failures R.reference lines.old lines.new result }
-        ensures output { Writes O.tally O.count outputs.old outputs.new result }
+        ensures output { Delivers O.tally O.count outputs.old outputs.new result }
         ensures falls { weight self.new ≤ weight self.old + 8 }
         ensures same { KeepsRun self.old self.new }
         ensures kept { (j : ℕ) → Keeps (T.text texts.old j) (T.text texts.new j) }

@@ -4,7 +4,7 @@ ghost use Rattle.std.specs.Io.KnownBytes.{Keeps};
 ghost use Rattle.sedengine.specs.State.{Task, flush, print_pattern};
 ghost use Rattle.sedengine.specs.Move.{line_to, then_do};
 ghost use Rattle.sedengine.specs.Meters.{Sent};
-ghost use Rattle.sedengine.specs.Calls.{Puts, Writes};
+ghost use Rattle.sedengine.specs.Calls.{Puts, Delivers};
 ghost use Rattle.sedengine.specs.Run.{TellsFiles, at_lines, setting};
 ghost use Rattle.sedengine.specs.Steps.{KeepsRun, Moves, weight};
 ghost use Rattle.sedengine.specs.Inside.{IsEmptied, Queues, entry_by, tasks_of};
@@ -45,7 +45,7 @@ impl Machine {
         ensures ok { OnOk result (self.new ≡ flushed self.old self.new.state.turns) }
         ensures err { OnErr result (self.new ≡ with_turns self.old self.new.state.turns) }
         ensures later { self.old.state.turns ≤ self.new.state.turns }
-        ensures output { Writes O.tally O.count outputs.old outputs.new result }
+        ensures output { Delivers O.tally O.count outputs.old outputs.new result }
         ensures input { result ≡ Err Ended.InputBroken → ⊥ }
         ensures kept { (j : ℕ) → Keeps (T.text texts.old j) (T.text texts.new j) }
     {
@@ -81,7 +81,7 @@ impl Machine {
         ensures ok { OnOk result (self.new ≡ flushed self.old self.new.state.turns) }
         ensures err { OnErr result (self.new ≡ with_turns self.old self.new.state.turns) }
         ensures later { self.old.state.turns ≤ self.new.state.turns }
-        ensures output { Writes O.tally O.count outputs.old outputs.new result }
+        ensures output { Delivers O.tally O.count outputs.old outputs.new result }
         ensures input { result ≡ Err Ended.InputBroken → ⊥ }
         ensures kept { (j : ℕ) → Keeps (T.text texts.old j) (T.text texts.new j) }
     {
@@ -104,7 +104,7 @@ impl Machine {
             Moves self.old.limits (setting self.old files) (then_do (flush ∷ tasks_of place) (at_lines self.old ls))
             (at_lines self.new ls) (Sent (O.tally outputs.old) (O.tally outputs.new)) result }
         ensures falls { weight self.new ≤ weight self.old + 8 }
-        ensures output { Writes O.tally O.count outputs.old outputs.new result }
+        ensures output { Delivers O.tally O.count outputs.old outputs.new result }
         ensures input { result ≡ Err Ended.InputBroken → ⊥ }
         ensures same { KeepsRun self.old self.new }
         ensures kept { (j : ℕ) → Keeps (T.text texts.old j) (T.text texts.new j) }
@@ -128,7 +128,7 @@ fn print_by_default<O: Sinks>(
     requires { 0 < O.count outputs.old }
     ensures puts { Puts (Sent (O.tally outputs.old) (O.tally outputs.new))
         (if script.now.quiet then [] else line_to 0 pattern.now.bytes) result }
-    ensures output { Writes O.tally O.count outputs.old outputs.new result }
+    ensures output { Delivers O.tally O.count outputs.old outputs.new result }
     ensures input { result ≡ Err Ended.InputBroken → ⊥ }
 {
     if script.quiet() {

@@ -7,7 +7,7 @@ ghost use Rattle.sedengine.specs.Substitute.{chosen, occurrences};
 ghost use Rattle.sedengine.specs.Move.{chosen_in, in_table, line_to, line_to_file, replaces, substitutes, written_by};
 ghost use Rattle.sedengine.specs.Ends.{comes};
 ghost use Rattle.sedengine.specs.Meters.{Sent};
-ghost use Rattle.sedengine.specs.Calls.{NoSinkFailed, Puts, Writes};
+ghost use Rattle.sedengine.specs.Calls.{NoSinkFailed, Puts, Delivers};
 ghost use Rattle.sedengine.specs.Fitting.{AllFit};
 ghost use Rattle.sedengine.specs.Run.{at_lines, search_in, setting};
 ghost use Rattle.sedengine.specs.Steps.{KeepsRun, Performs, weight};
@@ -75,7 +75,7 @@ impl Machine {
             (substitutes (setting self.old files) (at_lines self.old ls) (slice_get self.old.script.substitutions k))
             (at_lines self.old ls) (at_lines self.new ls)
             (Sent (O.tally outputs.old) (O.tally outputs.new)) result }
-        ensures output { Writes O.tally O.count outputs.old outputs.new result }
+        ensures output { Delivers O.tally O.count outputs.old outputs.new result }
         ensures input { result ≡ Err Ended.InputBroken → ⊥ }
         ensures falls { weight self.new ≤ weight self.old }
         ensures same { KeepsRun self.old self.new }
@@ -151,7 +151,7 @@ impl Machine {
         requires sinks { length self.now.script.wfiles < O.count outputs.old }
         ensures puts { (t : Substitution) → slice_get self.now.script.substitutions k ≡ Some t →
             Puts (Sent (O.tally outputs.old) (O.tally outputs.new)) (written_by t self.now.state.pattern) result }
-        ensures output { Writes O.tally O.count outputs.old outputs.new result }
+        ensures output { Delivers O.tally O.count outputs.old outputs.new result }
         ensures input { result ≡ Err Ended.InputBroken → ⊥ }
     {
         match self.print_replaced(k, outputs) {
@@ -167,7 +167,7 @@ impl Machine {
         ensures puts { (t : Substitution) → slice_get self.now.script.substitutions k ≡ Some t →
             Puts (Sent (O.tally outputs.old) (O.tally outputs.new))
             (if t.print then line_to 0 self.now.state.pattern else []) result }
-        ensures output { Writes O.tally O.count outputs.old outputs.new result }
+        ensures output { Delivers O.tally O.count outputs.old outputs.new result }
         ensures input { result ≡ Err Ended.InputBroken → ⊥ }
     {
         if !self.script.substitution(k).print {
@@ -183,7 +183,7 @@ impl Machine {
         ensures puts { (t : Substitution) → slice_get self.now.script.substitutions k ≡ Some t →
             Puts (Sent (O.tally outputs.old) (O.tally outputs.new))
             (line_to_file t.file self.now.state.pattern) result }
-        ensures output { Writes O.tally O.count outputs.old outputs.new result }
+        ensures output { Delivers O.tally O.count outputs.old outputs.new result }
         ensures input { result ≡ Err Ended.InputBroken → ⊥ }
     {
         match self.script.substitution(k).file {

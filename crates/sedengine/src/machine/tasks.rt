@@ -5,7 +5,7 @@ ghost use Rattle.std.specs.Io.KnownBytes.{Keeps};
 ghost use Rattle.sedspace.specs.Stream.{lines_left};
 ghost use Rattle.sedengine.specs.State.{begin, rebegin, do_at, print_pattern, flush};
 ghost use Rattle.sedengine.specs.Meters.{Sent, Tally};
-ghost use Rattle.sedengine.specs.Calls.{NoSinkFailed, Reads, Writes};
+ghost use Rattle.sedengine.specs.Calls.{NoSinkFailed, Reads, Delivers};
 ghost use Rattle.sedengine.specs.Run.{TellsFiles, at_lines, setting};
 ghost use Rattle.sedengine.specs.Steps.{KeepsRun, Moves, Steps, weight};
 
@@ -87,7 +87,7 @@ impl Machine {
         ensures moves { (files : ℕ → List ℕ) → TellsFiles (T.text texts.old) files → (ls : List (List ℕ)) →
             Moves self.old.limits (setting self.old files) (at_lines self.old ls)
             (at_lines self.new ls) (Sent (O.tally outputs.old) (O.tally outputs.new)) result }
-        ensures output { Writes O.tally O.count outputs.old outputs.new result }
+        ensures output { Delivers O.tally O.count outputs.old outputs.new result }
         ensures input { result ≡ Err Ended.InputBroken → ⊥ }
         ensures falls { OnOk result (weight self.new < weight self.old) }
         ensures same { KeepsRun self.old self.new }
@@ -114,7 +114,7 @@ impl Machine {
         ensures moves { (files : ℕ → List ℕ) → TellsFiles (T.text texts.old) files → (ls : List (List ℕ)) →
             Moves self.old.limits (setting self.old files) (at_lines self.old ls)
             (at_lines self.new ls) (Sent (O.tally outputs.old) (O.tally outputs.new)) result }
-        ensures output { Writes O.tally O.count outputs.old outputs.new result }
+        ensures output { Delivers O.tally O.count outputs.old outputs.new result }
         ensures input { result ≡ Err Ended.InputBroken → ⊥ }
         ensures falls { OnOk result (weight self.new < weight self.old) }
         ensures same { KeepsRun self.old self.new }

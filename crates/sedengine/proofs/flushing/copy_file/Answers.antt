@@ -1,7 +1,7 @@
 use Rattle.std.proofs.Common.{◌+◌, ◌∙◌, Ok, Err, arith}
 use Rattle.std.proofs.lemmas.Result.{err_from_is_err_and}
 use Rattle.std.proofs.KnownBytes.{Keeps-trans}
-use Rattle.sedengine.proofs.Writing.{Writes-then}
+use Rattle.sedengine.proofs.Writing.{Delivers-then}
 use Rattle.sedengine.proofs.Copies.{reads_on, reads_end, put_on, copied_all, copied_spent, copied_broken}
 use Rattle.sedengine.proofs.flushing.copy_file.Goals as goal
 
@@ -41,7 +41,7 @@ pieces-preserved g c =
       turns = omega arith;
       most = omega arith;
       kept = λ j. Keeps-trans _ _ _ (h.kept j) (c.fill-count.ensures.kept j);
-      output = Writes-then g.O.Sinks.tally g.O.Sinks.count c.args.outputs.now c.pieces.outputs c.write_all.new.outputs (Ok tt) h.output c.in_ok-write_all.ensures.devices;
+      output = Delivers-then g.O.Sinks.tally g.O.Sinks.count c.args.outputs.now c.pieces.outputs c.write_all.new.outputs (Ok tt) h.output c.in_ok-write_all.ensures.devices;
       copied = λ bytes told.
           let so_far = h.copied bytes told in
           let piece = reads_on _ _ _ _ _ _ told (h.kept c.args.file) c.fill-count.ensures.bytes c.fill-count.ensures.count so_far.0 in

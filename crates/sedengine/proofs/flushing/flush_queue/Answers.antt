@@ -3,7 +3,7 @@ use Rattle.std.proofs.KnownBytes.{Keeps-refl, Keeps-trans}
 use Rattle.std.proofs.lemmas.Result.{err_from_is_err_and}
 use Rattle.sedengine.specs.State.{flush, State}
 use Rattle.sedengine.specs.Inside.{entries_of}
-use Rattle.sedengine.proofs.Writing.{Writes-none, Writes-then}
+use Rattle.sedengine.proofs.Writing.{Delivers-none, Delivers-then}
 use Rattle.sedengine.proofs.Moves.{same_self}
 use Rattle.sedengine.proofs.Queueing.{queued_at, entries_left, entries_none, entries_fewer}
 use Rattle.sedengine.proofs.Entries.{tells_on, at_entries, fits_later, same_later, reached_more, reached_last, flush_begun, flush_done}
@@ -15,7 +15,7 @@ loop-index-init g c = record {
   later = omega arith;
   most = c.requires.before;
   kept = λ j. Keeps-refl _;
-  output = Writes-none _ _ _;
+  output = Delivers-none _ _ _;
   reached = λ setting tells s rest at queue turns fits. flush_begun c.args.limits.now setting s _ rest _ _ at queue turns fits;
 }
 
@@ -50,7 +50,7 @@ loop-index-preserved g c =
       later = omega (arith, e.later);
       most = e.turns;
       kept = λ j. Keeps-trans _ _ _ (h.kept j) (e.kept j);
-      output = Writes-then g.O.Sinks.tally g.O.Sinks.count c.args.outputs.now c.loop-index.outputs c.write_entry.new.outputs (Ok tt) h.output e.output;
+      output = Delivers-then g.O.Sinks.tally g.O.Sinks.count c.args.outputs.now c.loop-index.outputs c.write_entry.new.outputs (Ok tt) h.output e.output;
       reached = λ setting tells s rest at queue turns fits.
           let later = entries_of script (drop c.loop-index.index items) in
           let m : State = at_entries s later (flush ∷ rest) c.loop-index.turns in

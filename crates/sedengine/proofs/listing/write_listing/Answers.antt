@@ -2,14 +2,14 @@ use Rattle.std.proofs.Common.{◌≡◌, ◌++◌, ap, take-append-drop}
 use Rattle.std.proofs.lemmas.Result.{err_from_is_err_and}
 use Rattle.sedengine.specs.ListingParts.{Listing}
 use Rattle.sedengine.proofs.ListingLemmas.{written_none, written_more, written_not, written_end}
-use Rattle.sedengine.proofs.Writing.{Writes-none, Writes-then}
+use Rattle.sedengine.proofs.Writing.{Delivers-none, Delivers-then}
 use Rattle.sedengine.proofs.listing.write_listing.Goals as goal
 
 pub parts-init : goal.parts-init
 parts-init g c = record {
   empty = cc;
   written = written_none (g.O.Sinks.tally c.args.outputs.now) c.args.bytes.now c.new-gathered.result.column cc;
-  devices = Writes-none _ _ _;
+  devices = Delivers-none _ _ _;
 }
 
 pub returns-in_err-write_all-clause-puts : goal.returns-in_err-write_all-clause-puts
@@ -39,7 +39,7 @@ parts-preserved g c =
     record {
       empty = ap (λ (x : Listing). x.bytes) c.clear.ensures;
       written = rw c.clear.ensures w;
-      devices = Writes-then _ _ _ _ _ _ l.invariant.devices c.in_ok-write_all.ensures.devices;
+      devices = Delivers-then _ _ _ _ _ _ l.invariant.devices c.in_ok-write_all.ensures.devices;
     }
 
 pub returns-clause-puts : goal.returns-clause-puts

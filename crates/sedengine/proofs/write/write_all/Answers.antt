@@ -1,7 +1,7 @@
-use Rattle.std.proofs.Common.{◌≡◌, ◌++◌, length, take, drop, ◌+◌, ◌-◌, refl, arith}
+use Rattle.std.proofs.Common.{◌≡◌, ◌++◌, length, take, drop, ◌+◌, ◌-◌, arith}
 use Rattle.sedengine.proofs.Gains.{to_sink-append, take_part, slice_get-to_sink, take-to_sink}
 use Rattle.sedengine.proofs.Sending.{Sent-append, Sent-add_none}
-use Rattle.sedengine.proofs.Writing.{Writes-then}
+use Rattle.sedengine.proofs.Writing.{Delivers-then}
 use Rattle.sedengine.proofs.write.write_all.Goals as goal
 
 pub returns-in-Err-clause-puts : goal.returns-in-Err-clause-puts
@@ -11,7 +11,7 @@ returns-in-Err-clause-puts g c =
     (c.args.sink, c.loop-done.done, due.0, w.refused, due.1, rw take-to_sink (Sent-add_none c.loop-done.invariant.sent w.sent))
 
 pub returns-in-Err-clause-devices : goal.returns-in-Err-clause-devices
-returns-in-Err-clause-devices g c = Writes-then _ _ _ _ _ _ c.loop-done.invariant.devices c.in-Err.ensures.devices
+returns-in-Err-clause-devices g c = Delivers-then _ _ _ _ _ _ c.loop-done.invariant.devices c.in-Err.ensures.devices
 
 pub loop-done-preserved : goal.loop-done-preserved
 loop-done-preserved g c =
@@ -23,5 +23,5 @@ loop-done-preserved g c =
     record {
       within = omega (arith, w.bound);
       sent = rw (more, to_sink-append) (Sent-append h.sent w.sent);
-      devices = Writes-then _ _ _ _ _ _ h.devices w.devices;
+      devices = Delivers-then _ _ _ _ _ _ h.devices w.devices;
     }

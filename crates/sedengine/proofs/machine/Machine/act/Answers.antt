@@ -1,4 +1,3 @@
-use Rattle.std.proofs.Common.{Ok}
 use Rattle.sedengine.proofs.Acts.{acts_here}
 use Rattle.sedengine.proofs.Streams.{Reads-unread}
 use Rattle.sedengine.specs.Move.{acts}

@@ -1,4 +1,4 @@
-use Rattle.std.proofs.Common.{◌∷◌, true, false, Ok, Err, refl}
+use Rattle.std.proofs.Common.{◌∷◌, true, false, Err, refl}
 use Rattle.sedscript.specs.declared.types.Action.TheVariants.{AppendNext}
 use Rattle.sedengine.specs.State.{flush, join}
 use Rattle.sedengine.specs.Move.{acts, then_do}

@@ -1,7 +1,7 @@
-use Rattle.std.proofs.Common.{[], true, false, Ok, Err, ap, cond, ◌∙◌}
+use Rattle.std.proofs.Common.{[], true, false, Ok, Err, ap}
 use Rattle.sedscript.specs.declared.types.Action.TheVariants.{Change}
 use Rattle.sedspace.specs.Spaces.{Contents}
-use Rattle.sedengine.specs.Run.{Run, setting, at_lines}
+use Rattle.sedengine.specs.Run.{setting, at_lines}
 use Rattle.sedengine.specs.Move.{acts}
 use Rattle.sedengine.specs.declared.place.Place.TheVariants as p
 use Rattle.sedengine.proofs.Sending.{Sent-none}

@@ -1,9 +1,7 @@
-use Rattle.std.proofs.Common.{◌≡◌, [], true, false, ap, ◌∙◌, sym}
-use Rattle.std.specs.Prelude.{IsTrue}
+use Rattle.std.proofs.Common.{[], true}
 use Rattle.sedscript.specs.declared.types.Action.TheVariants.{DeleteFirst}
-use Rattle.sedspace.specs.Spaces.{Contents}
-use Rattle.sedengine.specs.Run.{Run, setting, at_lines}
-use Rattle.sedengine.specs.Move.{acts, has_newline}
+use Rattle.sedengine.specs.Run.{setting, at_lines}
+use Rattle.sedengine.specs.Move.{acts}
 use Rattle.sedengine.specs.declared.place.Place.TheVariants as p
 use Rattle.sedengine.proofs.Sending.{Sent-none}
 use Rattle.sedengine.proofs.Deleting.{cut_seen, deletes, uncut_performs}

@@ -1,4 +1,4 @@
-use Rattle.std.proofs.Common.{◌∷◌, [], true, false, Ok, Err, refl, ap, sym, ◌∙◌}
+use Rattle.std.proofs.Common.{◌∷◌, true, refl}
 use Rattle.sedscript.specs.declared.types.Action.TheVariants.{NextLine}
 use Rattle.sedengine.specs.State.{print_pattern, flush, empty_pattern, fetch}
 use Rattle.sedengine.specs.Move.{acts, then_do}

@@ -1,7 +1,3 @@
-use Rattle.std.proofs.Common.{◌≡◌, ap, subst}
-use Rattle.std.specs.Prelude.{slice_get}
-use Rattle.sedengine.specs.Run.{Run}
-use Rattle.sedengine.specs.Inside.{Queues}
 use Rattle.sedengine.proofs.Ending.{queue_is_run, queues_seen}
 use Rattle.sedengine.proofs.machine.Machine.act_queue.Goals as goal
 

@@ -2,7 +2,7 @@ use Rattle.std.proofs.Common.{◌≡◌, Some, ap, ◌∙◌}
 use Rattle.std.specs.Prelude.{slice_get}
 use Rattle.sedengine.specs.Move.{substitutes}
 use Rattle.sedengine.specs.Run.{Run, at_lines, setting}
-use Rattle.sedengine.proofs.Writing.{Writes-unwritten}
+use Rattle.sedengine.proofs.Writing.{Delivers-unwritten}
 use Rattle.sedengine.proofs.Substituting.{there_is, replaced_nothing, replaced_some, replaced_not}
 use Rattle.sedengine.proofs.machine.Machine.act_substitute.Goals as goal
 
@@ -32,4 +32,4 @@ returns-in-Err-clause-acts g c = λ files ls s comes first.
     c.in-Err.end w.err (w.makes x.0 x.1 files ls) s comes (first ∙ ap (substitutes (setting r files) (at_lines r ls)) x.1)
 
 pub returns-in-Err-clause-output : goal.returns-in-Err-clause-output
-returns-in-Err-clause-output g c = Writes-unwritten _ _ _ c.in-Err.end c.in-Err.ensures.output
+returns-in-Err-clause-output g c = Delivers-unwritten _ _ _ c.in-Err.end c.in-Err.ensures.output

@@ -1,5 +1,5 @@
 use Rattle.std.proofs.Common.{sym, ◌∙◌, arith}
-use Rattle.sedengine.proofs.Writing.{Writes-unwritten}
+use Rattle.sedengine.proofs.Writing.{Delivers-unwritten}
 use Rattle.sedengine.proofs.Streams.{Reads-then, Reads-told}
 use Rattle.sedengine.proofs.Tasks.{steps_by_moves}
 use Rattle.sedengine.proofs.Acts.{steps_spent, comes_stopping, comes_acting, comes_passing}
@@ -14,7 +14,7 @@ returns-then-self-turns-clause-steps g c = λ sound ls known files told.
     steps_spent g.R.ByteSource.remaining c.args.lines.now c.self.inside c.args.self.now c.self.view_is c.self.invariant files ls known _ c.args.k c.requires.at (omega arith) (c.if-self-turns.true ∙ c.turns.ensures)
 
 pub returns-in-Err-clause-output : goal.returns-in-Err-clause-output
-returns-in-Err-clause-output g c = Writes-unwritten _ _ _ c.in-Err.end c.in-Err.ensures.output
+returns-in-Err-clause-output g c = Delivers-unwritten _ _ _ c.in-Err.end c.in-Err.ensures.output
 
 pub returns-in-Err-clause-steps : goal.returns-in-Err-clause-steps
 returns-in-Err-clause-steps g c = λ sound ls known files told.

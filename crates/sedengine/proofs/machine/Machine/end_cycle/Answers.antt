@@ -1,4 +1,4 @@
-use Rattle.std.proofs.Common.{◌≡◌, ◌≤◌, ◌∷◌, ◌∙◌, Ok, ap, sym, refl, subst}
+use Rattle.std.proofs.Common.{◌≤◌, ◌∷◌, ◌∙◌, ap, sym, refl, subst}
 use Rattle.sedengine.specs.State.{State, flush}
 use Rattle.sedengine.specs.Move.{then_do}
 use Rattle.sedengine.specs.Meters.{Sent}

@@ -1,7 +1,7 @@
 use Rattle.std.proofs.Common.{refl, subst}
 use Rattle.sedengine.specs.Ends.{Fits}
 use Rattle.sedengine.specs.Run.{Run, at_lines}
-use Rattle.sedengine.proofs.Writing.{Writes-none, Writes-then}
+use Rattle.sedengine.proofs.Writing.{Delivers-none, Delivers-then}
 use Rattle.sedengine.proofs.Streams.{Reads-none, Reads-then}
 use Rattle.sedengine.proofs.Runs.{Reached-none, KeepsRun-then, step_on, stop_on}
 use Rattle.sedengine.proofs.Tasks.{fits_of}
@@ -13,7 +13,7 @@ pub moves-init : goal.moves-init
 moves-init g c = record {
   same = record { script = refl; limits = refl; ended = refl };
   input = Reads-none _ _ _ _;
-  output = Writes-none _ _ _;
+  output = Delivers-none _ _ _;
   kept = λ j. Keeps-refl _;
   reached = λ sound ls known files told.
       let P : Run → Type 0 = λ e. Fits e.limits (at_lines e ls) in
@@ -37,7 +37,7 @@ moves-preserved g c =
     record {
       same = KeepsRun-then h.same c.step.ensures.same;
       input = Reads-then _ _ _ _ _ _ _ h.input c.in_default.ensures.input;
-      output = Writes-then _ _ _ _ _ _ h.output c.in_default.ensures.output;
+      output = Delivers-then _ _ _ _ _ _ h.output c.in_default.ensures.output;
       kept = λ j. Keeps-trans _ _ _ (h.kept j) (c.in_default.ensures.kept j);
       reached = λ sound ls known files told.
           let r = h.reached sound ls known files told in

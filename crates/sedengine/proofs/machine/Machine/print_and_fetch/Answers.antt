@@ -1,4 +1,4 @@
-use Rattle.std.proofs.Common.{◌∷◌, Ok, Err, refl}
+use Rattle.std.proofs.Common.{◌∷◌, Err, refl}
 use Rattle.sedengine.specs.State.{print_pattern, flush, empty_pattern, fetch}
 use Rattle.sedengine.specs.Move.{then_do}
 use Rattle.sedengine.specs.Run.{at_lines, setting}

@@ -1,4 +1,4 @@
-use Rattle.std.proofs.Common.{◌≡◌, ◌∷◌, [], Ok, Err, sym, subst}
+use Rattle.std.proofs.Common.{◌∷◌, [], Ok, Err, sym, subst}
 use Rattle.sedengine.specs.State.{State, print_pattern, flush}
 use Rattle.sedengine.specs.Move.{then_do}
 use Rattle.sedengine.specs.Meters.{Sent}

@@ -1,4 +1,3 @@
-use Rattle.std.proofs.Common.{Ok, Err}
 use Rattle.sedengine.proofs.Substituting.{puts_both, puts_first}
 use Rattle.sedengine.proofs.machine.Machine.write_replaced.Goals as goal
 

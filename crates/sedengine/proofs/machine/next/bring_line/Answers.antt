@@ -1,4 +1,4 @@
-use Rattle.std.proofs.Common.{Ok, ap, ◌∙◌}
+use Rattle.std.proofs.Common.{Ok, ap}
 use Rattle.sedengine.proofs.NextLines.{brings_got}
 use Rattle.sedengine.proofs.machine.next.bring_line.Goals as goal
 

@@ -1,7 +1,5 @@
-use Rattle.std.proofs.Common.{◌≡◌, ◌∷◌, [], ◌++◌, arith, length-append, sym, subst}
-use Rattle.sedspace.specs.Spaces.{Contents}
+use Rattle.std.proofs.Common.{◌∷◌, [], ◌++◌, arith, length-append}
 use Rattle.sedengine.specs.Move.{newline}
-use Rattle.sedengine.specs.Bringing.{Brings}
 use Rattle.sedengine.proofs.machine.next.join_line.Goals as goal
 
 pub returns-in-Err-clause-brings : goal.returns-in-Err-clause-brings

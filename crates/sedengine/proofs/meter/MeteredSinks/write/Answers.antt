@@ -1,4 +1,4 @@
-use Rattle.std.proofs.Common.{◌≡◌, ◌≤◌, length, take, min, refl, sym, arith, take-take, length-take-le}
+use Rattle.std.proofs.Common.{◌≤◌, take, arith, take-take, length-take-le}
 use Rattle.sedengine.proofs.Sending.{Sent-one}
 use Rattle.sedengine.proofs.meter.MeteredSinks.write.Goals as goal
 
