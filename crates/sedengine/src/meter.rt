@@ -48,6 +48,7 @@ impl Meter {
     }
 
     /// How many of so many bytes the sink may take.
+    #[inline(always)]
     fn room(&self, sink: usize, bytes: usize) -> usize
         requires { sink < length self.now.sent }
         ensures most { result ≤ bytes }
@@ -61,6 +62,7 @@ impl Meter {
     }
 
     /// Counts bytes that the sink took.
+    #[inline(always)]
     fn add(&mut self, sink: usize, bytes: usize)
         requires sink { sink < length self.old.sent }
         requires fits { FitsIn self.old.most self.old.sent sink bytes }
@@ -120,6 +122,7 @@ impl<'a, O: Outputs> Sinks for Metered<'a, O> {
       };
     } };
 
+    #[inline(always)]
     fn write(&mut self, sink: usize, bytes: &[u8]) -> Result<usize, Ended> {
         let room = self.meter.room(sink, bytes.len());
         if room == 0 {
