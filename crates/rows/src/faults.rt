@@ -36,5 +36,6 @@ pub(crate) fn run_end(alloc: Global, end: Ended) -> Result<String, AllocError> {
         Ended::NoPrevious(number) => format!(in alloc; "F5 line {number}"),
         Ended::InputBroken => format!(in alloc; "F6"),
         Ended::OutputBroken(sink) => format!(in alloc; "F7 sink {sink}"),
+        Ended::OutputFull(sink) => format!(in alloc; "F8 sink {sink}"),
     }
 }

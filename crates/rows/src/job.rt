@@ -24,6 +24,8 @@ pub(crate) struct Job {
     pub queue: usize,
     pub turns: u64,
     pub nodes: usize,
+    /// `output=`: the most bytes that each sink may gain.
+    pub output: Option<u64>,
     /// `look=`: the bytes that are read ahead.
     pub look: Option<usize>,
     /// `read=`: the most bytes of a read of the input.
@@ -48,6 +50,7 @@ impl Job {
             queue: 4096,
             turns: u64::MAX,
             nodes: 16384,
+            output: None,
             look: None,
             read: None,
             fails_at: None,
@@ -67,6 +70,7 @@ impl Job {
             b"queue" => self.queue = number_of(value)?,
             b"turns" => self.turns = long_number_of(value)?,
             b"nodes" => self.nodes = number_of(value)?,
+            b"output" => self.output = Some(long_number_of(value)?),
             _ => return self.take_device(name, value),
         }
         Ok(true)
@@ -88,10 +92,13 @@ impl Job {
 
     /// The limits, with so many bytes read ahead.
     pub(crate) fn limits(&self, look: usize) -> Result<Limits> {
-        match Limits::new(self.space, self.queue, look, self.turns, self.nodes) {
-            Some(limits) => Ok(limits),
-            None => bail!("a limit is out of its range"),
-        }
+        let Some(limits) = Limits::new(self.space, self.queue, look, self.turns, self.nodes) else {
+            bail!("a limit is out of its range");
+        };
+        Ok(match self.output {
+            Some(bytes) => limits.with_output(bytes),
+            None => limits,
+        })
     }
 
     /// What is told of a script that isn't accepted.

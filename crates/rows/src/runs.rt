@@ -3,8 +3,8 @@
 //! A row: the script; the input; what is written to the standard output. Options:
 //!
 //! * `-n`, `-E`: those of the command line
-//! * `F1 line 2`, `F4`, `F7 sink 0`: the end, where it isn't the ordinary one
-//! * `space=3`, `queue=`, `look=`, `turns=`, `nodes=`: limits other than the program's
+//! * `F1 line 2`, `F4`, `F7 sink 0`, `F8 sink 0`: the end, where it isn't the ordinary one
+//! * `space=3`, `queue=`, `look=`, `turns=`, `nodes=`, `output=`: limits other than the program's
 //! * `r:NAME=TEXT`: a file that is read, one that isn't given is empty; `w:NAME=TEXT`: what a file that is written
 //!   gets, each of them; each kind in the order in which the script first names them
 //! * `fails=2`: the second read of the input fails; `read=1`: a read gives one byte; `room=3`: a sink takes three bytes

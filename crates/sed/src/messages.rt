@@ -35,6 +35,7 @@ pub(crate) fn say_end<E: Write>(errors: &mut E, end: Ended) -> io::Result<()> {
         Ended::NoPrevious(number) => writeln!(errors, "sed: line {number}: F5 NoPrevious"),
         Ended::InputBroken => writeln!(errors, "sed: F6 InputBroken"),
         Ended::OutputBroken(sink) => writeln!(errors, "sed: F7 OutputBroken {sink}"),
+        Ended::OutputFull(sink) => writeln!(errors, "sed: F8 OutputFull {sink}"),
     }
 }
 

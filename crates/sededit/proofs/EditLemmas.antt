@@ -1,28 +1,53 @@
 -- From the end of an engine's run to the end of an edit.
-use Rattle.std.proofs.Common.{◌≡◌, ℕ, suc, List, [], Option, Some, None, length}
+use Rattle.std.proofs.Common.{◌≡◌, ℕ, zero, suc, ◌+◌, ◌≤◌, List, [], Option, Some, None, Result, Ok, Err, length, get_or, replicate, refl}
 use Rattle.std.proofs.Math.Seq.{take-length}
+use Rattle.std.specs.Prelude.{IfSome}
 use Rattle.sedspace.specs.Lines.{lines}
 use Rattle.sedscript.specs.Script.{Program}
 use Rattle.sedengine.specs.Limits.{Limits}
 use Rattle.sedengine.specs.State.{State, Setting}
 use Rattle.sedengine.specs.Move.{start, written}
+use Rattle.sedengine.specs.Devices.{part, FillsSink, GainedWithin}
 use Rattle.sedengine.specs.Ends.{WholeOrCut}
-use Rattle.sedengine.specs.Run.{Run, Ending, at_lines, setting, setting_of}
+use Rattle.sedengine.specs.Run.{Run, Ending, Sends, at_lines, setting, setting_of}
 use Rattle.sedengine.specs.declared.ends.Ended.{Ended}
-use Rattle.sedengine.specs.declared.ends.Ended.TheVariants.{Done}
-use Rattle.sededit.specs.Editing.{Edits, GainsAll, GainsBeginning, start_over}
+use Rattle.sedengine.specs.declared.ends.Ended.TheVariants.{Done, OutputFull}
+use Rattle.sedengine.proofs.Metering.{Cause-as}
+use Rattle.sededit.specs.Editing.{Edits, GainsAll, GainsBeginning, nothing_before, start_over}
 
 -- an engine that was opened
 abbrev pub opened : Limits → Program → Run
-opened l p = record { script = p; limits = l; state = start p.commands []; ended = None }
+opened l p = record { script = p; limits = l; state = start p.commands []; sent = replicate (length p.wfiles + 1) 0; ended = None }
+
+get_or_none : (n k : ℕ) → ◌≡◌ {A = ℕ} (get_or (replicate n 0) k 0) 0
+get_or_none zero k = refl
+get_or_none (suc n) zero = refl
+get_or_none (suc n) (suc k) = get_or_none n k
+
+within_from_start : (most : Option ℕ) (n : ℕ) (out : List (ℕ × ℕ)) → IfSome most (λ m. (k : ℕ) → get_or (replicate n 0) k 0 + length (part k out) ≤ m) → IfSome most (λ m. (k : ℕ) → nothing_before k + length (part k out) ≤ m)
+within_from_start None n out h = tt
+within_from_start (Some m) n out h = λ k. let le = h k in rw (get_or_none n k) at le
+
+full_from_start : (most : Option ℕ) (n : ℕ) (out : List (ℕ × ℕ)) (r : Result Unit Ended) → FillsSink most (λ k. get_or (replicate n 0) k 0) out r → FillsSink most nothing_before out r
+full_from_start most n out (Ok u) h = tt
+full_from_start most n out (Err (OutputFull k)) h = rw (get_or_none n k) at h
+full_from_start most n out (Err other) h = tt
+
+-- since the engine was opened sinks have gained what they gained in this run
+from_start : (l : Limits) (p : Program) (e' : Run) (old new : ℕ → Option (List ℕ)) (r : Result Unit Ended) (out : List (ℕ × ℕ)) → Sends (opened l p) e' old new r out → GainedWithin l.output nothing_before old new r out
+from_start l p e' old new r out h = record {
+  gained = h.gains.gained;
+  within = within_from_start l.output (length p.wfiles + 1) out h.gains.within;
+  full = full_from_start l.output (length p.wfiles + 1) out r h.gains.full;
+}
 
 -- a run of an opened engine over all lines is an edit
-pub Edits-run : (l : Limits) (p : Program) (files : ℕ → List ℕ) (e : Run) (x : List ℕ) (gained : List (ℕ × ℕ) → Type 0) (old old' new new' : Option (List ℕ)) (now : State) (end : Ended) →
-    e ≡ opened l p → old' ≡ old → new' ≡ new → Ending e.limits (setting e files) (at_lines e (lines x)) gained old' new' now end →
-    Edits l (setting_of p files) (start_over p x) gained old new end
-Edits-run l p files e x gained old old' new new' now end is before after h =
+pub Edits-run : (l : Limits) (p : Program) (files : ℕ → List ℕ) (e e' : Run) (x : List ℕ) (sinks sinks' : ℕ → Option (List ℕ)) (old old' new new' : Option (List ℕ)) (now : State) (end : Ended) →
+    e ≡ opened l p → old' ≡ old → new' ≡ new → Ending e.limits (setting e files) (at_lines e (lines x)) (Sends e e' sinks sinks' (Err end)) old' new' now end →
+    Edits l (setting_of p files) (start_over p x) (GainedWithin l.output nothing_before sinks sinks' (Err end)) old new end
+Edits-run l p files e e' x sinks sinks' old old' new new' now end is before after h =
     let h' = rw (is, before, after) at h in
-    record { t = h'.t; cause = h'.cause; takes = h'.takes }
+    record { t = h'.t; cause = Cause-as l _ _ _ _ end h'.t (from_start l p e' sinks sinks' (Err end)) h'.cause; takes = h'.takes }
 
 -- what the sinks gained is a beginning of what is written
 pub Gains-beginning : (l : Limits) (g : Setting) (s : State) (gained : List (ℕ × ℕ) → Type 0) (end : Ended) (t : ℕ) (k : Option ℕ) →

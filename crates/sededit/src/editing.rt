@@ -1,13 +1,13 @@
 //! The editor as a library: `script` reads a script, and `edit` runs it over the bytes of a stream.
-ghost use Rattle.std.specs.Prelude.{◌≡◌, ◌<◌, ◌≤◌, ◌⊎◌, ℕ, List, Ok, IfOk, OnOk, OnErr, IfErr, length};
+ghost use Rattle.std.specs.Prelude.{◌≡◌, ◌<◌, ◌≤◌, ◌⊎◌, ℕ, List, Ok, Err, IfOk, OnOk, OnErr, IfErr, length};
 ghost use Rattle.std.specs.Option.{ForSome};
 ghost use Rattle.std.specs.Io.KnownBytes.{Keeps};
 ghost use Rattle.sedspace.specs.Failures.{Rose};
 ghost use Rattle.sedscript.specs.Script.{Faulty, Means};
 ghost use Rattle.sedscript.specs.declared.types.ScriptFault.{ScriptFault};
-ghost use Rattle.sedengine.specs.Devices.{Gained};
+ghost use Rattle.sedengine.specs.Devices.{Gained, GainedWithin};
 ghost use Rattle.sedengine.specs.Run.{TellsFiles, setting_of};
-ghost use Rattle.sededit.specs.Editing.{Edits, GainsAll, GainsBeginning, start_over};
+ghost use Rattle.sededit.specs.Editing.{Edits, GainsAll, GainsBeginning, nothing_before, start_over};
 
 use sedengine::{Ended, Engine, Limits};
 use sedscript::{Kind, NO_MEMORY, Script, ScriptFault};
@@ -35,7 +35,8 @@ pub fn script(alloc: Global, text: &[u8], kind: Kind, nodes: usize) -> Result<Sc
 /// Runs a script over the source's bytes, from the start of a run to its end. Sink 0 is the standard output, sink 1 the
 /// first of the script's `wfiles` and so on; text 0 is the first of its `rfiles`.
 ///
-/// What the engine holds stays within the limits, whatever the input; what was written stands at every end.
+/// What the engine holds and what each sink gains stays within the limits, whatever the input; what was written stands
+/// at every end.
 ///
 /// # Errors
 /// `AllocError` where a request for memory was refused, before anything is read or written.
@@ -49,12 +50,12 @@ pub fn edit<R: ByteSource, O: Outputs, T: Texts>(
 ) -> Result<Ended, AllocError>
     requires sinks { length script.wfiles < O.count outputs.old }
     requires nodes { script.max_nodes ≤ limits.nodes }
-    // Each end has its cause, in whatever pieces the bytes came, and no more is read than the lines taken and what is
-    // read ahead.
+    // Each end has its cause, in whatever pieces the bytes came; no sink has gained more than the limit, where one is
+    // set; and no more is read than the lines taken and what is read ahead.
     ensures ending { IfOk result (λ end. ForSome (R.remaining source.old) (λ bytes.
         (files : ℕ → List ℕ) → TellsFiles (T.text texts.old) files →
         Edits limits (setting_of script files) (start_over script bytes)
-        (Gained (O.contents outputs.old) (O.contents outputs.new))
+        (GainedWithin limits.output nothing_before (O.contents outputs.old) (O.contents outputs.new) (Err end))
         (R.remaining source.old) (R.remaining source.new) end)) }
     // What was written is a beginning of what the script writes, and at the ordinary end the whole.
     ensures output { OnOk result (ForSome (R.remaining source.old) (λ bytes.

@@ -12,18 +12,17 @@ use Rattle.sedengine.specs.State.{Entry, Task, do_at, State, Move, Setting}
 use Rattle.sedengine.specs.Select.{Choice, selects}
 use Rattle.sedengine.specs.Move.{move, comes_to, performs, acts, passes, writing, quietly, queueing, then_do, none_left, in_table, is_active, tells_at}
 use Rattle.sedengine.specs.Ends.{Fits, comes, reads, asks_last, is_next, names_last}
-use Rattle.sedengine.specs.Held.{SameLengths}
-use Rattle.sedengine.specs.Devices.{Gained}
+use Rattle.sedengine.specs.Meters.{Sent, Tally}
 use Rattle.sedengine.specs.Calls.{Puts}
-use Rattle.sedengine.specs.Run.{Run, at_lines, setting, size_of, starts_cycle}
+use Rattle.sedengine.specs.Run.{Run, at_lines, setting}
 use Rattle.sedengine.specs.Choose.{Judges, as_choice, come_with, current}
 use Rattle.sedengine.specs.Queueing.{QueuesOrFull, queued_more}
 use Rattle.sedengine.specs.Steps.{ComesTo, HasAction, Moves, Performs, PerformsSteps, Steps, TakesLines}
 use Rattle.sedengine.specs.Inside.{run_of, entry_by, entry_for, IsRun}
-use Rattle.sedengine.specs.declared.engine.Engine.TheInside.{Inside}
+use Rattle.sedengine.specs.declared.machine.Machine.TheInside.{Inside}
 use Rattle.sedengine.specs.declared.select.Chosen.{Chosen}
 use Rattle.sedengine.specs.declared.ends.Ended.{Ended}
-use Rattle.sedengine.specs.declared.ends.Ended.TheVariants.{Done, PatternFull, HoldFull, QueueFull, TurnsSpent, NoPrevious, InputBroken, OutputBroken}
+use Rattle.sedengine.specs.declared.ends.Ended.TheVariants.{QueueFull, TurnsSpent, NoPrevious, InputBroken}
 use Rattle.sedengine.proofs.Streams.{TakesAtMost-more, lines_same}
 use Rattle.sedengine.proofs.Moves.{move_at, ran_quietly, stopped_here, moves_writing}
 use Rattle.sedengine.proofs.NextLines.{looked_moves, looked_then, none_taken}
@@ -47,56 +46,56 @@ abbrev pub translated : Run → Option (List ℕ) → Run
 translated e table = record e { state = record e.state { pattern = map (in_table table) e.state.pattern } }
 
 -- A command of an engine with the fields a that is seen as e.
-module _ (a : Inside) (e : Run) (seen : run_of a ≡ e) (i : IsRun a) (ls : List (List ℕ)) (g : Setting) (old new : ℕ → Option (List ℕ)) (o : Option Move) where
+module _ (a : Inside) (e : Run) (seen : run_of a ≡ e) (i : IsRun a) (ls : List (List ℕ)) (g : Setting) (old new : Tally) (o : Option Move) where
   fits : Fits e.limits (at_lines e ls)
   fits = let Q : Run → Type 0 = λ e. Fits e.limits (at_lines e ls) in subst Q seen (fits_of a ls i)
 
   -- one that writes alone
-  pub acts_writing : (out : List (ℕ × ℕ)) (r : Result Unit Ended) → o ≡ writing out (at_lines e ls) → Puts (Gained old new) out r → Performs e.limits g o (at_lines e ls) (at_lines e ls) (Gained old new) r
+  pub acts_writing : (out : List (ℕ × ℕ)) (r : Result Unit Ended) → o ≡ writing out (at_lines e ls) → Puts (Sent old new) out r → Performs e.limits g o (at_lines e ls) (at_lines e ls) (Sent old new) r
   acts_writing out r is put = λ s c first. moves_writing e.limits g s (at_lines e ls) old new out r c.fits (first ∙ is) fits c.lines put
 
   -- one that leads to another engine and writes nothing
-  pub acts_leading : (e' : Run) → Fits e.limits (at_lines e' ls) → o ≡ quietly (at_lines e' ls) → Performs e.limits g o (at_lines e ls) (at_lines e' ls) (Gained old old) (Ok tt)
+  pub acts_leading : (e' : Run) → Fits e.limits (at_lines e' ls) → o ≡ quietly (at_lines e' ls) → Performs e.limits g o (at_lines e ls) (at_lines e' ls) (Sent old old) (Ok tt)
   acts_leading e' there is = λ s c first. ran_quietly e.limits g s (at_lines e' ls) old c.fits (first ∙ is) there
 
   -- one that does nothing
-  pub acts_nothing : o ≡ quietly (at_lines e ls) → Performs e.limits g o (at_lines e ls) (at_lines e ls) (Gained old old) (Ok tt)
+  pub acts_nothing : o ≡ quietly (at_lines e ls) → Performs e.limits g o (at_lines e ls) (at_lines e ls) (Sent old old) (Ok tt)
   acts_nothing is = acts_leading e fits is
 
   -- one that goes on elsewhere
-  pub acts_going : (ts : List Task) (e' : Run) → e' ≡ going e ts → o ≡ quietly (then_do ts (at_lines e ls)) → Performs e.limits g o (at_lines e ls) (at_lines e' ls) (Gained old old) (Ok tt)
+  pub acts_going : (ts : List Task) (e' : Run) → e' ≡ going e ts → o ≡ quietly (then_do ts (at_lines e ls)) → Performs e.limits g o (at_lines e ls) (at_lines e' ls) (Sent old old) (Ok tt)
   acts_going ts e' same is =
-      let Q : Run → Type 0 = λ e'. Performs e.limits g o (at_lines e ls) (at_lines e' ls) (Gained old old) (Ok tt) in
+      let Q : Run → Type 0 = λ e'. Performs e.limits g o (at_lines e ls) (at_lines e' ls) (Sent old old) (Ok tt) in
       subst Q (sym same) (acts_leading (going e ts) (record { pattern = fits.pattern; hold = fits.hold; queue = fits.queue; turns = fits.turns }) is)
 
   -- `t`
   pub acts_testing : (target : ℕ) (e' : Run) → e' ≡ tested e target e.state.replaced → o ≡ quietly (cond e.state.replaced (then_do (do_at target ∷ []) (record (at_lines e ls) { replaced = false })) (at_lines e ls)) →
-      Performs e.limits g o (at_lines e ls) (at_lines e' ls) (Gained old old) (Ok tt)
+      Performs e.limits g o (at_lines e ls) (at_lines e' ls) (Sent old old) (Ok tt)
   acts_testing target e' same is =
-      let Q : Run → Type 0 = λ e'. Performs e.limits g o (at_lines e ls) (at_lines e' ls) (Gained old old) (Ok tt) in
+      let Q : Run → Type 0 = λ e'. Performs e.limits g o (at_lines e ls) (at_lines e' ls) (Sent old old) (Ok tt) in
       subst Q (sym same) (leads e.state.replaced is)
     where
       leads : (b : Bool) → o ≡ quietly (cond b (then_do (do_at target ∷ []) (record (at_lines e ls) { replaced = false })) (at_lines e ls)) →
-          Performs e.limits g o (at_lines e ls) (at_lines (tested e target b) ls) (Gained old old) (Ok tt)
+          Performs e.limits g o (at_lines e ls) (at_lines (tested e target b) ls) (Sent old old) (Ok tt)
       leads true is = acts_leading (tested e target true) (record { pattern = fits.pattern; hold = fits.hold; queue = fits.queue; turns = fits.turns }) is
       leads false is = acts_leading e fits is
 
   -- `y`
   pub acts_translating : (table : Option (List ℕ)) (e' : Run) → e' ≡ translated e table → o ≡ quietly (record (at_lines e ls) { pattern = map (in_table table) e.state.pattern }) →
-      Performs e.limits g o (at_lines e ls) (at_lines e' ls) (Gained old old) (Ok tt)
+      Performs e.limits g o (at_lines e ls) (at_lines e' ls) (Sent old old) (Ok tt)
   acts_translating table e' same is =
-      let Q : Run → Type 0 = λ e'. Performs e.limits g o (at_lines e ls) (at_lines e' ls) (Gained old old) (Ok tt) in
+      let Q : Run → Type 0 = λ e'. Performs e.limits g o (at_lines e ls) (at_lines e' ls) (Sent old old) (Ok tt) in
       let long : length (map (in_table table) e.state.pattern) ≡ length e.state.pattern = length-map e.state.pattern (in_table table) in
       subst Q (sym same) (acts_leading (translated e table) (record { pattern = rw long fits.pattern; hold = fits.hold; queue = fits.queue; turns = fits.turns }) is)
 
   -- `a` and `r`: an entry is put into the queue, or there is no room for it
-  pub acts_queueing : (entry : Entry) (e' : Run) (r : Result Unit Ended) → o ≡ quietly (queueing entry (at_lines e ls)) → QueuesOrFull e e' entry r → Performs e.limits g o (at_lines e ls) (at_lines e' ls) (Gained old old) r
+  pub acts_queueing : (entry : Entry) (e' : Run) (r : Result Unit Ended) → o ≡ quietly (queueing entry (at_lines e ls)) → QueuesOrFull e e' entry r → Performs e.limits g o (at_lines e ls) (at_lines e' ls) (Sent old old) r
   acts_queueing entry e' (Ok u) is (same, room) =
-      let Q : Run → Type 0 = λ e'. Performs e.limits g o (at_lines e ls) (at_lines e' ls) (Gained old old) (Ok tt) in
+      let Q : Run → Type 0 = λ e'. Performs e.limits g o (at_lines e ls) (at_lines e' ls) (Sent old old) (Ok tt) in
       let more : length (e.state.queue ++ entry ∷ []) ≤ e.limits.queue = omega (arith, length-append e.state.queue (entry ∷ [])) in
       subst Q (sym same) (acts_leading (queued_more e entry) (record { pattern = fits.pattern; hold = fits.hold; queue = more; turns = fits.turns }) is)
   acts_queueing entry e' (Err (QueueFull n)) is (same, number, full) =
-      let Q : Run → Type 0 = λ e'. Performs e.limits g o (at_lines e ls) (at_lines e' ls) (Gained old old) (Err (QueueFull n)) in
+      let Q : Run → Type 0 = λ e'. Performs e.limits g o (at_lines e ls) (at_lines e' ls) (Sent old old) (Err (QueueFull n)) in
       let more : e.limits.queue < length (e.state.queue ++ entry ∷ []) = omega (arith, length-append e.state.queue (entry ∷ [])) in
       subst Q (sym same) (λ s c first. stopped_here e.limits g s (at_lines e ls) old (QueueFull n) c.fits refl (number ∙ sym c.number, c.turn, (_, first ∙ is, more)) c.same c.lines)
   acts_queueing entry e' (Err other) is h = absurd h
@@ -119,10 +118,10 @@ pub command_seen : (a : Inside) (e : Run) (k : ℕ) (c : Command) → run_of a �
 command_seen a e k c seen is = let Q : Run → Type 0 = λ e. slice_get e.script.commands k ≡ Some c in subst Q seen is
 
 -- no turn is left
-pub steps_spent : {R : Type 0} (remaining : R → Option (List ℕ)) (old : Stream R) (a : Inside) (e : Run) (seen : run_of a ≡ e) (i : IsRun a) (files : ℕ → List ℕ) (ls : List (List ℕ)) → lines_left remaining old ≡ Some ls → (sinks : ℕ → Option (List ℕ)) (k : ℕ) →
-    e.state.tasks ≡ do_at k ∷ [] → k < length a.script.commands → a.turns ≡ a.limits.turns → Steps remaining old old ls e.limits (setting e files) e e (Gained sinks sinks) (Err TurnsSpent)
+pub steps_spent : {R : Type 0} (remaining : R → Option (List ℕ)) (old : Stream R) (a : Inside) (e : Run) (seen : run_of a ≡ e) (i : IsRun a) (files : ℕ → List ℕ) (ls : List (List ℕ)) → lines_left remaining old ≡ Some ls → (sinks : Tally) (k : ℕ) →
+    e.state.tasks ≡ do_at k ∷ [] → k < length a.script.commands → a.turns ≡ a.limits.turns → Steps remaining old old ls e.limits (setting e files) e e (Sent sinks sinks) (Err TurnsSpent)
 steps_spent {R} remaining old a e seen i files ls known sinks k t there spent =
-    steps_by_moves remaining old ls e.limits (setting e files) e e (Gained sinks sinks) (Err TurnsSpent) known (comes_spent a e seen i files ls k t sinks there spent)
+    steps_by_moves remaining old ls e.limits (setting e files) e e (Sent sinks sinks) (Err TurnsSpent) known (comes_spent a e seen i files ls k t sinks there spent)
 
 or_else : (x y : Bool) → y ≡ true → x || y ≡ true
 or_else true y h = refl
@@ -148,13 +147,13 @@ module _ {R : Type 0} (remaining : R → Option (List ℕ)) (old new : Stream R)
       move_at _ _ _ t ∙ ap (comes_to (setting e files) (at_lines e ls) k) (command_seen a e k c seen is) ∙ ap (option_and_then (performs (setting e files) (at_lines e ls) k c)) h
 
   -- the end comes where the addresses are judged
-  pub comes_stopping : (sinks : ℕ → Option (List ℕ)) (used : Option ℕ) (end : Ended) (e' : Run) → e' ≡ e → Judges (current e (none_left ls)) (is_active e.state k) c used (Err end) →
-      Steps remaining old new ls e.limits (setting e files) e e' (Gained sinks sinks) (Err end)
+  pub comes_stopping : (sinks : Tally) (used : Option ℕ) (end : Ended) (e' : Run) → e' ≡ e → Judges (current e (none_left ls)) (is_active e.state k) c used (Err end) →
+      Steps remaining old new ls e.limits (setting e files) e e' (Sent sinks sinks) (Err end)
   comes_stopping sinks used end e' same h =
-      let Q : Run → Type 0 = λ e'. Steps remaining old new ls e.limits (setting e files) e e' (Gained sinks sinks) (Err end) in
+      let Q : Run → Type 0 = λ e'. Steps remaining old new ls e.limits (setting e files) e e' (Sent sinks sinks) (Err end) in
       subst Q (sym same) (stops end h)
     where
-      stops : (end : Ended) → Judges (current e (none_left ls)) (is_active e.state k) c used (Err end) → Steps remaining old new ls e.limits (setting e files) e e (Gained sinks sinks) (Err end)
+      stops : (end : Ended) → Judges (current e (none_left ls)) (is_active e.state k) c used (Err end) → Steps remaining old new ls e.limits (setting e files) e e (Sent sinks sinks) (Err end)
       stops (NoPrevious n) (without, number) =
           halts_here remaining old new e.limits (setting e files) (at_lines e ls) e sinks (NoPrevious n) here refl
           (number, (λ _. turn_left a e seen i more), ap comes t, come_as None without) (record { pattern = refl; hold = refl; queue = λ _. refl; entries = omega arith }) (bytes_stay _)
@@ -196,12 +195,12 @@ module _ {R : Type 0} (remaining : R → Option (List ℕ)) (old new : Stream R)
         looked_then remaining old new to ls e.limits (setting e files) (at_lines e ls) e2 P r taken (there (at_lines e ls) here_comes (λ asks. ap (reads (setting e files)) t ∙ ap asks_last (command_seen a e k c seen is) ∙ or_else (names_last c) (is_next c.action) asks) (moves_as true chosen))
 
     -- it doesn't
-    pub comes_passing : (sinks : ℕ → Option (List ℕ)) → choice.yes ≡ false →
-        Performs e1.limits (setting e1 files) (passes (at_lines e1 ls) c.action) (at_lines e1 ls) (at_lines e2 ls) (Gained sinks sinks) (Ok tt) → Steps remaining old new ls e.limits (setting e files) e e2 (Gained sinks sinks) (Ok tt)
+    pub comes_passing : (sinks : Tally) → choice.yes ≡ false →
+        Performs e1.limits (setting e1 files) (passes (at_lines e1 ls) c.action) (at_lines e1 ls) (at_lines e2 ls) (Sent sinks sinks) (Ok tt) → Steps remaining old new ls e.limits (setting e files) e e2 (Sent sinks sinks) (Ok tt)
     comes_passing sinks passed h =
-        let Q : Run → Type 0 = λ e1. Performs e1.limits (setting e1 files) (passes (at_lines e1 ls) c.action) (at_lines e1 ls) (at_lines e2 ls) (Gained sinks sinks) (Ok tt) in
+        let Q : Run → Type 0 = λ e1. Performs e1.limits (setting e1 files) (passes (at_lines e1 ls) c.action) (at_lines e1 ls) (at_lines e2 ls) (Sent sinks sinks) (Ok tt) in
         let there = subst Q came h in
-        acted (Gained sinks sinks) (Ok tt) (there (at_lines e ls) here_comes (moves_as false passed))
+        acted (Sent sinks sinks) (Ok tt) (there (at_lines e ls) here_comes (moves_as false passed))
 
 -- the entry of a command that has this action
 pub entry_is : (texts : List (List ℕ)) (o : Option Command) (action : Action) → HasAction o action → entry_by texts o ≡ entry_for texts action

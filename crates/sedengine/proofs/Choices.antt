@@ -13,7 +13,7 @@ use Rattle.sedengine.specs.Select.{Current, Answer, Choice, answer, on_idle, on_
 use Rattle.sedengine.specs.Choose.{deciding, deciding_in, decides, chosen, chosen_idle, chosen_active, as_choice, is_over, turned, yes_by_number, Answers, Judges}
 use Rattle.sedengine.specs.Ends.{is_dollar}
 use Rattle.sedengine.specs.declared.ends.Ended.{Ended}
-use Rattle.sedengine.specs.declared.ends.Ended.TheVariants.{Done, PatternFull, HoldFull, QueueFull, TurnsSpent, NoPrevious, InputBroken, OutputBroken}
+use Rattle.sedengine.specs.declared.ends.Ended.TheVariants.{Done, PatternFull, HoldFull, QueueFull, TurnsSpent, NoPrevious, InputBroken, OutputBroken, OutputFull}
 use Rattle.sedengine.specs.Run.{has_match, finds_in}
 use Rattle.sedengine.specs.declared.select.Chosen.{Chosen}
 
@@ -124,6 +124,7 @@ judges_err c a active command number used (HoldFull n) same_active same h = h
 judges_err c a active command number used (QueueFull n) same_active same h = h
 judges_err c a active command number used TurnsSpent same_active same h = h
 judges_err c a active command number used (OutputBroken k) same_active same h = h
+judges_err c a active command number used (OutputFull k) same_active same h = h
 
 pub judges_ok : (c : Current) (a active : Bool) (command : Command) (matched : Bool) (number : ℕ) (used used' : Option ℕ) (choice : Chosen) → a ≡ active → number ≡ c.number → used' ≡ used →
     choice ≡ turned command.negate (chosen command.first command.second a number matched) → decides c (deciding command.first command.second a c.number) ≡ Some (record { yes = matched; used = used }) →

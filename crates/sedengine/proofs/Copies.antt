@@ -8,10 +8,10 @@ use Rattle.sedspace.specs.Reading.{ReadsAt}
 use Rattle.sedengine.specs.Limits.{Limits}
 use Rattle.sedengine.specs.State.{Task, copy, State, Setting}
 use Rattle.sedengine.specs.Move.{move, after, written, next_or_stay, writes_of, to_sink, copies, quietly}
-use Rattle.sedengine.specs.Devices.{Gained}
+use Rattle.sedengine.specs.Meters.{Sent, Tally}
 use Rattle.sedengine.specs.Calls.{Puts}
-use Rattle.sedengine.specs.Ends.{Fits, Within, takes_turn}
-use Rattle.sedengine.specs.Held.{SameLengths}
+use Rattle.sedengine.specs.Ends.{Fits, Within, WholeOrCut, Cut, takes_turn}
+use Rattle.sedengine.specs.Held.{HoldsAt, SameLengths}
 use Rattle.sedengine.specs.Run.{InOneCycle}
 use Rattle.sedengine.specs.Steps.{Ran, Stopped}
 use Rattle.sedengine.specs.declared.ends.Ended.{Ended}
@@ -64,10 +64,10 @@ reads_end (Some xs) (Some ys) bytes o n told keeps ends none =
     omega (arith, ap length same)
 
 -- the bytes written, and a piece after them
-pub put_on : (old mid new : ℕ → Option (List ℕ)) (bytes piece : List ℕ) (o n : ℕ) (r : Result Unit Ended) → Gained old mid (to_sink 0 (take o bytes)) → piece ≡ take n (drop o bytes) →
-    Puts (Gained mid new) (to_sink 0 piece) r → Puts (Gained old new) (to_sink 0 (take (o + n) bytes)) r
+pub put_on : (old mid new : Tally) (bytes piece : List ℕ) (o n : ℕ) (r : Result Unit Ended) → Sent old mid (to_sink 0 (take o bytes)) → piece ≡ take n (drop o bytes) →
+    Puts (Sent mid new) (to_sink 0 piece) r → Puts (Sent old new) (to_sink 0 (take (o + n) bytes)) r
 put_on old mid new bytes piece o n r gained is put =
-    let Q : List (ℕ × ℕ) → Type 0 = λ out. Puts (Gained old new) out r in
+    let Q : List (ℕ × ℕ) → Type 0 = λ out. Puts (Sent old new) out r in
     let all : to_sink 0 (take o bytes) ++ to_sink 0 piece ≡ to_sink 0 (take (o + n) bytes) = rw (take-add, to_sink-append, is) refl in
     subst Q all (Puts-append old mid new (to_sink 0 (take o bytes)) (to_sink 0 piece) r gained put)
 
@@ -113,52 +113,55 @@ module _ (g : Setting) (s : State) (k : ℕ) (rest : List Task) (at : s.tasks �
   within_copied l o h f turns = λ j le. let at_j = after_copied j (omega arith) in rw at_j (record { pattern = f.pattern; hold = f.hold; queue = f.queue; turns = omega arith })
 
   -- the file was written to its end
-  pub copied_all : (l : Limits) (old new : ℕ → Option (List ℕ)) (o turns : ℕ) → Fits l s → turns ≡ s.turns + o → turns ≤ l.turns →
-      o ≤ length (g.files k) → length (g.files k) ≤ o → Gained old new (to_sink 0 (take o (g.files k))) →
-      Ran l g s (record s { tasks = rest; turns = turns }) (Gained old new)
+  pub copied_all : (l : Limits) (old new : Tally) (o turns : ℕ) → Fits l s → turns ≡ s.turns + o → turns ≤ l.turns →
+      o ≤ length (g.files k) → length (g.files k) ≤ o → Sent old new (to_sink 0 (take o (g.files k))) →
+      Ran l g s (record s { tasks = rest; turns = turns }) (Sent old new)
   copied_all l old new o turns f are fits inside all gained =
-      let R : ℕ → Type 0 = λ n. Ran l g s (record s { tasks = rest; turns = n }) (Gained old new) in
+      let R : ℕ → Type 0 = λ n. Ran l g s (record s { tasks = rest; turns = n }) (Sent old new) in
       let here : Fits l (copied s k rest o) = record { pattern = f.pattern; hold = f.hold; queue = f.queue; turns = omega arith } in
       let there : Fits l (record s { tasks = rest; turns = s.turns + o }) = record { pattern = f.pattern; hold = f.hold; queue = f.queue; turns = omega arith } in
       let last = ran_quietly l g (copied s k rest o) _ new here (at_end o all) there in
-      let M : State → Type 0 = λ m. Ran l g m (record s { tasks = rest; turns = s.turns + o }) (Gained new new) in
+      let M : State → Type 0 = λ m. Ran l g m (record s { tasks = rest; turns = s.turns + o }) (Sent new new) in
       subst R (sym are) (chain l g s _ old new new o (Ok tt) (within_copied l o inside f (omega arith)) (one_copied o inside)
       (rw (written_copied o inside) gained) (subst M (sym (after_copied o inside)) last))
 
   -- a further byte is due, and no turn is left
-  pub copied_spent : (l : Limits) (now : State) (old new : ℕ → Option (List ℕ)) (o : ℕ) → Fits l s → s.turns + o ≡ l.turns → o < length (g.files k) →
-      Gained old new (to_sink 0 (take o (g.files k))) → SameLengths s now → s.lines ≡ now.lines → Stopped l g s now (Gained old new) TurnsSpent
+  pub copied_spent : (l : Limits) (now : State) (old new : Tally) (o : ℕ) → Fits l s → s.turns + o ≡ l.turns → o < length (g.files k) →
+      Sent old new (to_sink 0 (take o (g.files k))) → SameLengths s now → s.lines ≡ now.lines → Stopped l g s now (Sent old new) TurnsSpent
   copied_spent l now old new o f spent inside gained same lines =
       let m : State = copied s k rest o in
       let here : Fits l m = record { pattern = f.pattern; hold = f.hold; queue = f.queue; turns = omega arith } in
       let due : takes_turn g m m.tasks ≡ true = ap is_some (slice_get-get_or (g.files k) o 0 inside) in
       let last = stopped_here l g m now new TurnsSpent here refl (spent, due) (same_copied s now k rest o same) lines in
-      let M : State → Type 0 = λ m. Stopped l g m now (Gained new new) TurnsSpent in
+      let M : State → Type 0 = λ m. Stopped l g m now (Sent new new) TurnsSpent in
       chain l g s now old new new o (Err TurnsSpent) (within_copied l o (omega arith) f (omega arith)) (one_copied o (omega arith))
       (rw (written_copied o (omega arith)) gained) (subst M (sym (after_copied o (omega arith))) last)
 
-  -- the sink failed at one of the first n bytes
-  pub copied_broken : (l : Limits) (now : State) (old new : ℕ → Option (List ℕ)) (n : ℕ) (end : Ended) → Fits l s → s.turns + n ≤ l.turns → n ≤ length (g.files k) →
-      Puts (Gained old new) (to_sink 0 (take n (g.files k))) (Err end) → SameLengths s now → s.lines ≡ now.lines → Stopped l g s now (Gained old new) end
-  copied_broken l now old new n end f fits inside (j, b, byte, end_is, due, gained) same lines =
+  -- the sink took no more at one of the first n bytes
+  pub copied_broken : (l : Limits) (now : State) (old new : Tally) (n : ℕ) (end : Ended) → Fits l s → s.turns + n ≤ l.turns → n ≤ length (g.files k) →
+      Puts (Sent old new) (to_sink 0 (take n (g.files k))) (Err end) → SameLengths s now → s.lines ≡ now.lines → Stopped l g s now (Sent old new) end
+  copied_broken l now old new n end f fits inside (j, b, byte, end_is, due, sent) same lines =
       let file : List ℕ = g.files k in
-      let E : Ended → Type 0 = λ e. Stopped l g s now (Gained old new) e in
+      let C : Option ℕ → Type 0 = λ o. WholeOrCut l g s (Sent old new) end b o in
+      let H : Option ℕ → Type 0 = λ o. HoldsAt g s b now o in
       let lt : b < n = let within = slice_get_within (to_sink 0 (take n file)) b (j, byte) due in omega (arith, length-to_sink 0 (take n file), length-take-le n file inside) in
       let less : b ≤ length file = omega arith in
       let more : suc b ≤ length file = omega arith in
       let due_at = first_due 0 b n file lt in
       let part = first_done 0 b n file lt in
-      subst E (sym end_is) (record {
+      let cut : Cut l g s (Sent old new) j b = record {
+        within = within_copied l (suc b) more f (omega arith);
+        b = b;
+        byte = byte;
+        past = rw (written_copied b less) (omega (arith, length-to_sink 0 (take b file), length-take-le b file less));
+        due = rw (written_copied (suc b) more) (due_at ∙ due);
+        sinks = rw (written_copied (suc b) more, part) sent;
+      } in
+      let here : SameLengths (after g s b) now = rw (after_copied b less) (same_copied s now k rest b same) in
+      record {
         t = b;
-        cause = record {
-          within = within_copied l (suc b) more f (omega arith);
-          b = b;
-          byte = byte;
-          past = rw (written_copied b less) (omega (arith, length-to_sink 0 (take b file), length-take-le b file less));
-          due = rw (written_copied (suc b) more) (due_at ∙ due);
-          sinks = rw (written_copied (suc b) more, part) gained;
-        };
-        holds = inl (rw (after_copied b less) (same_copied s now k rest b same));
+        cause = subst C (sym end_is) cut;
+        holds = subst H (sym end_is) (inl here);
         one = one_copied b less;
         lines = ap (λ (x : State). x.lines) (after_copied b less) ∙ lines;
-      })
+      }

@@ -1,20 +1,19 @@
 -- The pattern space is deleted, or its first line, and a cycle starts.
-use Rattle.std.proofs.Common.{◌≡◌, ℕ, zero, suc, ◌<◌, ◌≤◌, Bool, true, false, cond, List, [], ◌∷◌, length, Option, Some, Result, Ok, Err, refl, subst, sym, ap, ◌∙◌, arith}
-use Rattle.std.specs.Prelude.{IsTrue, slice_get, slice_index_or, ◌||◌}
-use Rattle.std.specs.List.{All, Contains, after_first}
-use Rattle.std.proofs.lemmas.Bool.{false≢true}
+use Rattle.std.proofs.Common.{◌≡◌, ℕ, zero, suc, Bool, true, false, cond, List, [], ◌∷◌, length, Option, Some, Result, Err, refl, subst, sym, ap, ◌∙◌, arith}
+use Rattle.std.specs.Prelude.{slice_get, ◌||◌}
+use Rattle.std.specs.List.{Contains, after_first}
 use Rattle.sedscript.specs.declared.types.Action.TheVariants.{Change, Delete, DeleteFirst}
 use Rattle.sedspace.specs.Spaces.{Contents}
 use Rattle.sedspace.specs.Lines.{HasNoNewline, is_newline}
-use Rattle.sedengine.specs.State.{Task, begin, rebegin, flush, State, Move, Setting}
+use Rattle.sedengine.specs.State.{begin, rebegin, flush, State, Move}
 use Rattle.sedengine.specs.Move.{acts, has_newline, line_to, quietly, text_of, then_do, writing}
 use Rattle.sedengine.specs.Ends.{Fits}
-use Rattle.sedengine.specs.Devices.{Gained}
+use Rattle.sedengine.specs.Meters.{Sent, Tally}
 use Rattle.sedengine.specs.Calls.{Puts}
-use Rattle.sedengine.specs.Run.{Run, at_lines, setting, starts_cycle}
+use Rattle.sedengine.specs.Run.{Run, at_lines, setting}
 use Rattle.sedengine.specs.Steps.{Moves, Performs}
 use Rattle.sedengine.specs.Inside.{run_of, tasks_of, IsRun}
-use Rattle.sedengine.specs.declared.engine.Engine.TheInside.{Inside}
+use Rattle.sedengine.specs.declared.machine.Machine.TheInside.{Inside}
 use Rattle.sedengine.specs.declared.place.Place.{Place}
 use Rattle.sedengine.specs.declared.ends.Ended.{Ended}
 use Rattle.sedengine.proofs.Moves.{moves_fits}
@@ -37,21 +36,21 @@ newline_absent [] h = refl
 newline_absent (b ∷ bs) h = rw (h 0 0 (omega arith)) (newline_absent bs (λ k d lt. h (suc k) d (omega arith)))
 
 -- A command that leaves c1 in the pattern space and writes these bytes, and what the call that ends the cycle says of it.
-pub deletes : (a : Inside) (e e2 : Run) (files : ℕ → List ℕ) (ls : List (List ℕ)) (o : Option Move) (place : Place) (c1 : Contents) (old mid new : ℕ → Option (List ℕ)) (out : List (ℕ × ℕ)) (r : Result Unit Ended) → run_of a ≡ e →
-    o ≡ writing out (then_do (flush ∷ tasks_of place) (at_lines (with_pattern e c1.bytes) ls)) → Gained old mid out →
-    Moves a.limits (setting (run_of a) files) (then_do (flush ∷ tasks_of place) (at_lines (run_of (record a { pattern = c1 })) ls)) (at_lines e2 ls) (Gained mid new) r →
-    Performs e.limits (setting e files) o (at_lines e ls) (at_lines e2 ls) (Gained old new) r
+pub deletes : (a : Inside) (e e2 : Run) (files : ℕ → List ℕ) (ls : List (List ℕ)) (o : Option Move) (place : Place) (c1 : Contents) (old mid new : Tally) (out : List (ℕ × ℕ)) (r : Result Unit Ended) → run_of a ≡ e →
+    o ≡ writing out (then_do (flush ∷ tasks_of place) (at_lines (with_pattern e c1.bytes) ls)) → Sent old mid out →
+    Moves a.limits (setting (run_of a) files) (then_do (flush ∷ tasks_of place) (at_lines (run_of (record a { pattern = c1 })) ls)) (at_lines e2 ls) (Sent mid new) r →
+    Performs e.limits (setting e files) o (at_lines e ls) (at_lines e2 ls) (Sent old new) r
 deletes a e e2 files ls o place c1 old mid new out r seen is gained h =
-    let Q : Run → Type 0 = λ e. o ≡ writing out (then_do (flush ∷ tasks_of place) (at_lines (with_pattern e c1.bytes) ls)) → Performs e.limits (setting e files) o (at_lines e ls) (at_lines e2 ls) (Gained old new) r in
+    let Q : Run → Type 0 = λ e. o ≡ writing out (then_do (flush ∷ tasks_of place) (at_lines (with_pattern e c1.bytes) ls)) → Performs e.limits (setting e files) o (at_lines e ls) (at_lines e2 ls) (Sent old new) r in
     let m : State = then_do (flush ∷ tasks_of place) (at_lines (run_of (record a { pattern = c1 })) ls) in
-    subst Q seen (λ is. acts_then a.limits (setting (run_of a) files) o (at_lines (run_of a) ls) m (at_lines e2 ls) old mid new out r is (moves_fits a.limits (setting (run_of a) files) m (at_lines e2 ls) (Gained mid new) r h) gained refl h) is
+    subst Q seen (λ is. acts_then a.limits (setting (run_of a) files) o (at_lines (run_of a) ls) m (at_lines e2 ls) old mid new out r is (moves_fits a.limits (setting (run_of a) files) m (at_lines e2 ls) (Sent mid new) r h) gained refl h) is
 
 -- The text of `c` can't be written.
-pub change_stops : (a : Inside) (e : Run) (files : ℕ → List ℕ) (ls : List (List ℕ)) (o : Option Move) (c1 : Contents) (old new : ℕ → Option (List ℕ)) (out : List (ℕ × ℕ)) (end : Ended) → run_of a ≡ e → IsRun a → c1.bytes ≡ [] →
-    o ≡ writing out (then_do (flush ∷ begin ∷ []) (at_lines (with_pattern e c1.bytes) ls)) → Puts (Gained old new) out (Err end) →
-    Performs e.limits (setting e files) o (at_lines e ls) (at_lines (run_of (record a { pattern = c1 })) ls) (Gained old new) (Err end)
+pub change_stops : (a : Inside) (e : Run) (files : ℕ → List ℕ) (ls : List (List ℕ)) (o : Option Move) (c1 : Contents) (old new : Tally) (out : List (ℕ × ℕ)) (end : Ended) → run_of a ≡ e → IsRun a → c1.bytes ≡ [] →
+    o ≡ writing out (then_do (flush ∷ begin ∷ []) (at_lines (with_pattern e c1.bytes) ls)) → Puts (Sent old new) out (Err end) →
+    Performs e.limits (setting e files) o (at_lines e ls) (at_lines (run_of (record a { pattern = c1 })) ls) (Sent old new) (Err end)
 change_stops a e files ls o c1 old new out end seen i none is put =
-    let Q : Run → Type 0 = λ e. o ≡ writing out (then_do (flush ∷ begin ∷ []) (at_lines (with_pattern e c1.bytes) ls)) → Performs e.limits (setting e files) o (at_lines e ls) (at_lines (run_of (record a { pattern = c1 })) ls) (Gained old new) (Err end) in
+    let Q : Run → Type 0 = λ e. o ≡ writing out (then_do (flush ∷ begin ∷ []) (at_lines (with_pattern e c1.bytes) ls)) → Performs e.limits (setting e files) o (at_lines e ls) (at_lines (run_of (record a { pattern = c1 })) ls) (Sent old new) (Err end) in
     let m : State = then_do (flush ∷ begin ∷ []) (at_lines (run_of (record a { pattern = c1 })) ls) in
     let f = fits_of a ls i in
     let empty = ap length none in
@@ -93,8 +92,8 @@ uncut_performs a e e' files ls c1 P r seen absent is h =
     subst Q seen (subst O (sym (uncut_is (run_of a) files ls (newline_absent a.pattern.bytes absent))) (subst S is h))
 
 -- the text of `c`, as the engine is seen
-pub text_put : (a : Inside) (e : Run) (text : ℕ) (bytes : List ℕ) (old new : ℕ → Option (List ℕ)) (r : Result Unit Ended) → run_of a ≡ e → slice_get a.script.texts text ≡ Some bytes → Puts (Gained old new) (line_to 0 bytes) r →
-    Puts (Gained old new) (line_to 0 (text_of (slice_get e.script.texts text))) r
+pub text_put : (a : Inside) (e : Run) (text : ℕ) (bytes : List ℕ) (old new : Tally) (r : Result Unit Ended) → run_of a ≡ e → slice_get a.script.texts text ≡ Some bytes → Puts (Sent old new) (line_to 0 bytes) r →
+    Puts (Sent old new) (line_to 0 (text_of (slice_get e.script.texts text))) r
 text_put a e text bytes old new r seen there h =
-    let Q : Run → Type 0 = λ e. Puts (Gained old new) (line_to 0 (text_of (slice_get e.script.texts text))) r in
+    let Q : Run → Type 0 = λ e. Puts (Sent old new) (line_to 0 (text_of (slice_get e.script.texts text))) r in
     subst Q seen (rw there h)

@@ -9,14 +9,14 @@ use Rattle.sedengine.specs.State.{Task, begin, rebegin, do_at, print_pattern, em
 use Rattle.sedengine.specs.Move.{comes_to, writing, quietly, then_do, at_end, line_to}
 use Rattle.sedengine.specs.Ends.{Fits, takes_turn}
 use Rattle.sedengine.specs.Held.{SameLengths}
-use Rattle.sedengine.specs.Devices.{Gained}
+use Rattle.sedengine.specs.Meters.{Sent, Tally}
 use Rattle.sedengine.specs.Calls.{Puts}
 use Rattle.sedengine.specs.Run.{Run, at_lines, setting, starts_cycle}
 use Rattle.sedengine.specs.Steps.{Moves, Performs, costs, weight}
 use Rattle.sedengine.specs.Flushing.{Flushes}
 use Rattle.sedengine.specs.Queueing.{flushed, with_turns}
 use Rattle.sedengine.specs.Inside.{run_of, tasks_of, entries_of, IsRun, Queues}
-use Rattle.sedengine.specs.declared.engine.Engine.TheInside.{Inside}
+use Rattle.sedengine.specs.declared.machine.Machine.TheInside.{Inside}
 use Rattle.sedengine.specs.declared.place.Place.{Place}
 use Rattle.sedengine.specs.declared.place.Place.TheVariants as p
 use Rattle.sedengine.specs.declared.ends.Ended.{Ended}
@@ -51,24 +51,24 @@ flush_moves a e e' g ls rest turns P (Err end) seen i h ok err =
     subst Q (sym err) (subst S seen (Stopped-as a.limits g s s (then_do rest (at_lines (with_turns (run_of a) turns) ls)) P end refl refl refl refl (h s rest refl refl refl f)))
 
 -- The pattern space is written, and then what comes after it.
-pub print_moves : (e e' : Run) (files : ℕ → List ℕ) (ls : List (List ℕ)) (rest : List Task) (old mid new : ℕ → Option (List ℕ)) (r : Result Unit Ended) → Fits e.limits (at_lines e ls) →
-    Gained old mid (cond e.script.quiet [] (line_to 0 e.state.pattern)) →
-    Moves e.limits (setting e files) (then_do (flush ∷ rest) (at_lines e ls)) (then_do rest (at_lines e' ls)) (Gained mid new) r →
-    Moves e.limits (setting e files) (then_do (print_pattern ∷ flush ∷ rest) (at_lines e ls)) (then_do rest (at_lines e' ls)) (Gained old new) r
+pub print_moves : (e e' : Run) (files : ℕ → List ℕ) (ls : List (List ℕ)) (rest : List Task) (old mid new : Tally) (r : Result Unit Ended) → Fits e.limits (at_lines e ls) →
+    Sent old mid (cond e.script.quiet [] (line_to 0 e.state.pattern)) →
+    Moves e.limits (setting e files) (then_do (flush ∷ rest) (at_lines e ls)) (then_do rest (at_lines e' ls)) (Sent mid new) r →
+    Moves e.limits (setting e files) (then_do (print_pattern ∷ flush ∷ rest) (at_lines e ls)) (then_do rest (at_lines e' ls)) (Sent old new) r
 print_moves e e' files ls rest old mid new r f gained h =
     moves_then e.limits (setting e files) (then_do (print_pattern ∷ flush ∷ rest) (at_lines e ls)) (then_do (flush ∷ rest) (at_lines e ls)) (then_do rest (at_lines e' ls)) old mid new (cond e.script.quiet [] (line_to 0 e.state.pattern)) r
     (fits_tasks _ (at_lines e ls) _ f) (move_at _ _ _ refl) (fits_tasks _ (at_lines e ls) _ f) gained refl h
 
-pub print_stops : (e : Run) (files : ℕ → List ℕ) (ls : List (List ℕ)) (rest : List Task) (old new : ℕ → Option (List ℕ)) (end : Ended) → Fits e.limits (at_lines e ls) →
-    Puts (Gained old new) (cond e.script.quiet [] (line_to 0 e.state.pattern)) (Err end) →
-    Moves e.limits (setting e files) (then_do (print_pattern ∷ flush ∷ rest) (at_lines e ls)) (then_do rest (at_lines e ls)) (Gained old new) (Err end)
+pub print_stops : (e : Run) (files : ℕ → List ℕ) (ls : List (List ℕ)) (rest : List Task) (old new : Tally) (end : Ended) → Fits e.limits (at_lines e ls) →
+    Puts (Sent old new) (cond e.script.quiet [] (line_to 0 e.state.pattern)) (Err end) →
+    Moves e.limits (setting e files) (then_do (print_pattern ∷ flush ∷ rest) (at_lines e ls)) (then_do rest (at_lines e ls)) (Sent old new) (Err end)
 print_stops e files ls rest old new end f put =
     stopped_writing e.limits (setting e files) (then_do (print_pattern ∷ flush ∷ rest) (at_lines e ls)) (then_do (flush ∷ rest) (at_lines e ls)) (then_do rest (at_lines e ls)) old new (cond e.script.quiet [] (line_to 0 e.state.pattern)) end
     (fits_tasks _ (at_lines e ls) _ f) (move_at _ _ _ refl) (fits_tasks _ (at_lines e ls) _ f) (record { pattern = refl; hold = refl; queue = λ _. refl; entries = omega arith }) refl put
 
 -- The end of the script: command k isn't there. What follows the first move is h.
-pub end_moves : (e : Run) (files : ℕ → List ℕ) (ls : List (List ℕ)) (k : ℕ) (now : State) (old new : ℕ → Option (List ℕ)) (r : Result Unit Ended) → Fits e.limits (at_lines e ls) → e.state.tasks ≡ do_at k ∷ [] → length e.script.commands ≤ k →
-    Moves e.limits (setting e files) (then_do at_end (at_lines e ls)) now (Gained old new) r → Moves e.limits (setting e files) (at_lines e ls) now (Gained old new) r
+pub end_moves : (e : Run) (files : ℕ → List ℕ) (ls : List (List ℕ)) (k : ℕ) (now : State) (old new : Tally) (r : Result Unit Ended) → Fits e.limits (at_lines e ls) → e.state.tasks ≡ do_at k ∷ [] → length e.script.commands ≤ k →
+    Moves e.limits (setting e files) (then_do at_end (at_lines e ls)) now (Sent old new) r → Moves e.limits (setting e files) (at_lines e ls) now (Sent old new) r
 end_moves e files ls k now old new r f at over h =
     quietly_then e.limits (setting e files) (at_lines e ls) (then_do at_end (at_lines e ls)) now old new r f
     (move_at _ _ _ at ∙ ap (comes_to (setting e files) (at_lines e ls) k) (slice_get_past e.script.commands k over)) (fits_tasks _ (at_lines e ls) at_end f) refl h
@@ -78,26 +78,26 @@ abbrev pub emptied : Run → Run
 emptied e = record e { state = record e.state { pattern = []; tasks = begin ∷ [] } }
 
 -- the cycle has ended
-pub finished : (e e' final : Run) (files : ℕ → List ℕ) (ls : List (List ℕ)) (k : ℕ) (old new : ℕ → Option (List ℕ)) → e.state.tasks ≡ do_at k ∷ [] → length e.script.commands ≤ k →
-    Moves e.limits (setting e files) (then_do at_end (at_lines e ls)) (then_do (empty_pattern ∷ begin ∷ []) (at_lines e' ls)) (Gained old new) (Ok tt) → final ≡ emptied e' →
-    Moves e.limits (setting e files) (at_lines e ls) (at_lines final ls) (Gained old new) (Ok tt)
+pub finished : (e e' final : Run) (files : ℕ → List ℕ) (ls : List (List ℕ)) (k : ℕ) (old new : Tally) → e.state.tasks ≡ do_at k ∷ [] → length e.script.commands ≤ k →
+    Moves e.limits (setting e files) (then_do at_end (at_lines e ls)) (then_do (empty_pattern ∷ begin ∷ []) (at_lines e' ls)) (Sent old new) (Ok tt) → final ≡ emptied e' →
+    Moves e.limits (setting e files) (at_lines e ls) (at_lines final ls) (Sent old new) (Ok tt)
 finished e e' final files ls k old new at over h is =
-    let Q : Run → Type 0 = λ final. Moves e.limits (setting e files) (at_lines e ls) (at_lines final ls) (Gained old new) (Ok tt) in
+    let Q : Run → Type 0 = λ final. Moves e.limits (setting e files) (at_lines e ls) (at_lines final ls) (Sent old new) (Ok tt) in
     let g : Setting = setting e files in
     let m : State = then_do (empty_pattern ∷ begin ∷ []) (at_lines e' ls) in
-    let f = moves_fits e.limits g (then_do at_end (at_lines e ls)) m (Gained old new) (Ok tt) h in
-    let f' = ran_fits_now e.limits g (then_do at_end (at_lines e ls)) m (Gained old new) h in
+    let f = moves_fits e.limits g (then_do at_end (at_lines e ls)) m (Sent old new) (Ok tt) h in
+    let f' = ran_fits_now e.limits g (then_do at_end (at_lines e ls)) m (Sent old new) h in
     subst Q (sym is) (end_moves e files ls k (at_lines (emptied e') ls) old new (Ok tt) (record { pattern = f.pattern; hold = f.hold; queue = f.queue; turns = f.turns }) at over
     (Moves-then e.limits g (then_do at_end (at_lines e ls)) m (at_lines (emptied e') ls) old new new (Ok tt) h refl
     (ran_quietly e.limits g m (at_lines (emptied e') ls) new f' (move_at _ _ _ refl) (record { pattern = omega arith; hold = f'.hold; queue = f'.queue; turns = f'.turns }))))
 
 -- the end came before the cycle's
-pub finish_stopped : (e e' : Run) (files : ℕ → List ℕ) (ls : List (List ℕ)) (k : ℕ) (rest : List Task) (old new : ℕ → Option (List ℕ)) (end : Ended) → e.state.tasks ≡ do_at k ∷ [] → length e.script.commands ≤ k →
-    Moves e.limits (setting e files) (then_do at_end (at_lines e ls)) (then_do rest (at_lines e' ls)) (Gained old new) (Err end) →
-    Moves e.limits (setting e files) (at_lines e ls) (at_lines e' ls) (Gained old new) (Err end)
+pub finish_stopped : (e e' : Run) (files : ℕ → List ℕ) (ls : List (List ℕ)) (k : ℕ) (rest : List Task) (old new : Tally) (end : Ended) → e.state.tasks ≡ do_at k ∷ [] → length e.script.commands ≤ k →
+    Moves e.limits (setting e files) (then_do at_end (at_lines e ls)) (then_do rest (at_lines e' ls)) (Sent old new) (Err end) →
+    Moves e.limits (setting e files) (at_lines e ls) (at_lines e' ls) (Sent old new) (Err end)
 finish_stopped e e' files ls k rest old new end at over h =
-    let f = moves_fits e.limits (setting e files) (then_do at_end (at_lines e ls)) (then_do rest (at_lines e' ls)) (Gained old new) (Err end) h in
-    Stopped-as e.limits (setting e files) (at_lines e ls) (then_do rest (at_lines e' ls)) (at_lines e' ls) (Gained old new) end refl refl refl refl
+    let f = moves_fits e.limits (setting e files) (then_do at_end (at_lines e ls)) (then_do rest (at_lines e' ls)) (Sent old new) (Err end) h in
+    Stopped-as e.limits (setting e files) (at_lines e ls) (then_do rest (at_lines e' ls)) (at_lines e' ls) (Sent old new) end refl refl refl refl
     (end_moves e files ls k (then_do rest (at_lines e' ls)) old new (Err end) (record { pattern = f.pattern; hold = f.hold; queue = f.queue; turns = f.turns }) at over h)
 
 -- the run has ended, or the end came before
@@ -108,18 +108,18 @@ quits e e' g ls P now r at h =
     subst Q (then_same (at_lines e ls) (print_pattern ∷ flush ∷ []) at) h
 
 -- a cycle starts with the pattern space as it is
-pub rebegins : (a : Inside) (e : Run) (g : Setting) (ls : List (List ℕ)) (sinks : ℕ → Option (List ℕ)) (e' : Run) → run_of a ≡ e → IsRun a → e.state.tasks ≡ rebegin ∷ [] → (a.turns ≡ a.limits.turns → ⊥) →
-    e' ≡ record e { state = record e.state { tasks = do_at 0 ∷ []; turns = e.state.turns + 1 } } → Moves e.limits g (at_lines e ls) (at_lines e' ls) (Gained sinks sinks) (Ok tt)
+pub rebegins : (a : Inside) (e : Run) (g : Setting) (ls : List (List ℕ)) (sinks : Tally) (e' : Run) → run_of a ≡ e → IsRun a → e.state.tasks ≡ rebegin ∷ [] → (a.turns ≡ a.limits.turns → ⊥) →
+    e' ≡ record e { state = record e.state { tasks = do_at 0 ∷ []; turns = e.state.turns + 1 } } → Moves e.limits g (at_lines e ls) (at_lines e' ls) (Sent sinks sinks) (Ok tt)
 rebegins a e g ls sinks e' seen i at more is =
-    let Q : Run → Type 0 = λ e'. Moves e.limits g (at_lines e ls) (at_lines e' ls) (Gained sinks sinks) (Ok tt) in
+    let Q : Run → Type 0 = λ e'. Moves e.limits g (at_lines e ls) (at_lines e' ls) (Sent sinks sinks) (Ok tt) in
     let f = fits_seen a e ls seen i in
     let most = i.turns in
     let less : a.turns + 1 ≤ a.limits.turns = omega arith in
     let L : Run → Type 0 = λ e. e.state.turns + 1 ≤ e.limits.turns in
     subst Q (sym is) (ran_quietly e.limits g (at_lines e ls) _ sinks f (move_at _ _ _ at) (record { pattern = f.pattern; hold = f.hold; queue = f.queue; turns = subst L seen less }))
 
-pub rebegin_spent : (a : Inside) (e : Run) (g : Setting) (ls : List (List ℕ)) (sinks : ℕ → Option (List ℕ)) → run_of a ≡ e → IsRun a → e.state.tasks ≡ rebegin ∷ [] → a.turns ≡ a.limits.turns →
-    Moves e.limits g (at_lines e ls) (at_lines e ls) (Gained sinks sinks) (Err TurnsSpent)
+pub rebegin_spent : (a : Inside) (e : Run) (g : Setting) (ls : List (List ℕ)) (sinks : Tally) → run_of a ≡ e → IsRun a → e.state.tasks ≡ rebegin ∷ [] → a.turns ≡ a.limits.turns →
+    Moves e.limits g (at_lines e ls) (at_lines e ls) (Sent sinks sinks) (Err TurnsSpent)
 rebegin_spent a e g ls sinks seen i at spent =
     let f = fits_seen a e ls seen i in
     let L : Run → Type 0 = λ e. e.state.turns ≡ e.limits.turns in
@@ -127,17 +127,17 @@ rebegin_spent a e g ls sinks seen i at spent =
     stopped_here e.limits g (at_lines e ls) (at_lines e ls) sinks TurnsSpent f refl (subst L seen spent, subst T (sym at) refl) (record { pattern = refl; hold = refl; queue = λ _. refl; entries = omega arith }) refl
 
 -- A command that makes a move which writes these bytes, and then what h says.
-pub acts_then : (l : Limits) (g : Setting) (o : Option Move) (there m now : State) (old mid new : ℕ → Option (List ℕ)) (out : List (ℕ × ℕ)) (r : Result Unit Ended) → o ≡ writing out m → Fits l m → Gained old mid out → starts_cycle m.tasks ≡ false →
-    Moves l g m now (Gained mid new) r → Performs l g o there now (Gained old new) r
+pub acts_then : (l : Limits) (g : Setting) (o : Option Move) (there m now : State) (old mid new : Tally) (out : List (ℕ × ℕ)) (r : Result Unit Ended) → o ≡ writing out m → Fits l m → Sent old mid out → starts_cycle m.tasks ≡ false →
+    Moves l g m now (Sent mid new) r → Performs l g o there now (Sent old new) r
 acts_then l g o there m now old mid new out r is f gained goes h = λ s c first. moves_then l g s m now old mid new out r c.fits (first ∙ is) f gained goes h
 
-pub acts_quietly_then : (l : Limits) (g : Setting) (o : Option Move) (there m now : State) (old new : ℕ → Option (List ℕ)) (r : Result Unit Ended) → o ≡ quietly m → Fits l m → starts_cycle m.tasks ≡ false →
-    Moves l g m now (Gained old new) r → Performs l g o there now (Gained old new) r
+pub acts_quietly_then : (l : Limits) (g : Setting) (o : Option Move) (there m now : State) (old new : Tally) (r : Result Unit Ended) → o ≡ quietly m → Fits l m → starts_cycle m.tasks ≡ false →
+    Moves l g m now (Sent old new) r → Performs l g o there now (Sent old new) r
 acts_quietly_then l g o there m now old new r is f goes h = λ s c first. quietly_then l g s m now old new r c.fits (first ∙ is) f goes h
 
 -- The sink failed in that move.
-pub acts_stopping : (l : Limits) (g : Setting) (o : Option Move) (there m now : State) (old new : ℕ → Option (List ℕ)) (out : List (ℕ × ℕ)) (end : Ended) → o ≡ writing out m → Fits l m → SameLengths m now → there.lines ≡ now.lines →
-    Puts (Gained old new) out (Err end) → Performs l g o there now (Gained old new) (Err end)
+pub acts_stopping : (l : Limits) (g : Setting) (o : Option Move) (there m now : State) (old new : Tally) (out : List (ℕ × ℕ)) (end : Ended) → o ≡ writing out m → Fits l m → SameLengths m now → there.lines ≡ now.lines →
+    Puts (Sent old new) out (Err end) → Performs l g o there now (Sent old new) (Err end)
 acts_stopping l g o there m now old new out end is f same lines put = λ s c first. stopped_writing l g s m now old new out end c.fits (first ∙ is) f same (c.lines ∙ lines) put
 
 -- a number is put into the queue
@@ -184,9 +184,9 @@ pub queues_seen : (a : Inside) (e : Run) (k : ℕ) → run_of a ≡ e → Queues
 queues_seen a e k seen h = let Q : Run → Type 0 = λ e. Queues (slice_get e.script.commands k) in subst Q (sym seen) h
 
 -- what is printed by default, as the engine is seen
-pub printed_by : (a : Inside) (e : Run) (old new : ℕ → Option (List ℕ)) (r : Result Unit Ended) → run_of a ≡ e → Puts (Gained old new) (cond a.script.quiet [] (line_to 0 a.pattern.bytes)) r →
-    Puts (Gained old new) (cond e.script.quiet [] (line_to 0 e.state.pattern)) r
-printed_by a e old new r seen h = let Q : Run → Type 0 = λ e. Puts (Gained old new) (cond e.script.quiet [] (line_to 0 e.state.pattern)) r in subst Q seen h
+pub printed_by : (a : Inside) (e : Run) (old new : Tally) (r : Result Unit Ended) → run_of a ≡ e → Puts (Sent old new) (cond a.script.quiet [] (line_to 0 a.pattern.bytes)) r →
+    Puts (Sent old new) (cond e.script.quiet [] (line_to 0 e.state.pattern)) r
+printed_by a e old new r seen h = let Q : Run → Type 0 = λ e. Puts (Sent old new) (cond e.script.quiet [] (line_to 0 e.state.pattern)) r in subst Q seen h
 
 -- what is written, as the engine is seen
 pub puts_seen : (a : Inside) (e : Run) (f : Run → List (ℕ × ℕ)) (P : List (ℕ × ℕ) → Type 0) (r : Result Unit Ended) → run_of a ≡ e → Puts P (f (run_of a)) r → Puts P (f e) r
@@ -197,6 +197,6 @@ pub stopped_anyway : (l : Limits) (g : Setting) (s : State) (e : Run) (ls : List
 stopped_anyway l g s e ls rest P end h = Stopped-as l g s (then_do rest (at_lines e ls)) (at_lines e ls) P end refl refl refl refl h
 
 -- A command that makes a quiet move, and then what h says.
-pub acts_ending : (l : Limits) (g : Setting) (o : Option Move) (there m now : State) (old new : ℕ → Option (List ℕ)) (r : Result Unit Ended) → o ≡ quietly m → starts_cycle m.tasks ≡ false →
-    Moves l g m now (Gained old new) r → Performs l g o there now (Gained old new) r
-acts_ending l g o there m now old new r is goes h = acts_quietly_then l g o there m now old new r is (moves_fits l g m now (Gained old new) r h) goes h
+pub acts_ending : (l : Limits) (g : Setting) (o : Option Move) (there m now : State) (old new : Tally) (r : Result Unit Ended) → o ≡ quietly m → starts_cycle m.tasks ≡ false →
+    Moves l g m now (Sent old new) r → Performs l g o there now (Sent old new) r
+acts_ending l g o there m now old new r is goes h = acts_quietly_then l g o there m now old new r is (moves_fits l g m now (Sent old new) r h) goes h

@@ -8,17 +8,17 @@ use Rattle.std.specs.Io.KnownBytes.{Appends, Keeps}
 use Rattle.sedengine.specs.Move.{to_sink}
 use Rattle.sedengine.specs.Devices.{part, Gained}
 
-part-append : (k : ℕ) (xs ys : List (ℕ × ℕ)) → part k (xs ++ ys) ≡ part k xs ++ part k ys
+pub part-append : (k : ℕ) (xs ys : List (ℕ × ℕ)) → part k (xs ++ ys) ≡ part k xs ++ part k ys
 part-append k [] ys = refl
 part-append k ((sink, byte) ∷ xs) ys =
     elim (nat_eq sink k) as (λ b. cond b (byte ∷ part k (xs ++ ys)) (part k (xs ++ ys)) ≡ cond b (byte ∷ part k xs) (part k xs) ++ part k ys)
     [ true ↦ ap (λ l. byte ∷ l) (part-append k xs ys) | false ↦ part-append k xs ys ]
 
-part-same : (k : ℕ) (bs : List ℕ) → part k (to_sink k bs) ≡ bs
+pub part-same : (k : ℕ) (bs : List ℕ) → part k (to_sink k bs) ≡ bs
 part-same k [] = refl
 part-same k (b ∷ bs) = let h = part-same k bs in grind (arith, nat_tests)
 
-part-other : (s k : ℕ) (bs : List ℕ) → s ≢ k → part k (to_sink s bs) ≡ []
+pub part-other : (s k : ℕ) (bs : List ℕ) → s ≢ k → part k (to_sink s bs) ≡ []
 part-other s k [] h = refl
 part-other s k (b ∷ bs) h = let i = part-other s k bs h in grind (arith, nat_tests)
 

@@ -1,8 +1,10 @@
 pub mod Gains
+pub mod Sending
 pub mod Writing
 pub mod Streams
 pub mod Moves
 pub mod Runs
+pub mod Metering
 pub mod Copies
 pub mod Entries
 pub mod Tasks

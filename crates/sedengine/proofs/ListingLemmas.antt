@@ -1,15 +1,16 @@
 -- The listing, item by item and part by part.
-use Rattle.std.proofs.Common.{◌≡◌, ℕ, ◌+◌, ◌-◌, ◌<◌, ◌≤◌, true, nat_lt, if◌then◌else◌, List, [], ◌∷◌, ◌++◌, get_or, length, take, drop, Option, Result, Err, sym, ap, subst, ◌∙◌, append_assoc, append-nil, arith}
+use Rattle.std.proofs.Common.{◌≡◌, ℕ, ◌+◌, ◌-◌, ◌<◌, ◌≤◌, true, nat_lt, if◌then◌else◌, List, [], ◌∷◌, ◌++◌, get_or, length, take, drop, Result, Err, sym, ap, subst, ◌∙◌, append_assoc, append-nil, arith}
 use Rattle.std.proofs.lemmas.Bool.Decides.{nat_tests}
 use Rattle.std.proofs.lemmas.List.{length-take, take-append-drop, take-take, take_more}
 use Rattle.std.proofs.lemmas.Grind.{common_steps}
 use Rattle.sedengine.specs.Move.{to_sink}
-use Rattle.sedengine.specs.Devices.{Gained}
+use Rattle.sedengine.specs.Meters.{Sent, Tally}
 use Rattle.sedengine.specs.Calls.{Puts}
 use Rattle.sedengine.specs.Listing.{item, listed, listed_from, most_listed}
 use Rattle.sedengine.specs.ListingParts.{Listing, ArePlain, Lists, Written, plain, with_run}
 use Rattle.sedengine.specs.declared.ends.Ended.{Ended}
-use Rattle.sedengine.proofs.Gains.{Gained-append, Gained-none, to_sink-append}
+use Rattle.sedengine.proofs.Sending.{Sent-append, Sent-none}
+use Rattle.sedengine.proofs.Gains.{to_sink-append}
 use Rattle.sedengine.proofs.Writing.{Puts-left, Puts-append}
 
 -- a plain byte is its own item
@@ -83,19 +84,19 @@ due g l rest part after empty is s =
     ap (listed_from g.column) is ∙ ap (λ t. t ++ listed_from g.column (part ++ after)) (sym empty) ∙ s after
 
 -- a part was written
-pub written_more : (old mid new : ℕ → Option (List ℕ)) (bytes rest part after : List ℕ) (g l : Listing) →
-    Written (Gained old mid) bytes rest g.column → g.bytes ≡ [] → rest ≡ part ++ after → Lists g part l →
-    Gained mid new (to_sink 0 l.bytes) → Written (Gained old new) bytes after l.column
+pub written_more : (old mid new : Tally) (bytes rest part after : List ℕ) (g l : Listing) →
+    Written (Sent old mid) bytes rest g.column → g.bytes ≡ [] → rest ≡ part ++ after → Lists g part l →
+    Sent mid new (to_sink 0 l.bytes) → Written (Sent old new) bytes after l.column
 written_more old mid new bytes rest part after g l w empty is s gained = record {
   beginning = w.beginning ++ l.bytes;
-  gains = rw to_sink-append (Gained-append w.gains gained);
+  gains = rw to_sink-append (Sent-append w.gains gained);
   whole = append_assoc w.beginning l.bytes _ ∙ ap (λ t. w.beginning ++ t) (sym (due g l rest part after empty is s)) ∙ w.whole;
 }
 
 -- a part was not written
-pub written_not : (old mid new : ℕ → Option (List ℕ)) (bytes rest part after : List ℕ) (g l : Listing) (end : Ended) →
-    Written (Gained old mid) bytes rest g.column → g.bytes ≡ [] → rest ≡ part ++ after → Lists g part l →
-    Puts (Gained mid new) (to_sink 0 l.bytes) (Err end) → Puts (Gained old new) (to_sink 0 (listed bytes)) (Err end)
+pub written_not : (old mid new : Tally) (bytes rest part after : List ℕ) (g l : Listing) (end : Ended) →
+    Written (Sent old mid) bytes rest g.column → g.bytes ≡ [] → rest ≡ part ++ after → Lists g part l →
+    Puts (Sent mid new) (to_sink 0 l.bytes) (Err end) → Puts (Sent old new) (to_sink 0 (listed bytes)) (Err end)
 written_not old mid new bytes rest part after g l end w empty is s p =
     let tail = listed_from l.column after in
     let whole : to_sink 0 (listed bytes) ≡ to_sink 0 w.beginning ++ (to_sink 0 l.bytes ++ to_sink 0 tail) =
@@ -103,25 +104,25 @@ written_not old mid new bytes rest part after g l end w empty is s p =
     ∙ to_sink-append 0 w.beginning (l.bytes ++ tail) ∙ ap (λ t. to_sink 0 w.beginning ++ t) (to_sink-append 0 l.bytes tail) in
     let left = Puts-left mid new (to_sink 0 l.bytes) (to_sink 0 tail) end p in
     let all = Puts-append old mid new (to_sink 0 w.beginning) (to_sink 0 l.bytes ++ to_sink 0 tail) (Err end) w.gains left in
-    subst (λ (out : List (ℕ × ℕ)). Puts (Gained old new) out (Err end)) (sym whole) all
+    subst (λ (out : List (ℕ × ℕ)). Puts (Sent old new) out (Err end)) (sym whole) all
 
 -- the last part, with the end of the listing
-pub written_end : (old mid new : ℕ → Option (List ℕ)) (bytes rest : List ℕ) (g l : Listing) (r : Result Unit Ended) →
-    Written (Gained old mid) bytes rest g.column → g.bytes ≡ [] → Lists g rest l →
-    Puts (Gained mid new) (to_sink 0 (l.bytes ++ 36 ∷ 10 ∷ [])) r → Puts (Gained old new) (to_sink 0 (listed bytes)) r
+pub written_end : (old mid new : Tally) (bytes rest : List ℕ) (g l : Listing) (r : Result Unit Ended) →
+    Written (Sent old mid) bytes rest g.column → g.bytes ≡ [] → Lists g rest l →
+    Puts (Sent mid new) (to_sink 0 (l.bytes ++ 36 ∷ 10 ∷ [])) r → Puts (Sent old new) (to_sink 0 (listed bytes)) r
 written_end old mid new bytes rest g l r w empty s p =
     let out = l.bytes ++ 36 ∷ 10 ∷ [] in
     let last : listed_from g.column rest ≡ out = due g l rest rest [] empty (sym (append-nil rest)) s in
     let whole : to_sink 0 (listed bytes) ≡ to_sink 0 w.beginning ++ to_sink 0 out =
     ap (to_sink 0) (sym w.whole ∙ ap (λ t. w.beginning ++ t) last) ∙ to_sink-append 0 w.beginning out in
-    subst (λ (out : List (ℕ × ℕ)). Puts (Gained old new) out r) (sym whole)
+    subst (λ (out : List (ℕ × ℕ)). Puts (Sent old new) out r) (sym whole)
     (Puts-append old mid new (to_sink 0 w.beginning) (to_sink 0 out) r w.gains p)
 
 -- nothing was written yet
-pub written_none : (old : ℕ → Option (List ℕ)) (bytes : List ℕ) (column : ℕ) → column ≡ 0 → Written (Gained old old) bytes bytes column
+pub written_none : (old : Tally) (bytes : List ℕ) (column : ℕ) → column ≡ 0 → Written (Sent old old) bytes bytes column
 unfolding listed
 written_none old bytes column e = record {
   beginning = [];
-  gains = Gained-none old;
+  gains = Sent-none old;
   whole = ap (λ n. listed_from n bytes) e;
 }

@@ -4,14 +4,14 @@ use Rattle.std.proofs.Math.Seq.{take-append-add}
 use Rattle.sedengine.specs.Limits.{Limits}
 use Rattle.sedengine.specs.State.{Task, State, Move, Setting}
 use Rattle.sedengine.specs.Move.{move, first_task, after, written, next_or_stay, writes_of, writing, quietly}
-use Rattle.sedengine.specs.Devices.{Gained}
+use Rattle.sedengine.specs.Meters.{Sent, Tally}
 use Rattle.sedengine.specs.Calls.{Puts}
-use Rattle.sedengine.specs.Ends.{Fits, Within, WholeOrCut, Cause, Whole, IsCause, broken_sink}
+use Rattle.sedengine.specs.Ends.{Fits, Within, WholeOrCut, Cause, Cut, Whole, IsCause, named_sink}
 use Rattle.sedengine.specs.Held.{HoldsAt, SameLengths}
 use Rattle.sedengine.specs.Run.{InOneCycle, starts_cycle}
 use Rattle.sedengine.specs.Steps.{Ran, Stopped, Moves}
 use Rattle.sedengine.specs.declared.ends.Ended.{Ended}
-use Rattle.sedengine.proofs.Gains.{Gained-append, Gained-none}
+use Rattle.sedengine.proofs.Sending.{Sent-append, Sent-none}
 use Rattle.sedengine.proofs.Writing.{slice_get-append_add}
 
 -- the move by the first task
@@ -93,10 +93,10 @@ InOneCycle-more g s zero h goes = λ k some k_lt. absurd (omega arith)
 InOneCycle-more g s (suc t) h goes = λ k some k_lt. elim (last_or_less k t (omega arith)) [ inl less ↦ h k some (omega arith) | inr same ↦ rw same goes ]
 
 -- An end that comes u moves after the first t comes after t + u moves.
-WholeOrCut-add : (l : Limits) (g : Setting) (s : State) (old mid new : ℕ → Option (List ℕ)) (end : Ended) (t u : ℕ) (o : Option ℕ) → Within l g s t → Gained old mid (written g s t) →
-    WholeOrCut l g (after g s t) (Gained mid new) end u o → WholeOrCut l g s (Gained old new) end (t + u) o
+WholeOrCut-add : (l : Limits) (g : Setting) (s : State) (old mid new : Tally) (end : Ended) (t u : ℕ) (o : Option ℕ) → Within l g s t → Sent old mid (written g s t) →
+    WholeOrCut l g (after g s t) (Sent mid new) end u o → WholeOrCut l g s (Sent old new) end (t + u) o
 WholeOrCut-add l g s old mid new end t u None v a h =
-    record { within = Within-add l g s t u v h.within; sinks = rw written-add (Gained-append a h.sinks); cause = rw after-add h.cause }
+    record { within = Within-add l g s t u v h.within; sinks = rw written-add (Sent-append a h.sinks); cause = rw after-add h.cause }
 WholeOrCut-add l g s old mid new end t u (Some k) v a h =
     let all : written g s (suc (t + u)) ≡ written g s t ++ written g (after g s t) (suc u) = rw (← add-suc) (written-add g s t (suc u)) in
     record {
@@ -105,12 +105,12 @@ WholeOrCut-add l g s old mid new end t u (Some k) v a h =
       byte = h.byte;
       past = rw (written-add, length-append) (let p = h.past in omega arith);
       due = rw all (slice_get-append_add (written g s t) _ h.b ∙ h.due);
-      sinks = rw (all, take-append-add) (Gained-append a h.sinks);
+      sinks = rw (all, take-append-add) (Sent-append a h.sinks);
     }
 
-pub Cause-add : (l : Limits) (g : Setting) (s : State) (old mid new : ℕ → Option (List ℕ)) (end : Ended) (t u : ℕ) → Within l g s t → Gained old mid (written g s t) →
-    Cause l g (after g s t) (Gained mid new) end u → Cause l g s (Gained old new) end (t + u)
-Cause-add l g s old mid new end t u v a h = WholeOrCut-add l g s old mid new end t u (broken_sink end) v a h
+pub Cause-add : (l : Limits) (g : Setting) (s : State) (old mid new : Tally) (end : Ended) (t u : ℕ) → Within l g s t → Sent old mid (written g s t) →
+    Cause l g (after g s t) (Sent mid new) end u → Cause l g s (Sent old new) end (t + u)
+Cause-add l g s old mid new end t u v a h = WholeOrCut-add l g s old mid new end t u (named_sink end) v a h
 
 pub HoldsAt-add : (g : Setting) (s now : State) (t u : ℕ) (o : Option ℕ) → HoldsAt g (after g s t) u now o → HoldsAt g s (t + u) now o
 HoldsAt-add g s now t u None h = rw after-add h
@@ -119,20 +119,20 @@ HoldsAt-add g s now t u (Some k) (inr h) =
     let at : after g s (suc (t + u)) ≡ after g (after g s t) (suc u) = rw (← add-suc) (after-add g s t (suc u)) in inr (rw at h)
 
 -- what a call does after the first t moves
-pub chain : (l : Limits) (g : Setting) (s now : State) (old mid new : ℕ → Option (List ℕ)) (t : ℕ) (r : Result Unit Ended) → Within l g s t → InOneCycle g s (t + 1) → Gained old mid (written g s t) →
-    Moves l g (after g s t) now (Gained mid new) r → Moves l g s now (Gained old new) r
+pub chain : (l : Limits) (g : Setting) (s now : State) (old mid new : Tally) (t : ℕ) (r : Result Unit Ended) → Within l g s t → InOneCycle g s (t + 1) → Sent old mid (written g s t) →
+    Moves l g (after g s t) now (Sent mid new) r → Moves l g s now (Sent old new) r
 chain l g s now old mid new t (Ok u) within one gained b = let some = b.some in record {
   t = t + b.t;
   some = omega arith;
   is = after-add g s t b.t ∙ b.is;
   one = InOneCycle-add g s t b.t one b.one;
   within = Within-add l g s t b.t within b.within;
-  sinks = rw written-add (Gained-append gained b.sinks);
+  sinks = rw written-add (Sent-append gained b.sinks);
 }
 chain l g s now old mid new t (Err end) within one gained b = record {
   t = t + b.t;
   cause = Cause-add l g s old mid new end t b.t within gained b.cause;
-  holds = HoldsAt-add g s now t b.t (broken_sink end) b.holds;
+  holds = HoldsAt-add g s now t b.t (named_sink end) b.holds;
   one = rw append_one (InOneCycle-add g s t (b.t + 1) one b.one);
   lines = ap (λ (x : State). x.lines) (after-add g s t b.t) ∙ b.lines;
 }
@@ -141,15 +141,15 @@ chain l g s now old mid new t (Err end) within one gained b = record {
     append_one = omega arith
 
 -- one call after another, within a cycle
-pub Moves-then : (l : Limits) (g : Setting) (s m now : State) (old mid new : ℕ → Option (List ℕ)) (r : Result Unit Ended) → Ran l g s m (Gained old mid) → starts_cycle m.tasks ≡ false →
-    Moves l g m now (Gained mid new) r → Moves l g s now (Gained old new) r
+pub Moves-then : (l : Limits) (g : Setting) (s m now : State) (old mid new : Tally) (r : Result Unit Ended) → Ran l g s m (Sent old mid) → starts_cycle m.tasks ≡ false →
+    Moves l g m now (Sent mid new) r → Moves l g s now (Sent old new) r
 Moves-then l g s m now old mid new r a goes b =
-    let Q : State → Type 0 = λ m. Moves l g m now (Gained mid new) r in
+    let Q : State → Type 0 = λ m. Moves l g m now (Sent mid new) r in
     let S : State → Type 0 = λ m. starts_cycle m.tasks ≡ false in
     chain l g s now old mid new a.t r a.within (InOneCycle-more g s a.t a.one (subst S (sym a.is) goes)) a.sinks (subst Q (sym a.is) b)
 
 -- one move that writes these bytes
-pub ran_once : (l : Limits) (g : Setting) (s now : State) (old new : ℕ → Option (List ℕ)) (out : List (ℕ × ℕ)) → Fits l s → move g s ≡ writing out now → Fits l now → Gained old new out → Ran l g s now (Gained old new)
+pub ran_once : (l : Limits) (g : Setting) (s now : State) (old new : Tally) (out : List (ℕ × ℕ)) → Fits l s → move g s ≡ writing out now → Fits l now → Sent old new out → Ran l g s now (Sent old new)
 ran_once l g s now old new out f is n gained =
     let m : Move = record { next = now; writes = out } in
     let at : after g s 1 ≡ now = after_one g s m is in
@@ -162,43 +162,46 @@ ran_once l g s now old new out f is n gained =
       sinks = rw (written_one g s m is) gained;
     }
 
-pub ran_quietly : (l : Limits) (g : Setting) (s now : State) (sinks : ℕ → Option (List ℕ)) → Fits l s → move g s ≡ quietly now → Fits l now → Ran l g s now (Gained sinks sinks)
-ran_quietly l g s now sinks f is n = ran_once l g s now sinks sinks [] f is n (Gained-none sinks)
+pub ran_quietly : (l : Limits) (g : Setting) (s now : State) (sinks : Tally) → Fits l s → move g s ≡ quietly now → Fits l now → Ran l g s now (Sent sinks sinks)
+ran_quietly l g s now sinks f is n = ran_once l g s now sinks sinks [] f is n (Sent-none sinks)
 
--- a sink failed in the next move
-pub stopped_writing : (l : Limits) (g : Setting) (s next now : State) (old new : ℕ → Option (List ℕ)) (out : List (ℕ × ℕ)) (end : Ended) → Fits l s → move g s ≡ writing out next → Fits l next →
-    SameLengths next now → s.lines ≡ now.lines → Puts (Gained old new) out (Err end) → Stopped l g s now (Gained old new) end
-stopped_writing l g s next now old new out end f is n same lines (k, b, byte, end_is, due, gained) =
-    let Q : Ended → Type 0 = λ e. Stopped l g s now (Gained old new) e in
+-- a sink took no more in the next move
+pub stopped_writing : (l : Limits) (g : Setting) (s next now : State) (old new : Tally) (out : List (ℕ × ℕ)) (end : Ended) → Fits l s → move g s ≡ writing out next → Fits l next →
+    SameLengths next now → s.lines ≡ now.lines → Puts (Sent old new) out (Err end) → Stopped l g s now (Sent old new) end
+stopped_writing l g s next now old new out end f is n same lines (k, b, byte, end_is, due, sent) =
+    let C : Option ℕ → Type 0 = λ o. WholeOrCut l g s (Sent old new) end 0 o in
+    let H : Option ℕ → Type 0 = λ o. HoldsAt g s 0 now o in
     let m : Move = record { next = next; writes = out } in
     let at : after g s 1 ≡ next = after_one g s m is in
     let all : written g s 1 ≡ out = written_one g s m is in
-    subst Q (sym end_is) (record {
+    let cut : Cut l g s (Sent old new) k 0 = record {
+      within = within_one l g s f (rw at n);
+      b = b;
+      byte = byte;
+      past = rw written_none (omega arith);
+      due = rw all due;
+      sinks = rw all sent;
+    } in
+    let last : SameLengths (after g s 1) now = rw at same in
+    record {
       t = 0;
-      cause = record {
-        within = within_one l g s f (rw at n);
-        b = b;
-        byte = byte;
-        past = rw written_none (omega arith);
-        due = rw all due;
-        sinks = rw all gained;
-      };
-      holds = inr (rw at same);
+      cause = subst C (sym end_is) cut;
+      holds = subst H (sym end_is) (inr last);
       one = one_single g s;
       lines = ap (λ (x : State). x.lines) (after_none g s) ∙ lines;
-    })
+    }
 
 -- a move that writes these bytes, as far as the sink takes them
-pub moves_writing : (l : Limits) (g : Setting) (s now : State) (old new : ℕ → Option (List ℕ)) (out : List (ℕ × ℕ)) (r : Result Unit Ended) → Fits l s → move g s ≡ writing out now → Fits l now → s.lines ≡ now.lines → Puts (Gained old new) out r →
-    Moves l g s now (Gained old new) r
+pub moves_writing : (l : Limits) (g : Setting) (s now : State) (old new : Tally) (out : List (ℕ × ℕ)) (r : Result Unit Ended) → Fits l s → move g s ≡ writing out now → Fits l now → s.lines ≡ now.lines → Puts (Sent old new) out r →
+    Moves l g s now (Sent old new) r
 moves_writing l g s now old new out (Ok u) f is n lines put = ran_once l g s now old new out f is n put
 moves_writing l g s now old new out (Err end) f is n lines put = stopped_writing l g s now now old new out end f is n (same_self now) lines put
 
 -- the end has come
-pub stopped_here : (l : Limits) (g : Setting) (s now : State) (sinks : ℕ → Option (List ℕ)) (end : Ended) → Fits l s → broken_sink end ≡ None → IsCause l g s end → SameLengths s now → s.lines ≡ now.lines → Stopped l g s now (Gained sinks sinks) end
+pub stopped_here : (l : Limits) (g : Setting) (s now : State) (sinks : Tally) (end : Ended) → Fits l s → named_sink end ≡ None → IsCause l g s end → SameLengths s now → s.lines ≡ now.lines → Stopped l g s now (Sent sinks sinks) end
 stopped_here l g s now sinks end f none cause same lines =
-    let whole : Whole l g s (Gained sinks sinks) end 0 = record { within = within_none l g s f; sinks = rw written_none (Gained-none sinks); cause = rw after_none cause } in
-    let C : Option ℕ → Type 0 = λ o. WholeOrCut l g s (Gained sinks sinks) end 0 o in
+    let whole : Whole l g s (Sent sinks sinks) end 0 = record { within = within_none l g s f; sinks = rw written_none (Sent-none sinks); cause = rw after_none cause } in
+    let C : Option ℕ → Type 0 = λ o. WholeOrCut l g s (Sent sinks sinks) end 0 o in
     let here : SameLengths (after g s 0) now = rw after_none same in
     let H : Option ℕ → Type 0 = λ o. HoldsAt g s 0 now o in
     record { t = 0; cause = subst C (sym none) whole; holds = subst H (sym none) here; one = one_single g s; lines = ap (λ (x : State). x.lines) (after_none g s) ∙ lines }
@@ -225,19 +228,19 @@ pub Stopped-as : (l : Limits) (g : Setting) (s m now : State) (P : List (ℕ × 
 Stopped-as l g s m now P end p h q lines w = record {
   t = w.t;
   cause = w.cause;
-  holds = holds_as g s w.t m now (broken_sink end) p h q w.holds;
+  holds = holds_as g s w.t m now (named_sink end) p h q w.holds;
   one = w.one;
   lines = w.lines ∙ lines;
 }
 
 -- a move, and what a call does after it
-pub moves_then : (l : Limits) (g : Setting) (s m now : State) (old mid new : ℕ → Option (List ℕ)) (out : List (ℕ × ℕ)) (r : Result Unit Ended) → Fits l s → move g s ≡ writing out m → Fits l m → Gained old mid out → starts_cycle m.tasks ≡ false →
-    Moves l g m now (Gained mid new) r → Moves l g s now (Gained old new) r
+pub moves_then : (l : Limits) (g : Setting) (s m now : State) (old mid new : Tally) (out : List (ℕ × ℕ)) (r : Result Unit Ended) → Fits l s → move g s ≡ writing out m → Fits l m → Sent old mid out → starts_cycle m.tasks ≡ false →
+    Moves l g m now (Sent mid new) r → Moves l g s now (Sent old new) r
 moves_then l g s m now old mid new out r f is f' gained goes h = Moves-then l g s m now old mid new r (ran_once l g s m old mid out f is f' gained) goes h
 
-pub quietly_then : (l : Limits) (g : Setting) (s m now : State) (old new : ℕ → Option (List ℕ)) (r : Result Unit Ended) → Fits l s → move g s ≡ quietly m → Fits l m → starts_cycle m.tasks ≡ false →
-    Moves l g m now (Gained old new) r → Moves l g s now (Gained old new) r
-quietly_then l g s m now old new r f is f' goes h = moves_then l g s m now old old new [] r f is f' (Gained-none old) goes h
+pub quietly_then : (l : Limits) (g : Setting) (s m now : State) (old new : Tally) (r : Result Unit Ended) → Fits l s → move g s ≡ quietly m → Fits l m → starts_cycle m.tasks ≡ false →
+    Moves l g m now (Sent old new) r → Moves l g s now (Sent old new) r
+quietly_then l g s m now old new r f is f' goes h = moves_then l g s m now old old new [] r f is f' (Sent-none old) goes h
 
 -- the states at which moves began, and to which they led, are within the limits
 fits_first : (l : Limits) (g : Setting) (s : State) (t : ℕ) → Within l g s t → Fits l s
@@ -260,4 +263,4 @@ stopped_within l g s P end t (Some k) h = fits_first l g s (suc t) h.within
 
 pub moves_fits : (l : Limits) (g : Setting) (s now : State) (P : List (ℕ × ℕ) → Type 0) (r : Result Unit Ended) → Moves l g s now P r → Fits l s
 moves_fits l g s now P (Ok u) h = ran_fits l g s now P h
-moves_fits l g s now P (Err end) h = stopped_within l g s P end h.t (broken_sink end) h.cause
+moves_fits l g s now P (Err end) h = stopped_within l g s P end h.t (named_sink end) h.cause

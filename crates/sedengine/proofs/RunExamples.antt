@@ -1,5 +1,5 @@
 -- Runs that the definition of a move computes by itself.
-use Rattle.std.proofs.Common.{◌≡◌, ℕ, [], ◌∷◌, List, true, false, Option, Some, None, refl}
+use Rattle.std.proofs.Common.{◌≡◌, ℕ, [], ◌∷◌, List, false, Some, None, refl}
 use Rattle.sedscript.specs.declared.types.Address.TheVariants.{Line}
 use Rattle.sedscript.specs.declared.types.Command.{Command}
 use Rattle.sedscript.specs.declared.types.Action.{Action}

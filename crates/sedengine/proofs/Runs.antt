@@ -5,14 +5,14 @@ use Rattle.sedspace.specs.Stream.{Stream, left, lines_left, TakesAtMost}
 use Rattle.sedengine.specs.Limits.{Limits}
 use Rattle.sedengine.specs.State.{State, Setting}
 use Rattle.sedengine.specs.Move.{after, written}
-use Rattle.sedengine.specs.Devices.{Gained}
-use Rattle.sedengine.specs.Ends.{Fits, Within, broken_sink}
+use Rattle.sedengine.specs.Meters.{Sent, Tally}
+use Rattle.sedengine.specs.Ends.{Fits, Within, named_sink}
 use Rattle.sedengine.specs.Held.{HoldsAt, SameLengths}
 use Rattle.sedengine.specs.Run.{Run, setting, setting_of, at_lines, size_of, more_at, Takes, Ending, EndingInCycle, Cycled, InOneCycle, starts_cycle}
 use Rattle.sedengine.specs.Steps.{Ran, TakesLines, Halted, Steps, lost, KeepsRun}
 use Rattle.sedengine.specs.declared.ends.Ended.{Ended}
-use Rattle.sedengine.specs.declared.ends.Ended.TheVariants.{Done, PatternFull, HoldFull, QueueFull, TurnsSpent, NoPrevious, InputBroken, OutputBroken}
-use Rattle.sedengine.proofs.Gains.{Gained-append, Gained-none}
+use Rattle.sedengine.specs.declared.ends.Ended.TheVariants.{PatternFull, InputBroken}
+use Rattle.sedengine.proofs.Sending.{Sent-append, Sent-none}
 use Rattle.sedengine.proofs.Streams.{TakesLines-then, TakesAtMost-then, TakesAtMost-more, source_takes, lines_same, size_of-append}
 use Rattle.sedengine.proofs.Moves.{after-add, written-add, Within-add, Cause-add, HoldsAt-add, InOneCycle-add, within_none, after_none, written_none}
 
@@ -26,15 +26,15 @@ without_lines g s t e ls (Some k) (inl h) = inl (same_without _ e ls h)
 without_lines g s t e ls (Some k) (inr h) = inr (same_without _ e ls h)
 
 -- What the first t moves led to: `at` is where the lines stand, `from` where they stood.
-pub record Reached {R : Type 0} (remaining : R → Option (List ℕ)) (from at : Stream R) (l : Limits) (g : Setting) (s : State) (e : Run) (old new : ℕ → Option (List ℕ)) : Type 0 where
+pub record Reached {R : Type 0} (remaining : R → Option (List ℕ)) (from at : Stream R) (l : Limits) (g : Setting) (s : State) (e : Run) (old new : Tally) : Type 0 where
   pub t : ℕ
   pub rest : List (List ℕ)
   pub taken : TakesLines remaining from at s.lines rest
   pub is : after g s t ≡ at_lines e rest
   pub within : Within l g s t
-  pub gained : Gained old new (written g s t)
+  pub gained : Sent old new (written g s t)
 
-abbrev pub Reached-none : {R : Type 0} (remaining : R → Option (List ℕ)) (from : Stream R) (l : Limits) (g : Setting) (e : Run) (ls : List (List ℕ)) (sinks : ℕ → Option (List ℕ)) →
+abbrev pub Reached-none : {R : Type 0} (remaining : R → Option (List ℕ)) (from : Stream R) (l : Limits) (g : Setting) (e : Run) (ls : List (List ℕ)) (sinks : Tally) →
     lines_left remaining from ≡ Some ls → Fits l (at_lines e ls) → Reached remaining from from l g (at_lines e ls) e sinks sinks
 Reached-none {R} remaining from l g e ls sinks known f = record {
   t = 0;
@@ -42,7 +42,7 @@ Reached-none {R} remaining from l g e ls sinks known f = record {
   taken = lines_same remaining from ls known;
   is = after_none g (at_lines e ls);
   within = within_none l g (at_lines e ls) f;
-  gained = rw written_none (Gained-none sinks);
+  gained = rw written_none (Sent-none sinks);
 }
 
 pub same_setting : (old new : Run) (files : ℕ → List ℕ) → KeepsRun old new → setting new files ≡ setting old files
@@ -67,25 +67,25 @@ lost_more l InputBroken = omega arith
 lost_more l other = omega arith
 
 -- The run that began with the engine a and the lines `from`, and came to the engine e.
-module _ {R : Type 0} (remaining : R → Option (List ℕ)) (from at to : Stream R) (files : ℕ → List ℕ) (a : Run) (s : State) (e : Run) (old mid new : ℕ → Option (List ℕ)) (same : KeepsRun a e)
+module _ {R : Type 0} (remaining : R → Option (List ℕ)) (from at to : Stream R) (files : ℕ → List ℕ) (a : Run) (s : State) (e : Run) (old mid new : Tally) (same : KeepsRun a e)
     (r : Reached remaining from at a.limits (setting a files) s e old mid) where
   -- what a call answers, for the run's own limits, from the state reached
-  pub ran_on : (e' : Run) (rest : List (List ℕ)) → Ran e.limits (setting e files) (at_lines e r.rest) (at_lines e' rest) (Gained mid new) → Ran a.limits (setting a files) (after (setting a files) s r.t) (at_lines e' rest) (Gained mid new)
+  pub ran_on : (e' : Run) (rest : List (List ℕ)) → Ran e.limits (setting e files) (at_lines e r.rest) (at_lines e' rest) (Sent mid new) → Ran a.limits (setting a files) (after (setting a files) s r.t) (at_lines e' rest) (Sent mid new)
   ran_on e' rest h =
-      let P : Limits → Type 0 = λ l. Ran l (setting e files) (at_lines e r.rest) (at_lines e' rest) (Gained mid new) in
-      let Q : Setting → Type 0 = λ g. Ran a.limits g (at_lines e r.rest) (at_lines e' rest) (Gained mid new) in
-      let S : State → Type 0 = λ m. Ran a.limits (setting a files) m (at_lines e' rest) (Gained mid new) in
+      let P : Limits → Type 0 = λ l. Ran l (setting e files) (at_lines e r.rest) (at_lines e' rest) (Sent mid new) in
+      let Q : Setting → Type 0 = λ g. Ran a.limits g (at_lines e r.rest) (at_lines e' rest) (Sent mid new) in
+      let S : State → Type 0 = λ m. Ran a.limits (setting a files) m (at_lines e' rest) (Sent mid new) in
       subst S (sym r.is) (subst Q (same_setting a e files same) (subst P same.limits h))
 
-  pub halted_on : (e' : Run) (end : Ended) → Halted remaining at to e.limits (setting e files) (at_lines e r.rest) e' (Gained mid new) end →
-      Halted remaining at to a.limits (setting a files) (after (setting a files) s r.t) e' (Gained mid new) end
+  pub halted_on : (e' : Run) (end : Ended) → Halted remaining at to e.limits (setting e files) (at_lines e r.rest) e' (Sent mid new) end →
+      Halted remaining at to a.limits (setting a files) (after (setting a files) s r.t) e' (Sent mid new) end
   halted_on e' end h =
-      let P : Limits → Type 0 = λ l. Halted remaining at to l (setting e files) (at_lines e r.rest) e' (Gained mid new) end in
-      let Q : Setting → Type 0 = λ g. Halted remaining at to a.limits g (at_lines e r.rest) e' (Gained mid new) end in
-      let S : State → Type 0 = λ m. Halted remaining at to a.limits (setting a files) m e' (Gained mid new) end in
+      let P : Limits → Type 0 = λ l. Halted remaining at to l (setting e files) (at_lines e r.rest) e' (Sent mid new) end in
+      let Q : Setting → Type 0 = λ g. Halted remaining at to a.limits g (at_lines e r.rest) e' (Sent mid new) end in
+      let S : State → Type 0 = λ m. Halted remaining at to a.limits (setting a files) m e' (Sent mid new) end in
       subst S (sym r.is) (subst Q (same_setting a e files same) (subst P same.limits h))
 
-  abbrev pub step_on : (e' : Run) → Steps remaining at to r.rest e.limits (setting e files) e e' (Gained mid new) (Ok tt) → Reached remaining from to a.limits (setting a files) s e' old new
+  abbrev pub step_on : (e' : Run) → Steps remaining at to r.rest e.limits (setting e files) e e' (Sent mid new) (Ok tt) → Reached remaining from to a.limits (setting a files) s e' old new
   step_on e' (rest, taken, ran) =
       let g : Setting = setting a files in
       let h = ran_on e' rest ran in
@@ -95,12 +95,12 @@ module _ {R : Type 0} (remaining : R → Option (List ℕ)) (from at to : Stream
         taken = TakesLines-then remaining from at to s.lines r.rest rest r.taken taken;
         is = after-add g s r.t h.t ∙ h.is;
         within = Within-add a.limits g s r.t h.t r.within h.within;
-        gained = rw written-add (Gained-append r.gained h.sinks);
+        gained = rw written-add (Sent-append r.gained h.sinks);
       }
 
-  abbrev pub stop_on : (e' : Run) (end : Ended) → Steps remaining at to r.rest e.limits (setting e files) e e' (Gained mid new) (Err end) →
+  abbrev pub stop_on : (e' : Run) (end : Ended) → Steps remaining at to r.rest e.limits (setting e files) e e' (Sent mid new) (Err end) →
       (k : ℕ) × TakesAtMost (remaining from.source) (remaining to.source) k → length to.ahead ≤ max (length from.ahead) from.look → from.look ≡ a.limits.look →
-      Ending a.limits (setting a files) s (Gained old new) (remaining from.source) (remaining to.source) e'.state end
+      Ending a.limits (setting a files) s (Sent old new) (remaining from.source) (remaining to.source) e'.state end
   stop_on e' end halted shrinks ahead look =
       let g : Setting = setting a files in
       let h = halted_on e' end halted in
@@ -114,17 +114,17 @@ module _ {R : Type 0} (remaining : R → Option (List ℕ)) (from at to : Stream
         t = r.t + u;
         cause = Cause-add a.limits g s old mid new end r.t u r.within r.gained h.stopped.cause;
         takes = takes_of remaining from to a.limits g s (r.t + u) (lost a.limits end) (more_at a.limits end) (r.taken.lines ++ h.lines) are (rw sizes at all) shrinks (rw look at ahead) (lost_more a.limits end);
-        holds = HoldsAt-add g s e'.state r.t u (broken_sink end) (without_lines g (after g s r.t) u e' h.rest (broken_sink end) h.stopped.holds);
+        holds = HoldsAt-add g s e'.state r.t u (named_sink end) (without_lines g (after g s r.t) u e' h.rest (named_sink end) h.stopped.holds);
       }
 
   -- no cycle starts meanwhile
-  pub one_on : (e' : Run) (h : Steps remaining at to r.rest e.limits (setting e files) e e' (Gained mid new) (Ok tt)) → InOneCycle (setting a files) s (r.t + 1) → InOneCycle (setting a files) s (step_on e' h).t
+  pub one_on : (e' : Run) (h : Steps remaining at to r.rest e.limits (setting e files) e e' (Sent mid new) (Ok tt)) → InOneCycle (setting a files) s (r.t + 1) → InOneCycle (setting a files) s (step_on e' h).t
   one_on e' (rest, taken, ran) one = let h = ran_on e' rest ran in InOneCycle-add (setting a files) s r.t h.t one h.one
 
-  pub some_on : (e' : Run) (h : Steps remaining at to r.rest e.limits (setting e files) e e' (Gained mid new) (Ok tt)) → 0 < (step_on e' h).t
+  pub some_on : (e' : Run) (h : Steps remaining at to r.rest e.limits (setting e files) e e' (Sent mid new) (Ok tt)) → 0 < (step_on e' h).t
   some_on e' (rest, taken, ran) = let h = ran_on e' rest ran in let some = h.some in omega arith
 
-  pub one_stop : (e' : Run) (end : Ended) (h : Steps remaining at to r.rest e.limits (setting e files) e e' (Gained mid new) (Err end)) → InOneCycle (setting a files) s (r.t + 1) →
+  pub one_stop : (e' : Run) (end : Ended) (h : Steps remaining at to r.rest e.limits (setting e files) e e' (Sent mid new) (Err end)) → InOneCycle (setting a files) s (r.t + 1) →
       InOneCycle (setting a files) s (r.t + (halted_on e' end h).stopped.t + 1)
   one_stop e' end halted one =
       let h = halted_on e' end halted in
@@ -132,10 +132,10 @@ module _ {R : Type 0} (remaining : R → Option (List ℕ)) (from at to : Stream
       rw all (InOneCycle-add (setting a files) s r.t (h.stopped.t + 1) one h.stopped.one)
 
 -- a cycle was made
-pub cycled : {R : Type 0} (remaining : R → Option (List ℕ)) (from to : Stream R) (l : Limits) (g : Setting) (s : State) (e : Run) (old new : ℕ → Option (List ℕ)) →
+pub cycled : {R : Type 0} (remaining : R → Option (List ℕ)) (from to : Stream R) (l : Limits) (g : Setting) (s : State) (e : Run) (old new : Tally) →
     (r : Reached remaining from to l g s e old new) → 0 < r.t → InOneCycle g s r.t → starts_cycle e.state.tasks ≡ true →
     (k : ℕ) × TakesAtMost (remaining from.source) (remaining to.source) k → length to.ahead ≤ max (length from.ahead) from.look → from.look ≡ l.look →
-    (rest : List (List ℕ)) × (lines_left remaining to ≡ Some rest) × Cycled l g s (Gained old new) (remaining from.source) (remaining to.source) (at_lines e rest)
+    (rest : List (List ℕ)) × (lines_left remaining to ≡ Some rest) × Cycled l g s (Sent old new) (remaining from.source) (remaining to.source) (at_lines e rest)
 cycled {R} remaining from to l g s e old new r some one starts shrinks ahead look =
     let are : s.lines ≡ r.taken.lines ++ (after g s r.t).lines = r.taken.are ∙ ap (λ x. r.taken.lines ++ x) (sym (ap (λ (x : State). x.lines) r.is)) in (
       r.rest,

@@ -14,7 +14,7 @@ use Rattle.sedengine.specs.Ends.{any_left}
 use Rattle.sedengine.specs.Run.{size_of}
 use Rattle.sedengine.specs.Steps.{TakesLines}
 use Rattle.sedengine.specs.declared.ends.Ended.{Ended}
-use Rattle.sedengine.specs.declared.ends.Ended.TheVariants.{Done, PatternFull, HoldFull, QueueFull, TurnsSpent, NoPrevious, InputBroken, OutputBroken}
+use Rattle.sedengine.specs.declared.ends.Ended.TheVariants.{InputBroken}
 
 -- there is no line only where there is no byte
 some_piece : (b : ℕ) (ps : List (List ℕ)) → 0 < length ps → without_empty_last (onto_first b ps) ≡ [] → ⊥

@@ -14,13 +14,13 @@ use Rattle.sedengine.specs.Select.{stands_for}
 use Rattle.sedengine.specs.Move.{move, becomes, chosen_in, quietly, writing, line_to, line_to_file, replaces, substitutes, written_by}
 use Rattle.sedengine.specs.Ends.{Fits, Leads, comes, line_at}
 use Rattle.sedengine.specs.Held.{SameLengths}
-use Rattle.sedengine.specs.Devices.{Gained}
+use Rattle.sedengine.specs.Meters.{Sent, Tally}
 use Rattle.sedengine.specs.Calls.{Puts}
 use Rattle.sedengine.specs.Run.{Run, at_lines, search_in, setting}
 use Rattle.sedengine.specs.Steps.{ComesTo, Moves, Performs}
 use Rattle.sedengine.specs.Substituting.{Makes, ReplacesIn, same_but_replaced}
 use Rattle.sedengine.specs.Inside.{run_of, tasks_of, IsRun, IsEmptied}
-use Rattle.sedengine.specs.declared.engine.Engine.TheInside.{Inside}
+use Rattle.sedengine.specs.declared.machine.Machine.TheInside.{Inside}
 use Rattle.sedengine.specs.declared.place.Place.{Place}
 use Rattle.sedengine.specs.declared.place.Place.TheVariants as p
 use Rattle.sedengine.specs.declared.ends.Ended.{Ended}
@@ -116,7 +116,7 @@ comes_line s (empty_pattern ∷ rest) h = cc
 comes_line s (flush ∷ rest) h = cc
 
 -- The engine with the fields a, which is seen as r, was led to the engine r' by a call that makes the move o of a substitution.
-module _ (a : Inside) (r r' : Run) (seen : run_of a ≡ r) (i : IsRun a) (same : r' ≡ same_but_replaced r r'.state) (within : length r'.state.pattern ≤ r'.limits.space) (ls : List (List ℕ)) (g : Setting) (old new : ℕ → Option (List ℕ)) (o : Option Move) (t : Substitution) where
+module _ (a : Inside) (r r' : Run) (seen : run_of a ≡ r) (i : IsRun a) (same : r' ≡ same_but_replaced r r'.state) (within : length r'.state.pattern ≤ r'.limits.space) (ls : List (List ℕ)) (g : Setting) (old new : Tally) (o : Option Move) (t : Substitution) where
   before : Fits r.limits (at_lines r ls)
   before = let Q : Run → Type 0 = λ r. Fits r.limits (at_lines r ls) in subst Q seen (fits_of a ls i)
 
@@ -129,16 +129,16 @@ module _ (a : Inside) (r r' : Run) (seen : run_of a ≡ r) (i : IsRun a) (same :
       record { pattern = rw limits at within; hold = rw hold before.hold; queue = rw queue before.queue; turns = rw turns before.turns }
 
   -- nothing was replaced
-  pub replaced_nothing : Makes r.limits o t (at_lines r ls) (at_lines r' ls) (Ok false) → Performs r.limits g o (at_lines r ls) (at_lines r' ls) (Gained old old) (Ok tt)
+  pub replaced_nothing : Makes r.limits o t (at_lines r ls) (at_lines r' ls) (Ok false) → Performs r.limits g o (at_lines r ls) (at_lines r' ls) (Sent old old) (Ok tt)
   replaced_nothing is = λ s c first. ran_quietly r.limits g s (at_lines r' ls) old c.fits (first ∙ is) there
 
   -- something was, and is written where the flag `p` stands
-  pub replaced_some : (told : Result Unit Ended) → Makes r.limits o t (at_lines r ls) (at_lines r' ls) (Ok true) → Puts (Gained old new) (written_by t r'.state.pattern) told →
-      Performs r.limits g o (at_lines r ls) (at_lines r' ls) (Gained old new) told
+  pub replaced_some : (told : Result Unit Ended) → Makes r.limits o t (at_lines r ls) (at_lines r' ls) (Ok true) → Puts (Sent old new) (written_by t r'.state.pattern) told →
+      Performs r.limits g o (at_lines r ls) (at_lines r' ls) (Sent old new) told
   replaced_some told is put = λ s c first. moves_writing r.limits g s (at_lines r' ls) old new (written_by t r'.state.pattern) told c.fits (first ∙ is) there c.lines put
 
   -- the end comes
-  pub replaced_not : (end : Ended) → r'.state.pattern ≡ r.state.pattern → Makes r.limits o t (at_lines r ls) (at_lines r' ls) (Err end) → Performs r.limits g o (at_lines r ls) (at_lines r' ls) (Gained old old) (Err end)
+  pub replaced_not : (end : Ended) → r'.state.pattern ≡ r.state.pattern → Makes r.limits o t (at_lines r ls) (at_lines r' ls) (Err end) → Performs r.limits g o (at_lines r ls) (at_lines r' ls) (Sent old old) (Err end)
   replaced_not end kept is = λ s c first. stops s c first end is
     where
       lengths : (s : State) → ComesTo r.limits g s (at_lines r ls) → SameLengths s (at_lines r' ls)
@@ -151,7 +151,7 @@ module _ (a : Inside) (r r' : Run) (seen : run_of a ≡ r) (i : IsRun a) (same :
             entries = let more = w.entries in let queue = ap (λ (r : Run). length r.state.queue) same in omega arith;
           }
 
-      stops : (s : State) (c : ComesTo r.limits g s (at_lines r ls)) → move g s ≡ o → (end : Ended) → Makes r.limits o t (at_lines r ls) (at_lines r' ls) (Err end) → Moves r.limits g s (at_lines r' ls) (Gained old old) (Err end)
+      stops : (s : State) (c : ComesTo r.limits g s (at_lines r ls)) → move g s ≡ o → (end : Ended) → Makes r.limits o t (at_lines r ls) (at_lines r' ls) (Err end) → Moves r.limits g s (at_lines r' ls) (Sent old old) (Err end)
       stops s c first (NoPrevious n) (without, number) =
           stopped_here r.limits g s (at_lines r' ls) old (NoPrevious n) c.fits refl (number ∙ sym c.number, c.turn, c.comes, first ∙ without) (lengths s c) c.lines
       stops s c first (PatternFull n) ((m, is, more), number) =
@@ -159,10 +159,10 @@ module _ (a : Inside) (r r' : Run) (seen : run_of a ≡ r) (i : IsRun a) (same :
       stops s c first other h = absurd h
 
 -- what the flag `p` writes, and then the flag `w`
-pub puts_both : (t : Substitution) (w : List ℕ) (old mid new : ℕ → Option (List ℕ)) (r : Result Unit Ended) → Puts (Gained old mid) (cond t.print (line_to 0 w) []) (Ok tt) → Puts (Gained mid new) (line_to_file t.file w) r → Puts (Gained old new) (written_by t w) r
+pub puts_both : (t : Substitution) (w : List ℕ) (old mid new : Tally) (r : Result Unit Ended) → Puts (Sent old mid) (cond t.print (line_to 0 w) []) (Ok tt) → Puts (Sent mid new) (line_to_file t.file w) r → Puts (Sent old new) (written_by t w) r
 puts_both t w old mid new r a h = Puts-append old mid new (cond t.print (line_to 0 w) []) (line_to_file t.file w) r a h
 
-pub puts_first : (t : Substitution) (w : List ℕ) (old new : ℕ → Option (List ℕ)) (end : Ended) → Puts (Gained old new) (cond t.print (line_to 0 w) []) (Err end) → Puts (Gained old new) (written_by t w) (Err end)
+pub puts_first : (t : Substitution) (w : List ℕ) (old new : Tally) (end : Ended) → Puts (Sent old new) (cond t.print (line_to 0 w) []) (Err end) → Puts (Sent old new) (written_by t w) (Err end)
 puts_first t w old new end h = Puts-left old new (cond t.print (line_to 0 w) []) (line_to_file t.file w) end h
 
 -- the substitution of a number, as the engine is seen

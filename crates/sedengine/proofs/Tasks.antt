@@ -1,5 +1,5 @@
 -- What the engine does with its fields are moves.
-use Rattle.std.proofs.Common.{◌≡◌, ℕ, suc, zero, ◌<◌, ◌+◌, ◌-◌, ◌≤◌, Bool, true, false, cond, List, [], ◌∷◌, ◌++◌, length, map, Option, Some, None, Result, Ok, Err, refl, subst, sym, ap, ◌∙◌, arith, zero-add}
+use Rattle.std.proofs.Common.{◌≡◌, ℕ, suc, zero, ◌<◌, ◌+◌, ◌-◌, ◌≤◌, Bool, true, false, List, [], ◌∷◌, ◌++◌, length, map, Option, Some, None, Result, Ok, Err, refl, subst, sym, ap, ◌∙◌, arith, zero-add}
 use Rattle.std.specs.Prelude.{slice_get, is_some}
 use Rattle.std.specs.Io.KnownBytes.{Keeps}
 use Rattle.std.proofs.lemmas.List.{length-map}
@@ -7,22 +7,21 @@ use Rattle.sedscript.specs.Script.{Program}
 use Rattle.sedspace.specs.Spaces.{Contents}
 use Rattle.sedspace.specs.Stream.{Stream, left, lines_left, TakesLine, GivesLine, NoneLeft, FirstIsLonger, KeepsLines, TakesAtMost}
 use Rattle.sedengine.specs.Limits.{Limits}
-use Rattle.sedengine.specs.State.{Task, begin, do_at, print_pattern, empty_pattern, flush, State, Setting}
-use Rattle.sedengine.specs.Move.{move, start, comes_to, writing, quietly, then_do, at_end, flushes, line_to}
-use Rattle.sedengine.specs.Ends.{Fits, IsCause, line_at, any_left, takes_turn, reads, broken_sink}
+use Rattle.sedengine.specs.State.{Task, begin, do_at, State, Setting}
+use Rattle.sedengine.specs.Move.{move, start, quietly, then_do}
+use Rattle.sedengine.specs.Ends.{Fits, IsCause, line_at, any_left, takes_turn, reads, named_sink}
 use Rattle.sedengine.specs.Held.{SameLengths}
-use Rattle.sedengine.specs.Devices.{Gained}
-use Rattle.sedengine.specs.Calls.{Puts}
+use Rattle.sedengine.specs.Meters.{Sent, Tally}
 use Rattle.sedengine.specs.Run.{Run, at_lines, setting}
-use Rattle.sedengine.specs.Steps.{Ran, Stopped, Moves, TakesLines, Halted, Steps, lost}
+use Rattle.sedengine.specs.Steps.{Ran, Moves, TakesLines, Halted, Steps, lost}
 use Rattle.sedengine.specs.Inside.{run_of, tasks_of, entries_of, IsRun, IsEmptied}
-use Rattle.sedengine.specs.declared.engine.Engine.TheInside.{Inside}
+use Rattle.sedengine.specs.declared.machine.Machine.TheInside.{Inside}
 use Rattle.sedengine.specs.declared.place.Place.{Place}
 use Rattle.sedengine.specs.declared.place.Place.TheVariants as p
 use Rattle.sedengine.specs.declared.ends.Ended.{Ended}
 use Rattle.sedengine.specs.declared.ends.Ended.TheVariants.{Done, PatternFull, TurnsSpent, InputBroken}
 use Rattle.sedengine.proofs.Streams.{line_taken, lines_end, lines_stay, lines_same, TakesAtMost-more, TakesAtMost-none, TakesAtMost-kept}
-use Rattle.sedengine.proofs.Moves.{move_at, ran_once, ran_quietly, stopped_here, stopped_writing, Moves-then}
+use Rattle.sedengine.proofs.Moves.{move_at, ran_quietly, stopped_here}
 
 pub fits_at : (a : Inside) (ls : List (List ℕ)) → length a.pattern.bytes ≤ a.limits.space → length a.hold.bytes ≤ a.limits.space → length a.queue.items ≤ a.limits.queue → a.turns ≤ a.limits.turns → Fits a.limits (at_lines (run_of a) ls)
 fits_at a ls pattern hold queue turns = record { pattern = pattern; hold = hold; queue = rw length-map queue; turns = turns }
@@ -47,8 +46,8 @@ seen_steps {R} remaining old new a e e' ts files ls P r seen t h =
     let Q : Run → Type 0 = λ e. e.state.tasks ≡ ts → Steps remaining old new ls e.limits (setting e files) e e' P r in subst Q seen h t
 
 -- The end comes at once, and no line was taken.
-pub halts_here : {R : Type 0} (remaining : R → Option (List ℕ)) (old new : Stream R) (l : Limits) (g : Setting) (s : State) (e : Run) (sinks : ℕ → Option (List ℕ)) (end : Ended) → Fits l s → broken_sink end ≡ None → IsCause l g s end → SameLengths s e.state →
-    TakesAtMost (left remaining old) (left remaining new) (lost l end) → Halted remaining old new l g s e (Gained sinks sinks) end
+pub halts_here : {R : Type 0} (remaining : R → Option (List ℕ)) (old new : Stream R) (l : Limits) (g : Setting) (s : State) (e : Run) (sinks : Tally) (end : Ended) → Fits l s → named_sink end ≡ None → IsCause l g s end → SameLengths s e.state →
+    TakesAtMost (left remaining old) (left remaining new) (lost l end) → Halted remaining old new l g s e (Sent sinks sinks) end
 halts_here {R} remaining old new l g s e sinks end f none cause same gone = record {
   rest = s.lines;
   stopped = stopped_here l g s (at_lines e s.lines) sinks end f none cause (record { pattern = same.pattern; hold = same.hold; queue = same.queue; entries = same.entries }) refl;
@@ -70,7 +69,7 @@ emptied_at p.Ended bytes t h = cc
 
 -- The fields a of an engine that stands before a cycle; `sinks` are what sinks hold, of which none gains anything.
 module _ {R : Type 0} (remaining : R → Option (List ℕ)) (old new : Stream R) (a : Inside) (e : Run) (seen : run_of a ≡ e) (i : IsRun a) (at : e.state.tasks ≡ begin ∷ [])
-    (ls : List (List ℕ)) (known : lines_left remaining old ≡ Some ls) (files : ℕ → List ℕ) (sinks : ℕ → Option (List ℕ)) where
+    (ls : List (List ℕ)) (known : lines_left remaining old ≡ Some ls) (files : ℕ → List ℕ) (sinks : Tally) where
   -- the fields that a line leads to, and those where there is none
   abbrev with : Contents → Inside
   with pattern = record a { place = p.Do 0; pattern = pattern; number = a.number + 1; replaced = false; turns = a.turns + 1 }
@@ -78,7 +77,7 @@ module _ {R : Type 0} (remaining : R → Option (List ℕ)) (old new : Stream R)
   abbrev without : Contents → Inside
   without pattern = record a { place = p.Ended; pattern = pattern }
 
-  ends : (pattern : Contents) → ls ≡ [] → pattern ≡ a.pattern → tasks_of a.place ≡ begin ∷ [] → Ran a.limits (setting (run_of a) files) (at_lines (run_of a) ls) (at_lines (run_of (without pattern)) []) (Gained sinks sinks)
+  ends : (pattern : Contents) → ls ≡ [] → pattern ≡ a.pattern → tasks_of a.place ≡ begin ∷ [] → Ran a.limits (setting (run_of a) files) (at_lines (run_of a) ls) (at_lines (run_of (without pattern)) []) (Sent sinks sinks)
   ends pattern none same t =
       let f : Fits a.limits (at_lines (run_of (without a.pattern)) []) = fits_at (without a.pattern) [] i.pattern i.hold i.queue i.turns in
       rw same (ran_quietly a.limits (setting (run_of a) files) (at_lines (run_of a) ls) (at_lines (run_of (without a.pattern)) []) sinks (fits_of a ls i) (rw none (move_at _ _ _ t)) f)
@@ -89,28 +88,28 @@ module _ {R : Type 0} (remaining : R → Option (List ℕ)) (old new : Stream R)
 
   -- The end is asked for, and it has come.
   pub begins_last : ls ≡ [] → KeepsLines (lines_left remaining old) (lines_left remaining new) → Keeps (left remaining old) (left remaining new) →
-      Steps remaining old new ls e.limits (setting e files) e (run_of (record a { place = p.Ended })) (Gained sinks sinks) (Ok tt)
+      Steps remaining old new ls e.limits (setting e files) e (run_of (record a { place = p.Ended })) (Sent sinks sinks) (Ok tt)
   begins_last none kept bytes =
       let T : List (List ℕ) → Type 0 = λ ms. TakesLines remaining old new ls ms in
-      seen_steps remaining old new a e (run_of (without a.pattern)) (begin ∷ []) files ls (Gained sinks sinks) (Ok tt) seen at
+      seen_steps remaining old new a e (run_of (without a.pattern)) (begin ∷ []) files ls (Sent sinks sinks) (Ok tt) seen at
       (λ t. ([], subst T none (lines_stay remaining old new ls known kept bytes), ends a.pattern none refl t))
 
   pub begins_none : (n : ℕ) (pattern : Contents) → pattern ≡ a.pattern →
       TakesAtMost (remaining old.source) (remaining new.source) n → NoneLeft (lines_left remaining old) → NoneLeft (lines_left remaining new) →
-      Steps remaining old new ls e.limits (setting e files) e (run_of (record a { place = p.Ended; pattern = pattern })) (Gained sinks sinks) (Ok tt)
+      Steps remaining old new ls e.limits (setting e files) e (run_of (record a { place = p.Ended; pattern = pattern })) (Sent sinks sinks) (Ok tt)
   begins_none n pattern same taken none none' =
       let r = lines_end remaining old new n ls known taken none none' in
-      seen_steps remaining old new a e (run_of (without pattern)) (begin ∷ []) files ls (Gained sinks sinks) (Ok tt) seen at (λ t. ([], r.1, ends pattern r.0 same t))
+      seen_steps remaining old new a e (run_of (without pattern)) (begin ∷ []) files ls (Sent sinks sinks) (Ok tt) seen at (λ t. ([], r.1, ends pattern r.0 same t))
 
   pub begins_takes : (pattern : Contents) (line : List ℕ) → (a.turns ≡ a.limits.turns → ⊥) → pattern ≡ record a.pattern { bytes = a.pattern.bytes ++ line } → length pattern.bytes ≤ pattern.limit →
       TakesLine (left remaining old) (left remaining new) line → GivesLine (lines_left remaining old) (lines_left remaining new) line →
-      Steps remaining old new ls e.limits (setting e files) e (run_of (record a { place = p.Do 0; pattern = pattern; number = a.number + 1; replaced = false; turns = a.turns + 1 })) (Gained sinks sinks) (Ok tt)
+      Steps remaining old new ls e.limits (setting e files) e (run_of (record a { place = p.Do 0; pattern = pattern; number = a.number + 1; replaced = false; turns = a.turns + 1 })) (Sent sinks sinks) (Ok tt)
   begins_takes pattern line turns is within bytes given =
       let r = line_taken remaining old new ls line known bytes given in
       let most = i.turns in
       let room = i.pattern_limit in
       let limit : pattern.limit ≡ a.pattern.limit = ap (λ (c : Contents). c.limit) is in
-      seen_steps remaining old new a e (run_of (with pattern)) (begin ∷ []) files ls (Gained sinks sinks) (Ok tt) seen at
+      seen_steps remaining old new a e (run_of (with pattern)) (begin ∷ []) files ls (Sent sinks sinks) (Ok tt) seen at
       (λ t.
       let none : a.pattern.bytes ≡ [] = emptied_at a.place a.pattern.bytes t i.empty in
       let bytes : pattern.bytes ≡ line = ap (λ (c : Contents). c.bytes) is ∙ ap (λ bs. bs ++ line) none in (
@@ -126,13 +125,13 @@ module _ {R : Type 0} (remaining : R → Option (List ℕ)) (old new : Stream R)
 
   pub begins_stops : (pattern : Contents) → pattern ≡ a.pattern → (a.turns ≡ a.limits.turns → ⊥) → FirstIsLonger (lines_left remaining old) (a.pattern.limit - length a.pattern.bytes) →
       TakesAtMost (left remaining old) (left remaining new) a.pattern.limit →
-      Steps remaining old new ls e.limits (setting e files) e (run_of (record a { pattern = pattern })) (Gained sinks sinks) (Err (PatternFull (a.number + 1)))
+      Steps remaining old new ls e.limits (setting e files) e (run_of (record a { pattern = pattern })) (Sent sinks sinks) (Err (PatternFull (a.number + 1)))
   begins_stops pattern same turns long gone =
       let r = longer ls (subst (λ (o : Option (List (List ℕ))). FirstIsLonger o (a.pattern.limit - length a.pattern.bytes)) known long) in
       let limit = i.pattern_limit in
       let most = i.turns in
       let made : Contents = record { bytes = r.0; limit = 0 } in
-      seen_steps remaining old new a e (run_of (record a { pattern = pattern })) (begin ∷ []) files ls (Gained sinks sinks) (Err (PatternFull (a.number + 1))) seen at
+      seen_steps remaining old new a e (run_of (record a { pattern = pattern })) (begin ∷ []) files ls (Sent sinks sinks) (Err (PatternFull (a.number + 1))) seen at
       (λ t.
       let none : length a.pattern.bytes ≡ 0 = ap length (emptied_at a.place a.pattern.bytes t i.empty) in
       halts_here remaining old new a.limits (setting (run_of a) files) (at_lines (run_of a) ls) (run_of (record a { pattern = pattern })) sinks (PatternFull (a.number + 1)) (fits_of a ls i) refl
@@ -141,33 +140,33 @@ module _ {R : Type 0} (remaining : R → Option (List ℕ)) (old new : Stream R)
 
   -- A line is left, and no turn.
   pub begins_spent : any_left ls ≡ true → a.turns ≡ a.limits.turns → Keeps (left remaining old) (left remaining new) →
-      Steps remaining old new ls e.limits (setting e files) e e (Gained sinks sinks) (Err TurnsSpent)
+      Steps remaining old new ls e.limits (setting e files) e e (Sent sinks sinks) (Err TurnsSpent)
   begins_spent some spent kept =
-      let Q : Run → Type 0 = λ e. e.state.tasks ≡ begin ∷ [] → Steps remaining old new ls e.limits (setting e files) e e (Gained sinks sinks) (Err TurnsSpent) in
+      let Q : Run → Type 0 = λ e. e.state.tasks ≡ begin ∷ [] → Steps remaining old new ls e.limits (setting e files) e e (Sent sinks sinks) (Err TurnsSpent) in
       subst Q seen (λ t. halts_here remaining old new a.limits (setting (run_of a) files) (at_lines (run_of a) ls) (run_of a) sinks TurnsSpent (fits_of a ls i) refl
       (spent, ap (takes_turn (setting (run_of a) files) (at_lines (run_of a) ls)) t ∙ some) (record { pattern = refl; hold = refl; queue = λ _. refl; entries = omega arith }) (TakesAtMost-kept _ _ kept)) at
 
   -- The source failed.
   pub begins_broken : (pattern : Contents) → pattern ≡ a.pattern → TakesAtMost (left remaining old) (left remaining new) a.limits.space →
-      Steps remaining old new ls e.limits (setting e files) e (run_of (record a { pattern = pattern })) (Gained sinks sinks) (Err InputBroken)
+      Steps remaining old new ls e.limits (setting e files) e (run_of (record a { pattern = pattern })) (Sent sinks sinks) (Err InputBroken)
   begins_broken pattern same gone =
-      seen_steps remaining old new a e (run_of (record a { pattern = pattern })) (begin ∷ []) files ls (Gained sinks sinks) (Err InputBroken) seen at
+      seen_steps remaining old new a e (run_of (record a { pattern = pattern })) (begin ∷ []) files ls (Sent sinks sinks) (Err InputBroken) seen at
       (λ t. halts_here remaining old new a.limits (setting (run_of a) files) (at_lines (run_of a) ls) (run_of (record a { pattern = pattern })) sinks InputBroken (fits_of a ls i) refl
       (ap (reads (setting (run_of a) files)) t) (record { pattern = ap (λ (c : Contents). length c.bytes) same; hold = refl; queue = λ _. refl; entries = omega arith }) gone)
 
-  pub begins_failed : Keeps (left remaining old) (left remaining new) → Steps remaining old new ls e.limits (setting e files) e e (Gained sinks sinks) (Err InputBroken)
+  pub begins_failed : Keeps (left remaining old) (left remaining new) → Steps remaining old new ls e.limits (setting e files) e e (Sent sinks sinks) (Err InputBroken)
   begins_failed kept =
-      let Q : Run → Type 0 = λ e. e.state.tasks ≡ begin ∷ [] → Steps remaining old new ls e.limits (setting e files) e e (Gained sinks sinks) (Err InputBroken) in
+      let Q : Run → Type 0 = λ e. e.state.tasks ≡ begin ∷ [] → Steps remaining old new ls e.limits (setting e files) e e (Sent sinks sinks) (Err InputBroken) in
       subst Q seen (λ t. halts_here remaining old new a.limits (setting (run_of a) files) (at_lines (run_of a) ls) (run_of a) sinks InputBroken (fits_of a ls i) refl
       (ap (reads (setting (run_of a) files)) t) (record { pattern = refl; hold = refl; queue = λ _. refl; entries = omega arith }) (TakesAtMost-more _ _ 0 _ (omega arith) (TakesAtMost-kept _ _ kept))) at
 
 -- An engine with the fields a that stands before command k, or before the end of the script.
 module _ (a : Inside) (e : Run) (seen : run_of a ≡ e) (i : IsRun a) (files : ℕ → List ℕ) (ls : List (List ℕ)) (k : ℕ) (at : e.state.tasks ≡ do_at k ∷ []) where
   -- a command with no turn left
-  pub comes_spent : (sinks : ℕ → Option (List ℕ)) → k < length a.script.commands → a.turns ≡ a.limits.turns →
-      Moves e.limits (setting e files) (at_lines e ls) (at_lines e ls) (Gained sinks sinks) (Err TurnsSpent)
+  pub comes_spent : (sinks : Tally) → k < length a.script.commands → a.turns ≡ a.limits.turns →
+      Moves e.limits (setting e files) (at_lines e ls) (at_lines e ls) (Sent sinks sinks) (Err TurnsSpent)
   comes_spent sinks there spent =
-      let Q : Run → Type 0 = λ e. e.state.tasks ≡ do_at k ∷ [] → Moves e.limits (setting e files) (at_lines e ls) (at_lines e ls) (Gained sinks sinks) (Err TurnsSpent) in
+      let Q : Run → Type 0 = λ e. e.state.tasks ≡ do_at k ∷ [] → Moves e.limits (setting e files) (at_lines e ls) (at_lines e ls) (Sent sinks sinks) (Err TurnsSpent) in
       subst Q seen (λ t. stopped_here a.limits (setting (run_of a) files) (at_lines (run_of a) ls) (at_lines (run_of a) ls) sinks TurnsSpent (fits_of a ls i) refl
       (spent, ap (takes_turn (setting (run_of a) files) (at_lines (run_of a) ls)) t ∙ is_there a.script.commands k there) (record { pattern = refl; hold = refl; queue = λ _. refl; entries = omega arith }) refl) at
     where
@@ -177,10 +176,10 @@ module _ (a : Inside) (e : Run) (seen : run_of a ≡ e) (i : IsRun a) (files : �
       is_there (x ∷ xs) (suc k) h = is_there xs k (omega arith)
 
 -- Nothing is moved where the run has ended.
-pub ends_here : {R : Type 0} (remaining : R → Option (List ℕ)) (old : Stream R) (a : Inside) (e : Run) (seen : run_of a ≡ e) (i : IsRun a) (ls : List (List ℕ)) (files : ℕ → List ℕ) (sinks : ℕ → Option (List ℕ)) → a.place ≡ p.Ended →
-    Steps remaining old old ls e.limits (setting e files) e e (Gained sinks sinks) (Err Done)
+pub ends_here : {R : Type 0} (remaining : R → Option (List ℕ)) (old : Stream R) (a : Inside) (e : Run) (seen : run_of a ≡ e) (i : IsRun a) (ls : List (List ℕ)) (files : ℕ → List ℕ) (sinks : Tally) → a.place ≡ p.Ended →
+    Steps remaining old old ls e.limits (setting e files) e e (Sent sinks sinks) (Err Done)
 ends_here {R} remaining old a e seen i ls files sinks over =
-    let Q : Run → Type 0 = λ e. Steps remaining old old ls e.limits (setting e files) e e (Gained sinks sinks) (Err Done) in
+    let Q : Run → Type 0 = λ e. Steps remaining old old ls e.limits (setting e files) e e (Sent sinks sinks) (Err Done) in
     subst Q seen (halts_here remaining old old a.limits (setting (run_of a) files) (at_lines (run_of a) ls) (run_of a) sinks Done (fits_of a ls i) refl (ap tasks_of over) (record { pattern = refl; hold = refl; queue = λ _. refl; entries = omega arith }) (TakesAtMost-none _))
 
 -- What takes no lines keeps those that are left.
@@ -201,9 +200,10 @@ starting script l pattern hold queue ranges = record {
   script = script;
   limits = l;
   state = record { lines = []; number = 0; pattern = pattern; hold = hold; replaced = false; queue = entries_of script queue; ranges = ranges; used = None; tasks = begin ∷ []; turns = 0 };
+  sent = [];
   ended = None;
 }
 
 pub opened : (seen script : Program) (l : Limits) (pattern hold queue : List ℕ) (ranges : List Bool) → seen ≡ script → pattern ≡ [] → hold ≡ [] → queue ≡ [] → ranges ≡ map (λ _. false) script.commands →
-    starting seen l pattern hold queue ranges ≡ record { script = script; limits = l; state = start script.commands []; ended = None }
+    starting seen l pattern hold queue ranges ≡ record { script = script; limits = l; state = start script.commands []; sent = []; ended = None }
 opened seen script l pattern hold queue ranges same none none' none'' idle = rw (same, none, none', none'', idle) refl

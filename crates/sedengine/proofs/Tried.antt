@@ -14,7 +14,7 @@ use Rattle.sedengine.specs.Replacing.{Replaces}
 use Rattle.sedengine.specs.Run.{Run, finds_in, search_for, search_in}
 use Rattle.sedengine.specs.Select.{Answer, answer, stands_for}
 use Rattle.sedengine.specs.Substitute.{chosen, occurrences}
-use Rattle.sedengine.specs.declared.engine.Engine.TheInside.{Inside}
+use Rattle.sedengine.specs.declared.machine.Machine.TheInside.{Inside}
 
 pub standing : (named used : Option ℕ) → option_or named used ≡ stands_for named used
 standing None used = refl

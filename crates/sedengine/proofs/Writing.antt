@@ -1,15 +1,17 @@
 -- Calls that write, one after another.
-use Rattle.std.proofs.Common.{◌≡◌, ◌≢◌, ℕ, suc, zero, ◌<◌, ◌+◌, ◌≤◌, ◌⊎◌, inl, inr, List, [], ◌∷◌, ◌++◌, length, Option, Some, Result, Ok, Err, refl, sym, ◌∙◌, arith, rules}
+use Rattle.std.proofs.Common.{◌≡◌, ◌≢◌, ℕ, suc, zero, ◌<◌, ◌+◌, ◌≤◌, ◌⊎◌, inl, inr, List, [], ◌∷◌, ◌++◌, length, Some, Result, Ok, Err, refl, sym, ◌∙◌, arith, rules}
 use Rattle.std.proofs.lemmas.List.{take-append-le}
 use Rattle.std.proofs.lemmas.Option.{slice_get_within}
 use Rattle.std.proofs.Math.Seq.{take-append-add}
 use Rattle.std.proofs.Math.Nat.{suc-add}
 use Rattle.std.specs.Prelude.{slice_get}
-use Rattle.sedengine.specs.Devices.{Gained, FailedSink}
-use Rattle.sedengine.specs.Calls.{Puts, Writes, NoSinkFailed}
+use Rattle.sedengine.specs.Devices.{FailedSink}
+use Rattle.sedengine.specs.Meters.{Sent, Tally, FullSink}
+use Rattle.sedengine.specs.Calls.{Puts, Writes, Delivers, NoSinkFailed}
 use Rattle.sedengine.specs.declared.ends.Ended.{Ended}
-use Rattle.sedengine.specs.declared.ends.Ended.TheVariants.{OutputBroken}
-use Rattle.sedengine.proofs.Gains.{Gained-append, same_or_not}
+use Rattle.sedengine.specs.declared.ends.Ended.TheVariants.{OutputBroken, OutputFull}
+use Rattle.sedengine.proofs.Sending.{Sent-append}
+use Rattle.sedengine.proofs.Gains.{same_or_not}
 
 pub slice_get-append_add : {A : Type 0} (xs ys : List A) (n : ℕ) → slice_get (xs ++ ys) (length xs + n) ≡ slice_get ys n
 slice_get-append_add [] ys n = search rules
@@ -18,14 +20,12 @@ slice_get-append_add (x ∷ xs) ys n = rw suc-add (slice_get-append_add xs ys n)
 FailedSink-then : (a b c : ℕ → ℕ) (r : Result Unit Ended) → ((k : ℕ) → b k ≡ a k) → FailedSink b c r → FailedSink a c r
 FailedSink-then a b c (Ok u) h i = λ k. i k ∙ h k
 FailedSink-then a b c (Err (OutputBroken k)) h i = let e = h k in rw e at i
+FailedSink-then a b c (Err (OutputFull k)) h i = λ j. i j ∙ h j
 FailedSink-then a b c (Err other) h i = tt
 
 -- one call after another
 pub Writes-then : {O : Type 0} (failures : O → ℕ → ℕ) (count : O → ℕ) (a b c : O) (r : Result Unit Ended) → Writes failures count a b (Ok tt) → Writes failures count b c r → Writes failures count a c r
 Writes-then failures count a b c r w v = record { same_count = v.same_count ∙ w.same_count; failed = FailedSink-then (failures a) (failures b) (failures c) r w.failed v.failed }
-
-pub Writes-none : {O : Type 0} (failures : O → ℕ → ℕ) (count : O → ℕ) (a : O) → Writes failures count a a (Ok tt)
-Writes-none failures count a = record { same_count = refl; failed = λ k. refl }
 
 at_all : (old new : ℕ → ℕ) (s k : ℕ) → new s ≡ old s → ((j : ℕ) → j ≢ s → new j ≡ old j) → (s ≡ k) ⊎ (s ≢ k) → new k ≡ old k
 at_all old new s k h others (inl same) = rw (← same) h
@@ -35,6 +35,18 @@ at_all old new s k h others (inr other) = others k (λ e. other (sym e))
 pub grown : {O : Type 0} (failures : O → ℕ → ℕ) (count : O → ℕ) (a b : O) (s : ℕ) → count b ≡ count a → failures b s ≡ failures a s → ((j : ℕ) → j ≢ s → failures b j ≡ failures a j) → Writes failures count a b (Ok tt)
 grown failures count a b s same here others = record { same_count = same; failed = λ k. at_all (failures a) (failures b) s k here others (same_or_not s k) }
 
+-- the same for sinks that are counted
+pub Delivers-then : {O : Type 0} (tally : O → Tally) (count : O → ℕ) (a b c : O) (r : Result Unit Ended) → Delivers tally count a b (Ok tt) → Delivers tally count b c r → Delivers tally count a c r
+Delivers-then tally count a b c r w v = record {
+  same_count = v.same_count ∙ w.same_count;
+  same_frame = v.same_frame ∙ w.same_frame;
+  failed = FailedSink-then (tally a).failures (tally b).failures (tally c).failures r w.failed v.failed;
+  full = v.full;
+}
+
+pub Delivers-none : {O : Type 0} (tally : O → Tally) (count : O → ℕ) (a : O) → Delivers tally count a a (Ok tt)
+Delivers-none tally count a = record { same_count = refl; same_frame = refl; failed = λ k. refl; full = tt }
+
 slice_get-append_left : {A : Type 0} (xs ys : List A) (n : ℕ) (x : A) → slice_get xs n ≡ Some x → slice_get (xs ++ ys) n ≡ Some x
 slice_get-append_left [] ys zero x h = cc
 slice_get-append_left [] ys (suc n) x h = cc
@@ -42,22 +54,27 @@ slice_get-append_left (y ∷ xs) ys zero x h = h
 slice_get-append_left (y ∷ xs) ys (suc n) x h = slice_get-append_left xs ys n x h
 
 -- what fails in the first part fails in the whole
-pub Puts-left : (old new : ℕ → Option (List ℕ)) (xs ys : List (ℕ × ℕ)) (end : Ended) → Puts (Gained old new) xs (Err end) → Puts (Gained old new) (xs ++ ys) (Err end)
+pub Puts-left : (old new : Tally) (xs ys : List (ℕ × ℕ)) (end : Ended) → Puts (Sent old new) xs (Err end) → Puts (Sent old new) (xs ++ ys) (Err end)
 Puts-left old new xs ys end (k, b, byte, is, due, gained) =
     let lt : b < length xs = slice_get_within xs b (k, byte) due in
     let le : b ≤ length xs = omega arith in
     (k, b, byte, is, slice_get-append_left xs ys b (k, byte) due, rw (take-append-le b xs ys le) gained)
 
 -- the second part, after the first was written
-pub Puts-append : (old mid new : ℕ → Option (List ℕ)) (xs ys : List (ℕ × ℕ)) (r : Result Unit Ended) → Gained old mid xs → Puts (Gained mid new) ys r → Puts (Gained old new) (xs ++ ys) r
-Puts-append old mid new xs ys (Ok u) a h = Gained-append a h
+pub Puts-append : (old mid new : Tally) (xs ys : List (ℕ × ℕ)) (r : Result Unit Ended) → Sent old mid xs → Puts (Sent mid new) ys r → Puts (Sent old new) (xs ++ ys) r
+Puts-append old mid new xs ys (Ok u) a h = Sent-append a h
 Puts-append old mid new xs ys (Err end) a (k, b, byte, is, due, gained) =
-    (k, length xs + b, byte, is, slice_get-append_add xs ys b ∙ due, rw (take-append-add xs ys b) (Gained-append a gained))
+    (k, length xs + b, byte, is, slice_get-append_add xs ys b ∙ due, rw (take-append-add xs ys b) (Sent-append a gained))
 
 unwritten : (f : ℕ → ℕ) (end : Ended) → NoSinkFailed {T = Unit {0}} (Err end) → FailedSink f f (Err end)
 unwritten f (OutputBroken k) h = absurd h
+unwritten f (OutputFull k) h = absurd h
 unwritten f other h = tt
 
+unfilled : (t : Tally) (end : Ended) → NoSinkFailed {T = Unit {0}} (Err end) → FullSink t (Err end)
+unfilled t (OutputFull k) h = absurd h
+unfilled t other h = tt
+
 -- an end that comes without a write
-pub Writes-unwritten : {O : Type 0} (failures : O → ℕ → ℕ) (count : O → ℕ) (a : O) (end : Ended) → NoSinkFailed {T = Unit {0}} (Err end) → Writes failures count a a (Err end)
-Writes-unwritten failures count a end h = record { same_count = refl; failed = unwritten (failures a) end h }
+pub Delivers-unwritten : {O : Type 0} (tally : O → Tally) (count : O → ℕ) (a : O) (end : Ended) → NoSinkFailed {T = Unit {0}} (Err end) → Delivers tally count a a (Err end)
+Delivers-unwritten tally count a end h = record { same_count = refl; same_frame = refl; failed = unwritten (tally a).failures end h; full = unfilled (tally a) end h }

@@ -3,19 +3,29 @@ use Rattle.std.specs.Prelude.{◌≡◌, ℕ, ◌≤◌, max, Option, Some, None
 use Rattle.std.specs.Borrow.{GName}
 use Rattle.sedspace.specs.Stream.{Stream, TakesAtMost}
 use Rattle.sedengine.specs.Devices.{FailedSink, FailedSource}
+use Rattle.sedengine.specs.Ends.{named_sink}
+use Rattle.sedengine.specs.Meters.{Tally, FullSink}
 use Rattle.sedengine.specs.declared.ends.Ended.{Ended}
-use Rattle.sedengine.specs.declared.ends.Ended.TheVariants.{OutputBroken}
+use Rattle.sedengine.specs.declared.ends.Ended.TheVariants.{OutputBroken, OutputFull}
 
--- All of these bytes were written, or a sink failed where one of them was due.
+-- All of these bytes were written, or a sink failed or was full where one of them was due.
 abbrev pub Puts : (List (ℕ × ℕ) → Type 0) → List (ℕ × ℕ) → Result Unit Ended → Type 0
 Puts gained out (Ok u) = gained out
 Puts gained out (Err end) =
-    (k : ℕ) × (b : ℕ) × (byte : ℕ) × (end ≡ OutputBroken k) × (slice_get out b ≡ Some (k, byte)) × gained (take b out)
+    (k : ℕ) × (b : ℕ) × (byte : ℕ) × (named_sink end ≡ Some k) × (slice_get out b ≡ Some (k, byte)) × gained (take b out)
 
--- A call that may write: there are as many sinks as before, and one has failed only where the answer names it.
+-- A call that may write to outputs: there are as many sinks as before, and one has failed only where the answer names it.
 pub record Writes {O : Type 0} (failures : O → ℕ → ℕ) (count : O → ℕ) (old new : O) (result : Result Unit Ended) : Type 0 where
   pub same_count : count new ≡ count old
   pub failed : FailedSink (failures old) (failures new) result
+
+-- A call that may write to sinks that are counted: nothing of them changes but what they hold, their failures and the
+-- counts, and one has failed or is full only where the answer names it.
+pub record Delivers {O : Type 0} (tally : O → Tally) (count : O → ℕ) (old new : O) (result : Result Unit Ended) : Type 0 where
+  pub same_count : count new ≡ count old
+  pub same_frame : (tally new).frame ≡ (tally old).frame
+  pub failed : FailedSink (tally old).failures (tally new).failures result
+  pub full : FullSink (tally new) result
 
 -- A call that may read. What it says of faults is for lines that have answered none before.
 pub record Reads {R T : Type 0} (remaining : R → Option (List ℕ)) (failures : R → ℕ) (reference : R → GName)
@@ -31,4 +41,5 @@ pub record Reads {R T : Type 0} (remaining : R → Option (List ℕ)) (failures 
 abbrev pub NoSinkFailed : {T : Type 0} → Result T Ended → Type 0
 NoSinkFailed (Ok x) = Unit {0}
 NoSinkFailed (Err (OutputBroken k)) = ⊥
+NoSinkFailed (Err (OutputFull k)) = ⊥
 NoSinkFailed (Err _) = Unit {0}

@@ -1,10 +1,10 @@
 -- What a run does to its devices: the bytes that sinks gain, and the failures, whether devices tell their bytes or not
 -- (this project's own).
-use Rattle.std.specs.Prelude.{◌≡◌, ℕ, Option, Result, Ok, Err, List, [], ◌∷◌, nat_eq, if◌then◌else◌}
+use Rattle.std.specs.Prelude.{◌≡◌, ℕ, ◌+◌, ◌≤◌, Option, Some, Result, Ok, Err, IfSome, List, [], ◌∷◌, length, nat_eq, if◌then◌else◌}
 use Rattle.std.specs.Io.KnownBytes.{Appends}
 use Rattle.sedspace.specs.Failures.{Rose}
 use Rattle.sedengine.specs.declared.ends.Ended.{Ended}
-use Rattle.sedengine.specs.declared.ends.Ended.TheVariants.{InputBroken, OutputBroken}
+use Rattle.sedengine.specs.declared.ends.Ended.TheVariants.{InputBroken, OutputBroken, OutputFull}
 
 -- the bytes of one sink among bytes for all
 abbrev pub part : ℕ → List (ℕ × ℕ) → List ℕ
@@ -15,10 +15,25 @@ part k ((sink, byte) ∷ out) = if nat_eq sink k then byte ∷ part k out else p
 pub record Gained (old new : ℕ → Option (List ℕ)) (out : List (ℕ × ℕ)) : Type 0 where
   pub each : (k : ℕ) → Appends (old k) (new k) (part k out)
 
--- No sink has failed where the run goes on, and one that an end names has.
+-- a sink that an end names as full has gained exactly the limit; `before` tells what each had gained already
+abbrev pub FillsSink : Option ℕ → (ℕ → ℕ) → List (ℕ × ℕ) → Result Unit Ended → Type 0
+FillsSink most before out (Ok u) = Unit {0}
+FillsSink most before out (Err (OutputFull k)) = most ≡ Some (before k + length (part k out))
+FillsSink most before out (Err other) = Unit {0}
+
+-- The sinks have gained these bytes, and with what each had gained already since the engine was opened, as `before`
+-- tells, that is no more than the limit, where one is set.
+pub record GainedWithin (most : Option ℕ) (before : ℕ → ℕ) (old new : ℕ → Option (List ℕ)) (r : Result Unit Ended)
+    (out : List (ℕ × ℕ)) : Type 0 where
+  pub gained : Gained old new out
+  pub within : IfSome most (λ n. (k : ℕ) → before k + length (part k out) ≤ n)
+  pub full : FillsSink most before out r
+
+-- No sink has failed where the run goes on or a sink is full, and one that an end names as broken has.
 abbrev pub FailedSink : (ℕ → ℕ) → (ℕ → ℕ) → Result Unit Ended → Type 0
 FailedSink old new (Ok u) = (k : ℕ) → new k ≡ old k
 FailedSink old new (Err (OutputBroken k)) = Rose (old k) (new k)
+FailedSink old new (Err (OutputFull k)) = (j : ℕ) → new j ≡ old j
 FailedSink old new (Err _) = Unit {0}
 
 -- The source hasn't failed where the run goes on, and has where an end says so.

@@ -5,11 +5,11 @@ use Rattle.sedscript.specs.declared.types.Address.TheVariants.{Line, Last, Match
 use Rattle.sedscript.specs.declared.types.Command.{Command}
 use Rattle.sedscript.specs.declared.types.Action.{Action}
 use Rattle.sedscript.specs.declared.types.Action.TheVariants.{NextLine}
-use Rattle.sedengine.specs.State.{Task, begin, rebegin, do_at, print_pattern, empty_pattern, flush, copy, fetch, join, State, Move, Setting}
+use Rattle.sedengine.specs.State.{Task, begin, rebegin, do_at, copy, fetch, join, State, Move, Setting}
 use Rattle.sedengine.specs.Move.{move, after, written}
 use Rattle.sedengine.specs.declared.limits.Limits.{Limits}
 use Rattle.sedengine.specs.declared.ends.Ended.{Ended}
-use Rattle.sedengine.specs.declared.ends.Ended.TheVariants.{Done, PatternFull, HoldFull, QueueFull, TurnsSpent, NoPrevious, InputBroken, OutputBroken}
+use Rattle.sedengine.specs.declared.ends.Ended.TheVariants.{Done, PatternFull, HoldFull, QueueFull, TurnsSpent, NoPrevious, InputBroken, OutputBroken, OutputFull}
 
 -- a state within the limits
 pub record Fits (l : Limits) (s : State) : Type 0 where
@@ -86,12 +86,13 @@ comes (other ∷ rest) = false
 abbrev pub Leads : Option Move → (Move → Type 0) → Type 0
 Leads o P = (m : Move) × (o ≡ Some m) × P m
 
--- the sink that an end names as broken
-abbrev pub broken_sink : Ended → Option ℕ
-broken_sink (OutputBroken k) = Some k
-broken_sink other = None
+-- the sink that an end names, as broken or as full
+abbrev pub named_sink : Ended → Option ℕ
+named_sink (OutputBroken k) = Some k
+named_sink (OutputFull k) = Some k
+named_sink other = None
 
--- The cause of an end, at the state where it comes. For a broken output it is in what the sinks hold.
+-- The cause of an end, at the state where it comes. For a broken or a full output it is in what the sinks gained.
 abbrev pub IsCause : Limits → Setting → State → Ended → Type 0
 IsCause l g s Done = s.tasks ≡ []
 IsCause l g s (PatternFull n) =
@@ -104,6 +105,7 @@ IsCause l g s TurnsSpent = (s.turns ≡ l.turns) × (takes_turn g s s.tasks ≡ 
 IsCause l g s (NoPrevious n) = (n ≡ s.number) × HasTurn l g s × (comes s.tasks ≡ true) × (move g s ≡ None)
 IsCause l g s InputBroken = reads g s.tasks ≡ true
 IsCause l g s (OutputBroken k) = Unit {0}
+IsCause l g s (OutputFull k) = Unit {0}
 
 -- The end comes after t moves. The sinks have gained all that these moves write.
 pub record Whole (l : Limits) (g : Setting) (s : State) (gained : List (ℕ × ℕ) → Type 0) (end : Ended) (t : ℕ) : Type 0 where
@@ -120,11 +122,11 @@ pub record Cut (l : Limits) (g : Setting) (s : State) (gained : List (ℕ × ℕ
   pub due : slice_get (written g s (suc t)) b ≡ Some (k, byte)
   pub sinks : gained (take b (written g s (suc t)))
 
--- whole, or cut where a sink is broken
+-- whole, or cut where a sink takes no more
 abbrev pub WholeOrCut : Limits → Setting → State → (List (ℕ × ℕ) → Type 0) → Ended → ℕ → Option ℕ → Type 0
 WholeOrCut l g s gained end t None = Whole l g s gained end t
 WholeOrCut l g s gained end t (Some k) = Cut l g s gained k t
 
 -- The end has its cause after t moves from the state s, where the sinks gained what `gained` says.
 abbrev pub Cause : Limits → Setting → State → (List (ℕ × ℕ) → Type 0) → Ended → ℕ → Type 0
-Cause l g s gained end t = WholeOrCut l g s gained end t (broken_sink end)
+Cause l g s gained end t = WholeOrCut l g s gained end t (named_sink end)

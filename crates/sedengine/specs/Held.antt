@@ -27,8 +27,8 @@ pub record SameLengths (s s' : State) : Type 0 where
   pub queue : is_flushing s.tasks ≡ false → length s'.queue ≡ length s.queue
   pub entries : length s.queue ≤ length s'.queue
 
--- At an end the lengths are those of the state after t moves. Where a sink broke, the move in which it did may have
--- been made already.
+-- At an end the lengths are those of the state after t moves. Where a sink took no more, the move in which it didn't may
+-- have been made already.
 abbrev pub HoldsAt : Setting → State → ℕ → State → Option ℕ → Type 0
 HoldsAt g s t now None = SameLengths (after g s t) now
 HoldsAt g s t now (Some k) = SameLengths (after g s t) now ⊎ SameLengths (after g s (suc t)) now

@@ -1,4 +1,4 @@
--- Private to this crate: the fields of the engine, and what they stand for.
+-- Private to this crate: the fields of the machine, and what they stand for.
 use Rattle.std.specs.Prelude.{◌≡◌, ℕ, ◌<◌, ◌≤◌, Bool, true, false, Option, Some, None, List, [], ◌∷◌, length, map, slice_get}
 use Rattle.sedscript.specs.declared.types.Command.{Command}
 use Rattle.sedscript.specs.declared.types.Action.{Action}
@@ -10,7 +10,7 @@ use Rattle.sedengine.specs.Run.{Run}
 use Rattle.sedengine.specs.Fitting.{Seek}
 use Rattle.sedengine.specs.declared.place.Place.{Place}
 use Rattle.sedengine.specs.declared.place.Place.TheVariants as p
-use Rattle.sedengine.specs.declared.engine.Engine.TheInside.{Inside}
+use Rattle.sedengine.specs.declared.machine.Machine.TheInside.{Inside}
 
 -- the tasks that a place stands for
 abbrev pub tasks_of : Place → List Task
@@ -50,6 +50,7 @@ run_of a = record {
     tasks = tasks_of a.place;
     turns = a.turns;
   };
+  sent = [];  -- counted beside the machine
   ended = a.ended;
 }
 

@@ -11,6 +11,7 @@ pub mod Inside
 pub mod Limits
 pub mod Listing
 pub mod ListingParts
+pub mod Meters
 pub mod Move
 pub mod Queueing
 pub mod Run

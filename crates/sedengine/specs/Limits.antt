@@ -1,5 +1,5 @@
 -- The limits of a run (this project's own).
-use Rattle.std.specs.Prelude.{◌≤◌, ◌^◌, ℕ}
+use Rattle.std.specs.Prelude.{◌≤◌, ◌^◌, ℕ, Option, None}
 
 pub record Limits : Type 0 where
   pub space : ℕ  -- bytes in each of the spaces
@@ -7,9 +7,18 @@ pub record Limits : Type 0 where
   pub look : ℕ  -- bytes read ahead
   pub turns : ℕ  -- turns of a run
   pub nodes : ℕ  -- nodes of an expression
+  pub output : Option ℕ  -- bytes that each sink gains, where that is limited
 
+-- the limits of these numbers, without one on the output
 abbrev pub limits_of : ℕ → ℕ → ℕ → ℕ → ℕ → Limits
-limits_of space queue look turns nodes = record { space = space; queue = queue; look = look; turns = turns; nodes = nodes }
+limits_of space queue look turns nodes = record {
+  space = space;
+  queue = queue;
+  look = look;
+  turns = turns;
+  nodes = nodes;
+  output = None;
+}
 
 -- each number is in its range
 pub record AreLimits (l : Limits) : Type 0 where

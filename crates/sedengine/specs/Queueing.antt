@@ -1,5 +1,5 @@
 -- Private to this crate: what the engine's calls for the queue promise one another.
-use Rattle.std.specs.Prelude.{◌≡◌, ℕ, ◌<◌, ◌+◌, Result, Ok, Err, List, [], ◌∷◌, ◌++◌, length}
+use Rattle.std.specs.Prelude.{◌≡◌, ℕ, ◌<◌, Result, Ok, Err, [], ◌∷◌, ◌++◌, length}
 use Rattle.sedengine.specs.State.{Entry}
 use Rattle.sedengine.specs.Run.{Run}
 use Rattle.sedengine.specs.declared.ends.Ended.{Ended}

@@ -1,26 +1,38 @@
 -- The engine as its callers see it, and what a run of it comes to (this project's own).
-use Rattle.std.specs.Prelude.{◌≡◌, ℕ, ◌+◌, ◌<◌, Bool, true, false, Option, Some, None, Result, Ok, Err, List, [], ◌∷◌, ◌++◌, length, is_some, slice_get}
+use Rattle.std.specs.Prelude.{◌≡◌, ℕ, ◌+◌, ◌<◌, Bool, true, false, Option, Some, None, Result, Ok, Err, List, [], ◌∷◌, ◌++◌, length, is_some, slice_get, get_or, IfSome}
 use Rattle.sedre.specs.Arena.{Written, tree}
 use Rattle.sedmatch.specs.Matching.{found, report}
 use Rattle.sedscript.specs.Script.{Program}
 use Rattle.sedspace.specs.Stream.{TakesAtMost}
 use Rattle.sedengine.specs.Limits.{Limits}
-use Rattle.sedengine.specs.State.{Task, begin, rebegin, do_at, print_pattern, empty_pattern, flush, copy, fetch, join, State, Setting}
+use Rattle.sedengine.specs.State.{Task, begin, rebegin, State, Setting}
 use Rattle.sedengine.specs.Substitute.{Match}
 use Rattle.sedengine.specs.Move.{after, written}
-use Rattle.sedengine.specs.Ends.{Within, Cause, broken_sink}
+use Rattle.sedengine.specs.Devices.{part, GainedWithin}
+use Rattle.sedengine.specs.Ends.{Within, Cause, named_sink}
 use Rattle.sedengine.specs.Held.{HoldsAt}
 use Rattle.sedengine.specs.declared.ends.Ended.{Ended}
 use Rattle.sedengine.specs.declared.ends.Ended.TheVariants.{PatternFull, InputBroken}
 use Rattle.sedengine.specs.declared.ends.Progress.{Progress}
 use Rattle.sedengine.specs.declared.ends.Progress.TheVariants as progress
 
--- an engine: its script, its limits, its state without the lines, and the end that its run came to
+-- an engine: its script, its limits, its state without the lines, how many bytes each sink has gained since it was opened,
+-- which is counted where a limit is set, and the end that its run came to
 pub record Run : Type 0 where
   pub script : Program
   pub limits : Limits
   pub state : State
+  pub sent : List ℕ
   pub ended : Option Ended
+
+-- how many bytes a sink has gained since the engine was opened, where that is counted
+abbrev pub sent_to : Run → ℕ → ℕ
+sent_to e k = get_or e.sent k 0
+
+-- What the sinks gained in a call that led from one engine to another, which counts it.
+pub record Sends (e e' : Run) (old new : ℕ → Option (List ℕ)) (r : Result Unit Ended) (out : List (ℕ × ℕ)) : Type 0 where
+  pub gains : GainedWithin e.limits.output (sent_to e) old new r out
+  pub counts : IfSome e.limits.output (λ most. (k : ℕ) → sent_to e' k ≡ sent_to e k + length (part k out))
 
 -- its state with the lines that are left
 abbrev pub at_lines : Run → List (List ℕ) → State
@@ -92,7 +104,7 @@ pub record Ending (l : Limits) (g : Setting) (s : State) (gained : List (ℕ × 
   pub t : ℕ
   pub cause : Cause l g s gained end t
   pub takes : Takes g s old new (more_at l end) t
-  pub holds : HoldsAt g s t now (broken_sink end)
+  pub holds : HoldsAt g s t now (named_sink end)
 
 -- whether a cycle starts with the first task
 abbrev pub starts_cycle : List Task → Bool

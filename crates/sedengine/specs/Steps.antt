@@ -5,9 +5,9 @@ use Rattle.sedscript.specs.declared.types.Command.{Command}
 use Rattle.sedscript.specs.declared.types.Action.{Action}
 use Rattle.sedscript.specs.declared.types.Action.TheVariants.{NextLine, AppendNext}
 use Rattle.sedengine.specs.Limits.{Limits}
-use Rattle.sedengine.specs.State.{Task, begin, rebegin, do_at, print_pattern, empty_pattern, flush, copy, fetch, join, State, Move, Setting}
+use Rattle.sedengine.specs.State.{Task, do_at, State, Move, Setting}
 use Rattle.sedengine.specs.Move.{move, after, written}
-use Rattle.sedengine.specs.Ends.{Fits, HasTurn, Within, Cause, broken_sink, comes, reads}
+use Rattle.sedengine.specs.Ends.{Fits, HasTurn, Within, Cause, named_sink, comes, reads}
 use Rattle.sedengine.specs.Held.{HoldsAt, SameLengths}
 use Rattle.sedengine.specs.Run.{Run, InOneCycle, at_lines, size_of}
 use Rattle.sedengine.specs.declared.ends.Ended.{Ended}
@@ -26,7 +26,7 @@ pub record Ran (l : Limits) (g : Setting) (s now : State) (gained : List (ℕ ×
 pub record Stopped (l : Limits) (g : Setting) (s now : State) (gained : List (ℕ × ℕ) → Type 0) (end : Ended) : Type 0 where
   pub t : ℕ
   pub cause : Cause l g s gained end t
-  pub holds : HoldsAt g s t now (broken_sink end)
+  pub holds : HoldsAt g s t now (named_sink end)
   pub one : InOneCycle g s (t + 1)
   pub lines : (after g s t).lines ≡ now.lines
 

@@ -22,6 +22,8 @@ pub enum Ended {
     InputBroken,
     /// F7: this sink failed.
     OutputBroken(usize),
+    /// F8: this sink has gained all the bytes that the limits let it gain, and a further one is due.
+    OutputFull(usize),
 }
 
 /// What one cycle led to.
@@ -34,7 +36,7 @@ pub enum Progress {
 }
 
 /// What an engine holds: the bytes in its three spaces, the bytes that are read ahead, counted with their whole room,
-/// and the entries of the queue.
+/// and the entries of the queue. The counts of what sinks have gained are left out.
 #[derive(Clone, Copy, Debug, PartialEq, Eq)]
 pub struct Held {
     pub pattern: usize,

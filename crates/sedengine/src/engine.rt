@@ -1,125 +1,48 @@
-//! The engine: its parts, and the calls that run it.
-ghost use Rattle.std.specs.Prelude.{◌≡◌, ◌<◌, ◌≤◌, [], None, Some, Ok, Err, IfOk, IfSome, IsNone, false, length, replicate, ℕ, Option, List};
+//! The engine: a machine and a meter, and the calls that run it.
+ghost use Rattle.std.specs.Prelude.{◌≡◌, ◌<◌, ◌≤◌, ◌+◌, [], None, Some, Err, IfOk, IfSome, IsNone, length, replicate, ℕ, List};
 ghost use Rattle.std.specs.Option.{ForSome};
 ghost use Rattle.std.specs.Io.KnownBytes.{Keeps};
 ghost use Rattle.sedspace.specs.Failures.{Rose};
 ghost use Rattle.sedspace.specs.Stream.{lines_left};
 ghost use Rattle.sedengine.specs.Move.{start};
-ghost use Rattle.sedengine.specs.Devices.{Gained, FailedSink, FailedSource};
+ghost use Rattle.sedengine.specs.Devices.{FailedSink, FailedSource};
 ghost use Rattle.sedengine.specs.Held.{total_of, bound_of};
-ghost use Rattle.sedengine.specs.Run.{outcome, Cycles, Ending, SameRun, TellsFiles, at_lines, end_of, setting};
-
-mod addresses;
-mod commands;
-mod deleting;
-mod holding;
-mod moves;
-mod next;
-mod queueing;
-mod substituting;
-mod tasks;
+ghost use Rattle.sedengine.specs.Run.{outcome, Cycles, Ending, SameRun, Sends, TellsFiles, at_lines, end_of, setting};
 
 use crate::ends::{Ended, Held, Progress};
 use crate::limits::Limits;
-use crate::matchers::matchers_of;
-use crate::place::Place;
-use sedmatch::{Scratch, TableMatcher};
+use crate::machine::Machine;
+use crate::meter::{Meter, Metered};
 use sedscript::Script;
-use sedspace::{ByteSource, Lines, Outputs, Queue, Space, Texts};
+use sedspace::{ByteSource, Lines, Outputs, Texts};
 use std::alloc::{AllocError, Global};
 use std::marker::Model;
 
 /// An editor that runs a script over the lines of a stream.
 ///
-/// Contracts see it as a `Run`: its script, its limits, its state without the lines, and its end.
+/// Contracts see it as a `Run`: its script, its limits, its state without the lines, what its sinks have gained, and its
+/// end.
 #[derive(Drop)]
 pub struct Engine {
-    script: Script,
-    limits: Limits,
-    pattern: Space,
-    hold: Space,
-    build: Space,
-    queue: Queue,
-    scratch: Scratch,
-    // For each regular expression of the script, what seeks it.
-    matchers: Vec<TableMatcher>,
-    // For each command, whether its range is active.
-    ranges: Vec<bool>,
-    // The number of the regular expression last used.
-    used: Option<usize>,
-    // Whether a substitution was made, as the command `t` sees it.
-    replaced: bool,
-    number: u64,
-    place: Place,
-    turns: u64,
-    ended: Option<Ended>,
+    machine: Machine,
+    meter: Meter,
 }
 
 impl Model for Engine {
+    ghost use Rattle.std.specs.Prelude.{◌≡◌, ◌+◌, length};
     ghost use Rattle.sedengine.specs.Run.{Run};
-    ghost use Rattle.sedengine.specs.Inside.{run_of, IsRun};
 
     ghost Value = { Run };
 
-    ghost view = { run_of };
+    ghost view = { λ s. record s.machine { sent = s.meter.sent } };
 
-    ghost invariant = { IsRun };
-}
-
-// The states of so many ranges, none of which is active.
-fn idle_ranges(alloc: Global, count: usize) -> Result<Vec<bool>, AllocError>
-    ensures { IfOk result (λ ranges. ranges.items ≡ replicate count false) }
-{
-    vec![in alloc; false; count]
-}
-
-/// Room for searches: little where the script has no regular expression, since none is sought then.
-fn search_room(alloc: Global, script: &Script, limits: &Limits) -> Result<Scratch, AllocError>
-    ensures text { IfOk result (λ s. 0 < length script.now.expressions → s.text ≡ limits.now.space) }
-    ensures nodes { IfOk result (λ s. s.nodes ≡ limits.now.nodes) }
-{
-    let text = if script.expressions() == 0 {
-        0
-    } else {
-        limits.space()
-    };
-    Scratch::new(alloc, text, limits.nodes())
-}
-
-// The spaces and the queue of an engine, as they are made. They are made in a call of their own: what is let go where a
-// request is refused grows with each request, and so does the proof.
-#[derive(Drop)]
-struct Store {
-    pattern: Space,
-    hold: Space,
-    build: Space,
-    queue: Queue,
-}
-
-impl Store {
-    // Empty ones, whose room is reserved here.
-    fn new(alloc: Global, limits: &Limits) -> Result<Store, AllocError>
-        ensures pattern { IfOk result (λ s. s.pattern ≡ record { bytes = []; limit = limits.now.space }) }
-        ensures hold { IfOk result (λ s. s.hold ≡ record { bytes = []; limit = limits.now.space }) }
-        ensures build { IfOk result (λ s. s.build ≡ record { bytes = []; limit = limits.now.space }) }
-        ensures queue { IfOk result (λ s. s.queue ≡ record { items = []; limit = limits.now.queue }) }
-    {
-        let space = limits.space();
-        let pattern = Space::new(alloc, space)?;
-        let hold = Space::new(alloc, space)?;
-        let build = Space::new(alloc, space)?;
-        let queue = Queue::new(alloc, limits.queue())?;
-        Ok(Store {
-            pattern,
-            hold,
-            build,
-            queue,
-        })
-    }
+    ghost invariant = { λ s. (s.meter.most ≡ s.machine.limits.output)
+        × (length s.meter.sent ≡ length s.machine.script.wfiles + 1) };
 }
 
 impl Engine {
-    /// An engine that stands at the start of a run. It reserves all the memory that its run takes.
+    /// An engine that stands at the start of a run. It reserves all the memory that its run takes, with a count for each
+    /// sink that the script names.
     ///
     /// # Errors
     /// Where a request for memory was refused.
@@ -129,35 +52,13 @@ impl Engine {
           script = script;
           limits = limits;
           state = start script.commands [];
+          sent = replicate (length script.wfiles + 1) 0;
           ended = None;
         }) }
     {
-        let ranges = idle_ranges(alloc, script.len())?;
-        let scratch = search_room(alloc, &script, &limits)?;
-        let matchers = matchers_of(alloc, &script, limits.nodes())?;
-        let Store {
-            pattern,
-            hold,
-            build,
-            queue,
-        } = Store::new(alloc, &limits)?;
-        Ok(Engine {
-            script,
-            limits,
-            pattern,
-            hold,
-            build,
-            queue,
-            scratch,
-            matchers,
-            ranges,
-            used: None,
-            replaced: false,
-            number: 0,
-            turns: 0,
-            place: Place::Begin,
-            ended: None,
-        })
+        let meter = Meter::new(alloc, limits.output(), script.wfiles().len() + 1)?;
+        let machine = Machine::open(alloc, script, limits)?;
+        Ok(Engine { machine, meter })
     }
 
     /// Runs one cycle: the next line is read, the script runs over it, and the pattern space is written.
@@ -174,13 +75,13 @@ impl Engine {
     ) -> Progress
         requires look { lines.old.look ≡ self.old.limits.look }
         requires sinks { length self.old.script.wfiles < O.count outputs.old }
-        // The moves of one cycle were made, or the end came with its cause; this is what the sinks gained and what
-        // was taken from the source.
+        // The moves of one cycle were made, or the end came with its cause; this is what the sinks gained, within the
+        // limit, and what was taken from the source.
         ensures cycles { IsNone self.old.ended → lines.old.fault ≡ None →
             ForSome (lines_left R.remaining lines.old) (λ ls.
             (files : ℕ → List ℕ) → TellsFiles (T.text texts.old) files →
             Cycles self.old.limits (setting self.old files) (at_lines self.old ls)
-            (Gained (O.contents outputs.old) (O.contents outputs.new))
+            (Sends self.old self.new (O.contents outputs.old) (O.contents outputs.new) (outcome result))
             (R.remaining lines.old.source) (R.remaining lines.new.source)
             self.new (lines_left R.remaining lines.new) result) }
         // A device that the end names has failed in this call; before a next cycle none has.
@@ -198,13 +99,13 @@ impl Engine {
         ensures same_count { O.count outputs.new ≡ O.count outputs.old }
         ensures same_texts { (k : ℕ) → Keeps (T.text texts.old k) (T.text texts.new k) }
     {
-        if let Some(end) = self.ended {
-            return Progress::Ended(end);
-        }
-        let progress = self.moves_of_cycle(lines, outputs, texts);
-        if let Progress::Ended(end) = progress {
-            self.ended = Some(end);
-        }
+        let mut sinks = Metered {
+            outputs: &mut *outputs,
+            meter: &mut self.meter,
+        };
+        let progress = self.machine.cycle(lines, &mut sinks, texts);
+        // No sink has gained more than the limit.
+        let _ = self.meter.limit();
         progress
     }
 
@@ -220,12 +121,12 @@ impl Engine {
         requires look { lines.old.look ≡ self.old.limits.look }
         requires sinks { length self.old.script.wfiles < O.count outputs.old }
         // The end has its cause after some moves, from the engine's state and the lines left; the sinks have gained
-        // what these moves write, and this was taken from the source.
+        // what these moves write, within the limit, and this was taken from the source.
         ensures ends { IsNone self.old.ended → lines.old.fault ≡ None →
             ForSome (lines_left R.remaining lines.old) (λ ls.
             (files : ℕ → List ℕ) → TellsFiles (T.text texts.old) files →
             Ending self.old.limits (setting self.old files) (at_lines self.old ls)
-            (Gained (O.contents outputs.old) (O.contents outputs.new))
+            (Sends self.old self.new (O.contents outputs.old) (O.contents outputs.new) (Err result))
             (R.remaining lines.old.source) (R.remaining lines.new.source) self.new.state result) }
         // The device that the end names has failed in this run.
         ensures input { result ≡ Ended.InputBroken → IsNone self.old.ended → lines.old.fault ≡ None →
@@ -241,15 +142,18 @@ impl Engine {
         ensures same_count { O.count outputs.new ≡ O.count outputs.old }
         ensures same_texts { (k : ℕ) → Keeps (T.text texts.old k) (T.text texts.new k) }
     {
-        if let Some(end) = self.ended {
-            return end;
-        }
-        let end = self.moves(lines, outputs, texts);
-        self.ended = Some(end);
+        let mut sinks = Metered {
+            outputs: &mut *outputs,
+            meter: &mut self.meter,
+        };
+        let end = self.machine.run(lines, &mut sinks, texts);
+        // No sink has gained more than the limit.
+        let _ = self.meter.limit();
         end
     }
 
-    /// What the engine holds. The read-ahead counts with its whole room.
+    /// What the engine holds. The read-ahead counts with its whole room; the counts of what sinks have gained are
+    /// left out.
     pub fn held(&self) -> Held
         ensures pattern { result.pattern ≡ length self.now.state.pattern }
         ensures hold { result.hold ≡ length self.now.state.hold }
@@ -258,12 +162,6 @@ impl Engine {
         ensures queue { result.queue ≡ length self.now.state.queue }
         ensures bound { total_of result ≤ bound_of self.now.limits }
     {
-        Held {
-            pattern: self.pattern.len(),
-            hold: self.hold.len(),
-            build: self.build.len(),
-            look: self.limits.look(),
-            queue: self.queue.len(),
-        }
+        self.machine.held()
     }
 }

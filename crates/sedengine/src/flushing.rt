@@ -2,8 +2,8 @@
 ghost use Rattle.std.specs.Prelude.{◌≡◌, ◌<◌, ◌≤◌, [], ◌∷◌, Err, ℕ, List, slice_get};
 ghost use Rattle.std.specs.Io.KnownBytes.{Keeps};
 ghost use Rattle.sedengine.specs.State.{Entry, Task, copy, flush, State, Setting};
-ghost use Rattle.sedengine.specs.Devices.{Gained};
-ghost use Rattle.sedengine.specs.Calls.{Writes};
+ghost use Rattle.sedengine.specs.Meters.{Sent};
+ghost use Rattle.sedengine.specs.Calls.{Delivers};
 ghost use Rattle.sedengine.specs.Ends.{Fits};
 ghost use Rattle.sedengine.specs.Held.{SameLengths};
 ghost use Rattle.sedengine.specs.Run.{TellsFiles};
@@ -12,9 +12,10 @@ ghost use Rattle.sedengine.specs.Flushing.{Copies, Flushes};
 
 use crate::ends::Ended;
 use crate::limits::Limits;
+use crate::meter::Sinks;
 use crate::write::{write_all, write_line};
 use sedscript::{Action, Script};
-use sedspace::{Outputs, Queue, Space, Texts};
+use sedspace::{Queue, Space, Texts};
 
 /// How many bytes of a file are asked for at once: as many as the build space holds and as turns are left, but at least
 /// one, which tells whether a turn is due.
@@ -28,7 +29,7 @@ fn piece_size(limits: &Limits, left: u64) -> usize
 
 /// Writes a file's bytes to the standard output as they are, a turn each, through the build space (XCU sed, the command
 /// `r`).
-fn copy_file<O: Outputs, T: Texts>(
+fn copy_file<O: Sinks, T: Texts>(
     file: usize,
     limits: &Limits,
     turns: &mut u64,
@@ -43,8 +44,8 @@ fn copy_file<O: Outputs, T: Texts>(
         s.tasks ≡ copy file 0 ∷ rest → s.turns ≡ turns.old → Fits limits.now s →
         SameLengths s now → s.lines ≡ now.lines →
         Copies limits.now g s (record s { tasks = rest; turns = turns.new }) now
-        (Gained (O.contents outputs.old) (O.contents outputs.new)) result }
-    ensures output { Writes O.failures O.count outputs.old outputs.new result }
+        (Sent (O.tally outputs.old) (O.tally outputs.new)) result }
+    ensures output { Delivers O.tally O.count outputs.old outputs.new result }
     ensures input { result ≡ Err Ended.InputBroken → ⊥ }
     ensures limit { build.new.limit ≡ build.old.limit }
     ensures later { turns.old ≤ turns.new }
@@ -68,7 +69,7 @@ fn copy_file<O: Outputs, T: Texts>(
 }
 
 /// Writes an entry of the queue, by the number of its command: a text with a newline, a file as it is.
-fn write_entry<O: Outputs, T: Texts>(
+fn write_entry<O: Sinks, T: Texts>(
     script: &Script,
     entry: u64,
     limits: &Limits,
@@ -86,8 +87,8 @@ fn write_entry<O: Outputs, T: Texts>(
         s.queue ≡ entry_by script.now.texts (slice_get script.now.commands entry) ∷ later → s.turns ≡ turns.old →
         Fits limits.now s → SameLengths s now → s.lines ≡ now.lines →
         Copies limits.now g s (record s { queue = later; tasks = flush ∷ rest; turns = turns.new }) now
-        (Gained (O.contents outputs.old) (O.contents outputs.new)) result }
-    ensures output { Writes O.failures O.count outputs.old outputs.new result }
+        (Sent (O.tally outputs.old) (O.tally outputs.new)) result }
+    ensures output { Delivers O.tally O.count outputs.old outputs.new result }
     ensures input { result ≡ Err Ended.InputBroken → ⊥ }
     ensures limit { build.new.limit ≡ build.old.limit }
     ensures later { turns.old ≤ turns.new }
@@ -102,7 +103,7 @@ fn write_entry<O: Outputs, T: Texts>(
 }
 
 /// Writes the queue: texts with a newline, files as they are.
-pub(crate) fn flush_queue<O: Outputs, T: Texts>(
+pub(crate) fn flush_queue<O: Sinks, T: Texts>(
     script: &Script,
     queue: &Queue,
     limits: &Limits,
@@ -119,8 +120,8 @@ pub(crate) fn flush_queue<O: Outputs, T: Texts>(
         s.tasks ≡ flush ∷ rest → s.queue ≡ entries_of script.now queue.now.items → s.turns ≡ turns.old →
         Fits limits.now s →
         Flushes limits.now g s (record s { queue = []; tasks = rest; turns = turns.new })
-        (Gained (O.contents outputs.old) (O.contents outputs.new)) result }
-    ensures output { Writes O.failures O.count outputs.old outputs.new result }
+        (Sent (O.tally outputs.old) (O.tally outputs.new)) result }
+    ensures output { Delivers O.tally O.count outputs.old outputs.new result }
     ensures input { result ≡ Err Ended.InputBroken → ⊥ }
     ensures limit { build.new.limit ≡ build.old.limit }
     ensures later { turns.old ≤ turns.new }

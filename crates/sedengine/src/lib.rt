@@ -3,12 +3,13 @@
 //!
 //! What a run is to do stands in `specs/`: a state of the editor (`State`), the move that leads to the next state
 //! (`Move`, `Listing`, `Substitute`), which pattern spaces addresses select (`Select`), and what an end of a run means
-//! (`Ends`, `Held`, `Run`). The code makes these moves: `engine/tasks` starts and ends cycles, `engine/addresses` judges the
-//! addresses of a command, `engine/commands` acts, with a file beside it for each family: `deleting` for `c`, `d` and `D`,
+//! (`Ends`, `Held`, `Run`). The code makes these moves: `machine/tasks` starts and ends cycles, `machine/addresses` judges the
+//! addresses of a command, `machine/commands` acts, with a file beside it for each family: `deleting` for `c`, `d` and `D`,
 //! `holding` for `g`, `G`, `h`, `H` and `x`, `next` for `n` and `N`, `queueing` for `a` and `r`, `substituting` for `s`, `t` and
-//! `y`. `substitute` makes the text of `s`, `listing` that of `l`, `flushing` writes the queue, and `engine/moves` goes on to
-//! the end. `specs/Bringing`, `Calls`, `Choose`, `Flushing`, `Holding`, `Inside`, `ListingParts`, `Queueing`, `Replacing`,
-//! `Steps` and `Substituting` are private to this crate: what its calls promise one another.
+//! `y`. `substitute` makes the text of `s`, `listing` that of `l`, `flushing` writes the queue, and `machine/moves` goes on to
+//! the end. All of them write through `meter`, which limits what each sink gains. `specs/Bringing`, `Calls`, `Choose`,
+//! `Flushing`, `Holding`, `Inside`, `ListingParts`, `Meters`, `Queueing`, `Replacing`, `Steps` and `Substituting` are private
+//! to this crate: what its calls promise one another.
 //!
 //! Where a new command goes is told in docs/ARCHITECTURE.md.
 #![tactic(auto)]
@@ -19,7 +20,9 @@ mod flushing;
 pub mod laws;
 mod limits;
 mod listing;
+mod machine;
 mod matchers;
+mod meter;
 mod place;
 mod select;
 mod substitute;

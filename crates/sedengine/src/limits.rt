@@ -1,5 +1,5 @@
 //! The limits of a run.
-ghost use Rattle.std.specs.Prelude.{◌≡◌, ◌≤◌, ◌<◌, ◌^◌, IfSome, IsNone};
+ghost use Rattle.std.specs.Prelude.{◌≡◌, ◌≤◌, ◌<◌, ◌^◌, IfSome, IsNone, Some};
 ghost use Rattle.sedengine.specs.Limits.{limits_of, AreLimits};
 
 use std::marker::Model;
@@ -12,6 +12,7 @@ pub struct Limits {
     most_look: usize,
     most_turns: u64,
     most_nodes: usize,
+    most_output: Option<u64>,
 }
 
 impl Model for Limits {
@@ -19,7 +20,9 @@ impl Model for Limits {
 
     ghost Value = { Limits };
 
-    ghost view = { λ s. limits_of s.most_space s.most_queue s.most_look s.most_turns s.most_nodes };
+    ghost view = { λ s. record (limits_of s.most_space s.most_queue s.most_look s.most_turns s.most_nodes) {
+      output = s.most_output;
+    } };
 
     ghost inverse = { λ l. record {
       most_space = l.space;
@@ -27,13 +30,14 @@ impl Model for Limits {
       most_look = l.look;
       most_turns = l.turns;
       most_nodes = l.nodes;
+      most_output = l.output;
     } };
 
     ghost invariant = { λ s. AreLimits (limits_of s.most_space s.most_queue s.most_look s.most_turns s.most_nodes) };
 }
 
 impl Limits {
-    /// The limits of these numbers, or None where a number is out of its range.
+    /// The limits of these numbers, or None where a number is out of its range. What sinks may gain isn't limited.
     ///
     /// * `space`: the bytes that the pattern space, the hold space and the build space may hold each, 1 to 2^30
     /// * `queue`: the entries that wait for the end of a cycle, 0 to 2^24
@@ -53,9 +57,20 @@ impl Limits {
                 most_look: look,
                 most_turns: turns,
                 most_nodes: nodes,
+                most_output: None,
             })
         } else {
             None
+        }
+    }
+
+    /// The same limits, and no sink may gain more than so many bytes in the run.
+    pub fn with_output(self, bytes: u64) -> Limits
+        ensures { result ≡ record self { output = Some bytes } }
+    {
+        Limits {
+            most_output: Some(bytes),
+            ..self
         }
     }
 
@@ -99,5 +114,12 @@ impl Limits {
         ensures most { result ≤ 65536 }
     {
         self.most_nodes
+    }
+
+    /// The most bytes that each sink may gain, where that is limited.
+    pub fn output(&self) -> Option<u64>
+        ensures { result ≡ self.now.output }
+    {
+        self.most_output
     }
 }

@@ -3,12 +3,12 @@ ghost use Rattle.std.specs.Prelude.{◌≡◌, ◌+◌, ◌*◌, ◌<◌, ◌≤
 ghost use Rattle.sedengine.specs.Listing.{escape, item, listed, octal};
 ghost use Rattle.sedengine.specs.ListingParts.{ArePlain, Lists, plain, with_item, with_run};
 ghost use Rattle.sedengine.specs.Move.{to_sink};
-ghost use Rattle.sedengine.specs.Devices.{Gained};
-ghost use Rattle.sedengine.specs.Calls.{Puts, Writes};
+ghost use Rattle.sedengine.specs.Meters.{Sent};
+ghost use Rattle.sedengine.specs.Calls.{Puts, Delivers};
 
 use crate::ends::Ended;
+use crate::meter::Sinks;
 use crate::write::write_all;
-use sedspace::Outputs;
 use std::marker::Model;
 
 /// The most bytes of a piece of the listing.
@@ -22,10 +22,10 @@ const ROOM: usize = 1024;
 const PART: usize = ROOM / 6 - 1;
 
 /// Writes the listing of a text, as the command `l` does (XCU sed, "Editing Commands in sed").
-pub(crate) fn write_listing<O: Outputs>(outputs: &mut O, bytes: &[u8]) -> Result<(), Ended>
+pub(crate) fn write_listing<O: Sinks>(outputs: &mut O, bytes: &[u8]) -> Result<(), Ended>
     requires { 0 < O.count outputs.old }
-    ensures puts { Puts (Gained (O.contents outputs.old) (O.contents outputs.new)) (to_sink 0 (listed bytes.now)) result }
-    ensures devices { Writes O.failures O.count outputs.old outputs.new result }
+    ensures puts { Puts (Sent (O.tally outputs.old) (O.tally outputs.new)) (to_sink 0 (listed bytes.now)) result }
+    ensures devices { Delivers O.tally O.count outputs.old outputs.new result }
 {
     let mut gathered = Gathered::new();
     let mut rest = bytes;

@@ -1,4 +1,5 @@
 use Rattle.std.proofs.Common.{rules, ap, Ok}
+use Rattle.sedengine.proofs.Metering.{Cause-as}
 use Rattle.sed.specs.Program.{no_files}
 use Rattle.sed.proofs.ProgramLemmas.{has_failed, tells_none}
 use Rattle.sed.proofs.program.run_line.Goals as goal
@@ -24,5 +25,5 @@ returns-in-Ok-edit-clause-cause g c is = (
   rw (← c.nodes.ensures.value) c.in-Ok.ensures.gives,
   search rules,
   has_failed _ _ _ _ _ c.in-Ok-edit.end (search rules) c.in-Ok-edit.ensures.input c.in-Ok-edit.ensures.failed,
-  λ bytes known. let h = c.in-Ok-edit.ensures.ending bytes known no_files (tells_none c.new-texts.result.held.items (search rules)) in (h.t, h.cause),
+  λ bytes known. let h = c.in-Ok-edit.ensures.ending bytes known no_files (tells_none c.new-texts.result.held.items (search rules)) in (h.t, Cause-as _ _ _ _ _ c.in-Ok-edit.end h.t (λ out sent. sent.gained) h.cause),
 )

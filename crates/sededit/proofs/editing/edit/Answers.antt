@@ -4,13 +4,16 @@ use Rattle.sededit.proofs.editing.edit.Goals as goal
 
 pub returns-clause-ending : goal.returns-clause-ending
 returns-clause-ending g c x known files told =
-    Edits-run c.args.limits c.args.script files c.in_ok-engine.engine x _ _ _ _ _ _ _ c.in_ok-engine.ensures (search rules) (search rules)
+    Edits-run c.args.limits c.args.script files c.in_ok-engine.engine _ x _ _ _ _ _ _ _ _ c.in_ok-engine.ensures (search rules) (search rules)
     (c.run-ended.ensures.ends (search rules) (search rules) _ (search rules) files told)
 
 pub returns-clause-output : goal.returns-clause-output
 returns-clause-output g c x known files told =
     let h = returns-clause-ending g c x known files told in
-    Gains-beginning _ _ _ _ _ _ _ h.cause
+    let (t, b, sent) = Gains-beginning _ _ _ _ _ _ _ h.cause in
+    (t, b, sent.gained)
 
 pub returns-clause-whole : goal.returns-clause-whole
-returns-clause-whole g c is x known files told = Gains-all _ _ _ _ _ _ _ (search rules) (returns-clause-ending g c x known files told)
+returns-clause-whole g c is x known files told =
+    let (t, over, sent) = Gains-all _ _ _ _ _ _ _ (search rules) (returns-clause-ending g c x known files told) in
+    (t, over, sent.gained)

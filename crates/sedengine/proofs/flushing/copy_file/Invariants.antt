@@ -1,8 +1,8 @@
 use Rattle.std.proofs.Common.{◌≡◌, ◌+◌, ◌-◌, ◌≤◌, ℕ, List, Some, length, take, Ok}
 use Rattle.std.specs.Io.KnownBytes.{Keeps}
 use Rattle.sedengine.specs.Move.{to_sink}
-use Rattle.sedengine.specs.Devices.{Gained}
-use Rattle.sedengine.specs.Calls.{Writes}
+use Rattle.sedengine.specs.Meters.{Sent}
+use Rattle.sedengine.specs.Calls.{Delivers}
 use Rattle.sedengine.proofs.flushing.copy_file.Given as goal
 
 abbrev pub invariant-pieces : goal.invariant-pieces
@@ -11,10 +11,10 @@ invariant-pieces g l = record {
   turns : l.turns ≡ l.fn.turns + l.offset;
   most : l.turns ≤ l.limits.turns;
   kept : (j : ℕ) → Keeps (g.T.Texts.text l.fn.texts j) (g.T.Texts.text l.texts j);
-  output : Writes g.O.Outputs.failures g.O.Outputs.count l.fn.outputs l.outputs (Ok tt);
+  output : Delivers g.O.Sinks.tally g.O.Sinks.count l.fn.outputs l.outputs (Ok tt);
   copied : (bytes : List ℕ) → g.T.Texts.text l.fn.texts l.file ≡ Some bytes →
       (l.offset ≤ length bytes)
-      × Gained (g.O.Outputs.contents l.fn.outputs) (g.O.Outputs.contents l.outputs) (to_sink 0 (take l.offset bytes));
+      × Sent (g.O.Sinks.tally l.fn.outputs) (g.O.Sinks.tally l.outputs) (to_sink 0 (take l.offset bytes));
 }
 
 abbrev pub decreases-pieces : goal.decreases-pieces

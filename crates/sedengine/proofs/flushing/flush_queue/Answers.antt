@@ -3,7 +3,7 @@ use Rattle.std.proofs.KnownBytes.{Keeps-refl, Keeps-trans}
 use Rattle.std.proofs.lemmas.Result.{err_from_is_err_and}
 use Rattle.sedengine.specs.State.{flush, State}
 use Rattle.sedengine.specs.Inside.{entries_of}
-use Rattle.sedengine.proofs.Writing.{Writes-none, Writes-then}
+use Rattle.sedengine.proofs.Writing.{Delivers-none, Delivers-then}
 use Rattle.sedengine.proofs.Moves.{same_self}
 use Rattle.sedengine.proofs.Queueing.{queued_at, entries_left, entries_none, entries_fewer}
 use Rattle.sedengine.proofs.Entries.{tells_on, at_entries, fits_later, same_later, reached_more, reached_last, flush_begun, flush_done}
@@ -15,7 +15,7 @@ loop-index-init g c = record {
   later = omega arith;
   most = c.requires.before;
   kept = λ j. Keeps-refl _;
-  output = Writes-none _ _ _;
+  output = Delivers-none _ _ _;
   reached = λ setting tells s rest at queue turns fits. flush_begun c.args.limits.now setting s _ rest _ _ at queue turns fits;
 }
 
@@ -25,7 +25,7 @@ write_entry-requires-clause-queued g c = rw c.entry.ensures (queued_at c.args.sc
 pub returns-in_err-write_entry-clause-flushes : goal.returns-in_err-write_entry-clause-flushes
 returns-in_err-write_entry-clause-flushes g c = λ setting tells s rest at queue turns fits.
     let p = err_from_is_err_and c.from_residual.result c.from_residual.ensures.1 in
-    let contents = g.O.Outputs.contents in
+    let tally = g.O.Sinks.tally in
     let script = c.args.script.now in
     let items = c.args.queue.now.items in
     let h = c.loop-index.invariant in
@@ -35,12 +35,12 @@ returns-in_err-write_entry-clause-flushes g c = λ setting tells s rest at queue
     let left = entries_left script items c.loop-index.index c.entry.result (omega arith) c.entry.ensures in
     let call = c.in_err-write_entry.ensures.writes setting (tells_on _ _ _ tells h.kept) m s rest _ refl left refl
     (fits_later c.args.limits.now s later (flush ∷ rest) c.loop-index.turns fits fewer h.most) (same_later s s later rest c.loop-index.turns (same_self s) fewer) refl in
-    rw (p.1, p.2) (reached_last c.args.limits.now setting s m s (contents c.args.outputs.now) (contents c.loop-index.outputs) (contents c.write_entry.new.outputs) (Err c.in_err-write_entry.field-0.0)
+    rw (p.1, p.2) (reached_last c.args.limits.now setting s m s (tally c.args.outputs.now) (tally c.loop-index.outputs) (tally c.write_entry.new.outputs) (Err c.in_err-write_entry.field-0.0)
     (h.reached setting tells s rest at queue turns fits) call)
 
 pub loop-index-preserved : goal.loop-index-preserved
 loop-index-preserved g c =
-    let contents = g.O.Outputs.contents in
+    let tally = g.O.Sinks.tally in
     let script = c.args.script.now in
     let items = c.args.queue.now.items in
     let h = c.loop-index.invariant in
@@ -50,7 +50,7 @@ loop-index-preserved g c =
       later = omega (arith, e.later);
       most = e.turns;
       kept = λ j. Keeps-trans _ _ _ (h.kept j) (e.kept j);
-      output = Writes-then g.O.Outputs.failures g.O.Outputs.count c.args.outputs.now c.loop-index.outputs c.write_entry.new.outputs (Ok tt) h.output e.output;
+      output = Delivers-then g.O.Sinks.tally g.O.Sinks.count c.args.outputs.now c.loop-index.outputs c.write_entry.new.outputs (Ok tt) h.output e.output;
       reached = λ setting tells s rest at queue turns fits.
           let later = entries_of script (drop c.loop-index.index items) in
           let m : State = at_entries s later (flush ∷ rest) c.loop-index.turns in
@@ -58,7 +58,7 @@ loop-index-preserved g c =
           let left = entries_left script items c.loop-index.index c.entry.result (omega arith) c.entry.ensures in
           let call = e.writes setting (tells_on _ _ _ tells h.kept) m m rest _ refl left refl
           (fits_later c.args.limits.now s later (flush ∷ rest) c.loop-index.turns fits fewer h.most) (same_self m) refl in
-          reached_more c.args.limits.now setting s m _ (contents c.args.outputs.now) (contents c.loop-index.outputs) (contents c.write_entry.new.outputs)
+          reached_more c.args.limits.now setting s m _ (tally c.args.outputs.now) (tally c.loop-index.outputs) (tally c.write_entry.new.outputs)
           (h.reached setting tells s rest at queue turns fits) call refl;
     }
 

@@ -1,7 +1,7 @@
 use Rattle.std.proofs.Common.{◌≡◌, ◌≤◌, ◌∷◌, ℕ, List, drop, Ok}
 use Rattle.std.specs.Io.KnownBytes.{Keeps}
 use Rattle.sedengine.specs.State.{Task, flush, State, Setting}
-use Rattle.sedengine.specs.Calls.{Writes}
+use Rattle.sedengine.specs.Calls.{Delivers}
 use Rattle.sedengine.specs.Ends.{Fits}
 use Rattle.sedengine.specs.Run.{TellsFiles}
 use Rattle.sedengine.specs.Inside.{entries_of}
@@ -14,9 +14,9 @@ invariant-loop-index g l = record {
   later : l.fn.turns ≤ l.turns;
   most : l.turns ≤ l.limits.turns;
   kept : (j : ℕ) → Keeps (g.T.Texts.text l.fn.texts j) (g.T.Texts.text l.texts j);
-  output : Writes g.O.Outputs.failures g.O.Outputs.count l.fn.outputs l.outputs (Ok tt);
+  output : Delivers g.O.Sinks.tally g.O.Sinks.count l.fn.outputs l.outputs (Ok tt);
   reached : (setting : Setting) → TellsFiles (g.T.Texts.text l.fn.texts) setting.files → (s : State) (rest : List Task) →
       s.tasks ≡ flush ∷ rest → s.queue ≡ entries_of l.script l.queue.items → s.turns ≡ l.fn.turns → Fits l.limits s →
       Reached l.limits setting s (at_entries s (entries_of l.script (drop l.index l.queue.items)) (flush ∷ rest) l.turns)
-      (g.O.Outputs.contents l.fn.outputs) (g.O.Outputs.contents l.outputs);
+      (g.O.Sinks.tally l.fn.outputs) (g.O.Sinks.tally l.outputs);
 }

@@ -2,51 +2,51 @@ use Rattle.std.proofs.Common.{◌≡◌, ◌++◌, ap, take-append-drop}
 use Rattle.std.proofs.lemmas.Result.{err_from_is_err_and}
 use Rattle.sedengine.specs.ListingParts.{Listing}
 use Rattle.sedengine.proofs.ListingLemmas.{written_none, written_more, written_not, written_end}
-use Rattle.sedengine.proofs.Writing.{Writes-none, Writes-then}
+use Rattle.sedengine.proofs.Writing.{Delivers-none, Delivers-then}
 use Rattle.sedengine.proofs.listing.write_listing.Goals as goal
 
 pub parts-init : goal.parts-init
 parts-init g c = record {
   empty = cc;
-  written = written_none (g.O.Outputs.contents c.args.outputs.now) c.args.bytes.now c.new-gathered.result.column cc;
-  devices = Writes-none _ _ _;
+  written = written_none (g.O.Sinks.tally c.args.outputs.now) c.args.bytes.now c.new-gathered.result.column cc;
+  devices = Delivers-none _ _ _;
 }
 
 pub returns-in_err-write_all-clause-puts : goal.returns-in_err-write_all-clause-puts
 returns-in_err-write_all-clause-puts g c =
-    let contents = g.O.Outputs.contents in
+    let tally = g.O.Sinks.tally in
     let l = c.parts in
     let part = c.split_at.result.0.now in
     let after = c.split_at.result.1.now in
     let split : l.rest.now ≡ part ++ after = cc (take-append-drop 169 l.rest.now) in
     let p = err_from_is_err_and c.from_residual.result c.from_residual.ensures.1 in
     let out = rw c.bytes.ensures at c.in_err-write_all.ensures.puts in
-    rw (p.1, p.2) (written_not (contents c.args.outputs.now) (contents l.outputs) (contents c.write_all.new.outputs)
+    rw (p.1, p.2) (written_not (tally c.args.outputs.now) (tally l.outputs) (tally c.write_all.new.outputs)
     c.args.bytes.now l.rest.now part after l.gathered c.list.new.self _ l.invariant.written l.invariant.empty split
     c.list.ensures.lists out)
 
 pub parts-preserved : goal.parts-preserved
 parts-preserved g c =
-    let contents = g.O.Outputs.contents in
+    let tally = g.O.Sinks.tally in
     let l = c.parts in
     let part = c.split_at.result.0.now in
     let after = c.split_at.result.1.now in
     let split : l.rest.now ≡ part ++ after = cc (take-append-drop 169 l.rest.now) in
     let out = rw c.bytes.ensures at c.in_ok-write_all.ensures.puts in
-    let w = written_more (contents c.args.outputs.now) (contents l.outputs) (contents c.write_all.new.outputs)
+    let w = written_more (tally c.args.outputs.now) (tally l.outputs) (tally c.write_all.new.outputs)
     c.args.bytes.now l.rest.now part after l.gathered c.list.new.self l.invariant.written l.invariant.empty split
     c.list.ensures.lists out in
     record {
       empty = ap (λ (x : Listing). x.bytes) c.clear.ensures;
       written = rw c.clear.ensures w;
-      devices = Writes-then _ _ _ _ _ _ l.invariant.devices c.in_ok-write_all.ensures.devices;
+      devices = Delivers-then _ _ _ _ _ _ l.invariant.devices c.in_ok-write_all.ensures.devices;
     }
 
 pub returns-clause-puts : goal.returns-clause-puts
 returns-clause-puts g c =
-    let contents = g.O.Outputs.contents in
+    let tally = g.O.Sinks.tally in
     let l = c.parts in
     let out = rw (c.bytes-2.ensures, c.finish.ensures) at c.write_all-2.ensures.puts in
-    written_end (contents c.args.outputs.now) (contents l.outputs) (contents c.write_all-2.new.outputs) c.args.bytes.now
+    written_end (tally c.args.outputs.now) (tally l.outputs) (tally c.write_all-2.new.outputs) c.args.bytes.now
     l.rest.now l.gathered c.list-2.new.self c.write_all-2.result l.invariant.written l.invariant.empty
     c.list-2.ensures.lists out

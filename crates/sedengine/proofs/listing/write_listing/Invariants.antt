@@ -1,14 +1,14 @@
 use Rattle.std.proofs.Common.{◌≡◌, [], length, Ok}
 use Rattle.sedengine.specs.ListingParts.{Written}
-use Rattle.sedengine.specs.Devices.{Gained}
-use Rattle.sedengine.specs.Calls.{Writes}
+use Rattle.sedengine.specs.Meters.{Sent}
+use Rattle.sedengine.specs.Calls.{Delivers}
 use Rattle.sedengine.proofs.listing.write_listing.Given as goal
 
 abbrev pub invariant-parts : goal.invariant-parts
 invariant-parts g l = record {
   empty : l.gathered.bytes ≡ [];
-  written : Written (Gained (g.O.Outputs.contents l.fn.outputs) (g.O.Outputs.contents l.outputs)) l.bytes l.rest l.gathered.column;
-  devices : Writes g.O.Outputs.failures g.O.Outputs.count l.fn.outputs l.outputs (Ok tt);
+  written : Written (Sent (g.O.Sinks.tally l.fn.outputs) (g.O.Sinks.tally l.outputs)) l.bytes l.rest l.gathered.column;
+  devices : Delivers g.O.Sinks.tally g.O.Sinks.count l.fn.outputs l.outputs (Ok tt);
 }
 
 abbrev pub decreases-parts : goal.decreases-parts

@@ -1,7 +1,16 @@
-use Rattle.sedengine.specs.Inside.{run_of}
-use Rattle.sedengine.proofs.Runs.{cycle_seen}
+use Rattle.std.proofs.Common.{refl, subst, sym, ap, rules}
+use Rattle.std.specs.Prelude.{IsNone}
+use Rattle.sedengine.specs.Meters.{Frame}
+use Rattle.sedengine.specs.Run.{Run}
+use Rattle.sedengine.proofs.Metering.{cycles_metered}
 use Rattle.sedengine.proofs.engine.Engine.cycle.Goals as goal
 
-pub returns-in-Ended-clause-cycles : goal.returns-in-Ended-clause-cycles
-returns-in-Ended-clause-cycles g c = λ fresh sound ls known files told.
-    cycle_seen c.moves_of_cycle-progress.new.self (run_of c.self-2.inside) c.self-2.view_is (c.in-Ended.ensures.cycles sound ls known files told)
+pub returns-clause-cycles : goal.returns-clause-cycles
+returns-clause-cycles g c = λ fresh sound ls known files told.
+    let machine = c.self.inside.machine in
+    let w = c.cycle-progress.ensures in
+    let N : Run → Type 0 = λ e. IsNone e.ended in
+    let unended = subst N (sym c.self.view_is) fresh in
+    cycles_metered g.O.Outputs.contents machine c.cycle-progress.new.self c.self.inside.meter c.cycle-progress.new.outputs.meter.now c.args.self.now c.args.outputs.now c.cycle-progress.new.outputs.outputs.now _ _ _ _ _ files ls _ _
+    c.self.view_is c.self.invariant.0 (search rules) (ap (λ (f : Frame). f.most) w.same_frame) refl c.limit.ensures.within _ _ (w.output unended).full
+    (w.cycles unended sound ls known files told)

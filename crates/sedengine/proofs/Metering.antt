@@ -1,0 +1,103 @@
+-- What a metered call of the machine tells of the engine.
+use Rattle.std.proofs.Common.{◌≡◌, ℕ, suc, zero, ◌+◌, ◌≤◌, List, [], ◌∷◌, length, get_or, Option, Some, None, Result, Ok, Err, refl, subst, sym, ap, ◌∙◌, arith}
+use Rattle.std.specs.Prelude.{IfSome}
+use Rattle.std.specs.List.{All}
+use Rattle.sedengine.specs.Limits.{Limits}
+use Rattle.sedengine.specs.State.{State, Setting}
+use Rattle.sedengine.specs.Devices.{part, FillsSink, GainedWithin}
+use Rattle.sedengine.specs.Ends.{Cause, WholeOrCut, named_sink}
+use Rattle.sedengine.specs.Meters.{Frame, FullSink, InLimit, Meter, Sent, Tally, counted}
+use Rattle.sedengine.specs.Run.{Cycles, Ending, Run, Sends, at_lines, outcome, setting}
+use Rattle.sedengine.specs.declared.ends.Ended.{Ended}
+use Rattle.sedengine.specs.declared.ends.Ended.TheVariants.{OutputFull}
+use Rattle.sedengine.specs.declared.ends.Progress.{Progress}
+use Rattle.sedengine.specs.declared.ends.Progress.TheVariants as progress
+
+-- an end has its cause whatever more is said of what the sinks gained
+WholeOrCut-as : (l : Limits) (g : Setting) (s : State) (P Q : List (ℕ × ℕ) → Type 0) (end : Ended) (t : ℕ) (o : Option ℕ) → ((out : List (ℕ × ℕ)) → P out → Q out) → WholeOrCut l g s P end t o → WholeOrCut l g s Q end t o
+WholeOrCut-as l g s P Q end t None f h = record { within = h.within; sinks = f _ h.sinks; cause = h.cause }
+WholeOrCut-as l g s P Q end t (Some k) f h = record { within = h.within; b = h.b; byte = h.byte; past = h.past; due = h.due; sinks = f _ h.sinks }
+
+pub Cause-as : (l : Limits) (g : Setting) (s : State) (P Q : List (ℕ × ℕ) → Type 0) (end : Ended) (t : ℕ) → ((out : List (ℕ × ℕ)) → P out → Q out) → Cause l g s P end t → Cause l g s Q end t
+Cause-as l g s P Q end t f h = WholeOrCut-as l g s P Q end t (named_sink end) f h
+
+Ending-as : (l : Limits) (g : Setting) (s : State) (P Q : List (ℕ × ℕ) → Type 0) (old new : Option (List ℕ)) (now : State) (end : Ended) → ((out : List (ℕ × ℕ)) → P out → Q out) → Ending l g s P old new now end → Ending l g s Q old new now end
+Ending-as l g s P Q old new now end f h = record { t = h.t; cause = Cause-as l g s P Q end h.t f h.cause; takes = h.takes; holds = h.holds }
+
+Cycles-as : (l : Limits) (g : Setting) (s : State) (P Q : List (ℕ × ℕ) → Type 0) (old new : Option (List ℕ)) (e : Run) (sent : List ℕ) (left : Option (List (List ℕ))) (r : Progress) → ((out : List (ℕ × ℕ)) → P out → Q out) →
+    Cycles l g s P old new e left r → Cycles l g s Q old new (record e { sent = sent }) left r
+unfolding Ending-as
+Cycles-as l g s P Q old new e sent left progress.More f (rest, are, h) =
+    (rest, are, record { t = h.t; some = h.some; is = h.is; next = h.next; one = h.one; within = h.within; sinks = f _ h.sinks; takes = h.takes })
+Cycles-as l g s P Q old new e sent left (progress.Ended end) f h = record { ending = Ending-as l g s P Q old new e.state end f h.ending; one = h.one }
+
+within_limit : (n : ℕ) (xs : List ℕ) (k : ℕ) → All (λ m. m ≤ n) xs → get_or xs k 0 ≤ n
+within_limit n [] k h = omega arith
+within_limit n (x ∷ xs) zero h = h 0 0 (omega arith)
+within_limit n (x ∷ xs) (suc k) h = within_limit n xs k (λ j d lt. h (suc j) d (omega (arith, lt)))
+
+-- sinks with these contents, failures and counts
+abbrev pub tally_of : (ℕ → Option (List ℕ)) → (ℕ → ℕ) → Option ℕ → List ℕ → Frame → Tally
+tally_of contents failures most sent frame = record { contents = contents; failures = failures; sent = counted most sent; frame = frame }
+
+module _ (sent sent' : List ℕ) (old new : ℕ → Option (List ℕ)) (f f' : ℕ → ℕ) (a a' : Frame) (out : List (ℕ × ℕ)) where
+  counts_on : (most : Option ℕ) → Sent (tally_of old f most sent a) (tally_of new f' most sent' a') out → IfSome most (λ n. (k : ℕ) → get_or sent' k 0 ≡ get_or sent k 0 + length (part k out))
+  counts_on None h = tt
+  counts_on (Some n) h = h.counts
+
+  stays_within : (most : Option ℕ) → InLimit most sent' → Sent (tally_of old f most sent a) (tally_of new f' most sent' a') out → IfSome most (λ n. (k : ℕ) → get_or sent k 0 + length (part k out) ≤ n)
+  stays_within None within h = tt
+  stays_within (Some n) within h = λ k. rw (← h.counts k) (within_limit n sent' k within)
+
+  fills : (most : Option ℕ) (r : Result Unit Ended) → a'.most ≡ most → FullSink (tally_of new f' most sent' a') r → Sent (tally_of old f most sent a) (tally_of new f' most sent' a') out → FillsSink most (λ k. get_or sent k 0) out r
+  fills most (Ok u) same full h = tt
+  fills None (Err (OutputFull k)) same (n, is, told) h = cc
+  fills (Some m) (Err (OutputFull k)) same (n, is, told) h = let counts = h.counts k in sym same ∙ is ∙ sym told ∙ ap Some counts
+  fills most (Err other) same full h = tt
+
+-- what the machine's sinks have gained by the meter is what the engine's have
+pub sends : (e e' : Run) (m m' : Meter) (old new : ℕ → Option (List ℕ)) (f f' : ℕ → ℕ) (a a' : Frame) (r : Result Unit Ended) (out : List (ℕ × ℕ)) → m.most ≡ e.limits.output → m'.most ≡ m.most → a'.most ≡ m'.most →
+    m.sent ≡ e.sent → m'.sent ≡ e'.sent → InLimit m'.most m'.sent → FullSink (tally_of new f' m'.most m'.sent a') r → Sent (tally_of old f m.most m.sent a) (tally_of new f' m'.most m'.sent a') out → Sends e e' old new r out
+sends e e' m m' old new f f' a a' r out limit same frame before now within full h =
+    let W : Option ℕ → Type 0 = λ o. InLimit o m'.sent in
+    let F : Option ℕ → Type 0 = λ o. FullSink (tally_of new f' o m'.sent a') r in
+    let S : Option ℕ → Type 0 = λ o. Sent (tally_of old f m.most m.sent a) (tally_of new f' o m'.sent a') out in
+    let G : Option ℕ → List ℕ → Type 0 = λ o sent. GainedWithin o (λ k. get_or sent k 0) old new r out in
+    let C : Option ℕ → List ℕ → List ℕ → Type 0 = λ o sent sent'. IfSome o (λ n. (k : ℕ) → get_or sent' k 0 ≡ get_or sent k 0 + length (part k out)) in
+    let within' = subst W same within in
+    let full' = subst F same full in
+    let h' = subst S same h in
+    let gains : G m.most m.sent = record {
+      gained = h.gained;
+      within = stays_within m.sent m'.sent old new f f' a a' out m.most within' h';
+      full = fills m.sent m'.sent old new f f' a a' out m.most r (frame ∙ same) full' h';
+    } in
+    let counts : C m.most m.sent m'.sent = counts_on m.sent m'.sent old new f f' a a' out m.most h' in
+    record {
+      gains = subst (λ o. G o e.sent) limit (subst (λ sent. G m.most sent) before gains);
+      counts = subst (λ o. C o e.sent e'.sent) limit (subst (λ sent. C m.most sent e'.sent) before (subst (λ sent. C m.most m.sent sent) now counts));
+    }
+
+-- A call of the machine m by the meter, which became m' and led to the machine m', is one of the engine that is seen as e.
+module _ {O : Type 0} (contents : O → ℕ → Option (List ℕ)) (m m' : Run) (meter meter' : Meter) (e : Run) (before after now : O) (f f' : ℕ → ℕ) (a a' : Frame) (files : ℕ → List ℕ) (ls : List (List ℕ)) (old new : Option (List ℕ))
+    (seen : record m { sent = meter.sent } ≡ e) (limit : meter.most ≡ m.limits.output) (is : now ≡ after) (same : meter'.most ≡ meter.most) (frame : a'.most ≡ meter'.most) (within : InLimit meter'.most meter'.sent) where
+  sends_all : (r : Result Unit Ended) → FullSink (tally_of (contents after) f' meter'.most meter'.sent a') r → (out : List (ℕ × ℕ)) →
+      Sent (tally_of (contents before) f meter.most meter.sent a) (tally_of (contents after) f' meter'.most meter'.sent a') out →
+      Sends (record m { sent = meter.sent }) (record m' { sent = meter'.sent }) (contents before) (contents now) r out
+  sends_all r full out h =
+      let Q : O → Type 0 = λ o. Sends (record m { sent = meter.sent }) (record m' { sent = meter'.sent }) (contents before) (contents o) r out in
+      subst Q (sym is) (sends (record m { sent = meter.sent }) (record m' { sent = meter'.sent }) meter meter' (contents before) (contents after) f f' a a' r out limit same frame refl refl within full h)
+
+  pub cycles_metered : (left : Option (List (List ℕ))) (r : Progress) → FullSink (tally_of (contents after) f' meter'.most meter'.sent a') (outcome r) →
+      Cycles m.limits (setting m files) (at_lines m ls) (Sent (tally_of (contents before) f meter.most meter.sent a) (tally_of (contents after) f' meter'.most meter'.sent a')) old new m' left r →
+      Cycles e.limits (setting e files) (at_lines e ls) (Sends e (record m' { sent = meter'.sent }) (contents before) (contents now) (outcome r)) old new (record m' { sent = meter'.sent }) left r
+  cycles_metered left r full h =
+      let Q : Run → Type 0 = λ e. Cycles e.limits (setting e files) (at_lines e ls) (Sends e (record m' { sent = meter'.sent }) (contents before) (contents now) (outcome r)) old new (record m' { sent = meter'.sent }) left r in
+      subst Q seen (Cycles-as m.limits (setting m files) (at_lines m ls) _ _ old new m' meter'.sent left r (sends_all (outcome r) full) h)
+
+  pub ending_metered : (end : Ended) → FullSink (tally_of (contents after) f' meter'.most meter'.sent a') (Err end) →
+      Ending m.limits (setting m files) (at_lines m ls) (Sent (tally_of (contents before) f meter.most meter.sent a) (tally_of (contents after) f' meter'.most meter'.sent a')) old new m'.state end →
+      Ending e.limits (setting e files) (at_lines e ls) (Sends e (record m' { sent = meter'.sent }) (contents before) (contents now) (Err end)) old new m'.state end
+  ending_metered end full h =
+      let Q : Run → Type 0 = λ e. Ending e.limits (setting e files) (at_lines e ls) (Sends e (record m' { sent = meter'.sent }) (contents before) (contents now) (Err end)) old new m'.state end in
+      subst Q seen (Ending-as m.limits (setting m files) (at_lines m ls) _ _ old new m'.state end (sends_all (Err end) full) h)

@@ -1,0 +1,32 @@
+use Rattle.std.proofs.Common.{[], true, false, Ok, Err, ap}
+use Rattle.sedscript.specs.declared.types.Action.TheVariants.{Change}
+use Rattle.sedspace.specs.Spaces.{Contents}
+use Rattle.sedengine.specs.Run.{setting, at_lines}
+use Rattle.sedengine.specs.Move.{acts}
+use Rattle.sedengine.specs.declared.place.Place.TheVariants as p
+use Rattle.sedengine.proofs.Sending.{Sent-none}
+use Rattle.sedengine.proofs.Deleting.{change_is, change_stops, deletes, text_put}
+use Rattle.sedengine.proofs.machine.Machine.act_change.Goals as goal
+
+pub returns-then-not-tells-clause-acts : goal.returns-then-not-tells-clause-acts
+returns-then-not-tells-clause-acts g c = λ files told ls.
+    let e = c.args.self.now in
+    let none = ap (λ (c : Contents). c.bytes) c.clear.ensures in
+    let old = g.O.Sinks.tally c.args.outputs.now in
+    deletes c.self.inside e c.end_cycle.new.self files ls (acts (setting e files) (at_lines e ls) c.args.tells (Change c.args.text)) p.Begin c.clear.new.self old old (g.O.Sinks.tally c.end_cycle.new.outputs) [] c.end_cycle.result c.self.view_is
+    (change_is e files ls c.args.text c.args.tells false c.clear.new.self none c.if-not-tells.true) (Sent-none old) (c.end_cycle.ensures.moves files told ls)
+
+pub returns-in-Ok-clause-acts : goal.returns-in-Ok-clause-acts
+returns-in-Ok-clause-acts g c = λ files told ls.
+    let e = c.args.self.now in
+    let none = ap (λ (c : Contents). c.bytes) c.clear.ensures in
+    deletes c.self.inside e c.end_cycle-in-Ok.new.self files ls (acts (setting e files) (at_lines e ls) c.args.tells (Change c.args.text)) p.Begin c.clear.new.self (g.O.Sinks.tally c.args.outputs.now) (g.O.Sinks.tally c.write_line.new.outputs)
+    (g.O.Sinks.tally c.end_cycle-in-Ok.new.outputs) _ c.end_cycle-in-Ok.result c.self.view_is
+    (change_is e files ls c.args.text c.args.tells true c.clear.new.self none c.if-not-tells.false) (text_put c.self.inside e c.args.text _ _ _ (Ok tt) c.self.view_is c.text.ensures c.in-Ok.ensures.puts) (c.end_cycle-in-Ok.ensures.moves files told ls)
+
+pub returns-in-Err-clause-acts : goal.returns-in-Err-clause-acts
+returns-in-Err-clause-acts g c = λ files told ls.
+    let e = c.args.self.now in
+    let none = ap (λ (c : Contents). c.bytes) c.clear.ensures in
+    change_stops c.self.inside e files ls (acts (setting e files) (at_lines e ls) c.args.tells (Change c.args.text)) c.clear.new.self (g.O.Sinks.tally c.args.outputs.now) (g.O.Sinks.tally c.write_line.new.outputs) _ c.in-Err.end c.self.view_is c.self.invariant none
+    (change_is e files ls c.args.text c.args.tells true c.clear.new.self none c.if-not-tells.false) (text_put c.self.inside e c.args.text _ _ _ (Err c.in-Err.end) c.self.view_is c.text.ensures c.in-Err.ensures.puts)

@@ -1,0 +1,73 @@
+use Rattle.std.proofs.Common.{◌∙◌, refl, sym, ap, subst, arith}
+use Rattle.sedengine.specs.State.{State}
+use Rattle.sedengine.specs.Ends.{Fits}
+use Rattle.sedengine.specs.Run.{Run, at_lines, setting, starts_cycle}
+use Rattle.sedengine.proofs.Writing.{Delivers-none, Delivers-then}
+use Rattle.sedengine.proofs.Streams.{Reads-none, Reads-then}
+use Rattle.sedengine.proofs.Moves.{InOneCycle-more}
+use Rattle.sedengine.proofs.Runs.{Reached, Reached-none, KeepsRun-then, step_on, stop_on, one_on, some_on, one_stop, cycled}
+use Rattle.sedengine.proofs.Tasks.{fits_of}
+use Rattle.std.proofs.KnownBytes.{Keeps-refl, Keeps-trans}
+use Rattle.sedengine.proofs.Entries.{tells_on}
+use Rattle.sedengine.proofs.machine.Machine.moves_of_cycle.Goals as goal
+
+pub moves-init : goal.moves-init
+moves-init g c = record {
+  same = record { script = refl; limits = refl; ended = refl };
+  input = Reads-none _ _ _ _;
+  output = Delivers-none _ _ _;
+  kept = λ j. Keeps-refl _;
+  reached = λ sound ls known files told.
+      let P : Run → Type 0 = λ e. Fits e.limits (at_lines e ls) in
+      (Reached-none _ _ _ _ c.args.self.now ls _ known (subst P c.self.view_is (fits_of c.self.inside ls c.self.invariant)), λ k some lt. absurd (omega arith));
+}
+
+pub returns-in-Err-clause-input : goal.returns-in-Err-clause-input
+returns-in-Err-clause-input g c = Reads-then _ _ _ _ _ _ _ c.moves.invariant.input c.in-Err.ensures.input
+
+pub returns-in-Err-clause-cycles : goal.returns-in-Err-clause-cycles
+returns-in-Err-clause-cycles g c = λ sound ls known files told.
+    let h = c.moves.invariant in
+    let reached = h.reached sound ls known files told in
+    let r = reached.0 in
+    let input = Reads-then _ _ _ _ _ _ _ h.input c.in-Err.ensures.input in
+    let stop = c.in-Err.ensures.steps (h.input.sound sound) r.rest r.taken.known files (tells_on _ _ files told h.kept) in
+    record {
+      ending = stop_on g.R.ByteSource.remaining c.args.lines.now c.moves.lines c.step.new.lines files c.args.self.now _ c.moves.self _ _ _ h.same r c.step.new.self c.in-Err.end stop input.shrinks input.ahead c.requires.look;
+      one = one_stop g.R.ByteSource.remaining c.args.lines.now c.moves.lines c.step.new.lines files c.args.self.now _ c.moves.self _ _ _ h.same r c.step.new.self c.in-Err.end stop reached.1;
+    }
+
+pub returns-then-at_start-clause-input : goal.returns-then-at_start-clause-input
+returns-then-at_start-clause-input g c = Reads-then _ _ _ _ _ _ _ c.moves.invariant.input c.in_default.ensures.input
+
+pub returns-then-at_start-clause-cycles : goal.returns-then-at_start-clause-cycles
+returns-then-at_start-clause-cycles g c = λ sound ls known files told.
+    let h = c.moves.invariant in
+    let reached = h.reached sound ls known files told in
+    let r = reached.0 in
+    let input = Reads-then _ _ _ _ _ _ _ h.input c.in_default.ensures.input in
+    let ran = c.in_default.ensures.steps (h.input.sound sound) r.rest r.taken.known files (tells_on _ _ files told h.kept) in
+    let next : Reached g.R.ByteSource.remaining c.args.lines.now c.step.new.lines _ (setting c.args.self.now files) (at_lines c.args.self.now ls) c.step.new.self _ _ =
+    step_on g.R.ByteSource.remaining c.args.lines.now c.moves.lines c.step.new.lines files c.args.self.now _ c.moves.self _ _ _ h.same r c.step.new.self ran in
+    let one = one_on g.R.ByteSource.remaining c.args.lines.now c.moves.lines c.step.new.lines files c.args.self.now _ c.moves.self _ _ _ h.same r c.step.new.self ran reached.1 in
+    let some = some_on g.R.ByteSource.remaining c.args.lines.now c.moves.lines c.step.new.lines files c.args.self.now _ c.moves.self _ _ _ h.same r c.step.new.self ran in
+    cycled g.R.ByteSource.remaining c.args.lines.now c.step.new.lines _ _ _ c.step.new.self _ _ next some one (sym c.at_start.ensures ∙ c.if-at_start.true)
+    input.shrinks input.ahead c.requires.look
+
+pub moves-preserved : goal.moves-preserved
+moves-preserved g c =
+    let h = c.moves.invariant in
+    record {
+      same = KeepsRun-then h.same c.step.ensures.same;
+      input = Reads-then _ _ _ _ _ _ _ h.input c.in_default.ensures.input;
+      output = Delivers-then _ _ _ _ _ _ h.output c.in_default.ensures.output;
+      kept = λ j. Keeps-trans _ _ _ (h.kept j) (c.in_default.ensures.kept j);
+      reached = λ sound ls known files told.
+          let reached = h.reached sound ls known files told in
+          let r = reached.0 in
+          let ran = c.in_default.ensures.steps (h.input.sound sound) r.rest r.taken.known files (tells_on _ _ files told h.kept) in
+          let next : Reached g.R.ByteSource.remaining c.args.lines.now c.step.new.lines _ (setting c.args.self.now files) (at_lines c.args.self.now ls) c.step.new.self _ _ =
+          step_on g.R.ByteSource.remaining c.args.lines.now c.moves.lines c.step.new.lines files c.args.self.now _ c.moves.self _ _ _ h.same r c.step.new.self ran in
+          let one = one_on g.R.ByteSource.remaining c.args.lines.now c.moves.lines c.step.new.lines files c.args.self.now _ c.moves.self _ _ _ h.same r c.step.new.self ran reached.1 in
+          (next, InOneCycle-more _ _ next.t one (ap (λ (s : State). starts_cycle s.tasks) next.is ∙ sym c.at_start.ensures ∙ c.if-at_start.false));
+    }

@@ -1,0 +1,7 @@
+use Rattle.sedengine.specs.Inside.{run_of}
+use Rattle.sedengine.proofs.Runs.{ending_seen}
+use Rattle.sedengine.proofs.machine.Machine.run.Goals as goal
+
+pub returns-clause-ends : goal.returns-clause-ends
+returns-clause-ends g c = λ fresh sound ls known files told.
+    ending_seen c.moves-end.new.self (run_of c.self-2.inside) c.self-2.view_is (c.moves-end.ensures.ends sound ls known files told)

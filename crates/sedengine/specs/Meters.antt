@@ -1,0 +1,65 @@
+-- Private to this crate: the sinks as its calls write to them, each counted where a limit is set.
+use Rattle.std.specs.Prelude.{◌≡◌, ℕ, ◌+◌, ◌≤◌, Option, Some, None, Result, Ok, Err, List, length, get_or}
+use Rattle.std.specs.List.{All}
+use Rattle.std.specs.Borrow.{GName}
+use Rattle.sedengine.specs.Devices.{part, Gained}
+use Rattle.sedengine.specs.declared.ends.Ended.{Ended}
+use Rattle.sedengine.specs.declared.ends.Ended.TheVariants.{OutputFull}
+
+-- a meter: the most bytes that each sink may gain, where a limit is set, and how many each has gained
+pub record Meter : Type 0 where
+  pub most : Option ℕ
+  pub sent : List ℕ
+
+-- no sink has gained more than the limit
+abbrev pub InLimit : Option ℕ → List ℕ → Type 0
+InLimit None sent = Unit {0}
+InLimit (Some most) sent = All (λ n. n ≤ most) sent
+
+-- there is room for so many bytes more in a sink
+abbrev pub FitsIn : Option ℕ → List ℕ → ℕ → ℕ → Type 0
+FitsIn None sent sink n = Unit {0}
+FitsIn (Some most) sent sink n = get_or sent sink 0 + n ≤ most
+
+-- a sink has gained exactly the limit
+abbrev pub IsFull : Option ℕ → List ℕ → ℕ → Type 0
+IsFull None sent sink = ⊥
+IsFull (Some most) sent sink = get_or sent sink 0 ≡ most
+
+-- how many bytes a sink has gained, where they are counted
+abbrev pub counted : Option ℕ → List ℕ → ℕ → Option ℕ
+counted None sent k = None
+counted (Some most) sent k = Some (get_or sent k 0)
+
+-- a count, where there is one, grows by so many
+abbrev pub Counts : Option ℕ → Option ℕ → ℕ → Type 0
+Counts None new n = Unit {0}
+Counts (Some a) None n = ⊥
+Counts (Some a) (Some b) n = b ≡ a + n
+
+-- What no write changes: how many sinks there are and how many counts, the limit, and which references hold the sinks
+-- and the meter, so that their lender learns what became of them.
+pub record Frame : Type 0 where
+  pub sinks : ℕ
+  pub counts : ℕ
+  pub most : Option ℕ
+  pub references : GName × GName
+
+-- the sinks: what each holds, where it tells, how often it failed, and how many bytes it has gained since the engine was
+-- opened, where they are counted
+pub record Tally : Type 0 where
+  pub contents : ℕ → Option (List ℕ)
+  pub failures : ℕ → ℕ
+  pub sent : ℕ → Option ℕ
+  pub frame : Frame
+
+-- the sinks have gained these bytes, and they were counted
+pub record Sent (old new : Tally) (out : List (ℕ × ℕ)) : Type 0 where
+  pub gained : Gained old.contents new.contents out
+  pub counts : (k : ℕ) → Counts (old.sent k) (new.sent k) (length (part k out))
+
+-- a sink that an end names as full is
+abbrev pub FullSink : Tally → Result Unit Ended → Type 0
+FullSink t (Ok u) = Unit {0}
+FullSink t (Err (OutputFull k)) = (n : ℕ) × (t.frame.most ≡ Some n) × (t.sent k ≡ Some n)
+FullSink t (Err other) = Unit {0}

@@ -1,0 +1,254 @@
+//! The machine that makes the moves of a run: its parts, and the calls that run it.
+ghost use Rattle.std.specs.Prelude.{◌≡◌, ◌<◌, ◌≤◌, [], None, Some, Ok, Err, IfOk, IfSome, IsNone, false, length, replicate, ℕ, Option, List};
+ghost use Rattle.std.specs.Option.{ForSome};
+ghost use Rattle.std.specs.Io.KnownBytes.{Keeps};
+ghost use Rattle.sedspace.specs.Failures.{Rose};
+ghost use Rattle.sedspace.specs.Stream.{lines_left};
+ghost use Rattle.sedengine.specs.Move.{start};
+ghost use Rattle.sedengine.specs.Devices.{FailedSource};
+ghost use Rattle.sedengine.specs.Calls.{Delivers};
+ghost use Rattle.sedengine.specs.Meters.{Sent};
+ghost use Rattle.sedengine.specs.Held.{total_of, bound_of};
+ghost use Rattle.sedengine.specs.Run.{outcome, Cycles, Ending, SameRun, TellsFiles, at_lines, end_of, setting};
+
+mod addresses;
+mod commands;
+mod deleting;
+mod holding;
+mod moves;
+mod next;
+mod queueing;
+mod substituting;
+mod tasks;
+
+use crate::ends::{Ended, Held, Progress};
+use crate::limits::Limits;
+use crate::matchers::matchers_of;
+use crate::meter::Sinks;
+use crate::place::Place;
+use sedmatch::{Scratch, TableMatcher};
+use sedscript::Script;
+use sedspace::{ByteSource, Lines, Queue, Space, Texts};
+use std::alloc::{AllocError, Global};
+use std::marker::Model;
+
+/// The editor without its counts of what sinks have gained: contracts see it as a `Run` that has none.
+#[derive(Drop)]
+pub(crate) struct Machine {
+    script: Script,
+    limits: Limits,
+    pattern: Space,
+    hold: Space,
+    build: Space,
+    queue: Queue,
+    scratch: Scratch,
+    // For each regular expression of the script, what seeks it.
+    matchers: Vec<TableMatcher>,
+    // For each command, whether its range is active.
+    ranges: Vec<bool>,
+    // The number of the regular expression last used.
+    used: Option<usize>,
+    // Whether a substitution was made, as the command `t` sees it.
+    replaced: bool,
+    number: u64,
+    place: Place,
+    turns: u64,
+    ended: Option<Ended>,
+}
+
+impl Model for Machine {
+    ghost use Rattle.sedengine.specs.Run.{Run};
+    ghost use Rattle.sedengine.specs.Inside.{run_of, IsRun};
+
+    ghost Value = { Run };
+
+    ghost view = { run_of };
+
+    ghost invariant = { IsRun };
+}
+
+// The states of so many ranges, none of which is active.
+fn idle_ranges(alloc: Global, count: usize) -> Result<Vec<bool>, AllocError>
+    ensures { IfOk result (λ ranges. ranges.items ≡ replicate count false) }
+{
+    vec![in alloc; false; count]
+}
+
+/// Room for searches: little where the script has no regular expression, since none is sought then.
+fn search_room(alloc: Global, script: &Script, limits: &Limits) -> Result<Scratch, AllocError>
+    ensures text { IfOk result (λ s. 0 < length script.now.expressions → s.text ≡ limits.now.space) }
+    ensures nodes { IfOk result (λ s. s.nodes ≡ limits.now.nodes) }
+{
+    let text = if script.expressions() == 0 {
+        0
+    } else {
+        limits.space()
+    };
+    Scratch::new(alloc, text, limits.nodes())
+}
+
+// The spaces and the queue of an engine, as they are made. They are made in a call of their own: what is let go where a
+// request is refused grows with each request, and so does the proof.
+#[derive(Drop)]
+struct Store {
+    pattern: Space,
+    hold: Space,
+    build: Space,
+    queue: Queue,
+}
+
+impl Store {
+    // Empty ones, whose room is reserved here.
+    fn new(alloc: Global, limits: &Limits) -> Result<Store, AllocError>
+        ensures pattern { IfOk result (λ s. s.pattern ≡ record { bytes = []; limit = limits.now.space }) }
+        ensures hold { IfOk result (λ s. s.hold ≡ record { bytes = []; limit = limits.now.space }) }
+        ensures build { IfOk result (λ s. s.build ≡ record { bytes = []; limit = limits.now.space }) }
+        ensures queue { IfOk result (λ s. s.queue ≡ record { items = []; limit = limits.now.queue }) }
+    {
+        let space = limits.space();
+        let pattern = Space::new(alloc, space)?;
+        let hold = Space::new(alloc, space)?;
+        let build = Space::new(alloc, space)?;
+        let queue = Queue::new(alloc, limits.queue())?;
+        Ok(Store {
+            pattern,
+            hold,
+            build,
+            queue,
+        })
+    }
+}
+
+impl Machine {
+    /// A machine that stands at the start of a run, with the spaces and all else that its run takes.
+    pub(crate) fn open(alloc: Global, script: Script, limits: Limits) -> Result<Machine, AllocError>
+        requires { script.max_nodes ≤ limits.nodes }
+        ensures { IfOk result (λ e. e ≡ record {
+          script = script;
+          limits = limits;
+          state = start script.commands [];
+          sent = [];
+          ended = None;
+        }) }
+    {
+        let ranges = idle_ranges(alloc, script.len())?;
+        let scratch = search_room(alloc, &script, &limits)?;
+        let matchers = matchers_of(alloc, &script, limits.nodes())?;
+        let Store {
+            pattern,
+            hold,
+            build,
+            queue,
+        } = Store::new(alloc, &limits)?;
+        Ok(Machine {
+            script,
+            limits,
+            pattern,
+            hold,
+            build,
+            queue,
+            scratch,
+            matchers,
+            ranges,
+            used: None,
+            replaced: false,
+            number: 0,
+            turns: 0,
+            place: Place::Begin,
+            ended: None,
+        })
+    }
+
+    /// Runs one cycle, as `Engine::cycle` does.
+    pub(crate) fn cycle<R: ByteSource, O: Sinks, T: Texts>(
+        &mut self,
+        lines: &mut Lines<R>,
+        outputs: &mut O,
+        texts: &mut T,
+    ) -> Progress
+        requires look { lines.old.look ≡ self.old.limits.look }
+        requires sinks { length self.old.script.wfiles < O.count outputs.old }
+        ensures cycles { IsNone self.old.ended → lines.old.fault ≡ None →
+            ForSome (lines_left R.remaining lines.old) (λ ls.
+            (files : ℕ → List ℕ) → TellsFiles (T.text texts.old) files →
+            Cycles self.old.limits (setting self.old files) (at_lines self.old ls)
+            (Sent (O.tally outputs.old) (O.tally outputs.new))
+            (R.remaining lines.old.source) (R.remaining lines.new.source)
+            self.new (lines_left R.remaining lines.new) result) }
+        ensures input { IsNone self.old.ended → lines.old.fault ≡ None →
+            FailedSource (R.failures lines.old.source) (R.failures lines.new.source) (outcome result) }
+        ensures output { IsNone self.old.ended →
+            Delivers O.tally O.count outputs.old outputs.new (outcome result) }
+        ensures sound { result ≡ Progress.More → lines.old.fault ≡ None → lines.new.fault ≡ None }
+        ensures ended { self.new.ended ≡ end_of result }
+        ensures again { IfSome self.old.ended (λ end. (result ≡ Progress.Ended end) × (self.new ≡ self.old)
+            × (lines.new ≡ lines.old) × (outputs.new ≡ outputs.old) × (texts.new ≡ texts.old)) }
+        ensures same_run { SameRun self.old self.new }
+        ensures same_look { lines.new.look ≡ lines.old.look }
+        ensures same_reference { R.reference lines.new.source ≡ R.reference lines.old.source }
+        ensures same_frame { (O.tally outputs.new).frame ≡ (O.tally outputs.old).frame }
+        ensures same_texts { (k : ℕ) → Keeps (T.text texts.old k) (T.text texts.new k) }
+    {
+        if let Some(end) = self.ended {
+            return Progress::Ended(end);
+        }
+        let progress = self.moves_of_cycle(lines, outputs, texts);
+        if let Progress::Ended(end) = progress {
+            self.ended = Some(end);
+        }
+        progress
+    }
+
+    /// Runs cycles to the end, as `Engine::run` does.
+    pub(crate) fn run<R: ByteSource, O: Sinks, T: Texts>(
+        &mut self,
+        lines: &mut Lines<R>,
+        outputs: &mut O,
+        texts: &mut T,
+    ) -> Ended
+        requires look { lines.old.look ≡ self.old.limits.look }
+        requires sinks { length self.old.script.wfiles < O.count outputs.old }
+        ensures ends { IsNone self.old.ended → lines.old.fault ≡ None →
+            ForSome (lines_left R.remaining lines.old) (λ ls.
+            (files : ℕ → List ℕ) → TellsFiles (T.text texts.old) files →
+            Ending self.old.limits (setting self.old files) (at_lines self.old ls)
+            (Sent (O.tally outputs.old) (O.tally outputs.new))
+            (R.remaining lines.old.source) (R.remaining lines.new.source) self.new.state result) }
+        ensures input { result ≡ Ended.InputBroken → IsNone self.old.ended → lines.old.fault ≡ None →
+            Rose (R.failures lines.old.source) (R.failures lines.new.source) }
+        ensures output { IsNone self.old.ended → Delivers O.tally O.count outputs.old outputs.new (Err result) }
+        ensures ended { self.new.ended ≡ Some result }
+        ensures again { IfSome self.old.ended (λ end. (result ≡ end) × (self.new ≡ self.old)
+            × (lines.new ≡ lines.old) × (outputs.new ≡ outputs.old) × (texts.new ≡ texts.old)) }
+        ensures same_run { SameRun self.old self.new }
+        ensures same_look { lines.new.look ≡ lines.old.look }
+        ensures same_reference { R.reference lines.new.source ≡ R.reference lines.old.source }
+        ensures same_frame { (O.tally outputs.new).frame ≡ (O.tally outputs.old).frame }
+        ensures same_texts { (k : ℕ) → Keeps (T.text texts.old k) (T.text texts.new k) }
+    {
+        if let Some(end) = self.ended {
+            return end;
+        }
+        let end = self.moves(lines, outputs, texts);
+        self.ended = Some(end);
+        end
+    }
+
+    /// What the machine holds. The read-ahead counts with its whole room.
+    pub(crate) fn held(&self) -> Held
+        ensures pattern { result.pattern ≡ length self.now.state.pattern }
+        ensures hold { result.hold ≡ length self.now.state.hold }
+        ensures build { result.build ≤ self.now.limits.space }
+        ensures look { result.look ≡ self.now.limits.look }
+        ensures queue { result.queue ≡ length self.now.state.queue }
+        ensures bound { total_of result ≤ bound_of self.now.limits }
+    {
+        Held {
+            pattern: self.pattern.len(),
+            hold: self.hold.len(),
+            build: self.build.len(),
+            look: self.limits.look(),
+            queue: self.queue.len(),
+        }
+    }
+}

@@ -1,0 +1,182 @@
+//! The addresses of a command (XCU sed, "Addresses in sed").
+//!
+//! Only the address that decides is judged: the source is asked for a further line by `$` alone, and an expression is
+//! the one last used only where it was tried.
+ghost use Rattle.std.specs.Prelude.{◌≡◌, ◌<◌, false, Some, Err, OnErr, ℕ, Bool, Option, List, length, slice_set};
+ghost use Rattle.std.specs.Option.{ForSome};
+ghost use Rattle.sedscript.specs.Ranges.{AddressWithin, CommandWithin, sizes_of};
+ghost use Rattle.sedscript.specs.declared.types.Address.TheVariants.{Match};
+ghost use Rattle.sedspace.specs.Stream.{lines_left};
+ghost use Rattle.sedengine.specs.Select.{answer};
+ghost use Rattle.sedengine.specs.Move.{is_active, none_left};
+ghost use Rattle.sedengine.specs.Ends.{is_dollar};
+ghost use Rattle.sedengine.specs.Calls.{NoSinkFailed, Reads};
+ghost use Rattle.sedengine.specs.Steps.{TakesLines};
+ghost use Rattle.sedengine.specs.Choose.{Answers, Comes, Judges, TellsLine, come_with, current, decides, deciding, with_used};
+
+use super::Machine;
+use crate::ends::Ended;
+use crate::place::Place;
+use crate::select::{Chosen, choose, deciding, finds, yes_by_number};
+use sedscript::{Address, Command};
+use sedspace::{ByteSource, Lines};
+
+/// Whether the line given last was the last one of the input. Only an address `$`, `n`, and an `N` that has no room ask
+/// this.
+pub(super) fn is_last<R: ByteSource>(lines: &mut Lines<R>) -> Result<bool, Ended>
+    ensures last { lines.old.fault ≡ None → ForSome (lines_left R.remaining lines.old) (λ ls.
+        TellsLine (none_left ls) result) }
+    ensures left { ForSome (lines_left R.remaining lines.old) (λ ls.
+        TakesLines R.remaining lines.old lines.new ls ls) }
+    ensures input { Reads R.remaining R.failures R.reference lines.old lines.new result }
+    ensures output { NoSinkFailed result }
+{
+    match lines.is_last() {
+        Ok(last) => Ok(last),
+        Err(_) => Err(Ended::InputBroken),
+    }
+}
+
+impl Machine {
+    /// Whether the pattern space has a match of an expression, or of the one last used where none is named. It is then
+    /// the one last used.
+    fn finds(&mut self, named: Option<usize>) -> Result<bool, Ended>
+        requires { AddressWithin (length self.old.script.expressions) (Some (Match named)) }
+        ensures answers { (last : Bool) →
+            Answers (current self.old last) (answer (current self.old last) (Match named))
+            self.new.state.used false result }
+        ensures input { result ≡ Err Ended.InputBroken → ⊥ }
+        ensures output { NoSinkFailed result }
+        ensures same { self.new ≡ with_used self.old self.new.state.used }
+        ensures err { OnErr result (self.new ≡ self.old) }
+    {
+        match named.or(self.used) {
+            None => Err(Ended::NoPrevious(self.number)),
+            Some(k) => {
+                self.used = Some(k);
+                Ok(finds(&mut self.matchers, k, &self.pattern, &mut self.scratch))
+            }
+        }
+    }
+
+    /// Whether the pattern space matches an address.
+    fn matches<R: ByteSource>(
+        &mut self,
+        address: Address,
+        lines: &mut Lines<R>,
+    ) -> Result<bool, Ended>
+        requires { AddressWithin (length self.old.script.expressions) (Some address) }
+        ensures answers { lines.old.fault ≡ None → ForSome (lines_left R.remaining lines.old) (λ ls.
+            Answers (current self.old (none_left ls)) (answer (current self.old (none_left ls)) address)
+            self.new.state.used (is_dollar (Some address)) result) }
+        ensures left { ForSome (lines_left R.remaining lines.old) (λ ls.
+            TakesLines R.remaining lines.old lines.new ls ls) }
+        ensures input { Reads R.remaining R.failures R.reference lines.old lines.new result }
+        ensures output { NoSinkFailed result }
+        ensures same { self.new ≡ with_used self.old self.new.state.used }
+        ensures err { OnErr result (self.new ≡ self.old) }
+    {
+        match address {
+            Address::Line(line) => Ok(line == self.number),
+            Address::Last => is_last(lines),
+            Address::Match(named) => self.finds(named),
+        }
+    }
+
+    /// Whether the address that decides matches; yes where none decides.
+    fn decide<R: ByteSource>(
+        &mut self,
+        command: &Command,
+        active: bool,
+        lines: &mut Lines<R>,
+    ) -> Result<bool, Ended>
+        requires first { AddressWithin (length self.old.script.expressions) command.now.first }
+        requires second { AddressWithin (length self.old.script.expressions) command.now.second }
+        ensures answers { lines.old.fault ≡ None → ForSome (lines_left R.remaining lines.old) (λ ls.
+            Answers (current self.old (none_left ls))
+            (decides (current self.old (none_left ls))
+            (deciding command.now.first command.now.second active self.old.state.number))
+            self.new.state.used
+            (is_dollar (deciding command.now.first command.now.second active self.old.state.number)) result) }
+        ensures left { ForSome (lines_left R.remaining lines.old) (λ ls.
+            TakesLines R.remaining lines.old lines.new ls ls) }
+        ensures input { Reads R.remaining R.failures R.reference lines.old lines.new result }
+        ensures output { NoSinkFailed result }
+        ensures same { self.new ≡ with_used self.old self.new.state.used }
+        ensures err { OnErr result (self.new ≡ self.old) }
+    {
+        match deciding(command, active, self.number) {
+            None => Ok(true),
+            Some(address) => self.matches(address, lines),
+        }
+    }
+
+    /// Whether the range of command `k` is active.
+    fn is_active(&self, k: usize) -> bool
+        requires { k < length self.now.script.commands }
+        ensures { result ≡ is_active self.now.state k }
+    {
+        self.ranges[k]
+    }
+
+    /// Comes to command `k`: takes the turn, and goes on behind the command.
+    fn come(&mut self, k: usize)
+        requires there { k < length self.old.script.commands }
+        requires turn { self.old.state.turns < self.old.limits.turns }
+        ensures { self.new ≡ come_with self.old k self.old.state.ranges self.old.state.used }
+    {
+        self.turns += 1;
+        self.place = Place::Do(k + 1);
+    }
+
+    /// Notes whether the range of command `k` is active.
+    fn set_active(&mut self, k: usize, active: bool)
+        requires { k < length self.old.script.commands }
+        ensures { self.new ≡ record self.old {
+          state = record self.old.state {
+            ranges = slice_set self.old.state.ranges k active;
+          };
+        } }
+    {
+        self.ranges[k] = active;
+    }
+
+    /// Judges the addresses of command `k`, and comes to it.
+    pub(super) fn judge<R: ByteSource>(
+        &mut self,
+        k: usize,
+        command: &Command,
+        lines: &mut Lines<R>,
+    ) -> Result<Chosen, Ended>
+        requires there { k < length self.old.script.commands }
+        requires within { CommandWithin (sizes_of self.old.script) command.now }
+        requires turn { self.old.state.turns < self.old.limits.turns }
+        ensures judges { lines.old.fault ≡ None → ForSome (lines_left R.remaining lines.old) (λ ls.
+            Judges (current self.old (none_left ls)) (is_active self.old.state k) command.now
+            self.new.state.used result) }
+        ensures left { ForSome (lines_left R.remaining lines.old) (λ ls.
+            TakesLines R.remaining lines.old lines.new ls ls) }
+        ensures input { Reads R.remaining R.failures R.reference lines.old lines.new result }
+        ensures output { NoSinkFailed result }
+        ensures comes { Comes self.old self.new k result }
+    {
+        let active = self.is_active(k);
+        if let Some(yes) = yes_by_number(command, self.number) {
+            self.come(k);
+            return Ok(Chosen {
+                yes,
+                end: false,
+                active,
+            });
+        }
+        match self.decide(command, active, lines) {
+            Ok(matched) => {
+                let choice = choose(command, active, self.number, matched);
+                self.set_active(k, choice.active);
+                self.come(k);
+                Ok(choice)
+            }
+            Err(end) => Err(end),
+        }
+    }
+}

@@ -1,0 +1,268 @@
+//! The commands (XCU sed, "Editing Commands in sed"): each has a case in `act` and a function of its own.
+ghost use Rattle.std.specs.Prelude.{◌≡◌, ◌<◌, ◌≤◌, ◌+◌, [], ◌∷◌, None, Some, Ok, Err, OnOk, ℕ, Option, List, true, false, decimal, length, slice_get};
+ghost use Rattle.std.specs.Option.{ForSome};
+ghost use Rattle.std.specs.Io.KnownBytes.{Keeps};
+ghost use Rattle.sedscript.specs.Ranges.{ActionWithin, sizes_of};
+ghost use Rattle.sedscript.specs.declared.types.Action.TheVariants.{Change, Delete, DeleteFirst};
+ghost use Rattle.sedspace.specs.Stream.{lines_left};
+ghost use Rattle.sedengine.specs.State.{do_at, print_pattern, flush};
+ghost use Rattle.sedengine.specs.Listing.{listed};
+ghost use Rattle.sedengine.specs.Move.{acts, first_line, passes, line_to, tells_at, text_of, to_sink};
+ghost use Rattle.sedengine.specs.Ends.{comes, is_next};
+ghost use Rattle.sedengine.specs.Meters.{Sent, Tally};
+ghost use Rattle.sedengine.specs.Calls.{Puts, Reads, Delivers};
+ghost use Rattle.sedengine.specs.Run.{TellsFiles, at_lines, setting};
+ghost use Rattle.sedengine.specs.Steps.{HasAction, KeepsRun, Performs, PerformsSteps, Steps, takes_line, weight};
+
+use super::Machine;
+use crate::ends::Ended;
+use crate::listing::write_listing;
+use crate::meter::Sinks;
+use crate::place::Place;
+use crate::write::{write_all, write_line};
+use itoa::Buffer;
+use sedscript::{Action, Command};
+use sedspace::{ByteSource, Lines, Texts};
+
+/// Whether `c` writes its text: without a range, at a range's end, and with `!`.
+fn tells(command: &Command, end: bool) -> bool
+    ensures { result ≡ tells_at command.now end }
+{
+    command.second.is_none() || end || command.negate
+}
+
+impl Machine {
+    /// Comes to a command, or to the end of the script.
+    pub(super) fn come_to<R: ByteSource, O: Sinks, T: Texts>(
+        &mut self,
+        k: usize,
+        lines: &mut Lines<R>,
+        outputs: &mut O,
+        texts: &mut T,
+    ) -> Result<(), Ended>
+        requires at { self.old.state.tasks ≡ do_at k ∷ [] }
+        requires sinks { length self.old.script.wfiles < O.count outputs.old }
+        ensures steps { lines.old.fault ≡ None → ForSome (lines_left R.remaining lines.old) (λ ls.
+            (files : ℕ → List ℕ) → TellsFiles (T.text texts.old) files →
+            Steps R.remaining lines.old lines.new ls self.old.limits (setting self.old files) self.old self.new
+            (Sent (O.tally outputs.old) (O.tally outputs.new)) result) }
+        ensures input { Reads R.remaining R.failures R.reference lines.old lines.new result }
+        ensures output { Delivers O.tally O.count outputs.old outputs.new result }
+        ensures falls { OnOk result (weight self.new < weight self.old) }
+        ensures same { KeepsRun self.old self.new }
+        ensures kept { (j : ℕ) → Keeps (T.text texts.old j) (T.text texts.new j) }
+    {
+        if k >= self.script.len() {
+            return self.finish(k, outputs, texts);
+        }
+        if self.turns == self.limits.turns() {
+            return Err(Ended::TurnsSpent);
+        }
+        let command = *self.script.command(k);
+        let choice = match self.judge(k, &command, lines) {
+            Ok(choice) => choice,
+            Err(end) => return Err(end),
+        };
+        if choice.yes {
+            self.act(
+                k,
+                command.action,
+                tells(&command, choice.end),
+                lines,
+                outputs,
+                texts,
+            )
+        } else {
+            self.pass(command.action);
+            Ok(())
+        }
+    }
+
+    /// What command `k` does that applies. `tells` says whether `c` writes its text.
+    fn act<R: ByteSource, O: Sinks, T: Texts>(
+        &mut self,
+        k: usize,
+        action: Action,
+        tells: bool,
+        lines: &mut Lines<R>,
+        outputs: &mut O,
+        texts: &mut T,
+    ) -> Result<(), Ended>
+        requires at { comes self.old.state.tasks ≡ true }
+        requires number { self.old.state.number < self.old.state.turns }
+        requires within { ActionWithin (sizes_of self.old.script) action }
+        requires action { HasAction (slice_get self.old.script.commands k) action }
+        requires sinks { length self.old.script.wfiles < O.count outputs.old }
+        ensures acts { lines.old.fault ≡ None → ForSome (lines_left R.remaining lines.old) (λ ls.
+            (files : ℕ → List ℕ) → TellsFiles (T.text texts.old) files →
+            PerformsSteps R.remaining lines.old lines.new ls self.old.limits (setting self.old files)
+            (acts (setting self.old files) (at_lines self.old ls) tells action) (is_next action) (at_lines self.old ls) self.new
+            (Sent (O.tally outputs.old) (O.tally outputs.new)) result) }
+        ensures input { Reads R.remaining R.failures R.reference lines.old lines.new result }
+        ensures output { Delivers O.tally O.count outputs.old outputs.new result }
+        ensures falls { weight self.new ≤ weight self.old + 8 }
+        ensures same { KeepsRun self.old self.new }
+        ensures kept { (j : ℕ) → Keeps (T.text texts.old j) (T.text texts.new j) }
+    {
+        match action {
+            Action::AppendNext => self.act_append_next(lines, outputs, texts),
+            Action::NextLine => self.act_next_line(lines, outputs, texts),
+            _ => self.act_here(k, action, tells, outputs, texts),
+        }
+    }
+
+    /// The same for a command that takes no line.
+    fn act_here<O: Sinks, T: Texts>(
+        &mut self,
+        k: usize,
+        action: Action,
+        tells: bool,
+        outputs: &mut O,
+        texts: &mut T,
+    ) -> Result<(), Ended>
+        requires at { comes self.old.state.tasks ≡ true }
+        requires within { ActionWithin (sizes_of self.old.script) action }
+        requires action { HasAction (slice_get self.old.script.commands k) action }
+        requires here { takes_line action ≡ false }
+        requires sinks { length self.old.script.wfiles < O.count outputs.old }
+        ensures acts { (files : ℕ → List ℕ) → TellsFiles (T.text texts.old) files → (ls : List (List ℕ)) →
+            Performs self.old.limits (setting self.old files)
+            (acts (setting self.old files) (at_lines self.old ls) tells action) (at_lines self.old ls) (at_lines self.new ls)
+            (Sent (O.tally outputs.old) (O.tally outputs.new)) result }
+        ensures output { Delivers O.tally O.count outputs.old outputs.new result }
+        ensures input { result ≡ Err Ended.InputBroken → ⊥ }
+        ensures falls { weight self.new ≤ weight self.old + 8 }
+        ensures same { KeepsRun self.old self.new }
+        ensures kept { (j : ℕ) → Keeps (T.text texts.old j) (T.text texts.new j) }
+    {
+        // The engine is open from here on, so its state is known to be within the limits.
+        let _ = &self.turns;
+        match action {
+            Action::Append(_) => self.act_queue(k),
+            Action::ReadFile(_) => self.act_queue(k),
+            Action::AppendNext | Action::NextLine => unreachable!(),
+            Action::Block(_) => Ok(()),
+            Action::Branch(target) => {
+                self.act_branch(target);
+                Ok(())
+            }
+            Action::Change(text) => self.act_change(text, tells, outputs, texts),
+            Action::CopyHold => {
+                self.act_copy_hold();
+                Ok(())
+            }
+            Action::AppendHold => self.act_append_hold(),
+            Action::Hold => {
+                self.act_hold();
+                Ok(())
+            }
+            Action::HoldMore => self.act_hold_more(),
+            Action::Exchange => {
+                self.act_exchange();
+                Ok(())
+            }
+            Action::Delete => self.act_delete(outputs, texts),
+            Action::DeleteFirst => self.act_delete_first(outputs, texts),
+            Action::Insert(text) => self.act_insert(text, outputs),
+            Action::LineNumber => self.act_line_number(outputs),
+            Action::List => self.act_list(outputs),
+            Action::Print => self.act_write(0, outputs),
+            Action::PrintFirst => self.act_print_first(outputs),
+            Action::Quit => {
+                self.act_quit();
+                Ok(())
+            }
+            Action::Substitute(k) => self.act_substitute(k, outputs),
+            Action::Test(target) => {
+                self.act_test(target);
+                Ok(())
+            }
+            Action::Transliterate(k) => {
+                self.act_transliterate(k);
+                Ok(())
+            }
+            Action::WriteFile(sink) => self.act_write(sink, outputs),
+        }
+    }
+
+    /// What a command does that doesn't apply: `{` passes over its block.
+    fn pass(&mut self, action: Action)
+        ensures passes { (files : ℕ → List ℕ) (sinks : Tally) (ls : List (List ℕ)) →
+            Performs self.old.limits (setting self.old files) (passes (at_lines self.old ls) action)
+            (at_lines self.old ls) (at_lines self.new ls) (Sent sinks sinks) (Ok tt) }
+        ensures falls { weight self.new ≤ weight self.old + 8 }
+        ensures same { KeepsRun self.old self.new }
+    {
+        if let Action::Block(behind) = action {
+            self.place = Place::Do(behind);
+        }
+    }
+
+    /// The command `b`: goes on at its target.
+    fn act_branch(&mut self, target: usize)
+        ensures { self.new ≡ record self.old { state = record self.old.state { tasks = do_at target ∷ [] } } }
+    {
+        self.place = Place::Do(target);
+    }
+
+    /// The command `i`: writes its text.
+    fn act_insert<O: Sinks>(&self, text: usize, outputs: &mut O) -> Result<(), Ended>
+        requires text { text < length self.now.script.texts }
+        requires sink { 0 < O.count outputs.old }
+        ensures puts { Puts (Sent (O.tally outputs.old) (O.tally outputs.new))
+            (line_to 0 (text_of (slice_get self.now.script.texts text))) result }
+        ensures output { Delivers O.tally O.count outputs.old outputs.new result }
+    {
+        write_line(outputs, 0, self.script.text(text))
+    }
+
+    /// The command `=`: writes the line number.
+    fn act_line_number<O: Sinks>(&self, outputs: &mut O) -> Result<(), Ended>
+        requires { 0 < O.count outputs.old }
+        ensures puts { Puts (Sent (O.tally outputs.old) (O.tally outputs.new))
+            (line_to 0 (decimal self.now.state.number)) result }
+        ensures output { Delivers O.tally O.count outputs.old outputs.new result }
+    {
+        let mut buffer = Buffer::new();
+        write_line(outputs, 0, buffer.format(self.number).as_bytes())
+    }
+
+    /// The command `l`: writes the listing of the pattern space.
+    fn act_list<O: Sinks>(&self, outputs: &mut O) -> Result<(), Ended>
+        requires { 0 < O.count outputs.old }
+        ensures puts { Puts (Sent (O.tally outputs.old) (O.tally outputs.new))
+            (to_sink 0 (listed self.now.state.pattern)) result }
+        ensures output { Delivers O.tally O.count outputs.old outputs.new result }
+    {
+        write_listing(outputs, self.pattern.bytes())
+    }
+
+    /// The commands `p` and `w`: writes the pattern space to a sink.
+    pub(super) fn act_write<O: Sinks>(&self, sink: usize, outputs: &mut O) -> Result<(), Ended>
+        requires { sink < O.count outputs.old }
+        ensures puts { Puts (Sent (O.tally outputs.old) (O.tally outputs.new))
+            (line_to sink self.now.state.pattern) result }
+        ensures output { Delivers O.tally O.count outputs.old outputs.new result }
+    {
+        write_all(outputs, sink, self.pattern.line())
+    }
+
+    /// The command `P`: writes the pattern space up to its first newline.
+    fn act_print_first<O: Sinks>(&self, outputs: &mut O) -> Result<(), Ended>
+        requires { 0 < O.count outputs.old }
+        ensures puts { Puts (Sent (O.tally outputs.old) (O.tally outputs.new))
+            (line_to 0 (first_line self.now.state.pattern)) result }
+        ensures output { Delivers O.tally O.count outputs.old outputs.new result }
+    {
+        write_all(outputs, 0, self.pattern.first_line())
+    }
+
+    /// The command `q`: the pattern space and the queue are written for the last time.
+    fn act_quit(&mut self)
+        ensures { self.new ≡ record self.old {
+          state = record self.old.state { tasks = print_pattern ∷ flush ∷ [] };
+        } }
+    {
+        self.place = Place::Quit;
+    }
+}

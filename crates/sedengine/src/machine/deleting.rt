@@ -1,0 +1,95 @@
+//! The commands `c`, `d` and `D`: the pattern space is deleted, and a cycle starts (XCU sed, "Editing Commands in sed").
+ghost use Rattle.std.specs.Prelude.{◌≡◌, ◌<◌, ◌≤◌, ◌+◌, Err, ℕ, List, true, length};
+ghost use Rattle.std.specs.Io.KnownBytes.{Keeps};
+ghost use Rattle.sedscript.specs.declared.types.Action.TheVariants.{Change, Delete, DeleteFirst};
+ghost use Rattle.sedengine.specs.Move.{acts};
+ghost use Rattle.sedengine.specs.Meters.{Sent};
+ghost use Rattle.sedengine.specs.Calls.{Delivers};
+ghost use Rattle.sedengine.specs.Run.{TellsFiles, at_lines, setting};
+ghost use Rattle.sedengine.specs.Steps.{KeepsRun, Performs, weight};
+
+use super::Machine;
+use crate::ends::Ended;
+use crate::meter::Sinks;
+use crate::place::Place;
+use crate::write::write_line;
+use sedspace::Texts;
+
+impl Machine {
+    /// The command `c`: deletes the pattern space, writes its text where it tells, writes the queue, and the next cycle
+    /// starts.
+    pub(super) fn act_change<O: Sinks, T: Texts>(
+        &mut self,
+        text: usize,
+        tells: bool,
+        outputs: &mut O,
+        texts: &mut T,
+    ) -> Result<(), Ended>
+        requires text { text < length self.old.script.texts }
+        requires sink { 0 < O.count outputs.old }
+        ensures acts { (files : ℕ → List ℕ) → TellsFiles (T.text texts.old) files → (ls : List (List ℕ)) →
+            Performs self.old.limits (setting self.old files)
+            (acts (setting self.old files) (at_lines self.old ls) tells (Change text)) (at_lines self.old ls)
+            (at_lines self.new ls) (Sent (O.tally outputs.old) (O.tally outputs.new)) result }
+        ensures output { Delivers O.tally O.count outputs.old outputs.new result }
+        ensures input { result ≡ Err Ended.InputBroken → ⊥ }
+        ensures falls { weight self.new ≤ weight self.old + 8 }
+        ensures same { KeepsRun self.old self.new }
+        ensures kept { (j : ℕ) → Keeps (T.text texts.old j) (T.text texts.new j) }
+    {
+        self.pattern.clear();
+        if !tells {
+            return self.end_cycle(Place::Begin, outputs, texts);
+        }
+        match write_line(outputs, 0, self.script.text(text)) {
+            Ok(()) => self.end_cycle(Place::Begin, outputs, texts),
+            Err(end) => Err(end),
+        }
+    }
+
+    /// The command `d`: deletes the pattern space, writes the queue, and the next cycle starts.
+    pub(super) fn act_delete<O: Sinks, T: Texts>(
+        &mut self,
+        outputs: &mut O,
+        texts: &mut T,
+    ) -> Result<(), Ended>
+        requires { 0 < O.count outputs.old }
+        ensures acts { (files : ℕ → List ℕ) → TellsFiles (T.text texts.old) files → (ls : List (List ℕ)) →
+            Performs self.old.limits (setting self.old files)
+            (acts (setting self.old files) (at_lines self.old ls) true Delete) (at_lines self.old ls)
+            (at_lines self.new ls) (Sent (O.tally outputs.old) (O.tally outputs.new)) result }
+        ensures output { Delivers O.tally O.count outputs.old outputs.new result }
+        ensures input { result ≡ Err Ended.InputBroken → ⊥ }
+        ensures falls { weight self.new ≤ weight self.old + 8 }
+        ensures same { KeepsRun self.old self.new }
+        ensures kept { (j : ℕ) → Keeps (T.text texts.old j) (T.text texts.new j) }
+    {
+        self.pattern.clear();
+        self.end_cycle(Place::Begin, outputs, texts)
+    }
+
+    /// The command `D`: deletes the pattern space up to its first newline, writes the queue, and a cycle starts with what is
+    /// left. Without a newline it is `d`.
+    pub(super) fn act_delete_first<O: Sinks, T: Texts>(
+        &mut self,
+        outputs: &mut O,
+        texts: &mut T,
+    ) -> Result<(), Ended>
+        requires { 0 < O.count outputs.old }
+        ensures acts { (files : ℕ → List ℕ) → TellsFiles (T.text texts.old) files → (ls : List (List ℕ)) →
+            Performs self.old.limits (setting self.old files)
+            (acts (setting self.old files) (at_lines self.old ls) true DeleteFirst) (at_lines self.old ls)
+            (at_lines self.new ls) (Sent (O.tally outputs.old) (O.tally outputs.new)) result }
+        ensures output { Delivers O.tally O.count outputs.old outputs.new result }
+        ensures input { result ≡ Err Ended.InputBroken → ⊥ }
+        ensures falls { weight self.new ≤ weight self.old + 8 }
+        ensures same { KeepsRun self.old self.new }
+        ensures kept { (j : ℕ) → Keeps (T.text texts.old j) (T.text texts.new j) }
+    {
+        if self.pattern.cut_line() {
+            self.end_cycle(Place::Rebegin, outputs, texts)
+        } else {
+            self.act_delete(outputs, texts)
+        }
+    }
+}

@@ -1,0 +1,111 @@
+//! The moves one after another.
+ghost use Rattle.std.specs.Prelude.{◌≡◌, ◌<◌, [], ◌∷◌, None, Some, Ok, Err, OnOk, IfSome, ℕ, Option, List, length};
+ghost use Rattle.std.specs.Option.{ForSome};
+ghost use Rattle.std.specs.Io.KnownBytes.{Keeps};
+ghost use Rattle.sedspace.specs.Stream.{lines_left};
+ghost use Rattle.sedengine.specs.Meters.{Sent};
+ghost use Rattle.sedengine.specs.Calls.{Reads, Delivers};
+ghost use Rattle.sedengine.specs.Run.{Cycles, Ending, TellsFiles, at_lines, setting, starts_cycle, outcome};
+ghost use Rattle.sedengine.specs.Steps.{KeepsRun, Steps, weight};
+
+use super::Machine;
+use crate::ends::{Ended, Progress};
+use crate::meter::Sinks;
+use crate::place::Place;
+use sedspace::{ByteSource, Lines, Texts};
+
+impl Machine {
+    /// Makes the next moves, or finds the end.
+    fn step<R: ByteSource, O: Sinks, T: Texts>(
+        &mut self,
+        lines: &mut Lines<R>,
+        outputs: &mut O,
+        texts: &mut T,
+    ) -> Result<(), Ended>
+        requires { length self.old.script.wfiles < O.count outputs.old }
+        ensures steps { lines.old.fault ≡ None → ForSome (lines_left R.remaining lines.old) (λ ls.
+            (files : ℕ → List ℕ) → TellsFiles (T.text texts.old) files →
+            Steps R.remaining lines.old lines.new ls self.old.limits (setting self.old files) self.old self.new
+            (Sent (O.tally outputs.old) (O.tally outputs.new)) result) }
+        ensures input { Reads R.remaining R.failures R.reference lines.old lines.new result }
+        ensures output { Delivers O.tally O.count outputs.old outputs.new result }
+        ensures falls { OnOk result (weight self.new < weight self.old) }
+        ensures same { KeepsRun self.old self.new }
+        ensures kept { (j : ℕ) → Keeps (T.text texts.old j) (T.text texts.new j) }
+    {
+        match self.place {
+            Place::Begin => self.begin(lines),
+            Place::Rebegin => self.rebegin(),
+            Place::Do(k) => self.come_to(k, lines, outputs, texts),
+            Place::Quit => self.quit(outputs, texts),
+            Place::Ended => Err(Ended::Done),
+        }
+    }
+
+    /// Makes moves to the end.
+    pub(super) fn moves<R: ByteSource, O: Sinks, T: Texts>(
+        &mut self,
+        lines: &mut Lines<R>,
+        outputs: &mut O,
+        texts: &mut T,
+    ) -> Ended
+        requires sinks { length self.old.script.wfiles < O.count outputs.old }
+        requires look { lines.old.look ≡ self.old.limits.look }
+        ensures ends { lines.old.fault ≡ None → ForSome (lines_left R.remaining lines.old) (λ ls.
+            (files : ℕ → List ℕ) → TellsFiles (T.text texts.old) files →
+            Ending self.old.limits (setting self.old files) (at_lines self.old ls)
+            (Sent (O.tally outputs.old) (O.tally outputs.new))
+            (R.remaining lines.old.source) (R.remaining lines.new.source) self.new.state result) }
+        ensures input { Reads {T = Unit {0}} R.remaining R.failures R.reference lines.old lines.new (Err result) }
+        ensures output { Delivers O.tally O.count outputs.old outputs.new (Err result) }
+        ensures same { KeepsRun self.old self.new }
+        ensures kept { (j : ℕ) → Keeps (T.text texts.old j) (T.text texts.new j) }
+    {
+        // The engine is open from here on, so its state is known to be within the limits.
+        let _ = &self.turns;
+        'moves: loop {
+            if let Err(end) = self.step(lines, outputs, texts) {
+                return end;
+            }
+        }
+    }
+
+    /// Whether a cycle starts here.
+    fn at_start(&self) -> bool
+        ensures { result ≡ starts_cycle self.now.state.tasks }
+    {
+        matches!(self.place, Place::Begin | Place::Rebegin)
+    }
+
+    /// Makes the moves of one cycle.
+    pub(super) fn moves_of_cycle<R: ByteSource, O: Sinks, T: Texts>(
+        &mut self,
+        lines: &mut Lines<R>,
+        outputs: &mut O,
+        texts: &mut T,
+    ) -> Progress
+        requires sinks { length self.old.script.wfiles < O.count outputs.old }
+        requires look { lines.old.look ≡ self.old.limits.look }
+        ensures cycles { lines.old.fault ≡ None → ForSome (lines_left R.remaining lines.old) (λ ls.
+            (files : ℕ → List ℕ) → TellsFiles (T.text texts.old) files →
+            Cycles self.old.limits (setting self.old files) (at_lines self.old ls)
+            (Sent (O.tally outputs.old) (O.tally outputs.new))
+            (R.remaining lines.old.source) (R.remaining lines.new.source)
+            self.new (lines_left R.remaining lines.new) result) }
+        ensures input { Reads R.remaining R.failures R.reference lines.old lines.new (outcome result) }
+        ensures output { Delivers O.tally O.count outputs.old outputs.new (outcome result) }
+        ensures same { KeepsRun self.old self.new }
+        ensures kept { (j : ℕ) → Keeps (T.text texts.old j) (T.text texts.new j) }
+    {
+        // The engine is open from here on, so its state is known to be within the limits.
+        let _ = &self.turns;
+        'moves: loop {
+            if let Err(end) = self.step(lines, outputs, texts) {
+                return Progress::Ended(end);
+            }
+            if self.at_start() {
+                return Progress::More;
+            }
+        }
+    }
+}

@@ -1,0 +1,235 @@
+//! The commands `n` and `N`: further lines (XCU sed, "Editing Commands in sed").
+ghost use Rattle.std.specs.Prelude.{◌≡◌, ◌≢◌, ◌<◌, ◌≤◌, ◌+◌, [], ◌∷◌, ◌++◌, None, Ok, ℕ, Option, List, true, false, length};
+ghost use Rattle.std.specs.Option.{ForSome};
+ghost use Rattle.std.specs.Io.KnownBytes.{Keeps};
+ghost use Rattle.sedscript.specs.declared.types.Action.TheVariants.{AppendNext, NextLine};
+ghost use Rattle.sedspace.specs.Spaces.{Contents};
+ghost use Rattle.sedspace.specs.Stream.{lines_left};
+ghost use Rattle.sedengine.specs.State.{empty_pattern, fetch, flush, join, print_pattern};
+ghost use Rattle.sedengine.specs.Move.{acts, newline, then_do};
+ghost use Rattle.sedengine.specs.Ends.{comes};
+ghost use Rattle.sedengine.specs.Meters.{Sent, Tally};
+ghost use Rattle.sedengine.specs.Calls.{NoSinkFailed, Reads, Delivers};
+ghost use Rattle.sedengine.specs.Run.{TellsFiles, at_lines, setting};
+ghost use Rattle.sedengine.specs.Steps.{KeepsRun, PerformsSteps, StepsFrom, weight};
+ghost use Rattle.sedengine.specs.Bringing.{Brings, brought};
+
+use super::Machine;
+use super::addresses::is_last;
+use crate::ends::Ended;
+use crate::meter::Sinks;
+use crate::place::Place;
+use sedspace::{ByteSource, Full, Got, LineFault, Lines, Space, Texts};
+
+impl Machine {
+    /// The command `n`: writes the pattern space, unless default output is suppressed, and the queue, and goes on with the
+    /// next line in place of the pattern space. Without a next line the run is to end as by `q`.
+    pub(super) fn act_next_line<R: ByteSource, O: Sinks, T: Texts>(
+        &mut self,
+        lines: &mut Lines<R>,
+        outputs: &mut O,
+        texts: &mut T,
+    ) -> Result<(), Ended>
+        requires at { comes self.old.state.tasks ≡ true }
+        requires number { self.old.state.number < self.old.state.turns }
+        requires sink { 0 < O.count outputs.old }
+        ensures acts { lines.old.fault ≡ None → ForSome (lines_left R.remaining lines.old) (λ ls.
+            (files : ℕ → List ℕ) → TellsFiles (T.text texts.old) files →
+            PerformsSteps R.remaining lines.old lines.new ls self.old.limits (setting self.old files)
+            (acts (setting self.old files) (at_lines self.old ls) true NextLine) true (at_lines self.old ls) self.new
+            (Sent (O.tally outputs.old) (O.tally outputs.new)) result) }
+        ensures input { Reads R.remaining R.failures R.reference lines.old lines.new result }
+        ensures output { Delivers O.tally O.count outputs.old outputs.new result }
+        ensures falls { weight self.new ≤ weight self.old + 8 }
+        ensures same { KeepsRun self.old self.new }
+        ensures kept { (j : ℕ) → Keeps (T.text texts.old j) (T.text texts.new j) }
+    {
+        match is_last(lines) {
+            Ok(true) => {
+                self.place = Place::Quit;
+                Ok(())
+            }
+            Ok(false) => self.print_and_fetch(lines, outputs, texts),
+            Err(end) => Err(end),
+        }
+    }
+
+    /// Writes the pattern space, unless default output is suppressed, and the queue, and puts the next line in place of
+    /// the pattern space.
+    fn print_and_fetch<R: ByteSource, O: Sinks, T: Texts>(
+        &mut self,
+        lines: &mut Lines<R>,
+        outputs: &mut O,
+        texts: &mut T,
+    ) -> Result<(), Ended>
+        requires at { comes self.old.state.tasks ≡ true }
+        requires number { self.old.state.number < self.old.state.turns }
+        requires sink { 0 < O.count outputs.old }
+        ensures steps { lines.old.fault ≡ None → ForSome (lines_left R.remaining lines.old) (λ ls.
+            (files : ℕ → List ℕ) → TellsFiles (T.text texts.old) files →
+            StepsFrom R.remaining lines.old lines.new ls self.old.limits (setting self.old files)
+            (then_do (print_pattern ∷ flush ∷ empty_pattern ∷ fetch ∷ self.old.state.tasks) (at_lines self.old ls)) self.new
+            (Sent (O.tally outputs.old) (O.tally outputs.new)) result) }
+        ensures input { Reads R.remaining R.failures R.reference lines.old lines.new result }
+        ensures output { Delivers O.tally O.count outputs.old outputs.new result }
+        ensures falls { weight self.new ≤ weight self.old }
+        ensures same { KeepsRun self.old self.new }
+        ensures kept { (j : ℕ) → Keeps (T.text texts.old j) (T.text texts.new j) }
+    {
+        match self.print_and_flush(outputs, texts) {
+            Ok(()) => self.fetch(lines),
+            Err(end) => Err(end),
+        }
+    }
+
+    /// Puts the next line in place of the pattern space.
+    fn fetch<R: ByteSource>(&mut self, lines: &mut Lines<R>) -> Result<(), Ended>
+        requires at { comes self.old.state.tasks ≡ true }
+        requires number { self.old.state.number < self.old.state.turns }
+        ensures steps { lines.old.fault ≡ None → ForSome (lines_left R.remaining lines.old) (λ ls.
+            (files : ℕ → List ℕ) (sinks : Tally) →
+            StepsFrom R.remaining lines.old lines.new ls self.old.limits (setting self.old files)
+            (then_do (empty_pattern ∷ fetch ∷ self.old.state.tasks) (at_lines self.old ls)) self.new
+            (Sent sinks sinks) result) }
+        ensures input { Reads R.remaining R.failures R.reference lines.old lines.new result }
+        ensures output { NoSinkFailed result }
+        ensures falls { weight self.new ≤ weight self.old }
+        ensures same { KeepsRun self.old self.new }
+    {
+        self.pattern.clear();
+        match bring_line(&mut self.pattern, lines, self.number + 1) {
+            Ok(got) => {
+                self.go_on(got);
+                Ok(())
+            }
+            Err(end) => Err(end),
+        }
+    }
+
+    /// Goes on with the line that was brought, or ends the run where there was none.
+    fn go_on(&mut self, got: Got)
+        requires at { comes self.old.state.tasks ≡ true }
+        requires number { self.old.state.number < self.old.state.turns }
+        ensures { self.new ≡ brought self.old got }
+    {
+        match got {
+            Got::Line => {
+                self.number += 1;
+                self.replaced = false;
+            }
+            Got::End => self.place = Place::Ended,
+        }
+    }
+
+    /// The command `N`: writes the queue, and appends a newline and the next line to the pattern space. Without a next line
+    /// the run is over, and the pattern space isn't written.
+    pub(super) fn act_append_next<R: ByteSource, O: Sinks, T: Texts>(
+        &mut self,
+        lines: &mut Lines<R>,
+        outputs: &mut O,
+        texts: &mut T,
+    ) -> Result<(), Ended>
+        requires at { comes self.old.state.tasks ≡ true }
+        requires number { self.old.state.number < self.old.state.turns }
+        requires sink { 0 < O.count outputs.old }
+        ensures acts { lines.old.fault ≡ None → ForSome (lines_left R.remaining lines.old) (λ ls.
+            (files : ℕ → List ℕ) → TellsFiles (T.text texts.old) files →
+            PerformsSteps R.remaining lines.old lines.new ls self.old.limits (setting self.old files)
+            (acts (setting self.old files) (at_lines self.old ls) true AppendNext) false (at_lines self.old ls) self.new
+            (Sent (O.tally outputs.old) (O.tally outputs.new)) result) }
+        ensures input { Reads R.remaining R.failures R.reference lines.old lines.new result }
+        ensures output { Delivers O.tally O.count outputs.old outputs.new result }
+        ensures falls { weight self.new ≤ weight self.old + 8 }
+        ensures same { KeepsRun self.old self.new }
+        ensures kept { (j : ℕ) → Keeps (T.text texts.old j) (T.text texts.new j) }
+    {
+        match self.flush(outputs, texts) {
+            Ok(()) => self.join(lines),
+            Err(end) => Err(end),
+        }
+    }
+
+    /// Appends a newline and the next line to the pattern space.
+    fn join<R: ByteSource>(&mut self, lines: &mut Lines<R>) -> Result<(), Ended>
+        requires at { comes self.old.state.tasks ≡ true }
+        requires number { self.old.state.number < self.old.state.turns }
+        ensures steps { lines.old.fault ≡ None → ForSome (lines_left R.remaining lines.old) (λ ls.
+            (files : ℕ → List ℕ) (sinks : Tally) →
+            StepsFrom R.remaining lines.old lines.new ls self.old.limits (setting self.old files)
+            (then_do (join ∷ self.old.state.tasks) (at_lines self.old ls)) self.new
+            (Sent sinks sinks) result) }
+        ensures input { Reads R.remaining R.failures R.reference lines.old lines.new result }
+        ensures output { NoSinkFailed result }
+        ensures falls { weight self.new ≤ weight self.old }
+        ensures same { KeepsRun self.old self.new }
+    {
+        match join_line(&mut self.pattern, lines, self.number + 1) {
+            Ok(got) => {
+                self.go_on(got);
+                Ok(())
+            }
+            Err(end) => Err(end),
+        }
+    }
+}
+
+/// Appends the next line, which is that of a number, to a space, and says whether there was one.
+fn bring_line<R: ByteSource>(
+    space: &mut Space,
+    lines: &mut Lines<R>,
+    number: u64,
+) -> Result<Got, Ended>
+    ensures brings { lines.old.fault ≡ None → ForSome (lines_left R.remaining lines.old) (λ ls.
+        Brings R.remaining lines.old lines.new ls space.old.bytes number space.old space.new result) }
+    ensures input { Reads R.remaining R.failures R.reference lines.old lines.new result }
+    ensures output { NoSinkFailed result }
+    ensures limit { space.new.limit ≡ space.old.limit }
+    ensures fits { length space.old.bytes ≤ space.old.limit → length space.new.bytes ≤ space.new.limit }
+    ensures stays { result ≢ Ok Got.Line → space.new ≡ space.old }
+{
+    match lines.next_into(space) {
+        Ok(got) => Ok(got),
+        Err(LineFault::TooLong) => Err(Ended::PatternFull(number)),
+        Err(LineFault::Broken) => Err(Ended::InputBroken),
+    }
+}
+
+/// The same for a line that doesn't fit into a full space: whether there is one is all that is asked.
+fn bring_none<R: ByteSource>(lines: &mut Lines<R>, number: u64) -> Result<Got, Ended>
+    ensures brings { lines.old.fault ≡ None → ForSome (lines_left R.remaining lines.old) (λ ls.
+        (before : List ℕ) (s : Contents) → s.limit < length before →
+        Brings R.remaining lines.old lines.new ls before number s s result) }
+    ensures input { Reads R.remaining R.failures R.reference lines.old lines.new result }
+    ensures output { NoSinkFailed result }
+    ensures none { result ≢ Ok Got.Line }
+{
+    match is_last(lines) {
+        Ok(true) => Ok(Got::End),
+        Ok(false) => Err(Ended::PatternFull(number)),
+        Err(end) => Err(end),
+    }
+}
+
+/// Appends a newline and the next line, which is that of a number, to a space, and says whether there was one.
+fn join_line<R: ByteSource>(
+    space: &mut Space,
+    lines: &mut Lines<R>,
+    number: u64,
+) -> Result<Got, Ended>
+    ensures brings { lines.old.fault ≡ None → ForSome (lines_left R.remaining lines.old) (λ ls.
+        Brings R.remaining lines.old lines.new ls (space.old.bytes ++ newline ∷ []) number space.old space.new result) }
+    ensures input { Reads R.remaining R.failures R.reference lines.old lines.new result }
+    ensures output { NoSinkFailed result }
+    ensures limit { space.new.limit ≡ space.old.limit }
+    ensures fits { length space.old.bytes ≤ space.old.limit → length space.new.bytes ≤ space.new.limit }
+{
+    let len = space.len();
+    if let Err(Full) = space.append(b"\n") {
+        return bring_none(lines, number);
+    }
+    let brought = bring_line(space, lines, number);
+    if !matches!(&brought, Ok(Got::Line)) {
+        space.truncate(len);
+    }
+    brought
+}

@@ -1,0 +1,138 @@
+//! The queue: the commands `a` and `r`, and the places at which it is written (XCU sed, "Editing Commands in sed").
+ghost use Rattle.std.specs.Prelude.{◌≡◌, ◌<◌, ◌≤◌, ◌+◌, [], ◌∷◌, ◌++◌, Ok, Err, OnOk, OnErr, ℕ, List, length, slice_get, if◌then◌else◌};
+ghost use Rattle.std.specs.Io.KnownBytes.{Keeps};
+ghost use Rattle.sedengine.specs.State.{Task, flush, print_pattern};
+ghost use Rattle.sedengine.specs.Move.{line_to, then_do};
+ghost use Rattle.sedengine.specs.Meters.{Sent};
+ghost use Rattle.sedengine.specs.Calls.{Puts, Delivers};
+ghost use Rattle.sedengine.specs.Run.{TellsFiles, at_lines, setting};
+ghost use Rattle.sedengine.specs.Steps.{KeepsRun, Moves, weight};
+ghost use Rattle.sedengine.specs.Inside.{IsEmptied, Queues, entry_by, tasks_of};
+ghost use Rattle.sedengine.specs.Queueing.{QueuesOrFull, flushed, with_turns};
+
+use super::Machine;
+use crate::ends::Ended;
+use crate::flushing::flush_queue;
+use crate::meter::Sinks;
+use crate::place::Place;
+use crate::write::write_all;
+use sedscript::Script;
+use sedspace::{Space, Texts};
+
+impl Machine {
+    /// The commands `a` and `r`: the entry of command `k` waits in the queue, if there is room.
+    pub(super) fn act_queue(&mut self, k: usize) -> Result<(), Ended>
+        requires { Queues (slice_get self.old.script.commands k) }
+        ensures { QueuesOrFull self.old self.new (entry_by self.old.script.texts (slice_get self.old.script.commands k)) result }
+    {
+        match self.queue.push(k as u64) {
+            Ok(()) => Ok(()),
+            Err(_) => Err(Ended::QueueFull(self.number)),
+        }
+    }
+
+    /// Writes the queue, which is then empty.
+    pub(super) fn flush<O: Sinks, T: Texts>(
+        &mut self,
+        outputs: &mut O,
+        texts: &mut T,
+    ) -> Result<(), Ended>
+        requires { 0 < O.count outputs.old }
+        ensures moves { (files : ℕ → List ℕ) → TellsFiles (T.text texts.old) files →
+            (ls : List (List ℕ)) (rest : List Task) →
+            Moves self.old.limits (setting self.old files) (then_do (flush ∷ rest) (at_lines self.old ls))
+            (then_do rest (at_lines self.new ls)) (Sent (O.tally outputs.old) (O.tally outputs.new)) result }
+        ensures ok { OnOk result (self.new ≡ flushed self.old self.new.state.turns) }
+        ensures err { OnErr result (self.new ≡ with_turns self.old self.new.state.turns) }
+        ensures later { self.old.state.turns ≤ self.new.state.turns }
+        ensures output { Delivers O.tally O.count outputs.old outputs.new result }
+        ensures input { result ≡ Err Ended.InputBroken → ⊥ }
+        ensures kept { (j : ℕ) → Keeps (T.text texts.old j) (T.text texts.new j) }
+    {
+        let flushed = flush_queue(
+            &self.script,
+            &self.queue,
+            &self.limits,
+            &mut self.turns,
+            &mut self.build,
+            outputs,
+            texts,
+        );
+        match flushed {
+            Ok(()) => {
+                self.queue.clear();
+                Ok(())
+            }
+            Err(end) => Err(end),
+        }
+    }
+
+    /// Writes the pattern space, unless default output is suppressed, and then the queue.
+    pub(super) fn print_and_flush<O: Sinks, T: Texts>(
+        &mut self,
+        outputs: &mut O,
+        texts: &mut T,
+    ) -> Result<(), Ended>
+        requires { 0 < O.count outputs.old }
+        ensures moves { (files : ℕ → List ℕ) → TellsFiles (T.text texts.old) files →
+            (ls : List (List ℕ)) (rest : List Task) →
+            Moves self.old.limits (setting self.old files) (then_do (print_pattern ∷ flush ∷ rest) (at_lines self.old ls))
+            (then_do rest (at_lines self.new ls)) (Sent (O.tally outputs.old) (O.tally outputs.new)) result }
+        ensures ok { OnOk result (self.new ≡ flushed self.old self.new.state.turns) }
+        ensures err { OnErr result (self.new ≡ with_turns self.old self.new.state.turns) }
+        ensures later { self.old.state.turns ≤ self.new.state.turns }
+        ensures output { Delivers O.tally O.count outputs.old outputs.new result }
+        ensures input { result ≡ Err Ended.InputBroken → ⊥ }
+        ensures kept { (j : ℕ) → Keeps (T.text texts.old j) (T.text texts.new j) }
+    {
+        match print_by_default(&self.script, &self.pattern, outputs) {
+            Ok(()) => self.flush(outputs, texts),
+            Err(end) => Err(end),
+        }
+    }
+
+    /// Writes the queue, and the next cycle starts at this place.
+    pub(super) fn end_cycle<O: Sinks, T: Texts>(
+        &mut self,
+        place: Place,
+        outputs: &mut O,
+        texts: &mut T,
+    ) -> Result<(), Ended>
+        requires emptied { IsEmptied place self.old.state.pattern }
+        requires sink { 0 < O.count outputs.old }
+        ensures moves { (files : ℕ → List ℕ) → TellsFiles (T.text texts.old) files → (ls : List (List ℕ)) →
+            Moves self.old.limits (setting self.old files) (then_do (flush ∷ tasks_of place) (at_lines self.old ls))
+            (at_lines self.new ls) (Sent (O.tally outputs.old) (O.tally outputs.new)) result }
+        ensures falls { weight self.new ≤ weight self.old + 8 }
+        ensures output { Delivers O.tally O.count outputs.old outputs.new result }
+        ensures input { result ≡ Err Ended.InputBroken → ⊥ }
+        ensures same { KeepsRun self.old self.new }
+        ensures kept { (j : ℕ) → Keeps (T.text texts.old j) (T.text texts.new j) }
+    {
+        match self.flush(outputs, texts) {
+            Ok(()) => {
+                self.place = place;
+                Ok(())
+            }
+            Err(end) => Err(end),
+        }
+    }
+}
+
+/// Writes the pattern space, unless default output is suppressed.
+fn print_by_default<O: Sinks>(
+    script: &Script,
+    pattern: &Space,
+    outputs: &mut O,
+) -> Result<(), Ended>
+    requires { 0 < O.count outputs.old }
+    ensures puts { Puts (Sent (O.tally outputs.old) (O.tally outputs.new))
+        (if script.now.quiet then [] else line_to 0 pattern.now.bytes) result }
+    ensures output { Delivers O.tally O.count outputs.old outputs.new result }
+    ensures input { result ≡ Err Ended.InputBroken → ⊥ }
+{
+    if script.quiet() {
+        return Ok(());
+    }
+    write_all(outputs, 0, pattern.line())
+}

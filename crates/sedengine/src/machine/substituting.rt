@@ -1,0 +1,221 @@
+//! The commands `s`, `t` and `y`: substitutions, what `t` sees of them, and tables (XCU sed, "Editing Commands in
+//! sed").
+ghost use Rattle.std.specs.Prelude.{◌≡◌, ◌<◌, ◌≤◌, [], ◌∷◌, Some, Err, OnErr, ℕ, List, false, true, length, map, slice_get, if◌then◌else◌};
+ghost use Rattle.sedscript.specs.declared.substitution.Substitution.{Substitution};
+ghost use Rattle.sedengine.specs.State.{do_at};
+ghost use Rattle.sedengine.specs.Substitute.{chosen, occurrences};
+ghost use Rattle.sedengine.specs.Move.{chosen_in, in_table, line_to, line_to_file, replaces, substitutes, written_by};
+ghost use Rattle.sedengine.specs.Ends.{comes};
+ghost use Rattle.sedengine.specs.Meters.{Sent};
+ghost use Rattle.sedengine.specs.Calls.{NoSinkFailed, Puts, Delivers};
+ghost use Rattle.sedengine.specs.Fitting.{AllFit};
+ghost use Rattle.sedengine.specs.Run.{at_lines, search_in, setting};
+ghost use Rattle.sedengine.specs.Steps.{KeepsRun, Performs, weight};
+ghost use Rattle.sedengine.specs.Substituting.{Makes, ReplacesIn, same_but_replaced};
+
+use super::Machine;
+use crate::ends::Ended;
+use crate::meter::Sinks;
+use crate::place::Place;
+use crate::substitute::substitute_by;
+use sedmatch::{Scratch, TableMatcher};
+use sedscript::Script;
+use sedspace::{Full, Space};
+
+/// Makes the substitution of number `k` in the pattern space, for the expression of number `e`. Says whether anything
+/// was replaced. What it makes is made in the build space.
+fn replace_in(
+    script: &Script,
+    k: usize,
+    matchers: &mut Vec<TableMatcher>,
+    e: usize,
+    pattern: &mut Space,
+    build: &mut Space,
+    scratch: &mut Scratch,
+) -> Result<bool, Full>
+    requires number { k < length script.now.substitutions }
+    requires expression { e < length matchers.old.items }
+    requires text { length pattern.old.bytes ≤ scratch.old.text }
+    requires fit { AllFit scratch.old.nodes matchers.old.items }
+    requires limits { pattern.old.limit ≡ build.old.limit }
+    ensures replaces { (t : Substitution) → slice_get script.now.substitutions k ≡ Some t →
+        ReplacesIn t (chosen t.number t.global
+        (occurrences (search_in matchers.old.items e pattern.old.bytes) (length pattern.old.bytes)))
+        pattern.old pattern.new result }
+    ensures err { OnErr result (pattern.new ≡ pattern.old) }
+    ensures pattern { pattern.new.limit ≡ pattern.old.limit }
+    ensures fits { length pattern.new.bytes ≤ pattern.new.limit }
+    ensures build { build.new.limit ≡ build.old.limit }
+    ensures same { matchers.new.items ≡ matchers.old.items }
+    ensures scratch { scratch.new ≡ scratch.old }
+{
+    let substitution = script.substitution(k);
+    let replaced = substitute_by(substitution, matchers, e, pattern.bytes(), build, scratch)?;
+    if replaced {
+        // What a space holds is within its limit.
+        let _ = build.len();
+        pattern.swap(build);
+    }
+    Ok(replaced)
+}
+
+impl Machine {
+    /// The command `s`: replaces occurrences in the pattern space, and writes it as its flags `p` and `w` say if it did.
+    #[inline(never)]
+    pub(super) fn act_substitute<O: Sinks>(
+        &mut self,
+        k: usize,
+        outputs: &mut O,
+    ) -> Result<(), Ended>
+        requires at { comes self.old.state.tasks ≡ true }
+        requires number { k < length self.old.script.substitutions }
+        requires sinks { length self.old.script.wfiles < O.count outputs.old }
+        ensures acts { (files : ℕ → List ℕ) (ls : List (List ℕ)) →
+            Performs self.old.limits (setting self.old files)
+            (substitutes (setting self.old files) (at_lines self.old ls) (slice_get self.old.script.substitutions k))
+            (at_lines self.old ls) (at_lines self.new ls)
+            (Sent (O.tally outputs.old) (O.tally outputs.new)) result }
+        ensures output { Delivers O.tally O.count outputs.old outputs.new result }
+        ensures input { result ≡ Err Ended.InputBroken → ⊥ }
+        ensures falls { weight self.new ≤ weight self.old }
+        ensures same { KeepsRun self.old self.new }
+    {
+        // The engine is open from here on, so its state is known to be within the limits.
+        let _ = &self.turns;
+        match self.replace(k) {
+            Ok(true) => self.write_replaced(k, outputs),
+            Ok(false) => Ok(()),
+            Err(end) => Err(end),
+        }
+    }
+
+    /// Makes the substitution of number `k` in the pattern space. Says whether anything was replaced.
+    fn replace(&mut self, k: usize) -> Result<bool, Ended>
+        requires at { comes self.old.state.tasks ≡ true }
+        requires number { k < length self.old.script.substitutions }
+        ensures makes { (t : Substitution) → slice_get self.old.script.substitutions k ≡ Some t →
+            (files : ℕ → List ℕ) (ls : List (List ℕ)) →
+            Makes self.old.limits (substitutes (setting self.old files) (at_lines self.old ls) (Some t)) t
+            (at_lines self.old ls) (at_lines self.new ls) result }
+        ensures err { OnErr result (self.new.state.pattern ≡ self.old.state.pattern) }
+        ensures output { NoSinkFailed result }
+        ensures input { result ≡ Err Ended.InputBroken → ⊥ }
+        ensures fits { length self.new.state.pattern ≤ self.new.limits.space }
+        ensures same { self.new ≡ same_but_replaced self.old self.new.state }
+    {
+        match self.script.substitution(k).expression.or(self.used) {
+            None => Err(Ended::NoPrevious(self.number)),
+            Some(e) => self.replace_by(k, e),
+        }
+    }
+
+    /// The same for the expression of number `e`, which is then the one last used.
+    fn replace_by(&mut self, k: usize, e: usize) -> Result<bool, Ended>
+        requires at { comes self.old.state.tasks ≡ true }
+        requires number { k < length self.old.script.substitutions }
+        requires expression { e < length self.old.script.expressions }
+        ensures makes { (t : Substitution) → slice_get self.old.script.substitutions k ≡ Some t →
+            (files : ℕ → List ℕ) (ls : List (List ℕ)) →
+            Makes self.old.limits
+            (replaces (record (at_lines self.old ls) { used = Some e }) t
+            (chosen_in (setting self.old files) t e self.old.state.pattern)) t
+            (at_lines self.old ls) (at_lines self.new ls) result }
+        ensures err { OnErr result (self.new.state.pattern ≡ self.old.state.pattern) }
+        ensures output { NoSinkFailed result }
+        ensures input { result ≡ Err Ended.InputBroken → ⊥ }
+        ensures fits { length self.new.state.pattern ≤ self.new.limits.space }
+        ensures same { self.new ≡ same_but_replaced self.old self.new.state }
+    {
+        self.used = Some(e);
+        match replace_in(
+            &self.script,
+            k,
+            &mut self.matchers,
+            e,
+            &mut self.pattern,
+            &mut self.build,
+            &mut self.scratch,
+        ) {
+            Ok(true) => {
+                self.replaced = true;
+                Ok(true)
+            }
+            Ok(false) => Ok(false),
+            Err(Full) => Err(Ended::PatternFull(self.number)),
+        }
+    }
+
+    /// Writes the pattern space as the flags `p` and `w` of the substitution of number `k` say.
+    fn write_replaced<O: Sinks>(&self, k: usize, outputs: &mut O) -> Result<(), Ended>
+        requires number { k < length self.now.script.substitutions }
+        requires sinks { length self.now.script.wfiles < O.count outputs.old }
+        ensures puts { (t : Substitution) → slice_get self.now.script.substitutions k ≡ Some t →
+            Puts (Sent (O.tally outputs.old) (O.tally outputs.new)) (written_by t self.now.state.pattern) result }
+        ensures output { Delivers O.tally O.count outputs.old outputs.new result }
+        ensures input { result ≡ Err Ended.InputBroken → ⊥ }
+    {
+        match self.print_replaced(k, outputs) {
+            Ok(()) => self.file_replaced(k, outputs),
+            Err(end) => Err(end),
+        }
+    }
+
+    /// Writes the pattern space if the substitution of number `k` has the flag `p`.
+    fn print_replaced<O: Sinks>(&self, k: usize, outputs: &mut O) -> Result<(), Ended>
+        requires number { k < length self.now.script.substitutions }
+        requires sink { 0 < O.count outputs.old }
+        ensures puts { (t : Substitution) → slice_get self.now.script.substitutions k ≡ Some t →
+            Puts (Sent (O.tally outputs.old) (O.tally outputs.new))
+            (if t.print then line_to 0 self.now.state.pattern else []) result }
+        ensures output { Delivers O.tally O.count outputs.old outputs.new result }
+        ensures input { result ≡ Err Ended.InputBroken → ⊥ }
+    {
+        if !self.script.substitution(k).print {
+            return Ok(());
+        }
+        self.act_write(0, outputs)
+    }
+
+    /// Writes the pattern space to the file if the substitution of number `k` has the flag `w`.
+    fn file_replaced<O: Sinks>(&self, k: usize, outputs: &mut O) -> Result<(), Ended>
+        requires number { k < length self.now.script.substitutions }
+        requires sinks { length self.now.script.wfiles < O.count outputs.old }
+        ensures puts { (t : Substitution) → slice_get self.now.script.substitutions k ≡ Some t →
+            Puts (Sent (O.tally outputs.old) (O.tally outputs.new))
+            (line_to_file t.file self.now.state.pattern) result }
+        ensures output { Delivers O.tally O.count outputs.old outputs.new result }
+        ensures input { result ≡ Err Ended.InputBroken → ⊥ }
+    {
+        match self.script.substitution(k).file {
+            Some(sink) => self.act_write(sink, outputs),
+            None => Ok(()),
+        }
+    }
+
+    /// The command `t`: goes on at its target if a substitution was made, which is then forgotten.
+    pub(super) fn act_test(&mut self, target: usize)
+        ensures { self.new ≡ record self.old {
+          state = if self.old.state.replaced
+              then record self.old.state { tasks = do_at target ∷ []; replaced = false }
+              else self.old.state;
+        } }
+    {
+        if self.replaced {
+            self.replaced = false;
+            self.place = Place::Do(target);
+        }
+    }
+
+    /// The command `y`: replaces each byte of the pattern space by the one at its place in the table of number `k`.
+    #[inline(never)]
+    pub(super) fn act_transliterate(&mut self, k: usize)
+        requires { k < length self.old.script.tables }
+        ensures { self.new ≡ record self.old {
+          state = record self.old.state {
+            pattern = map (in_table (slice_get self.old.script.tables k)) self.old.state.pattern;
+          };
+        } }
+    {
+        self.pattern.translate(self.script.table(k));
+    }
+}

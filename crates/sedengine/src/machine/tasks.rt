@@ -1,0 +1,131 @@
+//! The start of a cycle, and its end.
+ghost use Rattle.std.specs.Prelude.{◌≡◌, ◌<◌, ◌≤◌, [], ◌∷◌, None, Err, OnOk, ℕ, Option, List, length};
+ghost use Rattle.std.specs.Option.{ForSome};
+ghost use Rattle.std.specs.Io.KnownBytes.{Keeps};
+ghost use Rattle.sedspace.specs.Stream.{lines_left};
+ghost use Rattle.sedengine.specs.State.{begin, rebegin, do_at, print_pattern, flush};
+ghost use Rattle.sedengine.specs.Meters.{Sent, Tally};
+ghost use Rattle.sedengine.specs.Calls.{NoSinkFailed, Reads, Delivers};
+ghost use Rattle.sedengine.specs.Run.{TellsFiles, at_lines, setting};
+ghost use Rattle.sedengine.specs.Steps.{KeepsRun, Moves, Steps, weight};
+
+use super::Machine;
+use crate::ends::Ended;
+use crate::meter::Sinks;
+use crate::place::Place;
+use sedspace::{ByteSource, Got, LineFault, Lines, Texts};
+
+impl Machine {
+    /// Starts a cycle with the next line.
+    pub(super) fn begin<R: ByteSource>(&mut self, lines: &mut Lines<R>) -> Result<(), Ended>
+        requires { self.old.state.tasks ≡ begin ∷ [] }
+        ensures steps { lines.old.fault ≡ None → ForSome (lines_left R.remaining lines.old) (λ ls.
+            (files : ℕ → List ℕ) (sinks : Tally) →
+            Steps R.remaining lines.old lines.new ls self.old.limits (setting self.old files) self.old self.new
+            (Sent sinks sinks) result) }
+        ensures input { Reads R.remaining R.failures R.reference lines.old lines.new result }
+        ensures output { NoSinkFailed result }
+        ensures falls { OnOk result (weight self.new < weight self.old) }
+        ensures same { KeepsRun self.old self.new }
+    {
+        if self.turns == self.limits.turns() {
+            return match lines.is_last() {
+                Ok(true) => {
+                    self.place = Place::Ended;
+                    Ok(())
+                }
+                Ok(false) => Err(Ended::TurnsSpent),
+                Err(_) => Err(Ended::InputBroken),
+            };
+        }
+        match lines.next_into(&mut self.pattern) {
+            Ok(Got::Line) => {
+                self.number += 1;
+                self.turns += 1;
+                self.replaced = false;
+                self.place = Place::Do(0);
+                Ok(())
+            }
+            Ok(Got::End) => {
+                self.place = Place::Ended;
+                Ok(())
+            }
+            Err(LineFault::TooLong) => Err(Ended::PatternFull(self.number + 1)),
+            Err(LineFault::Broken) => Err(Ended::InputBroken),
+        }
+    }
+
+    /// Starts a cycle with the pattern space as it is.
+    pub(super) fn rebegin(&mut self) -> Result<(), Ended>
+        requires { self.old.state.tasks ≡ rebegin ∷ [] }
+        ensures moves { (files : ℕ → List ℕ) (ls : List (List ℕ)) (sinks : Tally) →
+            Moves self.old.limits (setting self.old files) (at_lines self.old ls)
+            (at_lines self.new ls) (Sent sinks sinks) result }
+        ensures output { NoSinkFailed result }
+        ensures input { result ≡ Err Ended.InputBroken → ⊥ }
+        ensures falls { OnOk result (weight self.new < weight self.old) }
+        ensures same { KeepsRun self.old self.new }
+    {
+        if self.turns == self.limits.turns() {
+            return Err(Ended::TurnsSpent);
+        }
+        self.turns += 1;
+        self.place = Place::Do(0);
+        Ok(())
+    }
+
+    /// Ends a cycle at the end of the script: writes the pattern space and the queue, and empties the pattern space.
+    pub(super) fn finish<O: Sinks, T: Texts>(
+        &mut self,
+        k: usize,
+        outputs: &mut O,
+        texts: &mut T,
+    ) -> Result<(), Ended>
+        requires at { self.old.state.tasks ≡ do_at k ∷ [] }
+        requires end { length self.old.script.commands ≤ k }
+        requires sink { 0 < O.count outputs.old }
+        ensures moves { (files : ℕ → List ℕ) → TellsFiles (T.text texts.old) files → (ls : List (List ℕ)) →
+            Moves self.old.limits (setting self.old files) (at_lines self.old ls)
+            (at_lines self.new ls) (Sent (O.tally outputs.old) (O.tally outputs.new)) result }
+        ensures output { Delivers O.tally O.count outputs.old outputs.new result }
+        ensures input { result ≡ Err Ended.InputBroken → ⊥ }
+        ensures falls { OnOk result (weight self.new < weight self.old) }
+        ensures same { KeepsRun self.old self.new }
+        ensures kept { (j : ℕ) → Keeps (T.text texts.old j) (T.text texts.new j) }
+    {
+        match self.print_and_flush(outputs, texts) {
+            Ok(()) => {
+                self.pattern.clear();
+                self.place = Place::Begin;
+                Ok(())
+            }
+            Err(end) => Err(end),
+        }
+    }
+
+    /// Ends the run: writes the pattern space and the queue for the last time.
+    pub(super) fn quit<O: Sinks, T: Texts>(
+        &mut self,
+        outputs: &mut O,
+        texts: &mut T,
+    ) -> Result<(), Ended>
+        requires at { self.old.state.tasks ≡ print_pattern ∷ flush ∷ [] }
+        requires sink { 0 < O.count outputs.old }
+        ensures moves { (files : ℕ → List ℕ) → TellsFiles (T.text texts.old) files → (ls : List (List ℕ)) →
+            Moves self.old.limits (setting self.old files) (at_lines self.old ls)
+            (at_lines self.new ls) (Sent (O.tally outputs.old) (O.tally outputs.new)) result }
+        ensures output { Delivers O.tally O.count outputs.old outputs.new result }
+        ensures input { result ≡ Err Ended.InputBroken → ⊥ }
+        ensures falls { OnOk result (weight self.new < weight self.old) }
+        ensures same { KeepsRun self.old self.new }
+        ensures kept { (j : ℕ) → Keeps (T.text texts.old j) (T.text texts.new j) }
+    {
+        match self.print_and_flush(outputs, texts) {
+            Ok(()) => {
+                self.place = Place::Ended;
+                Ok(())
+            }
+            Err(end) => Err(end),
+        }
+    }
+}

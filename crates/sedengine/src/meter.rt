@@ -1,0 +1,139 @@
+//! Sinks of which each takes no more than a limit.
+//!
+//! The machine's calls write to `Sinks`. In a run these are the outputs with a meter, which counts what each sink has
+//! gained since the engine was opened; where no limit is set nothing is counted.
+ghost use Rattle.std.specs.Prelude.{◌≡◌, ◌≢◌, ◌<◌, ◌≤◌, [], ℕ, Some, Ok, Err, IfOk, IfErr, MatchResult, length, min, replicate, take};
+ghost use Rattle.sedengine.specs.Move.{to_sink};
+ghost use Rattle.sedengine.specs.Ends.{named_sink};
+ghost use Rattle.sedengine.specs.Calls.{Delivers};
+ghost use Rattle.sedengine.specs.Meters.{Counts, FitsIn, InLimit, IsFull, Meter, Sent, Tally, counted};
+
+use crate::ends::Ended;
+use sedspace::{Broken, Outputs};
+use std::alloc::{AllocError, Global};
+use std::marker::Model;
+
+/// How many bytes each sink has gained, and the most that it may gain, where a limit is set.
+#[derive(Drop)]
+pub(crate) struct Meter {
+    limit: Option<u64>,
+    counts: Vec<u64>,
+}
+
+impl Model for Meter {
+    ghost use Rattle.sedengine.specs.Meters.{Meter, InLimit};
+
+    ghost Value = { Meter };
+
+    ghost view = { λ s. record { most = s.limit; sent = s.counts.items } };
+
+    ghost invariant = { λ s. InLimit s.limit s.counts.items };
+}
+
+impl Meter {
+    /// A meter for so many sinks, of which none has gained anything. The counts are reserved here.
+    pub(crate) fn new(alloc: Global, limit: Option<u64>, sinks: usize) -> Result<Meter, AllocError>
+        ensures { IfOk result (λ m. m ≡ record { most = limit; sent = replicate sinks 0 }) }
+    {
+        let counts = vec![in alloc; 0; sinks]?;
+        Ok(Meter { limit, counts })
+    }
+
+    /// The limit, which no sink has passed.
+    pub(crate) fn limit(&self) -> Option<u64>
+        ensures value { result ≡ self.now.most }
+        ensures within { InLimit self.now.most self.now.sent }
+    {
+        self.limit
+    }
+
+    /// How many of so many bytes the sink may take.
+    #[inline(always)]
+    fn room(&self, sink: usize, bytes: usize) -> usize
+        requires { sink < length self.now.sent }
+        ensures most { result ≤ bytes }
+        ensures fits { FitsIn self.now.most self.now.sent sink result }
+        ensures none { result ≡ 0 → 0 < bytes → IsFull self.now.most self.now.sent sink }
+    {
+        match self.limit {
+            None => bytes,
+            Some(most) => (most - self.counts[sink]).min(bytes as u64) as usize,
+        }
+    }
+
+    /// Counts bytes that the sink took.
+    #[inline(always)]
+    fn add(&mut self, sink: usize, bytes: usize)
+        requires sink { sink < length self.old.sent }
+        requires fits { FitsIn self.old.most self.old.sent sink bytes }
+        ensures counts { Counts (counted self.old.most self.old.sent sink) (counted self.new.most self.new.sent sink) bytes }
+        ensures others { (k : ℕ) → k ≢ sink →
+            counted self.new.most self.new.sent k ≡ counted self.old.most self.old.sent k }
+        ensures same_limit { self.new.most ≡ self.old.most }
+        ensures same_length { length self.new.sent ≡ length self.old.sent }
+    {
+        if self.limit.is_some() {
+            self.counts[sink] += bytes as u64;
+        }
+    }
+}
+
+/// Where the machine's calls write. A write that is refused names the end of the run.
+pub(crate) trait Sinks {
+    /// How many sinks there are.
+    ghost count: { Self → ℕ };
+
+    /// What they hold and have gained.
+    ghost tally: { Self → Tally };
+
+    /// Appends the first of the bytes to this sink alone, at least one, and says how many. An `Err` appends none: the
+    /// sink failed, or it is full and no write was tried.
+    fn write(&mut self, sink: usize, bytes: &[u8]) -> Result<usize, Ended>
+        requires sink { sink < count self.old }
+        requires some { 0 < length bytes.now }
+        ensures bound { IfOk result (λ n. n ≤ length bytes.now) }
+        ensures progress { IfOk result (λ n. 0 < n) }
+        ensures sent { MatchResult result (λ n. Sent (tally self.old) (tally self.new) (to_sink sink (take n bytes.now)))
+            (λ end. Sent (tally self.old) (tally self.new) []) }
+        ensures refused { IfErr result (λ end. named_sink end ≡ Some sink) }
+        ensures devices { MatchResult result (λ n. Delivers tally count self.old self.new (Ok tt))
+            (λ end. Delivers tally count self.old self.new (Err end)) };
+}
+
+/// Outputs with a meter.
+#[derive(Drop)]
+pub(crate) struct Metered<'a, O: Outputs> {
+    pub(crate) outputs: &'a mut O,
+    pub(crate) meter: &'a mut Meter,
+}
+
+impl<'a, O: Outputs> Sinks for Metered<'a, O> {
+    ghost count = { λ m. min (length m.meter.now.sent) (O.count m.outputs.now) };
+
+    ghost tally = { λ m. record {
+      contents = O.contents m.outputs.now;
+      failures = O.failures m.outputs.now;
+      sent = counted m.meter.now.most m.meter.now.sent;
+      frame = record {
+        sinks = O.count m.outputs.now;
+        counts = length m.meter.now.sent;
+        most = m.meter.now.most;
+        references = (m.outputs.ghost_name, m.meter.ghost_name);
+      };
+    } };
+
+    #[inline(always)]
+    fn write(&mut self, sink: usize, bytes: &[u8]) -> Result<usize, Ended> {
+        let room = self.meter.room(sink, bytes.len());
+        if room == 0 {
+            return Err(Ended::OutputFull(sink));
+        }
+        match self.outputs.write(sink, &bytes[..room]) {
+            Ok(count) => {
+                self.meter.add(sink, count);
+                Ok(count)
+            }
+            Err(Broken) => Err(Ended::OutputBroken(sink)),
+        }
+    }
+}
