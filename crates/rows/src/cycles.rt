@@ -4,140 +4,122 @@
 //! `lines`, where a read gives one line; `taken=2`, the bytes taken from the input then; `calls=1`, how often it was
 //! read then, and `all=5`, how often in the whole run; `held=1`, the bytes that the engine holds then.
 
-use crate::files::texts_of;
-use crate::job::Job;
-use crate::outcomes::{Outcome, compared, compared_numbers};
-use crate::table::{Row, name_and_value, number_of};
-use anyhow::{Result, ensure};
+ghost use Rattle.std.specs.Prelude.{◌≡◌, ◌<◌, length};
+
+use crate::engines::{Ready, engine_of};
+use crate::job::{check_script, source_of};
+use crate::options::Options;
+use crate::report::{NO_INPUT, Report};
+use crate::runs::compare_sink;
+use crate::shape::Shape;
+use crate::table::Row;
 use sedengine::Engine;
-use sedspace::{Lines, MemorySource, Outputs};
-use std::alloc::{AllocError, Global};
+use sedspace::{Lines, MemoryOutputs, MemorySource, MemoryTexts};
+use std::alloc::Global;
 
-/// What a row wants to be so.
-#[derive(Clone, Copy)]
-struct Wanted {
-    taken: Option<usize>,
-    calls: Option<usize>,
-    all: Option<usize>,
-    held: Option<usize>,
-    is_by_lines: bool,
-}
-
-impl Wanted {
-    /// Takes an option, and says whether it is one of these.
-    fn take(&mut self, option: &[u8]) -> Result<bool> {
-        let (name, value) = name_and_value(option);
-        match name {
-            b"taken" => self.taken = Some(number_of(value)?),
-            b"calls" => self.calls = Some(number_of(value)?),
-            b"all" => self.all = Some(number_of(value)?),
-            b"held" => self.held = Some(number_of(value)?),
-            b"lines" => self.is_by_lines = true,
-            _ => return Ok(false),
-        }
-        Ok(true)
-    }
-}
-
-/// What a cycle came to.
-#[derive(Drop)]
-struct Came {
-    output: Vec<u8>,
-    taken: usize,
-    calls: u64,
-    all: u64,
-    held: u128,
-}
+/// What a row looks like.
+pub(crate) const SHAPE: Shape<'static> = Shape {
+    fields: "* * *",
+    options: "lines taken=# calls=# all=# held=# -n -E r:* w:* space=# queue=# look=# turns=# nodes=# output=# fails=# read=# room=# refuses=#",
+};
 
 /// Runs a row.
-pub(crate) fn run(alloc: Global, row: &Row) -> Result<Outcome> {
-    let mut job = Job::new();
-    let mut wanted = Wanted {
-        taken: None,
-        calls: None,
-        all: None,
-        held: None,
-        is_by_lines: false,
-    };
-    for option in row.options(3) {
-        let is_known = wanted.take(option.as_slice())? || job.take(option.as_slice())?;
-        ensure!(is_known, "unknown option");
-    }
-    if let Some(refusal) = job.refusal(alloc, row.field(0)?, row.options(3))? {
-        return Ok(Some(refusal));
-    }
-    let source = if wanted.is_by_lines {
-        by_lines(alloc, row.field(1)?)?
+pub(crate) fn run(alloc: Global, row: &Row, report: &mut Report) {
+    check_script(alloc, row, report);
+    let source = if row.options(3).has(b"lines") {
+        by_lines(alloc, row.field(1))
     } else {
-        job.source(alloc, row.field(1)?, usize::MAX)?
+        source_of(alloc, row, usize::MAX)
     };
-    let came = cycle(alloc, &job, row, source)?;
-    compared_cycle(alloc, wanted, &came, row.field(2)?)
+    match source {
+        Some(source) => run_over(alloc, row, source, report),
+        None => report.tell(NO_INPUT),
+    }
 }
 
 /// The input, of which a read gives one line.
-fn by_lines(alloc: Global, input: &[u8]) -> Result<MemorySource, AllocError> {
-    let mut cuts = Vec::new(alloc);
+fn by_lines(alloc: Global, input: &[u8]) -> Option<MemorySource> {
+    let bytes = input.to_vec(alloc).ok()?;
+    let cuts = line_ends(alloc, input)?;
+    Some(MemorySource::new(bytes, cuts))
+}
+
+/// The places behind the newlines.
+fn line_ends(alloc: Global, input: &[u8]) -> Option<Vec<usize>> {
+    let mut ends = Vec::new(alloc);
     let mut place = 0usize;
     for b in input {
         place = place.saturating_add(1);
         if *b == b'\n' {
-            cuts.push(place)?;
+            ends.push(place).ok()?;
         }
     }
-    Ok(MemorySource::new(input.to_vec(alloc)?, cuts))
+    Some(ends)
+}
+
+/// Runs a cycle over this source, and then the rest.
+fn run_over(alloc: Global, row: &Row, source: MemorySource, report: &mut Report) {
+    let Some(ready) = engine_of(alloc, row, source) else {
+        return report.tell("the engine can't be opened");
+    };
+    let Ready {
+        mut engine,
+        mut lines,
+        mut outputs,
+        mut texts,
+    } = ready;
+    run_cycle(
+        row,
+        &mut engine,
+        &mut lines,
+        &mut outputs,
+        &mut texts,
+        report,
+    );
+    compare_count(
+        row.options(3),
+        "all",
+        u128::from(lines.source().calls()),
+        report,
+    );
 }
 
 /// Runs a cycle, and then the rest.
-fn cycle(alloc: Global, job: &Job, row: &Row, source: MemorySource) -> Result<Came> {
-    let limits = job.limits(job.look.unwrap_or(65536))?;
-    let script = job.script(alloc, row.field(0)?, &limits)?;
-    let mut outputs = job.outputs(alloc, &script, usize::MAX)?;
-    let mut texts = texts_of(alloc, script.rfiles(), row.options(3))?;
-    let mut engine = Engine::open(alloc, script, limits)?;
-    let mut lines = Lines::new(alloc, source, limits.look())?;
-    let _progress = engine.cycle(&mut lines, &mut outputs, &mut texts);
-    ensure!(outputs.sinks() > 0, "there is a sink");
-    let output = outputs.bytes(0).to_vec(alloc)?;
-    let taken = lines.source().taken();
-    let calls = lines.source().calls();
-    let held = engine.held().total();
-    let _end = engine.run(&mut lines, &mut outputs, &mut texts);
-    let all = lines.source().calls();
-    Ok(Came {
-        output,
-        taken,
-        calls,
-        all,
-        held,
-    })
+fn run_cycle(
+    row: &Row,
+    engine: &mut Engine,
+    lines: &mut Lines<MemorySource>,
+    outputs: &mut MemoryOutputs,
+    texts: &mut MemoryTexts,
+    report: &mut Report,
+)
+    requires look { lines.old.look ≡ engine.old.limits.look }
+    requires sinks { length engine.old.script.wfiles < length outputs.old.held }
+{
+    let _progress = engine.cycle(lines, outputs, texts);
+    compare_sink(outputs, 0, row.field(2), report);
+    compare_cycle(row.options(3), engine, lines, report);
+    let _end = engine.run(lines, outputs, texts);
 }
 
-/// Whether a number is the wanted one, where one is.
-fn is_same(came: u128, wanted: Option<usize>) -> bool {
-    match wanted {
-        Some(number) => came == number as u128,
-        None => true,
-    }
+/// Whether the counts after a cycle are those of the options.
+fn compare_cycle(
+    options: Options<'_>,
+    engine: &Engine,
+    lines: &Lines<MemorySource>,
+    report: &mut Report,
+) {
+    let source = lines.source();
+    compare_count(options, "taken", source.taken() as u128, report);
+    compare_count(options, "calls", u128::from(source.calls()), report);
+    compare_count(options, "held", engine.held().total(), report);
 }
 
-/// Whether what came is what the row says.
-fn compared_cycle(alloc: Global, wanted: Wanted, came: &Came, output: &[u8]) -> Result<Outcome> {
-    let Came {
-        output: _,
-        taken,
-        calls,
-        all,
-        held,
-    } = came;
-    let is_as_said = is_same(*taken as u128, wanted.taken)
-        && is_same(u128::from(*calls), wanted.calls)
-        && is_same(u128::from(*all), wanted.all)
-        && is_same(*held, wanted.held);
-    if !is_as_said {
-        return Ok(Some(format!(in alloc;
-            "came taken={taken} calls={calls} all={all} held={held}"
-        )?));
+/// Whether a count is that of the options, where they have one.
+fn compare_count(options: Options<'_>, name: &str, came: u128, report: &mut Report) {
+    if let Some(wanted) = options.number(name.as_bytes())
+        && came != wanted as u128
+    {
+        report.tell_number(name, came);
     }
-    compared(alloc, "the output", came.output.as_slice(), output)
 }

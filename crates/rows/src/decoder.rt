@@ -10,25 +10,20 @@
 //!
 //! Any other byte stands for itself, a backslash too, so that an expression or a script stands as it is typed.
 
-use anyhow::{Result, bail, ensure};
+use crate::sheet::Sheet;
+use anyhow::{Context, Result};
 use std::alloc::Global;
-use std::io::Write;
 
 /// The most copies of one part, so that a mistake in a table doesn't take all memory.
 const MAX_COPIES: usize = 10_000_000;
 
 /// The bytes that a field stands for.
 pub(crate) fn decoded(alloc: Global, written: &[u8]) -> Result<Vec<u8>> {
-    let mut decoder = Decoder {
-        bytes: Vec::new(alloc),
-        part: Vec::new(alloc),
-        copies: None,
-        state: State::Plain,
-    };
+    let mut decoder = Decoder::new(alloc);
     for b in written {
-        decoder.take(*b)?;
+        decoder.take(*b);
     }
-    decoder.finish()
+    decoder.into_bytes().context("an escape that means nothing, or isn't closed, or no memory")
 }
 
 /// How far an escape was read.
@@ -59,45 +54,48 @@ enum Item {
 /// A field that is being read.
 #[derive(Drop)]
 struct Decoder {
-    bytes: Vec<u8>,
+    sheet: Sheet,
     part: Vec<Item>,
     copies: Option<usize>,
     state: State,
+    // Whether all had a meaning so far.
+    is_sound: bool,
 }
 
 impl Decoder {
+    /// Nothing is read yet.
+    fn new(alloc: Global) -> Decoder {
+        Decoder {
+            sheet: Sheet::new(alloc),
+            part: Vec::new(alloc),
+            copies: None,
+            state: State::Plain,
+            is_sound: true,
+        }
+    }
+
     /// Takes the next byte.
-    fn take(&mut self, b: u8) -> Result<()> {
+    fn take(&mut self, b: u8) {
         match self.state {
             State::Plain => self.plain(b),
             State::Escape => self.escape(b),
-            State::High => {
-                self.state = State::Low(digit_of(b)?);
-                Ok(())
-            }
-            State::Low(high) => {
-                self.state = State::Plain;
-                let low = digit_of(b)?;
-                self.put(Item::Byte(high.wrapping_mul(16).wrapping_add(low)))
-            }
+            State::High => self.high(b),
+            State::Low(high) => self.low(high, b),
             State::Copies(count) => self.count(count, b),
         }
     }
 
     /// Takes a byte outside an escape.
-    fn plain(&mut self, b: u8) -> Result<()> {
+    fn plain(&mut self, b: u8) {
         match b {
-            b'%' => {
-                self.state = State::Escape;
-                Ok(())
-            }
+            b'%' => self.state = State::Escape,
             b'}' if self.copies.is_some() => self.copy(),
             _ => self.put(Item::Byte(b)),
         }
     }
 
     /// Takes the byte after a `%`.
-    fn escape(&mut self, b: u8) -> Result<()> {
+    fn escape(&mut self, b: u8) {
         self.state = State::Plain;
         match b {
             b'n' => self.put(Item::Byte(b'\n')),
@@ -106,84 +104,100 @@ impl Decoder {
             b'%' => self.put(Item::Byte(b'%')),
             b'+' => self.put(Item::Up),
             b'-' => self.put(Item::Down),
-            b'e' => Ok(()),
-            b'x' => {
-                self.state = State::High;
-                Ok(())
-            }
+            b'e' => {}
+            b'x' => self.state = State::High,
             b'0'..=b'9' => self.count(0, b),
-            _ => bail!("% before a byte with which it means nothing"),
+            _ => self.is_sound = false,
+        }
+    }
+
+    /// Takes the first digit of a byte's number.
+    fn high(&mut self, b: u8) {
+        match digit_of(b) {
+            Some(digit) => self.state = State::Low(digit),
+            None => self.is_sound = false,
+        }
+    }
+
+    /// Takes the second digit of a byte's number.
+    fn low(&mut self, high: u8, b: u8) {
+        self.state = State::Plain;
+        match digit_of(b) {
+            Some(low) => self.put(Item::Byte(high.wrapping_mul(16).wrapping_add(low))),
+            None => self.is_sound = false,
         }
     }
 
     /// Takes a byte of a number of copies, or the brace after it.
-    fn count(&mut self, count: usize, b: u8) -> Result<()> {
+    fn count(&mut self, count: usize, b: u8) {
         match b {
             b'0'..=b'9' => {
                 let more = usize::from(b.wrapping_sub(b'0'));
-                let count = count.saturating_mul(10).saturating_add(more);
-                ensure!(count <= MAX_COPIES, "too many copies");
-                self.state = State::Copies(count);
+                self.state = State::Copies(count.saturating_mul(10).saturating_add(more));
             }
-            b'{' => {
-                ensure!(self.copies.is_none(), "copies within copies");
+            b'{' if self.copies.is_none() && count <= MAX_COPIES => {
                 self.copies = Some(count);
                 self.state = State::Plain;
             }
-            _ => bail!("a {{ is expected after a number of copies"),
+            _ => self.is_sound = false,
         }
-        Ok(())
     }
 
     /// Takes what stands for bytes.
-    fn put(&mut self, item: Item) -> Result<()> {
+    fn put(&mut self, item: Item) {
         if self.copies.is_some() {
-            self.part.push(item)?;
-            return Ok(());
+            if self.part.push(item).is_err() {
+                self.is_sound = false;
+            }
+            return;
         }
         match item {
-            Item::Byte(b) => self.bytes.push(b)?,
-            _ => bail!("%+ and %- stand in braces alone"),
+            Item::Byte(b) => self.sheet.put_byte(b),
+            _ => self.is_sound = false,
         }
-        Ok(())
     }
 
     /// Writes the copies of what stood in braces.
-    fn copy(&mut self) -> Result<()> {
+    fn copy(&mut self) {
         let count = self.copies.take().unwrap_or(0);
         for number in 0..count {
             let left = count.saturating_sub(number).saturating_sub(1);
-            copy_part(&mut self.bytes, self.part.as_slice(), number, left)?;
+            copy_part(&mut self.sheet, self.part.as_slice(), number, left);
         }
         self.part.clear();
-        Ok(())
     }
 
     /// The bytes, where nothing is left open.
-    fn finish(self) -> Result<Vec<u8>> {
-        let is_whole = matches!(self.state, State::Plain) && self.copies.is_none();
-        ensure!(is_whole, "a field ends within an escape or a brace");
-        Ok(self.bytes)
+    fn into_bytes(self) -> Option<Vec<u8>> {
+        let is_open = self.copies.is_some() || !matches!(self.state, State::Plain);
+        let Decoder {
+            sheet,
+            is_sound,
+            ..
+        } = self;
+        if is_open || !is_sound {
+            return None;
+        }
+        sheet.into_bytes()
     }
 }
 
 /// Writes one copy, of this number and with so many left.
-fn copy_part(bytes: &mut Vec<u8>, part: &[Item], number: usize, left: usize) -> Result<()> {
+fn copy_part(sheet: &mut Sheet, part: &[Item], number: usize, left: usize) {
     for item in part {
         match item {
-            Item::Byte(b) => bytes.push(*b)?,
-            Item::Up => write!(bytes, "{number}")?,
-            Item::Down => write!(bytes, "{left}")?,
+            Item::Byte(b) => sheet.put_byte(*b),
+            Item::Up => sheet.put_number(number as u128),
+            Item::Down => sheet.put_number(left as u128),
         }
     }
-    Ok(())
 }
 
 /// What a hexadecimal digit stands for.
-fn digit_of(b: u8) -> Result<u8> {
+fn digit_of(b: u8) -> Option<u8> {
     match b {
-        b'0'..=b'9' => Ok(b.wrapping_sub(b'0')),
-        b'a'..=b'f' => Ok(b.wrapping_sub(b'a').wrapping_add(10)),
-        _ => bail!("%x and two digits from 0 to f"),
+        b'0'..=b'9' => Some(b.wrapping_sub(b'0')),
+        b'a'..=b'f' => Some(b.wrapping_sub(b'a').wrapping_add(10)),
+        _ => None,
     }
 }

@@ -6,134 +6,116 @@
 //! `s` and `o` its rest. Where there are many, `601 nodes` says only how many. In place of nodes and groups stand a
 //! fault, as `E5` or `E5 OpenGroup`, and its place. Options: `delimiter=/`, and `nodes=9`, the most nodes.
 
-use crate::faults::expression_fault;
-use crate::outcomes::{Outcome, compared, compared_faults, compared_numbers};
-use crate::table::{Row, name_and_value, number_of};
-use anyhow::{Result, bail, ensure};
-use sedre::{Expr, Kind, Node, Steps, read};
-use std::alloc::{AllocError, Global};
+use crate::faults::put_expression_fault;
+use crate::report::Report;
+use crate::shape::Shape;
+use crate::sheet::Sheet;
+use crate::table::Row;
+use sedre::{Expr, ExprFault, Kind, Node, Steps, read};
+use std::alloc::Global;
+
+/// What a row looks like.
+pub(crate) const SHAPE: Shape<'static> = Shape {
+    fields: "basic|extended * * #",
+    options: "delimiter=/ nodes=#",
+};
 
 /// The most nodes where the row says nothing.
 const MOST_NODES: usize = 65536;
 
 /// The kind of a name.
-pub(crate) fn kind_named(name: &[u8]) -> Result<Kind> {
-    match name {
-        b"basic" => Ok(Kind::Basic),
-        b"extended" => Ok(Kind::Extended),
-        _ => bail!("the kind is basic or extended"),
+pub(crate) fn kind_named(name: &[u8]) -> Kind {
+    if name == b"basic".as_slice() {
+        Kind::Basic
+    } else {
+        Kind::Extended
     }
 }
 
-/// The delimiter that a field names.
-pub(crate) fn delimiter_of(field: &[u8]) -> Result<u8> {
-    match field {
-        [b] if *b != b'\\' && *b != b'\n' => Ok(*b),
-        _ => bail!("a delimiter is one byte, and no backslash or newline"),
-    }
-}
-
-/// What the options say.
+/// What a row says of its expression: the nodes and the number of groups, or the fault and its place.
 #[derive(Clone, Copy)]
-struct Options {
-    delimiter: Option<u8>,
-    nodes: usize,
-}
-
-/// The options of a row.
-fn options_of(row: &Row) -> Result<Options> {
-    let mut options = Options {
-        delimiter: None,
-        nodes: MOST_NODES,
-    };
-    for option in row.options(4) {
-        let (name, value) = name_and_value(option.as_slice());
-        match name {
-            b"delimiter" => options.delimiter = Some(delimiter_of(value)?),
-            b"nodes" => options.nodes = number_of(value)?,
-            _ => bail!("unknown option"),
-        }
-    }
-    Ok(options)
+struct Wanted<'a> {
+    text: &'a [u8],
+    number: usize,
 }
 
 /// Runs a row.
-pub(crate) fn run(alloc: Global, row: &Row) -> Result<Outcome> {
-    let kind = kind_named(row.field(0)?)?;
-    let text = row.field(1)?;
-    let Options { delimiter, nodes } = options_of(row)?;
-    ensure!(1 <= nodes && nodes <= 65536, "nodes is 1 to 65536");
-    ensure!(
-        delimiter != Some(b'\\') && delimiter != Some(b'\n'),
-        "a delimiter is no backslash or newline"
-    );
-    let wanted = row.field(2)?;
-    let number = row.number(3)?;
+pub(crate) fn run(alloc: Global, row: &Row, report: &mut Report) {
+    let kind = kind_named(row.field(0));
+    let wanted = Wanted {
+        text: row.field(2),
+        number: row.number(3),
+    };
+    let options = row.options(4);
+    let delimiter = options.delimiter();
+    let nodes = options.number_or(b"nodes", MOST_NODES);
+    run_as(alloc, kind, row.field(1), delimiter, nodes, wanted, report);
+}
+
+/// Reads the expression.
+fn run_as(
+    alloc: Global,
+    kind: Kind,
+    text: &[u8],
+    delimiter: Option<u8>,
+    nodes: usize,
+    wanted: Wanted<'_>,
+    report: &mut Report,
+) {
+    if nodes < 1 || nodes > 65536 || matches!(delimiter, Some(b'\\' | b'\n')) {
+        return report.tell("nodes is 1 to 65536, and a delimiter no backslash or newline");
+    }
     match read(alloc, kind, text, delimiter, nodes) {
-        Ok(expr) => {
-            let groups = expr.groups();
-            match compared_nodes(alloc, &expr, wanted)? {
-                None => compared_numbers(alloc, "the groups", groups, number),
-                Some(difference) => Ok(Some(difference)),
-            }
-        }
-        Err(fault) => {
-            let told = expression_fault(alloc, &fault)?;
-            match compared_faults(alloc, told.as_str(), wanted)? {
-                None => compared_numbers(alloc, "the place", fault.place, number),
-                Some(difference) => Ok(Some(difference)),
-            }
-        }
+        Ok(expr) => compare_expression(alloc, &expr, wanted, report),
+        Err(fault) => compare_fault(alloc, &fault, wanted, report),
     }
 }
 
-/// Whether the expression has these nodes, or so many of them.
-fn compared_nodes(alloc: Global, expr: &Expr, wanted: &[u8]) -> Result<Outcome> {
-    if wanted.ends_with(b" nodes") {
-        let nodes = expr.nodes();
-        let told = format!(in alloc; "{nodes} nodes")?;
-        return compared(alloc, "the nodes", told.as_bytes(), wanted);
-    }
-    compared(
-        alloc,
-        "the nodes",
-        nodes_of(alloc, expr)?.as_slice(),
-        wanted,
-    )
+/// Whether the expression is the wanted one.
+fn compare_expression(alloc: Global, expr: &Expr, wanted: Wanted<'_>, report: &mut Report) {
+    let mut came = Sheet::new(alloc);
+    put_nodes(&mut came, expr, wanted.text.ends_with(b" nodes"));
+    report.compare_sheet("the nodes", &came, wanted.text);
+    report.compare_numbers("the groups", expr.groups(), wanted.number);
 }
 
-/// The nodes in their order.
-fn nodes_of(alloc: Global, expr: &Expr) -> Result<Vec<u8>, AllocError> {
-    let mut nodes = Vec::new(alloc);
+/// Whether the fault is the wanted one.
+fn compare_fault(alloc: Global, fault: &ExprFault, wanted: Wanted<'_>, report: &mut Report) {
+    let mut came = Sheet::new(alloc);
+    put_expression_fault(&mut came, fault);
+    report.compare_faults(&came, wanted.text);
+    report.compare_numbers("the place", fault.place, wanted.number);
+}
+
+/// The nodes in their order, or how many there are.
+fn put_nodes(sheet: &mut Sheet, expr: &Expr, is_count: bool) {
+    if is_count {
+        sheet.put_number(expr.nodes() as u128);
+        sheet.put(b" nodes");
+        return;
+    }
     for i in 0..expr.nodes() {
-        let mut steps = Steps::new();
-        let node = expr.look(expr.id(i), &mut steps);
-        push_node(&mut nodes, node)?;
+        put_node(sheet, expr.look(expr.id(i), &mut Steps::new()));
     }
-    Ok(nodes)
 }
 
 /// What stands for a node.
-fn push_node(nodes: &mut Vec<u8>, node: Node) -> Result<(), AllocError> {
-    let b = match node {
-        Node::Empty => b'0',
-        Node::Set(set) => set.sole().unwrap_or(b'.'),
-        Node::Begin => b'B',
-        Node::End => b'E',
-        Node::Seq(_, _) => b';',
-        Node::Alt(_, _) => b'|',
-        Node::Group(number, _) => {
-            nodes.push(b'G')?;
-            digit_of(number)
-        }
-        Node::Star(_, is_first) => if is_first { b'*' } else { b's' },
-        Node::Opt(_, is_first) => if is_first { b'?' } else { b'o' },
-    };
-    nodes.push(b)?;
-    Ok(())
+fn put_node(sheet: &mut Sheet, node: Node) {
+    match node {
+        Node::Empty => sheet.put_byte(b'0'),
+        Node::Set(set) => sheet.put_byte(set.sole().unwrap_or(b'.')),
+        Node::Begin => sheet.put_byte(b'B'),
+        Node::End => sheet.put_byte(b'E'),
+        Node::Seq(_, _) => sheet.put_byte(b';'),
+        Node::Alt(_, _) => sheet.put_byte(b'|'),
+        Node::Group(number, _) => put_group(sheet, number),
+        Node::Star(_, is_first) => sheet.put_byte(if is_first { b'*' } else { b's' }),
+        Node::Opt(_, is_first) => sheet.put_byte(if is_first { b'?' } else { b'o' }),
+    }
 }
 
-/// The last digit of a number.
-fn digit_of(number: usize) -> u8 {
-    b"0123456789"[number % 10]
+/// A `G` and the last digit of a group's number.
+fn put_group(sheet: &mut Sheet, number: usize) {
+    sheet.put_byte(b'G');
+    sheet.put_number((number % 10) as u128);
 }

@@ -1,41 +1,47 @@
 //! Faults and ends as the program's messages and the rows write them.
 
+use crate::sheet::Sheet;
 use sedengine::Ended;
 use sedre::ExprFault;
 use sedscript::{Reason, ScriptFault};
-use std::alloc::{AllocError, Global};
 
 /// The number and the name of an expression's fault, as `E5 OpenGroup`.
-pub(crate) fn expression_fault(alloc: Global, fault: &ExprFault) -> Result<String, AllocError> {
-    let number = fault.reason.number();
-    let name = fault.reason.name();
-    format!(in alloc; "E{number} {name}")
+pub(crate) fn put_expression_fault(sheet: &mut Sheet, fault: &ExprFault) {
+    sheet.put(b"E");
+    sheet.put_number(u128::from(fault.reason.number()));
+    sheet.put(b" ");
+    sheet.put_text(fault.reason.name());
 }
 
 /// The number and the name of a script's fault, as `S15 TrailingBytes`, of an expression's both.
-pub(crate) fn script_fault(alloc: Global, fault: &ScriptFault) -> Result<String, AllocError> {
-    let number = fault.reason.number();
-    let name = fault.reason.name();
-    match fault.reason {
-        Reason::Expression(inner) => {
-            let told = expression_fault(alloc, &inner)?;
-            format!(in alloc; "S{number} {name}: {told}")
-        }
-        _ => format!(in alloc; "S{number} {name}"),
+pub(crate) fn put_script_fault(sheet: &mut Sheet, fault: &ScriptFault) {
+    sheet.put(b"S");
+    sheet.put_number(u128::from(fault.reason.number()));
+    sheet.put(b" ");
+    sheet.put_text(fault.reason.name());
+    if let Reason::Expression(inner) = fault.reason {
+        sheet.put(b": ");
+        put_expression_fault(sheet, &inner);
     }
 }
 
 /// How a run ended, as `F1 line 2` or `F7 sink 0`.
-pub(crate) fn run_end(alloc: Global, end: Ended) -> Result<String, AllocError> {
+pub(crate) fn put_end(sheet: &mut Sheet, end: Ended) {
     match end {
-        Ended::Done => format!(in alloc; "F0"),
-        Ended::PatternFull(number) => format!(in alloc; "F1 line {number}"),
-        Ended::HoldFull(number) => format!(in alloc; "F2 line {number}"),
-        Ended::QueueFull(number) => format!(in alloc; "F3 line {number}"),
-        Ended::TurnsSpent => format!(in alloc; "F4"),
-        Ended::NoPrevious(number) => format!(in alloc; "F5 line {number}"),
-        Ended::InputBroken => format!(in alloc; "F6"),
-        Ended::OutputBroken(sink) => format!(in alloc; "F7 sink {sink}"),
-        Ended::OutputFull(sink) => format!(in alloc; "F8 sink {sink}"),
+        Ended::Done => sheet.put(b"F0"),
+        Ended::PatternFull(number) => put_place(sheet, "F1 line ", number),
+        Ended::HoldFull(number) => put_place(sheet, "F2 line ", number),
+        Ended::QueueFull(number) => put_place(sheet, "F3 line ", number),
+        Ended::TurnsSpent => sheet.put(b"F4"),
+        Ended::NoPrevious(number) => put_place(sheet, "F5 line ", number),
+        Ended::InputBroken => sheet.put(b"F6"),
+        Ended::OutputBroken(sink) => put_place(sheet, "F7 sink ", sink as u64),
+        Ended::OutputFull(sink) => put_place(sheet, "F8 sink ", sink as u64),
     }
+}
+
+/// A cause and its place.
+fn put_place(sheet: &mut Sheet, cause: &str, number: u64) {
+    sheet.put_text(cause);
+    sheet.put_number(u128::from(number));
 }

@@ -1,9 +1,9 @@
 //! The files of a row: what those hold that the script reads, and the names of all.
 
-use crate::table::name_and_value;
-use anyhow::{Result, bail, ensure};
+use crate::options::name_and_value;
+use crate::report::Report;
 use sedspace::{MemoryTexts, Texts};
-use std::alloc::{AllocError, Global};
+use std::alloc::Global;
 
 /// Texts of which a read gives no more than so many bytes, at least one.
 #[derive(Drop)]
@@ -30,17 +30,18 @@ fn file_of<'a>(option: &'a [u8], kind: &[u8]) -> Option<(&'a [u8], &'a [u8])> {
     }
 }
 
-/// The texts of the files of these names; one that no option gives is empty.
+/// The texts of the files of these names, one that no option gives is empty. None for want of memory.
 pub(crate) fn texts_of(
     alloc: Global,
     names: &[Vec<u8>],
     options: &[Vec<u8>],
-) -> Result<MemoryTexts, AllocError> {
+) -> Option<MemoryTexts> {
     let mut texts = Vec::new(alloc);
     for name in names {
-        texts.push(text_in(options, name.as_slice()).to_vec(alloc)?)?;
+        let text = text_in(options, name.as_slice()).to_vec(alloc).ok()?;
+        texts.push(text).ok()?;
     }
-    Ok(MemoryTexts::new(texts))
+    Some(MemoryTexts::new(texts))
 }
 
 /// The text that the options give for a file that is read.
@@ -56,33 +57,38 @@ fn text_in<'a>(options: &'a [Vec<u8>], wanted: &[u8]) -> &'a [u8] {
 }
 
 /// Sees that the options `r:NAME=TEXT` name files that the script reads, each once, in its order.
-pub(crate) fn check_read(names: &[Vec<u8>], options: &[Vec<u8>]) -> Result<()> {
+pub(crate) fn check_read(names: &[Vec<u8>], options: &[Vec<u8>], report: &mut Report) {
     let mut rest = names;
     for option in options {
         if let Some((name, _)) = file_of(option.as_slice(), b"r:") {
-            match rest.iter().position(|n| n.as_slice() == name) {
-                Some(k) if k < rest.len() => rest = &rest[k + 1..],
-                _ => bail!("the script reads no such file, or in another order"),
+            match behind(rest, name) {
+                Some(others) => rest = others,
+                None => report.tell("the script reads no such file, or in another order"),
             }
         }
     }
-    Ok(())
+}
+
+/// The names behind this one.
+fn behind<'a>(names: &'a [Vec<u8>], wanted: &[u8]) -> Option<&'a [Vec<u8>]> {
+    match names.iter().position(|name| name.as_slice() == wanted) {
+        Some(k) if k < names.len() => Some(&names[k + 1..]),
+        _ => None,
+    }
 }
 
 /// Sees that the options `w:NAME=TEXT` name all files that the script writes, each once, in its order.
-pub(crate) fn check_written(names: &[Vec<u8>], options: &[Vec<u8>]) -> Result<()> {
+pub(crate) fn check_written(names: &[Vec<u8>], options: &[Vec<u8>], report: &mut Report) {
     let mut rest = names;
     for option in options {
         if let Some((name, _)) = file_of(option.as_slice(), b"w:") {
             match rest.split_first() {
                 Some((first, others)) if first.as_slice() == name => rest = others,
-                _ => bail!("the script writes no such file, or in another order"),
+                _ => report.tell("the script writes no such file, or in another order"),
             }
         }
     }
-    ensure!(
-        rest.is_empty(),
-        "the script writes a file that the row doesn't have"
-    );
-    Ok(())
+    if !rest.is_empty() {
+        report.tell("the script writes a file that the row doesn't have");
+    }
 }

@@ -4,95 +4,97 @@
 //! or all bytes but which. Option: `delimiter=/`. It is read as a basic and as an extended expression, alone and with
 //! what follows it.
 
-use crate::expressions::delimiter_of;
-use crate::outcomes::{Outcome, compared};
-use crate::table::{Row, name_and_value};
-use anyhow::{Result, bail, ensure};
-use sedre::{Kind, Node, Steps, read};
-use std::alloc::{AllocError, Global};
+use crate::report::Report;
+use crate::shape::Shape;
+use crate::sheet::Sheet;
+use crate::table::Row;
+use sedre::{Expr, Kind, Node, Steps, read};
+use std::alloc::Global;
 
-/// The delimiter that the options name.
-fn delimiter_in(row: &Row) -> Result<Option<u8>> {
-    let mut delimiter = None;
-    for option in row.options(4) {
-        match name_and_value(option.as_slice()) {
-            (b"delimiter", value) => delimiter = Some(delimiter_of(value)?),
-            _ => bail!("unknown option"),
-        }
-    }
-    Ok(delimiter)
+/// What a row looks like.
+pub(crate) const SHAPE: Shape<'static> = Shape {
+    fields: "* # is|not *",
+    options: "delimiter=/",
+};
+
+/// A bracket expression, alone or with what follows it.
+#[derive(Clone, Copy)]
+struct List<'a> {
+    text: &'a [u8],
+    is_alone: bool,
+    delimiter: Option<u8>,
 }
 
 /// Runs a row.
-pub(crate) fn run(alloc: Global, row: &Row) -> Result<Outcome> {
-    let text = row.field(0)?;
-    let end = row.number(1)?;
-    let is_negated = match row.field(2)? {
-        b"is" => false,
-        b"not" => true,
-        _ => bail!("is or not"),
-    };
-    let wanted = wanted_bytes(alloc, row.field(3)?, is_negated)?;
-    let delimiter = delimiter_in(row)?;
-    ensure!(end <= text.len(), "the place is past the text");
-    for kind in [Kind::Basic, Kind::Extended] {
-        let alone = first_set(alloc, kind, &text[..end], delimiter, true)?;
-        if let Some(difference) = compared(alloc, "alone", alone.as_slice(), wanted.as_slice())? {
-            return Ok(Some(difference));
-        }
-        let first = first_set(alloc, kind, text, delimiter, end == text.len())?;
-        if let Some(difference) = compared(alloc, "first", first.as_slice(), wanted.as_slice())? {
-            return Ok(Some(difference));
-        }
+pub(crate) fn run(alloc: Global, row: &Row, report: &mut Report) {
+    let text = row.field(0);
+    let end = row.number(1);
+    if end > text.len() {
+        return report.tell("the place is past the text");
     }
-    Ok(None)
+    let delimiter = row.options(4).delimiter();
+    let mut wanted = Sheet::new(alloc);
+    put_wanted(&mut wanted, row.field(3), row.field(2) == b"not".as_slice());
+    let alone = List {
+        text: &text[..end],
+        is_alone: true,
+        delimiter,
+    };
+    let first = List {
+        text,
+        is_alone: end == text.len(),
+        delimiter,
+    };
+    run_as(alloc, alone, wanted.bytes(), report);
+    run_as(alloc, first, wanted.bytes(), report);
 }
 
 /// The bytes that are listed, or those that are not, in order.
-fn wanted_bytes(alloc: Global, listed: &[u8], is_negated: bool) -> Result<Vec<u8>, AllocError> {
-    let mut bytes = Vec::new(alloc);
+fn put_wanted(sheet: &mut Sheet, listed: &[u8], is_negated: bool) {
     for b in 0..=255u8 {
         if listed.contains(&b) != is_negated {
-            bytes.push(b)?;
+            sheet.put_byte(b);
         }
     }
-    Ok(bytes)
 }
 
-/// The bytes of the set that an expression begins with, where `is_all` of the set alone.
-fn first_set(
-    alloc: Global,
-    kind: Kind,
-    text: &[u8],
-    delimiter: Option<u8>,
-    is_all: bool,
-) -> Result<Vec<u8>> {
-    ensure!(
-        delimiter != Some(b'\\') && delimiter != Some(b'\n'),
-        "a delimiter is no backslash or newline"
-    );
-    let Ok(expr) = read(alloc, kind, text, delimiter, 100) else {
-        bail!("the text is no expression");
-    };
-    ensure!(
-        (expr.nodes() == 1) == is_all,
-        "the list ends at another place"
-    );
-    ensure!(expr.nodes() > 0, "an expression has a node");
-    let mut steps = Steps::new();
-    bytes_in(alloc, expr.look(expr.id(0), &mut steps))
+/// Reads the list as a basic and as an extended expression.
+fn run_as(alloc: Global, list: List<'_>, wanted: &[u8], report: &mut Report) {
+    compare_list(alloc, Kind::Basic, list, wanted, report);
+    compare_list(alloc, Kind::Extended, list, wanted, report);
 }
 
-/// The bytes in the set that a node is, in order.
-fn bytes_in(alloc: Global, node: Node) -> Result<Vec<u8>> {
+/// Whether the list has the wanted bytes.
+fn compare_list(alloc: Global, kind: Kind, list: List<'_>, wanted: &[u8], report: &mut Report) {
+    if matches!(list.delimiter, Some(b'\\' | b'\n')) {
+        return report.tell("a delimiter is no backslash or newline");
+    }
+    let mut came = Sheet::new(alloc);
+    match read(alloc, kind, list.text, list.delimiter, 100) {
+        Ok(expr) => put_list(&mut came, &expr, list.is_alone),
+        Err(_) => came.put(b"the text is no expression"),
+    }
+    let what = if list.is_alone { "alone" } else { "first" };
+    report.compare_sheet(what, &came, wanted);
+}
+
+/// The bytes of the set that an expression begins with, where `is_alone` of the set alone.
+fn put_list(sheet: &mut Sheet, expr: &Expr, is_alone: bool) {
+    let nodes = expr.nodes();
+    if nodes == 0 || (nodes == 1) != is_alone {
+        return sheet.put(b"the list ends at another place");
+    }
+    put_set(sheet, expr.look(expr.id(0), &mut Steps::new()));
+}
+
+/// The bytes of a set, in order.
+fn put_set(sheet: &mut Sheet, node: Node) {
     let Node::Set(set) = node else {
-        bail!("the expression doesn't begin with a set");
+        return sheet.put(b"the expression doesn't begin with a set");
     };
-    let mut bytes = Vec::new(alloc);
     for b in 0..=255u8 {
         if set.has(b) {
-            bytes.push(b)?;
+            sheet.put_byte(b);
         }
     }
-    Ok(bytes)
 }

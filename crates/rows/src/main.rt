@@ -5,10 +5,10 @@
 //! what the row says. The status is 0 where no row failed.
 #![tactic(auto)]
 
-mod bytes;
 mod cycles;
 mod decoder;
 mod delimiters;
+mod engines;
 mod expressions;
 mod faults;
 mod files;
@@ -16,17 +16,21 @@ mod job;
 mod limits;
 mod lists;
 mod matches;
-mod outcomes;
+mod options;
 mod readings;
 mod refusals;
+mod report;
 mod runs;
+mod shape;
+mod sheet;
 mod subject;
 mod table;
 
 use anyhow::{Context, Result, ensure};
-use std::fs;
+use report::Report;
+use std::{fs, str};
 use subject::Subject;
-use table::rows_of;
+use table::{Row, rows_of};
 
 /// How many rows there were, and how many failed.
 #[derive(Clone, Copy)]
@@ -35,40 +39,52 @@ struct Count {
     failed: usize,
 }
 
+/// Runs a row of a table, and names it where it fails. Says whether it holds.
+fn run_row(rt: &HostRuntime, subject: Subject, name: &str, row: &Row) -> Result<bool> {
+    let line = row.line;
+    ensure!(
+        row.has(subject.shape_of(row)),
+        "line {line}: a field or an option isn't as it has to be"
+    );
+    let mut report = Report::new(rt.alloc());
+    subject.run(rt.alloc(), row, &mut report);
+    if report.is_empty() {
+        return Ok(true);
+    }
+    let difference = str::from_utf8(report.bytes()).unwrap_or("a difference");
+    println!(rt; "{name}:{line}: {difference}")?;
+    Ok(false)
+}
+
 /// Runs the rows of a table, and names those that fail.
 fn run_table(rt: &HostRuntime, subject: Subject, name: &str) -> Result<Count> {
-    let alloc = rt.alloc();
     let text = fs::read_to_string(rt, name).context("the table can't be read")?;
-    let rows = rows_of(alloc, text.as_str())?;
+    let table = rows_of(rt.alloc(), text.as_str())?;
     let mut failed = 0usize;
-    for row in &rows {
-        let line = row.line;
-        let outcome = subject
-            .run(alloc, row)
-            .context(format_args!("line {line}"))?;
-        if let Some(difference) = outcome {
+    for row in &table {
+        if !run_row(rt, subject, name, row)? {
             failed = failed.saturating_add(1);
-            println!(rt; "{name}:{line}: {difference}")?;
         }
     }
-    let count = rows.len();
-    println!(rt; "{name}: {count} rows, {failed} failed")?;
-    Ok(Count {
-        rows: count,
-        failed,
-    })
+    let rows = table.len();
+    println!(rt; "{name}: {rows} rows, {failed} failed")?;
+    Ok(Count { rows, failed })
+}
+
+/// Runs the table that a row of the file `tables` names.
+fn run_named(rt: &HostRuntime, row: &Row) -> Result<Count> {
+    let subject = Subject::named(row.field(0))?;
+    let name = str::from_utf8(row.field(1)).context("a name is no text")?;
+    run_table(rt, subject, name).context(format_args!("{name}"))
 }
 
 /// Runs the tables that the file `tables` names.
 fn run_tables(rt: &HostRuntime) -> Result<Count> {
-    let alloc = rt.alloc();
     let text = fs::read_to_string(rt, "tables").context("tables")?;
     let mut rows = 0usize;
     let mut failed = 0usize;
-    for row in &rows_of(alloc, text.as_str()).context("tables")? {
-        let subject = Subject::named(row.field(0)?).context("tables")?;
-        let name = row.text(1).context("tables")?;
-        let count = run_table(rt, subject, name).context(format_args!("{name}"))?;
+    for row in &rows_of(rt.alloc(), text.as_str())? {
+        let count = run_named(rt, row)?;
         rows = rows.saturating_add(count.rows);
         failed = failed.saturating_add(count.failed);
     }
@@ -76,9 +92,7 @@ fn run_tables(rt: &HostRuntime) -> Result<Count> {
 }
 
 fn main(rt: HostRuntime) -> Result<()> {
-    let count = run_tables(&rt)?;
-    let rows = count.rows;
-    let failed = count.failed;
+    let Count { rows, failed } = run_tables(&rt)?;
     println!(rt; "{rows} rows, {failed} failed")?;
     ensure!(failed == 0, "{failed} rows failed");
     Ok(())

@@ -7,71 +7,120 @@
 ghost use Rattle.std.specs.Prelude.{◌≡◌, ◌≤◌, length};
 
 use crate::expressions::kind_named;
-use crate::outcomes::{Outcome, compared};
-use crate::table::{Row, long_number_of, name_and_value};
-use anyhow::{Result, bail, ensure};
+use crate::options::Options;
+use crate::report::{NO_MEMORY, Report};
+use crate::shape::Shape;
+use crate::sheet::Sheet;
+use crate::table::Row;
 use sedmatch::{Found, Scratch, Text, find, find_span, is_match};
 use sedre::{Expr, Steps, read};
-use std::alloc::{AllocError, Global};
+use std::alloc::Global;
 
-/// The least and the most steps that a row allows.
-#[derive(Clone, Copy)]
-struct Allowed {
-    least: u64,
-    most: u64,
-}
-
-/// The options of a row.
-fn options_of(row: &Row) -> Result<Allowed> {
-    let mut allowed = Allowed {
-        least: 0,
-        most: u64::MAX,
-    };
-    for option in row.options(5) {
-        let (name, value) = name_and_value(option.as_slice());
-        match name {
-            b"least" => allowed.least = long_number_of(value)?,
-            b"most" => allowed.most = long_number_of(value)?,
-            _ => bail!("unknown option"),
-        }
-    }
-    Ok(allowed)
-}
+/// What a row looks like.
+pub(crate) const SHAPE: Shape<'static> = Shape {
+    fields: "basic|extended * * # *",
+    options: "most=# least=#",
+};
 
 /// Runs a row.
-pub(crate) fn run(alloc: Global, row: &Row) -> Result<Outcome> {
-    let kind = kind_named(row.field(0)?)?;
-    let Ok(expr) = read(alloc, kind, row.field(1)?, None, 65536) else {
-        bail!("the expression has a fault");
-    };
-    let text = row.field(2)?;
-    let from = row.number(3)?;
-    let allowed = options_of(row)?;
-    let Some((came, steps)) = outcome(alloc, &expr, text, from)? else {
-        return Ok(Some(String::from_str(alloc, "find, find_span and is_match don't agree")?));
-    };
-    if steps < u128::from(allowed.least) || u128::from(allowed.most) < steps {
-        return Ok(Some(format!(in alloc; "{steps} steps")?));
+pub(crate) fn run(alloc: Global, row: &Row, report: &mut Report) {
+    match read(alloc, kind_named(row.field(0)), row.field(1), None, 65536) {
+        Ok(expr) => run_over(alloc, &expr, row, report),
+        Err(_) => report.tell("the expression has a fault"),
     }
-    compared(alloc, "the match", came.as_bytes(), row.field(4)?)
 }
 
-/// What `find` reports and the steps that it takes; None where the three calls don't agree.
-fn outcome(alloc: Global, expr: &Expr, text: &[u8], from: usize) -> Result<Option<(String, u128)>> {
+/// Searches the text of the row.
+fn run_over(alloc: Global, expr: &Expr, row: &Row, report: &mut Report) {
+    let text = row.field(2);
+    let from = row.number(3);
     let nodes = expr.nodes();
-    ensure!(1 <= nodes && nodes <= 65536, "nodes");
-    ensure!(text.len() <= 1 << 20, "the text is too long");
-    ensure!(from <= text.len(), "the search begins past the text");
-    let mut scratch = Scratch::new(alloc, text.len(), nodes)?;
-    let (found, steps) = found_in(expr, text, from, &mut scratch);
-    let span = span_in(expr, text, from, &mut scratch);
-    let is_one = is_in(expr, text, from, &mut scratch);
+    if nodes < 1 || nodes > 65536 || text.len() > 1 << 20 || from > text.len() {
+        return report.tell("the text is too long, or the search begins past it");
+    }
+    match Scratch::new(alloc, text.len(), nodes) {
+        Ok(mut scratch) => compare(alloc, expr, text, from, &mut scratch, row, report),
+        Err(_) => report.tell(NO_MEMORY),
+    }
+}
+
+/// Whether the three calls tell the same, and what the row says.
+fn compare(
+    alloc: Global,
+    expr: &Expr,
+    text: &[u8],
+    from: usize,
+    scratch: &mut Scratch,
+    row: &Row,
+    report: &mut Report,
+)
+    requires from { from ≤ length text.now }
+    requires text { length text.now ≤ scratch.old.text }
+    requires nodes { length expr.now.nodes ≤ scratch.old.nodes }
+{
+    let (found, steps) = found_in(expr, text, from, scratch);
+    let span = span_in(expr, text, from, scratch);
+    let is_one = is_in(expr, text, from, scratch);
+    if !is_same(&found, span, is_one) {
+        report.tell("find, find_span and is_match don't agree");
+    }
+    compare_steps(steps, row.options(5), report);
+    compare_spans(alloc, &found, expr.groups(), row.field(4), report);
+}
+
+/// Whether the three calls tell the same.
+fn is_same(found: &Option<Found>, span: Option<(usize, usize)>, is_one: bool) -> bool {
+    match (found, span) {
+        (Some(found), Some((start, end))) => { is_one && start == found.start && end == found.end }
+        (None, None) => !is_one,
+        _ => false,
+    }
+}
+
+/// Whether there are as many steps as the options say.
+fn compare_steps(steps: u128, options: Options<'_>, report: &mut Report) {
+    let least = options.number_or(b"least", 0);
+    let most = options.number_or(b"most", usize::MAX);
+    if steps < least as u128 || (most as u128) < steps {
+        report.tell_number("steps", steps);
+    }
+}
+
+/// Whether the spans are the wanted ones.
+fn compare_spans(
+    alloc: Global,
+    found: &Option<Found>,
+    groups: usize,
+    wanted: &[u8],
+    report: &mut Report,
+) {
+    let mut came = Sheet::new(alloc);
     match found {
-        None if span.is_none() && !is_one => Ok(Some((String::from_str(alloc, "none")?, steps))),
-        Some(found) if is_one && span == Some((found.start, found.end)) => {
-            Ok(Some((spans_of(alloc, &found, expr.groups())?, steps)))
+        Some(found) => put_spans(&mut came, found, groups),
+        None => came.put(b"none"),
+    }
+    report.compare_sheet("the match", &came, wanted);
+}
+
+/// The spans of a match and of so many groups, of nine at most.
+fn put_spans(sheet: &mut Sheet, found: &Found, groups: usize) {
+    let count = groups.min(9).saturating_add(1);
+    for group in found.groups.iter().take(count) {
+        put_span(sheet, *group);
+    }
+}
+
+/// The span of a group.
+fn put_span(sheet: &mut Sheet, span: Option<(usize, usize)>) {
+    match span {
+        Some((start, end)) => {
+            sheet.put(b"(");
+            sheet.put_number(start as u128);
+            sheet.put(b",");
+            sheet.put_number(end as u128);
+            sheet.put(b")");
         }
-        _ => Ok(None),
+        None => sheet.put(b"(?,?)"),
     }
 }
 
@@ -108,20 +157,4 @@ fn is_in(expr: &Expr, text: &[u8], from: usize, scratch: &mut Scratch) -> bool
 {
     let mut steps = Steps::new();
     is_match(expr, &Text::new(text), from, scratch, &mut steps)
-}
-
-/// The spans of a match and of so many groups, of nine at most.
-fn spans_of(alloc: Global, found: &Found, groups: usize) -> Result<String, AllocError> {
-    let mut spans = String::new(alloc);
-    let mut left = groups.min(9).saturating_add(1);
-    for group in found.groups {
-        if left > 0 {
-            match group {
-                Some((start, end)) => write!(spans, "({start},{end})")?,
-                None => spans.push_str("(?,?)")?,
-            }
-        }
-        left = left.saturating_sub(1);
-    }
-    Ok(spans)
 }

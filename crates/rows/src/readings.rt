@@ -16,214 +16,196 @@
 
 ghost use Rattle.std.specs.Prelude.{◌<◌, length};
 
-use crate::outcomes::{Outcome, compared};
+use crate::report::Report;
+use crate::shape::Shape;
+use crate::sheet::Sheet;
 use crate::table::Row;
-use anyhow::{Result, bail, ensure};
 use sededit::script;
-use sedscript::{Action, Address, Command, Kind, Part, Script, Substitution};
-use std::alloc::{AllocError, Global};
+use sedscript::{Action, Address, Command, Part, Script, Substitution};
+use std::alloc::Global;
+
+/// What a row looks like.
+pub(crate) const SHAPE: Shape<'static> = Shape {
+    fields: "* *",
+    options: "-E -n r:* w:*",
+};
 
 /// The most nodes of an expression.
 const MOST_NODES: usize = 65536;
 
 /// Runs a row.
-pub(crate) fn run(alloc: Global, row: &Row) -> Result<Outcome> {
-    let mut kind = Kind::Basic;
-    let mut is_quiet = false;
-    let mut files = Vec::new(alloc);
-    for option in row.options(2) {
-        match option.as_slice() {
-            b"-E" => kind = Kind::Extended,
-            b"-n" => is_quiet = true,
-            file if is_file(file) => push_file(&mut files, b"", file)?,
-            _ => bail!("unknown option"),
+pub(crate) fn run(alloc: Global, row: &Row, report: &mut Report) {
+    match script(alloc, row.field(0), row.options(2).kind(), MOST_NODES) {
+        Ok(script) => compare(alloc, &script, row, report),
+        Err(_) => report.tell("the script isn't accepted"),
+    }
+}
+
+/// Whether the script is read as the row says.
+fn compare(alloc: Global, script: &Script, row: &Row, report: &mut Report) {
+    let options = row.options(2);
+    if script.quiet() != options.has(b"-n") {
+        report.tell("-n isn't as expected");
+    }
+    compare_files(alloc, script, options.written, report);
+    let mut came = Sheet::new(alloc);
+    put_commands(&mut came, script);
+    report.compare_sheet("the commands", &came, row.field(1));
+}
+
+/// Whether the files of the script are those that the options name.
+fn compare_files(alloc: Global, script: &Script, options: &[Vec<u8>], report: &mut Report) {
+    let mut wanted = Sheet::new(alloc);
+    for option in options {
+        if !option.starts_with(b"-") {
+            put_file(&mut wanted, b"", option.as_slice());
         }
     }
-    let Ok(script) = script(alloc, row.field(0)?, kind, MOST_NODES) else {
-        bail!("the script isn't accepted");
-    };
-    if script.quiet() != is_quiet {
-        return Ok(Some(String::from_str(alloc, "-n isn't as expected")?));
-    }
-    let came = files_of(alloc, &script)?;
-    if let Some(difference) = compared(alloc, "the files", came.as_slice(), files.as_slice())? {
-        return Ok(Some(difference));
-    }
-    let came = commands_of(alloc, &script)?;
-    compared(alloc, "the commands", came.as_slice(), row.field(1)?)
-}
-
-/// Whether an option is about a file.
-fn is_file(option: &[u8]) -> bool {
-    option.starts_with(b"r:") || option.starts_with(b"w:")
-}
-
-/// A file in a list of files: the letter of its kind and a colon, and its name.
-fn push_file(out: &mut Vec<u8>, kind: &[u8], name: &[u8]) -> Result<(), AllocError> {
-    out.extend_from_slice(kind)?;
-    out.extend_from_slice(name)?;
-    push(out, b'\n')
+    let mut came = Sheet::new(alloc);
+    put_files(&mut came, b"r:", script.rfiles());
+    put_files(&mut came, b"w:", script.wfiles());
+    report.compare_sheet("the files", &came, wanted.bytes());
 }
 
 /// Files of a kind.
-fn push_files(out: &mut Vec<u8>, kind: &[u8], names: &[Vec<u8>]) -> Result<(), AllocError> {
+fn put_files(sheet: &mut Sheet, kind: &[u8], names: &[Vec<u8>]) {
     for name in names {
-        push_file(out, kind, name.as_slice())?;
+        put_file(sheet, kind, name.as_slice());
     }
-    Ok(())
 }
 
-/// The files of a script: those that it reads, and those that it writes.
-fn files_of(alloc: Global, script: &Script) -> Result<Vec<u8>, AllocError> {
-    let mut out = Vec::new(alloc);
-    push_files(&mut out, b"r:", script.rfiles())?;
-    push_files(&mut out, b"w:", script.wfiles())?;
-    Ok(out)
+/// A file in a list of files: the letter of its kind and a colon, and its name.
+fn put_file(sheet: &mut Sheet, kind: &[u8], name: &[u8]) {
+    sheet.put(kind);
+    sheet.put(name);
+    sheet.put_byte(b'\n');
 }
 
 /// The commands of a script.
-fn commands_of(alloc: Global, script: &Script) -> Result<Vec<u8>> {
-    let mut out = Vec::new(alloc);
+fn put_commands(sheet: &mut Sheet, script: &Script) {
     for i in 0..script.len() {
         if i > 0 {
-            out.extend_from_slice(b"; ")?;
+            sheet.put(b"; ");
         }
-        push_command(&mut out, script, i)?;
+        put_addresses(sheet, script.command(i));
+        put_action(sheet, script, i);
     }
-    Ok(out)
-}
-
-/// A command of a script.
-fn push_command(out: &mut Vec<u8>, script: &Script, i: usize) -> Result<()> {
-    ensure!(i < script.len(), "the script has no such command");
-    push_addresses(out, script.command(i))?;
-    push_action(out, script, i)?;
-    Ok(())
 }
 
 /// What a command does.
-fn push_action(out: &mut Vec<u8>, script: &Script, i: usize) -> Result<(), AllocError>
+fn put_action(sheet: &mut Sheet, script: &Script, i: usize)
     requires { i < length script.now.commands }
 {
     match script.command(i).action {
-        Action::Block(k) => push_target(out, b'{', k),
-        Action::Branch(k) => push_target(out, b'b', k),
-        Action::Test(k) => push_target(out, b't', k),
-        Action::Append(k) => push_text(out, b'a', script.text(k)),
-        Action::Change(k) => push_text(out, b'c', script.text(k)),
-        Action::Insert(k) => push_text(out, b'i', script.text(k)),
-        Action::ReadFile(k) => push_target(out, b'r', k),
-        Action::WriteFile(k) => push_target(out, b'w', k),
-        Action::Substitute(k) => push_substitution(out, script.substitution(k)),
-        Action::Transliterate(k) => push_table(out, script.table(k)),
-        action => push(out, letter_of(action)),
+        Action::Block(k) => put_target(sheet, b'{', k),
+        Action::Branch(k) => put_target(sheet, b'b', k),
+        Action::Test(k) => put_target(sheet, b't', k),
+        Action::Append(k) => put_text(sheet, b'a', script.text(k)),
+        Action::Change(k) => put_text(sheet, b'c', script.text(k)),
+        Action::Insert(k) => put_text(sheet, b'i', script.text(k)),
+        Action::ReadFile(k) => put_target(sheet, b'r', k),
+        Action::WriteFile(k) => put_target(sheet, b'w', k),
+        Action::Substitute(k) => put_substitution(sheet, script.substitution(k)),
+        Action::Transliterate(k) => put_table(sheet, script.table(k)),
+        action => sheet.put_byte(letter_of(action)),
     }
-}
-
-/// A byte.
-fn push(out: &mut Vec<u8>, b: u8) -> Result<(), AllocError> {
-    out.push(b)?;
-    Ok(())
 }
 
 /// A letter and a number.
-fn push_target(out: &mut Vec<u8>, letter: u8, k: usize) -> Result<(), AllocError> {
-    push(out, letter)?;
-    push_number(out, k as u64)
+fn put_target(sheet: &mut Sheet, letter: u8, k: usize) {
+    sheet.put_byte(letter);
+    sheet.put_number(k as u128);
 }
 
 /// The addresses of a command, and its `!`.
-fn push_addresses(out: &mut Vec<u8>, command: &Command) -> Result<(), AllocError> {
+fn put_addresses(sheet: &mut Sheet, command: &Command) {
     if let Some(first) = command.first {
-        push_address(out, first)?;
+        put_address(sheet, first);
     }
     if let Some(second) = command.second {
-        out.push(b',')?;
-        push_address(out, second)?;
+        sheet.put_byte(b',');
+        put_address(sheet, second);
     }
     if command.negate {
-        out.push(b'!')?;
+        sheet.put_byte(b'!');
     }
-    Ok(())
 }
 
 /// An address.
-fn push_address(out: &mut Vec<u8>, address: Address) -> Result<(), AllocError> {
+fn put_address(sheet: &mut Sheet, address: Address) {
     match address {
-        Address::Line(number) => push_number(out, number),
-        Address::Last => push(out, b'$'),
-        Address::Match(Some(k)) => {
-            out.push(b'/')?;
-            push_number(out, k as u64)?;
-            push(out, b'/')
-        }
-        Address::Match(None) => out.extend_from_slice(b"//"),
+        Address::Line(number) => sheet.put_number(u128::from(number)),
+        Address::Last => sheet.put_byte(b'$'),
+        Address::Match(expression) => put_expression(sheet, expression),
     }
 }
 
-/// A number.
-fn push_number(out: &mut Vec<u8>, number: u64) -> Result<(), AllocError> {
-    let digits = format!(in *out.allocator(); "{number}")?;
-    out.extend_from_slice(digits.as_bytes())
+/// An expression of the script.
+fn put_expression(sheet: &mut Sheet, expression: Option<usize>) {
+    sheet.put_byte(b'/');
+    if let Some(k) = expression {
+        sheet.put_number(k as u128);
+    }
+    sheet.put_byte(b'/');
 }
 
 /// A letter and a text.
-fn push_text(out: &mut Vec<u8>, letter: u8, text: &[u8]) -> Result<(), AllocError> {
-    push(out, letter)?;
-    push_quoted(out, text)
+fn put_text(sheet: &mut Sheet, letter: u8, text: &[u8]) {
+    sheet.put_byte(letter);
+    put_quoted(sheet, text);
 }
 
 /// Bytes in quotes.
-fn push_quoted(out: &mut Vec<u8>, text: &[u8]) -> Result<(), AllocError> {
-    out.push(b'"')?;
-    out.extend_from_slice(text)?;
-    push(out, b'"')
+fn put_quoted(sheet: &mut Sheet, text: &[u8]) {
+    sheet.put_byte(b'"');
+    sheet.put(text);
+    sheet.put_byte(b'"');
 }
 
 /// An `s` and what it reads.
-fn push_substitution(out: &mut Vec<u8>, substitution: &Substitution) -> Result<(), AllocError> {
-    out.extend_from_slice(b"s")?;
-    push_address(out, Address::Match(substitution.expression))?;
+fn put_substitution(sheet: &mut Sheet, substitution: &Substitution) {
+    sheet.put_byte(b's');
+    put_expression(sheet, substitution.expression);
     for part in substitution.replacement.parts() {
-        out.push(b' ')?;
-        push_part(out, part)?;
+        sheet.put_byte(b' ');
+        put_part(sheet, part);
     }
-    out.push(b' ')?;
-    push_number(out, substitution.number)?;
+    sheet.put_byte(b' ');
+    sheet.put_number(u128::from(substitution.number));
+    put_flags(sheet, substitution);
+}
+
+/// The flags of an `s`, without its number.
+fn put_flags(sheet: &mut Sheet, substitution: &Substitution) {
     if substitution.global {
-        out.extend_from_slice(b" g")?;
+        sheet.put(b" g");
     }
     if substitution.print {
-        out.extend_from_slice(b" p")?;
+        sheet.put(b" p");
     }
     if let Some(sink) = substitution.file {
-        out.push(b' ')?;
-        push_target(out, b'w', sink)?;
+        sheet.put(b" ");
+        put_target(sheet, b'w', sink);
     }
-    Ok(())
 }
 
 /// A part of a replacement.
-fn push_part(out: &mut Vec<u8>, part: &Part) -> Result<(), AllocError> {
+fn put_part(sheet: &mut Sheet, part: &Part) {
     match part {
-        Part::Literal(bytes) => push_quoted(out, bytes.as_slice()),
-        Part::Whole => push(out, b'&'),
-        Part::Group(k) => {
-            out.push(b'\\')?;
-            push_number(out, *k as u64)
-        }
+        Part::Literal(bytes) => put_quoted(sheet, bytes.as_slice()),
+        Part::Whole => sheet.put_byte(b'&'),
+        Part::Group(k) => put_target(sheet, b'\\', *k),
     }
 }
 
 /// A `y` and the bytes that its table changes.
-fn push_table(out: &mut Vec<u8>, table: &[u8]) -> Result<(), AllocError> {
-    out.push(b'y')?;
+fn put_table(sheet: &mut Sheet, table: &[u8]) {
+    sheet.put_byte(b'y');
     for (source, target) in (0..=255u8).zip(table) {
         if source != *target {
-            out.extend_from_slice(&[b' ', source, *target])?;
+            sheet.put(&[b' ', source, *target]);
         }
     }
-    Ok(())
 }
 
 /// The letter of a command that names nothing by numbers.

@@ -15,29 +15,28 @@
 //! row says, and the read-ahead is that of the program. At last an engine runs it by `cycle` and `run`, and has to stay
 //! at its end.
 
-ghost use Rattle.std.specs.Prelude.{◌≡◌, ◌<◌, length};
+ghost use Rattle.std.specs.Prelude.{◌≡◌, ◌<◌, ◌≤◌, length};
 
-use crate::faults::run_end;
+use crate::engines::{Ready, engine_of};
+use crate::faults::put_end;
 use crate::files::{PiecedTexts, texts_of};
-use crate::job::Job;
-use crate::outcomes::{Outcome, compared};
-use crate::table::{Row, name_and_value};
-use anyhow::{Result, bail, ensure};
+use crate::job::{check_script, limits_of, outputs_of, script_of, source_of};
+use crate::options::{Options, name_and_value};
+use crate::report::{NO_INPUT, NO_MEMORY, Report};
+use crate::shape::Shape;
+use crate::sheet::Sheet;
+use crate::table::Row;
 use sededit::edit;
-use sedengine::{Ended, Engine, Progress};
+use sedengine::{Ended, Engine, Limits, Progress};
+use sedscript::Script;
 use sedspace::{Lines, MemoryOutputs, MemorySource, MemoryTexts, Outputs};
-use std::alloc::{AllocError, Global};
+use std::alloc::Global;
 
-/// What a row says besides its job.
-#[derive(Clone, Copy)]
-struct Wanted<'a> {
-    script: &'a [u8],
-    input: &'a [u8],
-    output: &'a [u8],
-    end: &'a [u8],
-    options: &'a [Vec<u8>],
-    is_cut: bool,
-}
+/// What a row looks like.
+pub(crate) const SHAPE: Shape<'static> = Shape {
+    fields: "* * *",
+    options: "-n -E cuts F* r:* w:* space=# queue=# look=# turns=# nodes=# output=# fails=# read=# room=# refuses=#",
+};
 
 /// The most bytes of a read, of a write and of a piece of a file that is read, and ahead.
 #[derive(Clone, Copy)]
@@ -53,181 +52,257 @@ const READS: [usize; 5] = [usize::MAX, 1, 2, 3, 5];
 /// The bytes read ahead, the last those of the program.
 const LOOKS: [usize; 4] = [1, 2, 7, 65536];
 
-/// Runs a row.
-pub(crate) fn run(alloc: Global, row: &Row) -> Result<Outcome> {
-    let mut job = Job::new();
-    let mut wanted = Wanted {
-        script: row.field(0)?,
-        input: row.field(1)?,
-        output: row.field(2)?,
-        end: b"F0",
-        options: row.options(3),
-        is_cut: false,
-    };
-    for option in row.options(3) {
-        if option.starts_with(b"F") {
-            wanted.end = option.as_slice();
-        } else if option.as_slice() == b"cuts".as_slice() {
-            wanted.is_cut = true;
-        } else {
-            ensure!(job.take(option.as_slice())?, "unknown option");
-        }
+/// Runs a row, to the first difference.
+pub(crate) fn run(alloc: Global, row: &Row, report: &mut Report) {
+    check_script(alloc, row, report);
+    for read in READS {
+        run_reads(alloc, row, read, report);
     }
-    if let Some(refusal) = job.refusal(alloc, wanted.script, wanted.options)? {
-        return Ok(Some(refusal));
+    if row.options(3).has(b"cuts") {
+        run_cut(alloc, row, report);
     }
-    if let Some(difference) = run_in_pieces(alloc, &job, wanted)? {
-        return Ok(Some(difference));
-    }
-    if let Some(difference) = run_cut(alloc, &job, wanted)? {
-        return Ok(Some(difference));
-    }
-    run_engine(alloc, &job, wanted)
+    run_engine(alloc, row, report);
 }
 
-/// Runs it in all pieces, to the first difference.
-fn run_in_pieces(alloc: Global, job: &Job, wanted: Wanted<'_>) -> Result<Outcome> {
-    let mut first = None;
-    for read in READS {
+/// Runs it in reads of at most so many bytes.
+fn run_reads(alloc: Global, row: &Row, read: usize, report: &mut Report) {
+    for look in LOOKS {
         for write in [usize::MAX, 1] {
-            for look in LOOKS {
-                let pieces = Pieces { read, write, look };
-                if first.is_none() && is_asked(job, pieces) {
-                    first = run_once(alloc, job, wanted, pieces)?;
-                }
-            }
+            run_pieces(alloc, row, Pieces { read, write, look }, report);
         }
     }
-    Ok(first)
+}
+
+/// Runs it in such pieces, where the row asks for them.
+fn run_pieces(alloc: Global, row: &Row, pieces: Pieces, report: &mut Report) {
+    if !is_asked(row.options(3), pieces) {
+        return;
+    }
+    match source_of(alloc, row, pieces.read) {
+        Some(mut source) => run_over(alloc, row, pieces, &mut source, report),
+        None => report.tell(NO_INPUT),
+    }
 }
 
 /// Whether a row is run in such pieces.
-fn is_asked(job: &Job, pieces: Pieces) -> bool {
+fn is_asked(options: Options<'_>, pieces: Pieces) -> bool {
     let is_whole = pieces.read == usize::MAX;
     let is_far = pieces.look == 65536;
-    if job.fails_at.is_some() {
+    if options.has(b"fails") {
         return is_whole && is_far;
     }
-    (job.read.is_none() || is_whole) && (job.look.is_none() || is_far)
-}
-
-/// Runs it over the input in such pieces.
-fn run_once(alloc: Global, job: &Job, wanted: Wanted<'_>, pieces: Pieces) -> Result<Outcome> {
-    let read = job.read.unwrap_or(pieces.read);
-    let mut source = job.source(alloc, wanted.input, read)?;
-    run_over(alloc, job, wanted, pieces, &mut source)
+    (is_whole || !options.has(b"read")) && (is_far || !options.has(b"look"))
 }
 
 /// Runs it over the input cut at each two places.
-fn run_cut(alloc: Global, job: &Job, wanted: Wanted<'_>) -> Result<Outcome> {
-    let mut first = None;
-    let length = if wanted.is_cut { wanted.input.len() } else { 0 };
-    for start in 0..length {
-        for end in start..length {
-            for look in LOOKS {
-                let pieces = Pieces {
-                    read: usize::MAX,
-                    write: usize::MAX,
-                    look,
-                };
-                let mut cuts = Vec::new(alloc);
-                cuts.push(start)?;
-                cuts.push(end)?;
-                let mut source = MemorySource::new(wanted.input.to_vec(alloc)?, cuts);
-                if first.is_none() {
-                    first = run_over(alloc, job, wanted, pieces, &mut source)?;
-                }
-            }
-        }
+fn run_cut(alloc: Global, row: &Row, report: &mut Report) {
+    for start in 0..row.field(1).len() {
+        run_cut_from(alloc, row, start, report);
     }
-    Ok(first)
 }
 
-/// Runs it over a source.
+/// Runs it over the input cut here and at each place from here on.
+fn run_cut_from(alloc: Global, row: &Row, start: usize, report: &mut Report) {
+    for end in start..row.field(1).len() {
+        run_cut_at(alloc, row, start, end, report);
+    }
+}
+
+/// Runs it over the input cut at two places.
+fn run_cut_at(alloc: Global, row: &Row, start: usize, end: usize, report: &mut Report) {
+    for look in LOOKS {
+        let pieces = Pieces {
+            read: usize::MAX,
+            write: usize::MAX,
+            look,
+        };
+        match cut_source(alloc, row.field(1), start, end) {
+            Some(mut source) => run_over(alloc, row, pieces, &mut source, report),
+            None => report.tell(NO_INPUT),
+        }
+    }
+}
+
+/// The input cut at two places.
+fn cut_source(alloc: Global, input: &[u8], start: usize, end: usize) -> Option<MemorySource> {
+    let bytes = input.to_vec(alloc).ok()?;
+    let cuts = [start, end].to_vec(alloc).ok()?;
+    Some(MemorySource::new(bytes, cuts))
+}
+
+/// Runs it over a source, where nothing was told before.
 fn run_over(
     alloc: Global,
-    job: &Job,
-    wanted: Wanted<'_>,
+    row: &Row,
     pieces: Pieces,
     source: &mut MemorySource,
-) -> Result<Outcome> {
-    let limits = job.limits(job.look.unwrap_or(pieces.look))?;
-    let script = job.script(alloc, wanted.script, &limits)?;
-    let mut outputs = job.outputs(alloc, &script, pieces.write)?;
+    report: &mut Report,
+) {
+    if !report.is_empty() {
+        return;
+    }
+    match limits_of(row.options(3), pieces.look) {
+        Some(limits) => run_within(alloc, row, pieces, limits, source, report),
+        None => report.tell("a limit is out of its range"),
+    }
+    if !report.is_empty() {
+        put_pieces(report.sheet(), pieces);
+    }
+}
+
+/// Runs it within these limits.
+fn run_within(
+    alloc: Global,
+    row: &Row,
+    pieces: Pieces,
+    limits: Limits,
+    source: &mut MemorySource,
+    report: &mut Report,
+) {
+    match script_of(alloc, row, &limits) {
+        Some(script) => run_script(alloc, row, pieces, limits, script, source, report),
+        None => report.tell("the script isn't accepted"),
+    }
+}
+
+/// Runs the script.
+fn run_script(
+    alloc: Global,
+    row: &Row,
+    pieces: Pieces,
+    limits: Limits,
+    script: Script,
+    source: &mut MemorySource,
+    report: &mut Report,
+)
+    requires { script.max_nodes ≤ limits.nodes }
+{
+    let Some(held) = texts_of(alloc, script.rfiles(), row.options(3).written) else {
+        return report.tell(NO_MEMORY);
+    };
     let mut texts = PiecedTexts {
-        held: texts_of(alloc, script.rfiles(), wanted.options)?,
+        held,
         most: pieces.write,
     };
-    let end = edit(alloc, script, limits, source, &mut outputs, &mut texts)?;
-    let difference = compared_run(alloc, wanted, end, &outputs)?;
-    let Some(told) = difference else {
-        return Ok(None);
-    };
-    let read = amount(alloc, pieces.read)?;
-    let write = amount(alloc, pieces.write)?;
-    let look = pieces.look;
-    Ok(Some(format!(in alloc; "{told} (reads of {read}, writes of {write}, {look} ahead)")?))
+    match outputs_of(alloc, row, &script, pieces.write) {
+        Some(mut outputs) => {
+            let ended = run_edit(alloc, script, limits, source, &mut outputs, &mut texts);
+            compare_run(alloc, row, ended, &outputs, report);
+        }
+        None => report.tell("the row has not the sinks of the script"),
+    }
+}
+
+/// Runs the script over these devices.
+fn run_edit(
+    alloc: Global,
+    script: Script,
+    limits: Limits,
+    source: &mut MemorySource,
+    outputs: &mut MemoryOutputs,
+    texts: &mut PiecedTexts<MemoryTexts>,
+) -> Option<Ended>
+    requires nodes { script.max_nodes ≤ limits.nodes }
+    requires sinks { length script.wfiles < length outputs.old.held }
+{
+    edit(alloc, script, limits, source, outputs, texts).ok()
+}
+
+/// The pieces of a run that came to a difference.
+fn put_pieces(sheet: &mut Sheet, pieces: Pieces) {
+    sheet.put(b" (reads of ");
+    put_amount(sheet, pieces.read);
+    sheet.put(b", writes of ");
+    put_amount(sheet, pieces.write);
+    sheet.put(b", ");
+    sheet.put_number(pieces.look as u128);
+    sheet.put(b" ahead)");
 }
 
 /// The most bytes of a call, in words.
-fn amount(alloc: Global, most: usize) -> Result<String, AllocError> {
+fn put_amount(sheet: &mut Sheet, most: usize) {
     if most == usize::MAX {
-        return String::from_str(alloc, "any length");
+        return sheet.put(b"any length");
     }
-    format!(in alloc; "{most} at most")
+    sheet.put_number(most as u128);
+    sheet.put(b" at most");
 }
 
 /// Whether the run came to its end, and the sinks have what they should.
-fn compared_run(
+fn compare_run(
     alloc: Global,
-    wanted: Wanted<'_>,
-    end: Ended,
+    row: &Row,
+    ended: Option<Ended>,
     outputs: &MemoryOutputs,
-) -> Result<Outcome> {
-    let mut sink = 0usize;
-    let came = sink_bytes(outputs, sink)?;
-    let mut difference = compared(alloc, "the output", came, wanted.output)?;
-    for option in wanted.options {
-        let (name, value) = name_and_value(option.as_slice());
-        if name.starts_with(b"w:") && difference.is_none() {
-            sink = sink.saturating_add(1);
-            difference = compared(alloc, "a file", sink_bytes(outputs, sink)?, value)?;
-        }
+    report: &mut Report,
+) {
+    compare_sink(outputs, 0, row.field(2), report);
+    compare_files(outputs, row.options(3), report);
+    let mut came = Sheet::new(alloc);
+    match ended {
+        Some(end) => put_end(&mut came, end),
+        None => came.put(b"no memory"),
     }
-    if difference.is_some() {
-        return Ok(difference);
-    }
-    compared(
-        alloc,
-        "the end",
-        run_end(alloc, end)?.as_bytes(),
-        wanted.end,
-    )
+    report.compare_sheet("the end", &came, end_in(row.options(3)));
 }
 
-/// What a sink holds.
-fn sink_bytes(outputs: &MemoryOutputs, sink: usize) -> Result<&[u8]> {
-    if sink >= outputs.sinks() {
-        bail!("there is no such sink");
+/// Whether the files have what the options say.
+fn compare_files(outputs: &MemoryOutputs, options: Options<'_>, report: &mut Report) {
+    let mut sink = 0usize;
+    for option in options.written {
+        if option.starts_with(b"w:") {
+            sink = sink.saturating_add(1);
+            let (_, wanted) = name_and_value(option.as_slice());
+            compare_sink(outputs, sink, wanted, report);
+        }
     }
-    Ok(outputs.bytes(sink))
+}
+
+/// Whether a sink has these bytes.
+pub(crate) fn compare_sink(
+    outputs: &MemoryOutputs,
+    sink: usize,
+    wanted: &[u8],
+    report: &mut Report,
+) {
+    let what = if sink == 0 { "the output" } else { "a file" };
+    if sink < outputs.sinks() {
+        report.compare(what, outputs.bytes(sink), wanted);
+    } else {
+        report.tell("there is no such sink");
+    }
+}
+
+/// The end that the options name.
+fn end_in(options: Options<'_>) -> &[u8] {
+    let mut end = b"F0".as_slice();
+    for option in options.written {
+        if option.starts_with(b"F") {
+            end = option.as_slice();
+        }
+    }
+    end
 }
 
 /// Runs it by an engine: a cycle, and the rest; then both again, which do nothing more.
-fn run_engine(alloc: Global, job: &Job, wanted: Wanted<'_>) -> Result<Outcome> {
-    let limits = job.limits(job.look.unwrap_or(65536))?;
-    let script = job.script(alloc, wanted.script, &limits)?;
-    let source = job.source(alloc, wanted.input, job.read.unwrap_or(usize::MAX))?;
-    let mut outputs = job.outputs(alloc, &script, usize::MAX)?;
-    let mut texts = texts_of(alloc, script.rfiles(), wanted.options)?;
-    let mut engine = Engine::open(alloc, script, limits)?;
-    let mut lines = Lines::new(alloc, source, limits.look())?;
+fn run_engine(alloc: Global, row: &Row, report: &mut Report) {
+    let Some(source) = source_of(alloc, row, usize::MAX) else {
+        return report.tell(NO_INPUT);
+    };
+    let Some(ready) = engine_of(alloc, row, source) else {
+        return report.tell("the engine can't be opened");
+    };
+    let Ready {
+        mut engine,
+        mut lines,
+        mut outputs,
+        mut texts,
+    } = ready;
     let end = end_of(&mut engine, &mut lines, &mut outputs, &mut texts);
     if !stays_at(&mut engine, &mut lines, &mut outputs, &mut texts, end) {
-        let told = String::from_str(alloc, "the engine goes on after its end")?;
-        return Ok(Some(told));
+        report.tell("the engine goes on after its end");
     }
-    compared_run(alloc, wanted, end, &outputs)
+    compare_run(alloc, row, Some(end), &outputs, report);
 }
 
 /// A cycle, and the rest of the run.

@@ -1,6 +1,7 @@
 //! What the rows of a table are.
 
-use crate::outcomes::Outcome;
+use crate::report::Report;
+use crate::shape::Shape;
 use crate::table::Row;
 use crate::{cycles, delimiters, expressions, limits, lists, matches, readings, refusals, runs};
 use anyhow::{Result, bail};
@@ -29,35 +30,57 @@ pub(crate) enum Subject {
     Limits,
 }
 
+/// The subjects and their names.
+const SUBJECTS: [(&str, Subject); 9] = [
+    ("expressions", Subject::Expressions),
+    ("lists", Subject::Lists),
+    ("delimiters", Subject::Delimiters),
+    ("matches", Subject::Matches),
+    ("refusals", Subject::Refusals),
+    ("readings", Subject::Readings),
+    ("runs", Subject::Runs),
+    ("cycles", Subject::Cycles),
+    ("limits", Subject::Limits),
+];
+
 impl Subject {
     /// The subject of a name.
-    pub(crate) fn named(name: &[u8]) -> Result<Subject> {
-        match name {
-            b"expressions" => Ok(Subject::Expressions),
-            b"lists" => Ok(Subject::Lists),
-            b"delimiters" => Ok(Subject::Delimiters),
-            b"matches" => Ok(Subject::Matches),
-            b"refusals" => Ok(Subject::Refusals),
-            b"readings" => Ok(Subject::Readings),
-            b"runs" => Ok(Subject::Runs),
-            b"cycles" => Ok(Subject::Cycles),
-            b"limits" => Ok(Subject::Limits),
-            _ => bail!("no rows are of this kind"),
+    pub(crate) fn named(wanted: &[u8]) -> Result<Subject> {
+        for (name, subject) in SUBJECTS {
+            if name.as_bytes() == wanted {
+                return Ok(subject);
+            }
+        }
+        bail!("no rows are of this kind")
+    }
+
+    /// What such a row looks like.
+    pub(crate) fn shape_of(self, row: &Row) -> Shape<'static> {
+        match self {
+            Subject::Expressions => expressions::SHAPE,
+            Subject::Lists => lists::SHAPE,
+            Subject::Delimiters => delimiters::SHAPE,
+            Subject::Matches => matches::SHAPE,
+            Subject::Refusals => refusals::shape_of(row),
+            Subject::Readings => readings::SHAPE,
+            Subject::Runs => runs::SHAPE,
+            Subject::Cycles => cycles::SHAPE,
+            Subject::Limits => limits::SHAPE,
         }
     }
 
     /// Runs a row.
-    pub(crate) fn run(self, alloc: Global, row: &Row) -> Result<Outcome> {
+    pub(crate) fn run(self, alloc: Global, row: &Row, report: &mut Report) {
         match self {
-            Subject::Expressions => expressions::run(alloc, row),
-            Subject::Lists => lists::run(alloc, row),
-            Subject::Delimiters => delimiters::run(alloc, row),
-            Subject::Matches => matches::run(alloc, row),
-            Subject::Refusals => refusals::run(alloc, row),
-            Subject::Readings => readings::run(alloc, row),
-            Subject::Runs => runs::run(alloc, row),
-            Subject::Cycles => cycles::run(alloc, row),
-            Subject::Limits => limits::run(alloc, row),
+            Subject::Expressions => expressions::run(alloc, row, report),
+            Subject::Lists => lists::run(alloc, row, report),
+            Subject::Delimiters => delimiters::run(alloc, row, report),
+            Subject::Matches => matches::run(alloc, row, report),
+            Subject::Refusals => refusals::run(alloc, row, report),
+            Subject::Readings => readings::run(alloc, row, report),
+            Subject::Runs => runs::run(alloc, row, report),
+            Subject::Cycles => cycles::run(alloc, row, report),
+            Subject::Limits => limits::run(row, report),
         }
     }
 }

@@ -1,0 +1,144 @@
+//! What running a row comes to.
+
+use crate::sheet::Sheet;
+use std::alloc::Global;
+
+/// So many bytes of a field are shown at most.
+const MOST_SHOWN: usize = 400;
+
+/// What is told where a request for memory was refused.
+pub(crate) const NO_MEMORY: &str = "no memory";
+
+/// What is told where an input can't be made.
+pub(crate) const NO_INPUT: &str = "no input in such reads, or no memory";
+
+/// What running a row comes to: nothing where the row holds, else the first thing that came in place of what it says.
+#[derive(Drop)]
+pub(crate) struct Report {
+    sheet: Sheet,
+}
+
+impl Report {
+    /// Nothing is told yet.
+    pub(crate) fn new(alloc: Global) -> Report {
+        Report {
+            sheet: Sheet::new(alloc),
+        }
+    }
+
+    /// Whether the row holds, so far.
+    pub(crate) fn is_empty(&self) -> bool {
+        self.sheet.is_empty()
+    }
+
+    /// What is told.
+    pub(crate) fn bytes(&self) -> &[u8] {
+        self.sheet.bytes()
+    }
+
+    /// What is told, to be written on.
+    pub(crate) fn sheet(&mut self) -> &mut Sheet {
+        &mut self.sheet
+    }
+
+    /// Tells this, where nothing was told before.
+    pub(crate) fn tell(&mut self, text: &str) {
+        if self.is_empty() {
+            self.sheet.put_text(text);
+        }
+    }
+
+    /// Whether what came is what the row says.
+    pub(crate) fn compare(&mut self, what: &str, came: &[u8], wanted: &[u8]) {
+        if came != wanted && self.is_empty() {
+            self.sheet.put_text(what);
+            self.sheet.put(b": came ");
+            show(came, &mut self.sheet);
+            self.sheet.put(b", expected ");
+            show(wanted, &mut self.sheet);
+        }
+    }
+
+    /// The same of what was written.
+    pub(crate) fn compare_sheet(&mut self, what: &str, came: &Sheet, wanted: &[u8]) {
+        self.compare(what, came.bytes(), wanted);
+        if !came.is_whole() {
+            self.tell(NO_MEMORY);
+        }
+    }
+
+    /// The same of two numbers.
+    pub(crate) fn compare_numbers(&mut self, what: &str, came: usize, wanted: usize) {
+        if came != wanted && self.is_empty() {
+            self.sheet.put_text(what);
+            self.sheet.put(b": came ");
+            self.sheet.put_number(came as u128);
+            self.sheet.put(b", expected ");
+            self.sheet.put_number(wanted as u128);
+        }
+    }
+
+    /// Tells a number that the row doesn't allow.
+    pub(crate) fn tell_number(&mut self, what: &str, came: u128) {
+        if self.is_empty() {
+            self.sheet.put_text(what);
+            self.sheet.put(b"=");
+            self.sheet.put_number(came);
+        }
+    }
+
+    /// Whether a fault is the wanted one: a row says its number and name, or the number alone.
+    pub(crate) fn compare_faults(&mut self, came: &Sheet, wanted: &[u8]) {
+        if !begins_with(came.bytes(), wanted) {
+            self.compare_sheet("the fault", came, wanted);
+        }
+    }
+}
+
+/// Whether what is told of a fault begins with a whole word or two.
+fn begins_with(told: &[u8], words: &[u8]) -> bool {
+    match told.strip_prefix(words) {
+        Some([]) => true,
+        Some([next, ..]) => *next == b' ' || *next == b':',
+        None => false,
+    }
+}
+
+/// Writes bytes in the escapes of the tables, the first ones of many.
+fn show(bytes: &[u8], sheet: &mut Sheet) {
+    if bytes.is_empty() {
+        sheet.put(b"%e");
+    }
+    for b in bytes.iter().take(MOST_SHOWN) {
+        show_byte(*b, sheet);
+    }
+    if bytes.len() > MOST_SHOWN {
+        sheet.put(b" .. (");
+        sheet.put_number(bytes.len() as u128);
+        sheet.put(b" bytes)");
+    }
+}
+
+/// Writes one byte.
+fn show_byte(b: u8, sheet: &mut Sheet) {
+    match b {
+        b'\n' => sheet.put(b"%n"),
+        b'\t' => sheet.put(b"%t"),
+        b'%' => sheet.put(b"%%"),
+        b' '..=b'~' => sheet.put_byte(b),
+        _ => {
+            sheet.put(b"%x");
+            sheet.put_byte(hexadecimal(b / 16));
+            sheet.put_byte(hexadecimal(b % 16));
+        }
+    }
+}
+
+/// The digit of a number below 16.
+fn hexadecimal(number: u8) -> u8 {
+    if number < 10 {
+        number.wrapping_add(b'0')
+    } else {
+        number.wrapping_add(b'a' - 10)
+    }
+}
