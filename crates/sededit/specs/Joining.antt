@@ -6,13 +6,15 @@ use Rattle.sededit.specs.Joined.{joined, with_newline}
 use Rattle.sededit.specs.Opening.{Opens, contents}
 
 -- files that are joined: where they are read from, the names still to open, whether a file is being read, whether a
--- newline is due if it ends here, and of each file that was opened whether it was missed
+-- newline is due if it ends here, of each file that was opened whether it was missed, and how many openings the inputs
+-- had refused before
 pub record Joining (I : Type 0) : Type 0 where
   pub inputs : I
   pub names : List (List ℕ)
   pub reading : Bool
   pub due : Bool
   pub missed : List Bool
+  pub start : ℕ
 
 -- what is left of the file being read, and its newline where one is due
 abbrev pub left_of_file : {I : Type 0} → (I → Option (List ℕ)) → Joining I → Option (List ℕ)

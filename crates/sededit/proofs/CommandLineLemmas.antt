@@ -6,9 +6,9 @@ use Rattle.clap.specs.declared.error.kind.ErrorKind.TheVariants.{OutOfMemory, Mi
 use Rattle.clap.specs.declared.parser.matches.ArgMatches.{ArgMatches}
 use Rattle.clap.proofs.OnLiterals.{clap_on_literals}
 use Rattle.clap.proofs.WalkLemmas.{first_value-rows}
-use Rattle.sed.specs.CommandLine.{IsCommandLine, IsRefusal, extended_in, script_in, sed_command}
-use Rattle.sed.specs.declared.asked.Refused.{Refused}
-use Rattle.sed.specs.declared.asked.Refused.TheVariants.{NoMemory, Words}
+use Rattle.sededit.specs.CommandLine.{IsCommandLine, IsRefusal, extended_in, script_in, sed_command}
+use Rattle.sededit.specs.declared.asked.Refused.{Refused}
+use Rattle.sededit.specs.declared.asked.Refused.TheVariants.{NoMemory, Words}
 
 -- its words are read one by one
 pub is_simple-sed_command : is_simple sed_command ≡ true

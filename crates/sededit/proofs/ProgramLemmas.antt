@@ -13,10 +13,10 @@ use Rattle.sedengine.specs.Run.{TellsFiles}
 use Rattle.sedengine.specs.declared.ends.Ended.{Ended}
 use Rattle.sedengine.specs.declared.ends.Ended.TheVariants.{InputBroken, OutputBroken}
 use Rattle.sedengine.proofs.Gains.{take-to_sink}
-use Rattle.sed.specs.CommandLine.{IsRefusal, sed_command}
-use Rattle.sed.specs.Program.{AsksHelp, HasFailed, WritesHelp, no_files}
-use Rattle.sed.specs.declared.asked.Refused.{Refused}
-use Rattle.sed.specs.declared.asked.Refused.TheVariants.{NoMemory, Words}
+use Rattle.sededit.specs.CommandLine.{IsRefusal, sed_command}
+use Rattle.sededit.specs.Program.{AsksHelp, HasFailed, WritesHelp, no_files}
+use Rattle.sededit.specs.declared.asked.Refused.{Refused}
+use Rattle.sededit.specs.declared.asked.Refused.TheVariants.{NoMemory, Words}
 
 -- a list of no texts tells no files
 pub tells_none : {A : Type 0} (texts : List (Vec ℕ A)) → texts ≡ [] → TellsFiles (λ k. Some (text_bytes texts k)) no_files

@@ -49,3 +49,8 @@ pub(crate) fn say_cannot_open<E: Write>(errors: &mut E, name: &[u8]) -> io::Resu
 pub(crate) fn say_no_memory<E: Write>(errors: &mut E) -> io::Result<()> {
     writeln!(errors, "sed: no memory")
 }
+
+/// Says that no script was given.
+pub(crate) fn say_no_script<E: Write>(errors: &mut E) -> io::Result<()> {
+    writeln!(errors, "sed: no script")
+}

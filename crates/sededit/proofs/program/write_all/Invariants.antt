@@ -2,7 +2,7 @@ use Rattle.std.proofs.Common.{◌-◌, ◌≤◌, length, take, Ok}
 use Rattle.sedengine.specs.Move.{to_sink}
 use Rattle.sedengine.specs.Devices.{Gained}
 use Rattle.sedengine.specs.Calls.{Writes}
-use Rattle.sed.proofs.program.write_all.Given as goal
+use Rattle.sededit.proofs.program.write_all.Given as goal
 
 abbrev pub invariant-loop-done : goal.invariant-loop-done
 invariant-loop-done g l = record {

@@ -1,7 +1,7 @@
 use Rattle.std.proofs.Common.{◌≡◌, ◌++◌, length, take, drop, ◌+◌, ◌-◌, refl, arith}
 use Rattle.sedengine.proofs.Gains.{Gained-append, Gained-add_none, Gained-one, Gained-kept, to_sink-append, take_part, slice_get-to_sink, take-to_sink}
 use Rattle.sedengine.proofs.Writing.{Writes-then, grown}
-use Rattle.sed.proofs.program.write_all.Goals as goal
+use Rattle.sededit.proofs.program.write_all.Goals as goal
 
 pub returns-in-Err-clause-puts : goal.returns-in-Err-clause-puts
 returns-in-Err-clause-puts g c =

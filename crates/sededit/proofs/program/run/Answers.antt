@@ -1,7 +1,7 @@
 use Rattle.std.proofs.Common.{rules, ap, Ok}
-use Rattle.sed.specs.Program.{no_files}
-use Rattle.sed.proofs.ProgramLemmas.{has_failed, tells_none}
-use Rattle.sed.proofs.program.run_line.Goals as goal
+use Rattle.sededit.specs.Program.{no_files}
+use Rattle.sededit.proofs.ProgramLemmas.{has_failed, tells_none}
+use Rattle.sededit.proofs.program.run_line.Goals as goal
 
 pub returns-in-Ok-Done-clause-whole : goal.returns-in-Ok-Done-clause-whole
 returns-in-Ok-Done-clause-whole g c is = (

@@ -1,7 +1,7 @@
 use Rattle.std.proofs.Common.{rules, ap, ap₂, ◌≡◌, ◌∙◌, codes}
 use Rattle.clap.specs.Words.{app_of, new_app, rule_of, with_rule}
-use Rattle.sed.specs.CommandLine.{extended_rule, quiet_rule, script_rule, sed_command, without_name}
-use Rattle.sed.proofs.command_line.command.Goals as goal
+use Rattle.sededit.specs.CommandLine.{extended_rule, quiet_rule, script_rule, sed_command, without_name}
+use Rattle.sededit.proofs.command_line.command.Goals as goal
 
 pub returns-clause-shape : goal.returns-clause-shape
 unfolding sed_command

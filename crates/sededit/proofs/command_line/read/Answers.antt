@@ -1,5 +1,5 @@
-use Rattle.sed.proofs.CommandLineLemmas.{fault_of-sed_command, rows_of-sed_command, takes-sed_command}
-use Rattle.sed.proofs.command_line.read.Goals as goal
+use Rattle.sededit.proofs.CommandLineLemmas.{fault_of-sed_command, rows_of-sed_command, takes-sed_command}
+use Rattle.sededit.proofs.command_line.read.Goals as goal
 
 pub returns-clause-rows : goal.returns-clause-rows
 returns-clause-rows g c = rows_of-sed_command _ _ _ c.in_ok-command.ensures.shape c.try_get_matches_from.ensures.matches

@@ -1,5 +1,5 @@
-use Rattle.sed.proofs.CommandLineLemmas.{refusal_of, script_in-matches}
-use Rattle.sed.proofs.command_line.line.Goals as goal
+use Rattle.sededit.proofs.CommandLineLemmas.{refusal_of, script_in-matches}
+use Rattle.sededit.proofs.command_line.line.Goals as goal
 
 pub returns-in-Ok-clause-script : goal.returns-in-Ok-clause-script
 returns-in-Ok-clause-script g c =

@@ -1,6 +1,6 @@
 use Rattle.std.proofs.Common.{arith, inl, inr}
-use Rattle.sed.proofs.ProgramLemmas.{asks_help}
-use Rattle.sed.proofs.program.stream.Goals as goal
+use Rattle.sededit.proofs.ProgramLemmas.{asks_help}
+use Rattle.sededit.proofs.program.stream.Goals as goal
 
 pub returns-in-Ok-clause-stopped : goal.returns-in-Ok-clause-stopped
 returns-in-Ok-clause-stopped g c is =

@@ -2,19 +2,31 @@
 ghost use Rattle.std.specs.Prelude.{◌≡◌, ◌≢◌};
 ghost use Rattle.clap.specs.Words.{kind_of};
 ghost use Rattle.clap.specs.declared.error.kind.ErrorKind.TheVariants.{OutOfMemory};
-ghost use Rattle.sed.specs.declared.asked.Refused.TheVariants.{NoMemory, Words};
+ghost use Rattle.sededit.specs.declared.asked.Refused.TheVariants.{NoMemory, Words};
 
 use clap::error::ErrorKind;
+use std::alloc::AllocError;
 
 /// What the words after the program's name ask for.
-#[derive(Clone, Copy, Debug)]
-pub struct Line<'a> {
+#[derive(Debug, Drop)]
+pub struct Line {
     /// Whether `-n` was given, which suppresses default output.
     pub quiet: bool,
     /// Whether `-E` was given, which chooses extended expressions.
     pub extended: bool,
-    /// The script's text.
-    pub script: &'a str,
+    /// The parts of the script, in the order of the words; none where no script was given.
+    pub parts: Vec<Part>,
+    /// The names of the input files, `-` for the standard input; where there are none, the standard input is read.
+    pub operands: Vec<String>,
+}
+
+/// A part of a script.
+#[derive(Debug, Drop)]
+pub enum Part {
+    /// Its text: a word of `-e`, or the first operand where there is neither `-e` nor `-f`.
+    Script(String),
+    /// The name of the file that holds it, a word of `-f`.
+    File(String),
 }
 
 /// Why the words ask for nothing that can be done.
@@ -35,5 +47,13 @@ impl From<clap::Error> for Refused {
             ErrorKind::OutOfMemory => Refused::NoMemory,
             _ => Refused::Words(error),
         }
+    }
+}
+
+impl From<AllocError> for Refused {
+    ghost from_gives = { λ e r. r ≡ NoMemory };
+
+    fn from(_error: AllocError) -> Refused {
+        Refused::NoMemory
     }
 }
