@@ -1,12 +1,12 @@
 -- The command line that `clap` is given.
-use Rattle.std.proofs.Common.{◌≡◌, ◌≢◌, ◌∙◌, inl, inr, List, [], ◌∷◌, Option, Result, Ok, Err, IfOk, IfErr, true, false, refl, ap, codes, unwrap_or}
-use Rattle.clap.specs.Words.{App, Text, first_of, first_value, found_of, is_simple, is_simple_and_free, kind_of, fault_of, matches_of, rows_of, takes, FailsBy, HasKind, HasMatchesOf}
+use Rattle.std.proofs.Common.{◌≡◌, ◌≢◌, ◌∙◌, inl, inr, List, [], ◌∷◌, Option, Result, Ok, Err, IfOk, IfErr, true, false, refl, ap, codes, unwrap_or, option_map}
+use Rattle.clap.specs.Words.{App, Text, found_of, matched_of, raw_values, is_simple, is_simple_and_free, kind_of, fault_of, matches_of, rows_of, takes, FailsBy, HasKind, HasMatchesOf}
 use Rattle.clap.specs.declared.error.Error.{Error}
-use Rattle.clap.specs.declared.error.kind.ErrorKind.TheVariants.{OutOfMemory, MissingRequiredArgument, DisplayHelp}
+use Rattle.clap.specs.declared.error.kind.ErrorKind.TheVariants.{OutOfMemory, DisplayHelp, UnknownArgument}
 use Rattle.clap.specs.declared.parser.matches.ArgMatches.{ArgMatches}
 use Rattle.clap.proofs.OnLiterals.{clap_on_literals}
-use Rattle.clap.proofs.WalkLemmas.{first_value-rows}
-use Rattle.sededit.specs.CommandLine.{IsCommandLine, IsRefusal, extended_in, script_in, sed_command}
+use Rattle.clap.proofs.WalkLemmas.{raw_values-rows}
+use Rattle.sededit.specs.CommandLine.{IsCommandLine, IsRefusal, extended_in, given_to, sed_command}
 use Rattle.sededit.specs.declared.asked.Refused.{Refused}
 use Rattle.sededit.specs.declared.asked.Refused.TheVariants.{NoMemory, Words}
 
@@ -45,12 +45,10 @@ refusal_of words e (Words x) h memory other =
     let same : x ≡ e = let is : Words x ≡ Words e = other wanting in cc in
     elim h [ inl is ↦ absurd (wanting is) | inr among ↦ rw same among ]
 
--- and the script that the matches give
-pub script_in-matches : (words : List Text) (m : ArgMatches) (given : Option Text) (script : Text) →
-    rows_of (found_of m) ≡ matches_of sed_command words → given ≡ first_value (found_of m) (codes "script") →
-    script ≡ unwrap_or given (codes "") → script ≡ script_in (matches_of sed_command words)
-script_in-matches words m given script rows is same =
-    same ∙ ap (λ t. unwrap_or t (codes "")) (is ∙ first_value-rows (found_of m) (codes "script") ∙ ap (first_of (codes "script")) rows)
+-- what an option or the operands were given, from the matches
+pub given_to-matches : (m : ArgMatches) (id : Text) (given : Option (List Text)) → given ≡ option_map raw_values (matched_of (found_of m) id) →
+    unwrap_or given [] ≡ given_to id (rows_of (found_of m))
+given_to-matches m id given is = ap (λ t. unwrap_or t []) (is ∙ raw_values-rows (found_of m) id)
 
 -- some words that are a command line, and some that aren't
 two_are : IsCommandLine (codes "-n" ∷ codes "p" ∷ [])
@@ -61,6 +59,10 @@ extended_are : IsCommandLine (codes "-nE" ∷ codes "p" ∷ codes "-E" ∷ [])
 unfolding clap_on_literals sed_command
 extended_are = refl
 
+parts_are : IsCommandLine (codes "-e" ∷ codes "p" ∷ codes "-" ∷ codes "-f" ∷ codes "s" ∷ codes "a" ∷ [])
+unfolding clap_on_literals sed_command
+parts_are = refl
+
 extended_is : extended_in (matches_of sed_command (codes "p" ∷ codes "-nE" ∷ [])) ≡ true
 unfolding clap_on_literals sed_command
 extended_is = refl
@@ -69,10 +71,26 @@ extended_is_not : extended_in (matches_of sed_command (codes "-n" ∷ codes "p" 
 unfolding clap_on_literals sed_command
 extended_is_not = refl
 
-none_are : fault_of sed_command [] ≡ MissingRequiredArgument ∷ []
+operands_are : given_to (codes "operand") (matches_of sed_command (codes "p" ∷ codes "-n" ∷ codes "-" ∷ codes "a" ∷ [])) ≡ codes "p" ∷ codes "-" ∷ codes "a" ∷ []
+unfolding clap_on_literals sed_command
+operands_are = refl
+
+scripts_are : given_to (codes "expression") (matches_of sed_command (codes "-e" ∷ codes "p" ∷ codes "a" ∷ codes "-ne" ∷ codes "d" ∷ [])) ≡ codes "p" ∷ codes "d" ∷ []
+unfolding clap_on_literals sed_command
+scripts_are = refl
+
+files_are : given_to (codes "file") (matches_of sed_command (codes "-f" ∷ codes "s" ∷ codes "-fx" ∷ [])) ≡ codes "s" ∷ codes "x" ∷ []
+unfolding clap_on_literals sed_command
+files_are = refl
+
+none_are : IsCommandLine []
 unfolding clap_on_literals sed_command
 none_are = refl
 
 help_asks : fault_of sed_command (codes "-h" ∷ []) ≡ DisplayHelp ∷ []
 unfolding clap_on_literals sed_command
 help_asks = refl
+
+unknown_is_refused : fault_of sed_command (codes "-i" ∷ codes "p" ∷ []) ≡ UnknownArgument ∷ []
+unfolding clap_on_literals sed_command
+unknown_is_refused = refl

@@ -1,26 +1,19 @@
 -- From the end of an edit to the status of the program.
 use Rattle.std.proofs.Common.{◌≡◌, ◌∙◌, ℕ, Bool, true, false, List, [], Option, Some, Result, Ok, Err, take, refl, sym}
-use Rattle.std.specs.Prelude.{Vec}
 use Rattle.clap.specs.Words.{Text, kind_of, takes}
 use Rattle.clap.specs.declared.error.Error.{Error}
 use Rattle.clap.specs.declared.error.kind.ErrorKind.TheVariants.{DisplayHelp}
 use Rattle.sedspace.specs.Failures.{Rose}
-use Rattle.sedspace.specs.Memory.{text_bytes}
 use Rattle.sedengine.specs.Calls.{Puts}
 use Rattle.sedengine.specs.Devices.{FailedSink, Gained}
 use Rattle.sedengine.specs.Move.{to_sink}
-use Rattle.sedengine.specs.Run.{TellsFiles}
 use Rattle.sedengine.specs.declared.ends.Ended.{Ended}
 use Rattle.sedengine.specs.declared.ends.Ended.TheVariants.{InputBroken, OutputBroken}
 use Rattle.sedengine.proofs.Gains.{take-to_sink}
 use Rattle.sededit.specs.CommandLine.{IsRefusal, sed_command}
-use Rattle.sededit.specs.Program.{AsksHelp, HasFailed, WritesHelp, no_files}
+use Rattle.sededit.specs.Program.{AsksHelp, HasFailed, WritesHelp}
 use Rattle.sededit.specs.declared.asked.Refused.{Refused}
 use Rattle.sededit.specs.declared.asked.Refused.TheVariants.{NoMemory, Words}
-
--- a list of no texts tells no files
-pub tells_none : {A : Type 0} (texts : List (Vec ℕ A)) → texts ≡ [] → TellsFiles (λ k. Some (text_bytes texts k)) no_files
-tells_none texts is = λ k. rw is refl
 
 -- what was written of a text before its sink failed is a text too
 pub WritesHelp-cut : (old new : ℕ → Option (List ℕ)) (text : List ℕ) (end : Ended) →

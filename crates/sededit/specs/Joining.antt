@@ -20,9 +20,13 @@ pub record Joining (I : Type 0) : Type 0 where
 abbrev pub left_of_file : {I : Type 0} → (I → Option (List ℕ)) → Joining I → Option (List ℕ)
 left_of_file current j = if j.reading then option_map (with_newline j.due) (current j.inputs) else Some []
 
+-- what the files of these names give, joined, where they are told
+abbrev pub joined_files : {I : Type 0} → (I → List (List ℕ) → Option (List (Option (List ℕ)))) → I → List (List ℕ) → Option (List ℕ)
+joined_files ahead inputs names = option_map (λ files. joined (contents files)) (ahead inputs names)
+
 -- what the files still to open give, joined
 abbrev pub left_of_files : {I : Type 0} → (I → List (List ℕ) → Option (List (Option (List ℕ)))) → Joining I → Option (List ℕ)
-left_of_files ahead j = option_map (λ files. joined (contents files)) (ahead j.inputs j.names)
+left_of_files ahead j = joined_files ahead j.inputs j.names
 
 -- the bytes still to come
 abbrev pub left : {I : Type 0} → (I → Option (List ℕ)) → (I → List (List ℕ) → Option (List (Option (List ℕ)))) → Joining I → Option (List ℕ)

@@ -1,5 +1,5 @@
 -- What the program does with the words of its command line (XCU sed, "Options", "Operands", "Exit Status").
-use Rattle.std.specs.Prelude.{◌≡◌, ◌≢◌, ◌≤◌, ◌⊎◌, ◌||◌, ℕ, Bool, true, false, List, [], ◌∷◌, map, Option, Some, Result, Ok, Err, slice_get}
+use Rattle.std.specs.Prelude.{◌≡◌, ◌≢◌, ◌<◌, ◌||◌, ℕ, Bool, true, false, List, [], ◌∷◌, map, Option, Some, slice_get}
 use Rattle.std.specs.Option.{ForSome, option_map, option_map_or}
 use Rattle.std.specs.String.{string_bytes}
 use Rattle.clap.specs.Words.{IsAmong, Text, fault_of, matches_of, takes}
@@ -97,9 +97,13 @@ StopsEarly limits p input texts gained failed =
     (files : ℕ → List ℕ) → TellsFiles texts files →
     ((t : ℕ) × Cause limits (setting_of p files) (start_over p bytes) gained end t))
 
--- some sink has failed
+-- some sink has failed in this call
 abbrev pub SinkFailed : (ℕ → ℕ) → (ℕ → ℕ) → Type 0
 SinkFailed old new = (k : ℕ) × Rose (old k) (new k)
+
+-- some sink has failed
+abbrev pub HasFailures : (ℕ → ℕ) → Type 0
+HasFailures failures = (k : ℕ) × (0 < failures k)
 
 -- clap doesn't take the words, since they ask for help
 abbrev pub AsksHelp : List Text → Type 0

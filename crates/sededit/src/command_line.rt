@@ -2,12 +2,13 @@
 //!
 //! Options may be given more than once, in one word or several, before operands or after them; `--` ends the options;
 //! -h and --help ask for help.
-ghost use Rattle.std.specs.Prelude.{◌≡◌, true, codes, map, option_map, unwrap_or, IfOk, IfErr, OnOk};
-ghost use Rattle.clap.specs.Words.{FailsBy, app_of, fault_of, found_of, kind_of, matches_of, rows_of, takes};
-ghost use Rattle.sededit.specs.CommandLine.{IsCommandLine, IsLine, IsRefusal, sed_command};
+ghost use Rattle.std.specs.Prelude.{◌≡◌, Some, false, true, map, IfOk, IfErr, OnOk};
+ghost use Rattle.clap.specs.Words.{FailsBy, app_of, fault_of, found_of, kind_of, matches_of, new_rule, rows_of, rule_of, takes};
+ghost use Rattle.clap.specs.declared.builder.action.ArgAction.TheVariants.{Append, Count};
+ghost use Rattle.sededit.specs.CommandLine.{IsCommandLine, IsLine, IsRefusal, operand_rule, sed_command};
 
 use crate::asked::{Line, Refused};
-use crate::parts::{Uses, asked, or_none};
+use crate::parts::{asked_of, or_none, uses_of};
 use clap::error::ErrorKind;
 use clap::{Arg, ArgAction, ArgMatches, Command};
 use std::alloc::{AllocError, Global};
@@ -36,10 +37,10 @@ pub fn line<S: AsStr>(alloc: Global, words: &[S]) -> Result<Line, Refused>
 fn line_of(alloc: Global, matches: &ArgMatches<'_>) -> Result<Line, AllocError>
     ensures { IfOk result (IsLine (rows_of (found_of matches.now))) }
 {
-    let line = asked(
+    let line = asked_of(
         alloc,
-        uses(matches, "expression"),
-        uses(matches, "file"),
+        uses_of(matches, "expression"),
+        uses_of(matches, "file"),
         or_none(matches.get_strs("operand")),
     )?;
     Ok(Line {
@@ -60,30 +61,47 @@ fn read<'a, S: AsStr>(alloc: Global, words: &'a [S]) -> Result<ArgMatches<'a>, c
     command(alloc)?.try_get_matches_from(words)
 }
 
+/// An option that is counted.
+fn counted<'a>(alloc: Global, name: &'a str, letter: char, help: &'a str) -> Arg<'a>
+    ensures rule { rule_of result ≡ record (new_rule name.entry.now) { short = Some letter; action = Some Count } }
+    ensures local { result.global ≡ false }
+{
+    Arg::new(alloc, name)
+        .short(letter)
+        .action(ArgAction::Count)
+        .help(help)
+}
+
+/// An option with a word, which may be given more than once.
+fn repeated<'a>(alloc: Global, name: &'a str, letter: char, help: &'a str) -> Arg<'a>
+    ensures rule { rule_of result ≡ record (new_rule name.entry.now) { short = Some letter; action = Some Append } }
+    ensures local { result.global ≡ false }
+{
+    Arg::new(alloc, name)
+        .short(letter)
+        .action(ArgAction::Append)
+        .help(help)
+}
+
+/// The operands.
+fn operands<'a>(alloc: Global) -> Arg<'a>
+    ensures rule { rule_of result ≡ operand_rule }
+    ensures local { result.global ≡ false }
+{
+    Arg::new(alloc, "operand")
+        .action(ArgAction::Append)
+        .help("The script, where neither -e nor -f gives one, and the input files; - or none is the standard input")
+}
+
 /// What `clap` is to read.
 fn command<'a>(alloc: Global) -> Result<Command<'a>, clap::Error>
     ensures shape { IfOk result (λ c. app_of c ≡ sed_command) }
     ensures memory { IfErr result (λ e. kind_of e ≡ ErrorKind.OutOfMemory) }
 {
-    let quiet = Arg::new(alloc, "quiet")
-        .short('n')
-        .action(ArgAction::Count)
-        .help("Write no pattern space unless the script asks for it");
-    let extended = Arg::new(alloc, "extended")
-        .short('E')
-        .action(ArgAction::Count)
-        .help("Read extended regular expressions in the script");
-    let expression = Arg::new(alloc, "expression")
-        .short('e')
-        .action(ArgAction::Append)
-        .help("Add these editing commands to the script");
-    let file = Arg::new(alloc, "file")
-        .short('f')
-        .action(ArgAction::Append)
-        .help("Add the editing commands in this file to the script");
-    let operand = Arg::new(alloc, "operand")
-        .action(ArgAction::Append)
-        .help("The script, where neither -e nor -f gives one, and the input files; - or none is the standard input");
+    let quiet = counted(alloc, "quiet", 'n', "Write no pattern space unless the script asks for it");
+    let extended = counted(alloc, "extended", 'E', "Read extended regular expressions in the script");
+    let expression = repeated(alloc, "expression", 'e', "Add these editing commands to the script");
+    let file = repeated(alloc, "file", 'f', "Add the editing commands in this file to the script");
     let command = Command::new(alloc, "sed")
         .no_binary_name(true)
         .about("Edits files line by line, and writes to the standard output")
@@ -91,6 +109,6 @@ fn command<'a>(alloc: Global) -> Result<Command<'a>, clap::Error>
         .arg(extended)?
         .arg(expression)?
         .arg(file)?
-        .arg(operand)?;
+        .arg(operands(alloc))?;
     Ok(command)
 }

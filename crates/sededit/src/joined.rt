@@ -3,12 +3,10 @@
 //! A file is opened by the read that has no byte left to give of those before it, so no two are held open together. One
 //! that can't be opened is as an empty one, and is noted as missed.
 ghost use Rattle.std.specs.Prelude.{◌≡◌, ◌<◌, ◌⊎◌, [], ◌∷◌, ℕ, List, Ok, true, false, length, map, string_bytes, slice_get, unwrap_or, IfOk};
-ghost use Rattle.std.specs.Option.{option_map};
 ghost use Rattle.std.specs.Io.{ReadsAtMost};
 ghost use Rattle.std.specs.Io.KnownBytes.{IsAtEnd, ReadConsumes};
 ghost use Rattle.sedspace.specs.Failures.{FailsAtErr};
-ghost use Rattle.sededit.specs.Joined.{joined};
-ghost use Rattle.sededit.specs.Opening.{KeepsFiles, WereRefused, contents};
+ghost use Rattle.sededit.specs.Opening.{KeepsFiles, WereRefused};
 
 use super::Inputs;
 use sedspace::{Broken, ByteSource};
@@ -50,7 +48,7 @@ impl<'a, I: Inputs> Model for Joined<'a, I> {
 }
 
 impl<'a, I: Inputs> Joined<'a, I> {
-    ghost use Rattle.sededit.specs.Joining.{Joining, left, left_of_file, OpensNext};
+    ghost use Rattle.sededit.specs.Joining.{Joining, joined_files, left, left_of_file, OpensNext};
 
     /// The files of these names, of which none is opened yet. At an `Err` the inputs are gone: lend them to keep them.
     pub fn new(alloc: Global, inputs: I, names: &'a [String]) -> Result<Joined<'a, I>, AllocError>
@@ -65,7 +63,7 @@ impl<'a, I: Inputs> Joined<'a, I> {
           start = I.refusals inputs;
         }) }
         ensures joined { IfOk result (λ j. left I.current I.ahead j
-            ≡ option_map (λ files. joined (contents files)) (I.ahead inputs (map string_bytes names.now))) }
+            ≡ joined_files I.ahead inputs (map string_bytes names.now)) }
     {
         let missed = vec![in alloc; false; names.len()]?;
         let start = inputs.refused();

@@ -1,9 +1,9 @@
 //! The parts of a script and the operands, in the order of the words.
-ghost use Rattle.std.specs.Prelude.{◌≡◌, ◌<◌, ◌≤◌, ◌+◌, ◌&&◌, ◌||◌, [], ◌∷◌, codes, drop, length, map, not, IfOk, MatchOption, nat_lt, unwrap_or, option_map, is_empty};
+ghost use Rattle.std.specs.Prelude.{◌≡◌, ◌<◌, [], Some, length, map, slice_get, take, IfOk, unwrap_or, option_map};
 ghost use Rattle.std.specs.String.{string_bytes};
 ghost use Rattle.clap.specs.Words.{found_of, rows_of};
-ghost use Rattle.sededit.specs.CommandLine.{Asks, first_place, given, given_to, in_order};
-ghost use Rattle.sededit.specs.CommandLineParts.{comes_first, ordered, left_in};
+ghost use Rattle.sededit.specs.CommandLine.{Asks, given, given_to, in_order, text};
+ghost use Rattle.sededit.specs.CommandLineParts.{comes_first, place_at, texts_in};
 
 use crate::asked::Part;
 use clap::ArgMatches;
@@ -26,15 +26,15 @@ pub(crate) struct Asked {
 }
 
 /// The words, or none.
-pub(crate) fn or_none<'m, 'a>(words: Option<&'m [&'a str]>) -> &'m [&'a str]
+pub(crate) fn or_none<'m, 'a: 'm>(words: Option<&'m [&'a str]>) -> &'m [&'a str]
     ensures { map (λ s. s.now) result.now ≡ unwrap_or (option_map (λ s. map (λ v. v.now) s.now) words.entry) [] }
 {
     words.unwrap_or(&[])
 }
 
 /// The uses of the option of this name.
-pub(crate) fn uses<'m, 'a>(matches: &'m ArgMatches<'a>, id: &str) -> Uses<'m, 'a>
-    ensures { map (λ s. s.now) result.words.now ≡ given_to id.now (rows_of (found_of matches.now)) }
+pub(crate) fn uses_of<'m, 'a: 'm>(matches: &'m ArgMatches<'a>, id: &str) -> Uses<'m, 'a>
+    ensures { texts_in result ≡ given_to id.now (rows_of (found_of matches.now)) }
 {
     Uses {
         words: or_none(matches.get_strs(id)),
@@ -42,62 +42,48 @@ pub(crate) fn uses<'m, 'a>(matches: &'m ArgMatches<'a>, id: &str) -> Uses<'m, 'a
     }
 }
 
-impl<'m, 'a> Uses<'m, 'a> {
-    /// The place of the first word.
-    fn first_place(&self) -> usize
-        ensures { result ≡ first_place self.now.places.now }
+impl<'m, 'a: 'm> Uses<'m, 'a> {
+    /// The word of this number.
+    fn word(&self, number: usize) -> &'a str
+        requires { number < length self.now.words.now }
+        ensures { slice_get (texts_in self.now) number ≡ Some result.now }
     {
-        self.places.first().copied().unwrap_or(0)
+        self.words[number]
     }
 
-    /// Whether its first word comes before the first one of the others.
-    fn comes_first(&self, others: &Uses<'_, '_>) -> bool
-        ensures { result ≡ comes_first self.now.words.now self.now.places.now others.now.words.now others.now.places.now }
+    /// The place of the word of this number.
+    fn place(&self, number: usize) -> usize
+        ensures { result ≡ place_at self.now.places.now number }
     {
-        !self.words.is_empty() && (others.words.is_empty() || self.first_place() < others.first_place())
+        self.places.get(number).copied().unwrap_or(0)
     }
 
-    /// Takes the first word.
-    fn take(&mut self) -> Option<&'a str>
-        ensures { MatchOption result ((self.new ≡ self.old) × (self.old.words.now ≡ []))
-            (λ word. (self.old.words.now ≡ word ∷ self.new.words.now) × (self.new.places.now ≡ drop 1 self.old.places.now)) }
+    /// Whether the word of this number comes before that one of the others.
+    fn comes_first(&self, number: usize, others: &Uses<'_, '_>, other: usize) -> bool
+        ensures { result ≡ comes_first (texts_in self.now) self.now.places.now number
+            (texts_in others.now) others.now.places.now other }
     {
-        let (first, rest) = self.words.split_first()?;
-        self.words = rest;
-        self.places = self.places.get(1..).unwrap_or(&[]);
-        Some(*first)
+        number < self.words.len()
+            && (other >= others.words.len() || self.place(number) < others.place(other))
     }
-}
-
-/// The next part, the first of the scripts and the files.
-fn next_part(
-    alloc: Global,
-    scripts: &mut Uses<'_, '_>,
-    files: &mut Uses<'_, '_>,
-) -> Result<Option<Part>, AllocError>
-    ensures { IfOk result (λ next. MatchOption next (ordered scripts.old files.old ≡ [])
-        (λ part. (ordered scripts.old files.old ≡ given part ∷ ordered scripts.new files.new)
-        × (left_in scripts.new files.new < left_in scripts.old files.old))) }
-{
-    if scripts.comes_first(files) {
-        let Some(script) = scripts.take() else {
-            return Ok(None);
-        };
-        return Ok(Some(Part::Script(String::from_str(alloc, script)?)));
-    }
-    let Some(name) = files.take() else {
-        return Ok(None);
-    };
-    Ok(Some(Part::File(String::from_str(alloc, name)?)))
 }
 
 /// The parts that -e and -f give, in the order of the words.
-fn parts_in_order(alloc: Global, mut scripts: Uses<'_, '_>, mut files: Uses<'_, '_>) -> Result<Vec<Part>, AllocError>
-    ensures { IfOk result (λ parts. map given parts.items ≡ ordered scripts.entry files.entry) }
+fn parts_in_order(alloc: Global, scripts: Uses<'_, '_>, files: Uses<'_, '_>) -> Result<Vec<Part>, AllocError>
+    ensures { IfOk result (λ parts. map given parts.items
+        ≡ in_order (texts_in scripts.entry) scripts.entry.places.now (texts_in files.entry) files.entry.places.now) }
 {
     let mut parts = Vec::new(alloc);
-    while let Some(part) = next_part(alloc, &mut scripts, &mut files)? {
-        parts.push(part)?;
+    let mut scripted = 0;
+    let mut filed = 0;
+    while scripted < scripts.words.len() || filed < files.words.len() {
+        if scripts.comes_first(scripted, &files, filed) {
+            parts.push(Part::Script(String::from_str(alloc, scripts.word(scripted))?))?;
+            scripted += 1;
+        } else {
+            parts.push(Part::File(String::from_str(alloc, files.word(filed))?))?;
+            filed += 1;
+        }
     }
     Ok(parts)
 }
@@ -125,13 +111,13 @@ fn first_as_script(alloc: Global, words: &[&str]) -> Result<Vec<Part>, AllocErro
 }
 
 /// What the scripts of -e, the files of -f and the operands ask for.
-pub(crate) fn asked(
+pub(crate) fn asked_of(
     alloc: Global,
     scripts: Uses<'_, '_>,
     files: Uses<'_, '_>,
     operands: &[&str],
 ) -> Result<Asked, AllocError>
-    ensures { IfOk result (λ a. Asks (map (λ s. s.now) scripts.words.now) (map (λ s. s.now) files.words.now)
+    ensures { IfOk result (λ a. Asks (texts_in scripts.entry) (texts_in files.entry)
         (map (λ s. s.now) operands.now) (map given a.parts.items) (map string_bytes a.operands.items)) }
 {
     if scripts.words.is_empty() && files.words.is_empty() {

@@ -7,8 +7,8 @@ ghost use Rattle.sedengine.specs.Devices.{Gained};
 ghost use Rattle.sedengine.specs.Move.{to_sink};
 ghost use Rattle.clap.specs.Words.{kind_of};
 ghost use Rattle.sededit.specs.MemoryFiles.{dash};
-ghost use Rattle.sededit.specs.Program.{AsksHelp, HasFailed, Runs, RunsLine, SinkFailed, StopsEarly, WritesAll, WritesBeginning};
-ghost use Rattle.sededit.specs.Program.{WritesHelp, texts_of};
+ghost use Rattle.sededit.specs.Program.{AsksHelp, HasFailed, HasFailures, Runs, RunsLine, SinkFailed, StopsEarly, WritesAll, WritesBeginning};
+ghost use Rattle.sededit.specs.Program.{WritesHelp, or_standard, texts_of};
 
 use crate::asked::{Line, Refused};
 use crate::command_line::line;
@@ -84,7 +84,7 @@ pub fn command<S: AsStr, I: Inputs, O: Sinks, N: Names, E: Write>(
         (λ p input texts. StopsEarly limits p input texts (Gained (O.contents sinks.old) (O.contents sinks.new))
         (HasFailed (I.failures inputs.old) (I.failures inputs.new) (O.failures sinks.old) (O.failures sinks.new))
         ⊎ (WritesAll p input texts (Gained (O.contents sinks.old) (O.contents sinks.new))
-        × SinkFailed (O.failures sinks.old) (O.failures sinks.new)))
+        × HasFailures (O.failures sinks.new)))
         ⊎ (AsksHelp (map S.text words.now) × SinkFailed (O.failures sinks.old) (O.failures sinks.new)) }
     // A refusal writes nothing.
     ensures refused { result ≡ REFUSED → (k : ℕ) → O.contents sinks.new k ≡ O.contents sinks.old k }
@@ -94,6 +94,54 @@ pub fn command<S: AsStr, I: Inputs, O: Sinks, N: Names, E: Write>(
         Err(Refused::Words(error)) => answer_words(alloc, &error, sinks, errors),
         Err(Refused::NoMemory) => out_of_memory(errors),
     }
+}
+
+/// Runs what a line asks for over the files of these operands, its own or what stands for none.
+fn run_over<I: Inputs, O: Sinks, N: Names, E: Write>(
+    alloc: Global,
+    line: &Line,
+    operands: &[String],
+    limits: Limits,
+    inputs: &mut I,
+    sinks: &mut O,
+    names: &mut N,
+    errors: &mut E,
+) -> u8
+    requires operands { map string_bytes operands.now ≡ or_standard (map string_bytes line.now.operands.items) }
+    requires sinks { O.count sinks.old ≡ 1 }
+    requires names { N.named names.old ≡ 0 }
+    ensures status { (result ≡ SUCCESS) ⊎ ((result ≡ REFUSED) ⊎ ((result ≡ MISSED) ⊎ (result ≡ STOPPED))) }
+    ensures whole { result ≡ SUCCESS →
+        RunsLine (I.text inputs.old) (I.ahead inputs.old) (N.file names.old) (N.text names.old) limits.nodes line.now
+        (λ p input texts. WritesAll p input texts (Gained (O.contents sinks.old) (O.contents sinks.new)))
+        × (I.refusals inputs.new ≡ I.refusals inputs.old) }
+    ensures missed { result ≡ MISSED →
+        RunsLine (I.text inputs.old) (I.ahead inputs.old) (N.file names.old) (N.text names.old) limits.nodes line.now
+        (λ p input texts. WritesAll p input texts (Gained (O.contents sinks.old) (O.contents sinks.new)))
+        × Rose (I.refusals inputs.old) (I.refusals inputs.new) }
+    ensures stopped { result ≡ STOPPED →
+        RunsLine (I.text inputs.old) (I.ahead inputs.old) (N.file names.old) (N.text names.old) limits.nodes line.now
+        (λ p input texts. WritesBeginning p input texts (Gained (O.contents sinks.old) (O.contents sinks.new))) }
+    ensures cause { result ≡ STOPPED →
+        RunsLine (I.text inputs.old) (I.ahead inputs.old) (N.file names.old) (N.text names.old) limits.nodes line.now
+        (λ p input texts. StopsEarly limits p input texts (Gained (O.contents sinks.old) (O.contents sinks.new))
+        (HasFailed (I.failures inputs.old) (I.failures inputs.new) (O.failures sinks.old) (O.failures sinks.new))
+        ⊎ (WritesAll p input texts (Gained (O.contents sinks.old) (O.contents sinks.new))
+        × HasFailures (O.failures sinks.new))) }
+    ensures refused { result ≡ REFUSED → (k : ℕ) → O.contents sinks.new k ≡ O.contents sinks.old k }
+{
+    let script = match read_script(alloc, line, limits.nodes(), inputs) {
+        Ok(script) => script,
+        Err(refusal) => return refuse(refusal, errors),
+    };
+    if let Some(name) = create_files(&script, sinks) {
+        let _ = say_cannot_open(errors, name);
+        return REFUSED;
+    }
+    if let Err(AllocError) = name_files(&script, names) {
+        return out_of_memory(errors);
+    }
+    run(alloc, script, operands, limits, inputs, sinks, names, errors)
 }
 
 /// Runs what a line asks for.
@@ -125,28 +173,17 @@ fn run_line<I: Inputs, O: Sinks, N: Names, E: Write>(
         (λ p input texts. StopsEarly limits p input texts (Gained (O.contents sinks.old) (O.contents sinks.new))
         (HasFailed (I.failures inputs.old) (I.failures inputs.new) (O.failures sinks.old) (O.failures sinks.new))
         ⊎ (WritesAll p input texts (Gained (O.contents sinks.old) (O.contents sinks.new))
-        × SinkFailed (O.failures sinks.old) (O.failures sinks.new))) }
+        × HasFailures (O.failures sinks.new))) }
     ensures refused { result ≡ REFUSED → (k : ℕ) → O.contents sinks.new k ≡ O.contents sinks.old k }
 {
-    let script = match read_script(alloc, line, limits.nodes(), inputs) {
-        Ok(script) => script,
-        Err(refusal) => return refuse(refusal, errors),
-    };
-    if let Some(name) = create_files(&script, sinks) {
-        let _ = say_cannot_open(errors, name);
-        return REFUSED;
-    }
-    if let Err(AllocError) = name_files(&script, names) {
-        return out_of_memory(errors);
-    }
     if !line.operands.is_empty() {
         let operands = line.operands.as_slice();
-        return run(alloc, script, operands, limits, inputs, sinks, names, errors);
+        return run_over(alloc, line, operands, limits, inputs, sinks, names, errors);
     }
-    match standard_input(alloc) {
-        Ok(operands) => run(alloc, script, operands.as_slice(), limits, inputs, sinks, names, errors),
-        Err(AllocError) => out_of_memory(errors),
-    }
+    let Ok(operands) = standard_input(alloc) else {
+        return out_of_memory(errors);
+    };
+    run_over(alloc, line, operands.as_slice(), limits, inputs, sinks, names, errors)
 }
 
 /// The operands that stand for none.

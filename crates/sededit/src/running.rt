@@ -1,12 +1,10 @@
 //! The run of a script over the files of a command line, and the status that it comes to.
-ghost use Rattle.std.specs.Prelude.{◌≡◌, ◌≢◌, ◌<◌, ◌≤◌, ◌⊎◌, ℕ, length, map, true, false};
-ghost use Rattle.std.specs.Option.{option_map};
+ghost use Rattle.std.specs.Prelude.{◌≡◌, ◌≢◌, ◌<◌, ◌≤◌, ◌⊎◌, ◌∷◌, ℕ, length, map, true, false};
 ghost use Rattle.std.specs.String.{string_bytes};
 ghost use Rattle.sedspace.specs.Failures.{Rose};
 ghost use Rattle.sedengine.specs.Devices.{Gained};
-ghost use Rattle.sededit.specs.Joined.{joined};
-ghost use Rattle.sededit.specs.Opening.{contents};
-ghost use Rattle.sededit.specs.Program.{HasFailed, SinkFailed, StopsEarly, WritesAll, WritesBeginning};
+ghost use Rattle.sededit.specs.Joining.{joined_files, left};
+ghost use Rattle.sededit.specs.Program.{HasFailed, HasFailures, StopsEarly, WritesAll, WritesBeginning};
 
 use crate::inputs::Inputs;
 use crate::joined::Joined;
@@ -62,7 +60,7 @@ fn finish<O: Sinks, E: Write>(end: Ended, has_missed: bool, sinks: &mut O, error
     ensures whole { result ≡ SUCCESS → (end ≡ Ended.Done) × (has_missed ≡ false) }
     ensures missed { result ≡ MISSED → (end ≡ Ended.Done) × (has_missed ≡ true) }
     ensures stopped { result ≡ STOPPED → (end ≢ Ended.Done) ⊎ ((end ≡ Ended.Done)
-        × SinkFailed (O.failures sinks.old) (O.failures sinks.new)) }
+        × HasFailures (O.failures sinks.new)) }
     ensures failures { (k : ℕ) → O.failures sinks.old k ≤ O.failures sinks.new k }
     ensures contents { (k : ℕ) → O.contents sinks.new k ≡ O.contents sinks.old k }
 {
@@ -72,6 +70,47 @@ fn finish<O: Sinks, E: Write>(end: Ended, has_missed: bool, sinks: &mut O, error
         (Ended::Done, Err(sink)) => stopped(Ended::OutputBroken(sink), errors),
         (end, _) => stopped(end, errors),
     }
+}
+
+/// Runs a script over files that are joined.
+fn run_joined<I: Inputs, O: Sinks, T: Texts, E: Write>(
+    alloc: Global,
+    script: Script,
+    names: &[String],
+    limits: Limits,
+    joined: &mut Joined<'_, I>,
+    sinks: &mut O,
+    texts: &mut T,
+    errors: &mut E,
+) -> u8
+    requires sinks { length script.wfiles < O.count sinks.old }
+    requires nodes { script.max_nodes ≤ limits.nodes }
+    ensures status { (result ≡ SUCCESS) ⊎ ((result ≡ REFUSED) ⊎ ((result ≡ MISSED) ⊎ (result ≡ STOPPED))) }
+    ensures whole { result ≡ SUCCESS → WritesAll script (left I.current I.ahead joined.old)
+        (T.text texts.old) (Gained (O.contents sinks.old) (O.contents sinks.new))
+        × (I.refusals joined.new.inputs ≡ joined.new.start) }
+    ensures missed { result ≡ MISSED → WritesAll script (left I.current I.ahead joined.old)
+        (T.text texts.old) (Gained (O.contents sinks.old) (O.contents sinks.new))
+        × Rose joined.new.start (I.refusals joined.new.inputs) }
+    ensures stopped { result ≡ STOPPED → WritesBeginning script (left I.current I.ahead joined.old)
+        (T.text texts.old) (Gained (O.contents sinks.old) (O.contents sinks.new)) }
+    ensures cause { result ≡ STOPPED → StopsEarly limits script (left I.current I.ahead joined.old)
+        (T.text texts.old) (Gained (O.contents sinks.old) (O.contents sinks.new))
+        (HasFailed (I.failures joined.old.inputs) (I.failures joined.new.inputs)
+        (O.failures sinks.old) (O.failures sinks.new))
+        ⊎ (WritesAll script (left I.current I.ahead joined.old)
+        (T.text texts.old) (Gained (O.contents sinks.old) (O.contents sinks.new))
+        × HasFailures (O.failures sinks.new)) }
+    ensures refused { result ≡ REFUSED → sinks.new ≡ sinks.old }
+    ensures same_reference { joined.new.start ∷ I.reference joined.new.inputs
+        ≡ joined.old.start ∷ I.reference joined.old.inputs }
+{
+    let Ok(end) = edit(alloc, script, limits, &mut *joined, sinks, texts) else {
+        return out_of_memory(errors);
+    };
+    say_missed(&*joined, names, errors);
+    let has_missed = joined.has_missed();
+    finish(end, has_missed, sinks, errors)
 }
 
 /// Runs a script over the files of these names, joined.
@@ -88,36 +127,28 @@ pub(crate) fn run<I: Inputs, O: Sinks, T: Texts, E: Write>(
     requires sinks { length script.wfiles < O.count sinks.old }
     requires nodes { script.max_nodes ≤ limits.nodes }
     ensures status { (result ≡ SUCCESS) ⊎ ((result ≡ REFUSED) ⊎ ((result ≡ MISSED) ⊎ (result ≡ STOPPED))) }
-    ensures whole { result ≡ SUCCESS → WritesAll script
-        (option_map (λ files. joined (contents files)) (I.ahead inputs.old (map string_bytes names.now)))
+    ensures whole { result ≡ SUCCESS → WritesAll script (joined_files I.ahead inputs.old (map string_bytes names.now))
         (T.text texts.old) (Gained (O.contents sinks.old) (O.contents sinks.new))
         × (I.refusals inputs.new ≡ I.refusals inputs.old) }
-    ensures missed { result ≡ MISSED → WritesAll script
-        (option_map (λ files. joined (contents files)) (I.ahead inputs.old (map string_bytes names.now)))
+    ensures missed { result ≡ MISSED → WritesAll script (joined_files I.ahead inputs.old (map string_bytes names.now))
         (T.text texts.old) (Gained (O.contents sinks.old) (O.contents sinks.new))
         × Rose (I.refusals inputs.old) (I.refusals inputs.new) }
     ensures stopped { result ≡ STOPPED → WritesBeginning script
-        (option_map (λ files. joined (contents files)) (I.ahead inputs.old (map string_bytes names.now)))
+        (joined_files I.ahead inputs.old (map string_bytes names.now))
         (T.text texts.old) (Gained (O.contents sinks.old) (O.contents sinks.new)) }
     ensures cause { result ≡ STOPPED → StopsEarly limits script
-        (option_map (λ files. joined (contents files)) (I.ahead inputs.old (map string_bytes names.now)))
+        (joined_files I.ahead inputs.old (map string_bytes names.now))
         (T.text texts.old) (Gained (O.contents sinks.old) (O.contents sinks.new))
         (HasFailed (I.failures inputs.old) (I.failures inputs.new) (O.failures sinks.old) (O.failures sinks.new))
-        ⊎ (WritesAll script
-        (option_map (λ files. joined (contents files)) (I.ahead inputs.old (map string_bytes names.now)))
+        ⊎ (WritesAll script (joined_files I.ahead inputs.old (map string_bytes names.now))
         (T.text texts.old) (Gained (O.contents sinks.old) (O.contents sinks.new))
-        × SinkFailed (O.failures sinks.old) (O.failures sinks.new)) }
+        × HasFailures (O.failures sinks.new)) }
     ensures refused { result ≡ REFUSED → sinks.new ≡ sinks.old }
 {
     let Ok(mut joined) = Joined::new(alloc, &mut *inputs, names) else {
         return out_of_memory(errors);
     };
-    let ended = edit(alloc, script, limits, &mut joined, sinks, texts);
-    say_missed(&joined, names, errors);
-    let has_missed = joined.has_missed();
+    let status = run_joined(alloc, script, names, limits, &mut joined, sinks, texts, errors);
     let _inputs = joined.into_inputs();
-    match ended {
-        Ok(end) => finish(end, has_missed, sinks, errors),
-        Err(_) => out_of_memory(errors),
-    }
+    status
 }

@@ -8,7 +8,7 @@ returns-in-Err-clause-puts g c =
     let contents = g.O.Outputs.contents in
     let w = c.in-Err.ensures in
     let due = slice_get-to_sink 0 c.loop-done.done c.args.bytes.now (omega arith) in
-    let none = Gained-kept (contents c.loop-done.outputs) (contents c.write.new.self) 0 w.appends w.others in
+    let none = Gained-kept (contents c.loop-done.sinks) (contents c.write.new.self) 0 w.appends w.others in
     (0, c.loop-done.done, due.0, refl, due.1, rw take-to_sink (Gained-add_none c.loop-done.invariant.gained none))
 
 pub loop-done-preserved : goal.loop-done-preserved
@@ -19,7 +19,7 @@ loop-done-preserved g c =
     let h = c.loop-done.invariant in
     let more : take (c.loop-done.done + c.in-Ok.count) bytes ≡ take c.loop-done.done bytes ++ take c.in-Ok.count (take (length bytes - c.loop-done.done) (drop c.loop-done.done bytes)) =
     grind (arith, take_part, w.bound) in
-    let gained = Gained-one (contents c.loop-done.outputs) (contents c.write.new.self) 0 _ w.appends w.others in
+    let gained = Gained-one (contents c.loop-done.sinks) (contents c.write.new.self) 0 _ w.appends w.others in
     record {
       within = omega (arith, w.bound);
       gained = rw (more, to_sink-append) (Gained-append h.gained gained);
