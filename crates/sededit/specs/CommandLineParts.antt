@@ -1,10 +1,11 @@
 -- The parts of a script as they are put into order. Private machinery of the command line.
 use Rattle.std.specs.Prelude.{ℕ, Bool, ◌&&◌, ◌||◌, not, List, map, length, nat_lt, slice_get, unwrap_or}
+use Rattle.std.specs.String.{string_bytes}
 use Rattle.sededit.specs.declared.parts.Uses.{Uses}
 
 -- the words of an option's uses
 abbrev pub texts_in : Uses → List (List ℕ)
-texts_in uses = map (λ s. s.now) uses.words.now
+texts_in uses = map string_bytes uses.words.now
 
 -- the place of a word among all words
 abbrev pub place_at : List ℕ → ℕ → ℕ

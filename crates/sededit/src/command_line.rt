@@ -8,7 +8,7 @@ ghost use Rattle.clap.specs.declared.builder.action.ArgAction.TheVariants.{Appen
 ghost use Rattle.sededit.specs.CommandLine.{IsCommandLine, IsLine, IsRefusal, operand_rule, sed_command};
 
 use crate::asked::{Line, Refused};
-use crate::parts::{asked_of, or_none, uses_of};
+use crate::parts::{Uses, asked_of, words_of};
 use clap::error::ErrorKind;
 use clap::{Arg, ArgAction, ArgMatches, Command};
 use std::alloc::{AllocError, Global};
@@ -37,12 +37,18 @@ pub fn line<S: AsStr>(alloc: Global, words: &[S]) -> Result<Line, Refused>
 fn line_of(alloc: Global, matches: &ArgMatches<'_>) -> Result<Line, AllocError>
     ensures { IfOk result (IsLine (rows_of (found_of matches.now))) }
 {
-    let line = asked_of(
-        alloc,
-        uses_of(matches, "expression"),
-        uses_of(matches, "file"),
-        or_none(matches.get_strs("operand")),
-    )?;
+    let scripts = words_of(alloc, matches, "expression")?;
+    let files = words_of(alloc, matches, "file")?;
+    let operands = words_of(alloc, matches, "operand")?;
+    let scripts = Uses {
+        words: scripts.as_slice(),
+        places: matches.indices_of("expression").unwrap_or(&[]),
+    };
+    let files = Uses {
+        words: files.as_slice(),
+        places: matches.indices_of("file").unwrap_or(&[]),
+    };
+    let line = asked_of(alloc, scripts, files, operands.as_slice())?;
     Ok(Line {
         quiet: matches.get_count("quiet") > 0,
         extended: matches.get_count("extended") > 0,

@@ -1,5 +1,5 @@
 //! The parts of a script and the operands, in the order of the words.
-ghost use Rattle.std.specs.Prelude.{◌≡◌, ◌<◌, [], Some, length, map, slice_get, take, IfOk, unwrap_or, option_map};
+ghost use Rattle.std.specs.Prelude.{◌≡◌, ◌<◌, Some, drop, length, map, slice_get, take, IfOk};
 ghost use Rattle.std.specs.String.{string_bytes};
 ghost use Rattle.clap.specs.Words.{found_of, rows_of};
 ghost use Rattle.sededit.specs.CommandLine.{Asks, given, given_to, in_order, text};
@@ -11,9 +11,9 @@ use std::alloc::{AllocError, Global};
 
 /// The uses of an option: its words, and their places among all words.
 #[derive(Clone, Copy)]
-pub(crate) struct Uses<'m, 'a> {
-    words: &'m [&'a str],
-    places: &'m [usize],
+pub(crate) struct Uses<'m> {
+    pub(crate) words: &'m [String],
+    pub(crate) places: &'m [usize],
 }
 
 /// What words ask for besides -n and -E.
@@ -25,30 +25,23 @@ pub(crate) struct Asked {
     pub(crate) operands: Vec<String>,
 }
 
-/// The words, or none.
-pub(crate) fn or_none<'m, 'a: 'm>(words: Option<&'m [&'a str]>) -> &'m [&'a str]
-    ensures { map (λ s. s.now) result.now ≡ unwrap_or (option_map (λ s. map (λ v. v.now) s.now) words.entry) [] }
+/// The words given to the option of this name, or as operands.
+pub(crate) fn words_of(alloc: Global, matches: &ArgMatches<'_>, id: &str) -> Result<Vec<String>, AllocError>
+    ensures { IfOk result (λ words. map string_bytes words.items ≡ given_to id.now (rows_of (found_of matches.now))) }
 {
-    words.unwrap_or(&[])
-}
-
-/// The uses of the option of this name.
-pub(crate) fn uses_of<'m, 'a: 'm>(matches: &'m ArgMatches<'a>, id: &str) -> Uses<'m, 'a>
-    ensures { texts_in result ≡ given_to id.now (rows_of (found_of matches.now)) }
-{
-    Uses {
-        words: or_none(matches.get_strs(id)),
-        places: matches.indices_of(id).unwrap_or(&[]),
+    match matches.get_strs(id) {
+        Some(words) => strings(alloc, words),
+        None => Ok(Vec::new(alloc)),
     }
 }
 
-impl<'m, 'a: 'm> Uses<'m, 'a> {
+impl<'m> Uses<'m> {
     /// The word of this number.
-    fn word(&self, number: usize) -> &'a str
+    fn word(&self, number: usize) -> &'m str
         requires { number < length self.now.words.now }
         ensures { slice_get (texts_in self.now) number ≡ Some result.now }
     {
-        self.words[number]
+        self.words[number].as_str()
     }
 
     /// The place of the word of this number.
@@ -59,7 +52,7 @@ impl<'m, 'a: 'm> Uses<'m, 'a> {
     }
 
     /// Whether the word of this number comes before that one of the others.
-    fn comes_first(&self, number: usize, others: &Uses<'_, '_>, other: usize) -> bool
+    fn comes_first(&self, number: usize, others: &Uses<'_>, other: usize) -> bool
         ensures { result ≡ comes_first (texts_in self.now) self.now.places.now number
             (texts_in others.now) others.now.places.now other }
     {
@@ -69,7 +62,7 @@ impl<'m, 'a: 'm> Uses<'m, 'a> {
 }
 
 /// The parts that -e and -f give, in the order of the words.
-fn parts_in_order(alloc: Global, scripts: Uses<'_, '_>, files: Uses<'_, '_>) -> Result<Vec<Part>, AllocError>
+fn parts_in_order(alloc: Global, scripts: Uses<'_>, files: Uses<'_>) -> Result<Vec<Part>, AllocError>
     ensures { IfOk result (λ parts. map given parts.items
         ≡ in_order (texts_in scripts.entry) scripts.entry.places.now (texts_in files.entry) files.entry.places.now) }
 {
@@ -99,13 +92,34 @@ fn strings(alloc: Global, words: &[&str]) -> Result<Vec<String>, AllocError>
     Ok(strings)
 }
 
+/// Copies of words.
+fn copies(alloc: Global, words: &[String]) -> Result<Vec<String>, AllocError>
+    ensures { IfOk result (λ copies. map string_bytes copies.items ≡ map string_bytes words.now) }
+{
+    let mut copies = Vec::with_capacity(alloc, words.len())?;
+    for word in words {
+        copies.push(String::from_str(alloc, word.as_str())?)?;
+    }
+    Ok(copies)
+}
+
+/// The words after the first.
+fn after_first(words: &[String]) -> &[String]
+    ensures { result.now ≡ drop 1 words.now }
+{
+    match words.split_first() {
+        Some((_, rest)) => rest,
+        None => words,
+    }
+}
+
 /// The first word as a script.
-fn first_as_script(alloc: Global, words: &[&str]) -> Result<Vec<Part>, AllocError>
-    ensures { IfOk result (λ parts. map given parts.items ≡ map text (take 1 (map (λ s. s.now) words.now))) }
+fn first_as_script(alloc: Global, words: &[String]) -> Result<Vec<Part>, AllocError>
+    ensures { IfOk result (λ parts. map given parts.items ≡ map text (take 1 (map string_bytes words.now))) }
 {
     let mut parts = Vec::new(alloc);
     if let Some(script) = words.first() {
-        parts.push(Part::Script(String::from_str(alloc, script)?))?;
+        parts.push(Part::Script(String::from_str(alloc, script.as_str())?))?;
     }
     Ok(parts)
 }
@@ -113,21 +127,21 @@ fn first_as_script(alloc: Global, words: &[&str]) -> Result<Vec<Part>, AllocErro
 /// What the scripts of -e, the files of -f and the operands ask for.
 pub(crate) fn asked_of(
     alloc: Global,
-    scripts: Uses<'_, '_>,
-    files: Uses<'_, '_>,
-    operands: &[&str],
+    scripts: Uses<'_>,
+    files: Uses<'_>,
+    operands: &[String],
 ) -> Result<Asked, AllocError>
-    ensures { IfOk result (λ a. Asks (texts_in scripts.entry) (texts_in files.entry)
-        (map (λ s. s.now) operands.now) (map given a.parts.items) (map string_bytes a.operands.items)) }
+    ensures { IfOk result (λ a. Asks (texts_in scripts.entry) (texts_in files.entry) (map string_bytes operands.now)
+        (map given a.parts.items) (map string_bytes a.operands.items)) }
 {
     if scripts.words.is_empty() && files.words.is_empty() {
         return Ok(Asked {
             parts: first_as_script(alloc, operands)?,
-            operands: strings(alloc, operands.get(1..).unwrap_or(&[]))?,
+            operands: copies(alloc, after_first(operands))?,
         });
     }
     Ok(Asked {
         parts: parts_in_order(alloc, scripts, files)?,
-        operands: strings(alloc, operands)?,
+        operands: copies(alloc, operands)?,
     })
 }
