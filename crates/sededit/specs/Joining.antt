@@ -6,21 +6,27 @@ use Rattle.sededit.specs.Joined.{joined, with_newline}
 use Rattle.sededit.specs.Opening.{Opens, contents}
 
 -- files that are joined: where they are read from, the names still to open, whether a file is being read, whether a
--- newline is due if it ends here, and of each file that was opened whether it was missed
+-- newline is due if it ends here, of each file that was opened whether it was missed, and how many openings the inputs
+-- had refused before
 pub record Joining (I : Type 0) : Type 0 where
   pub inputs : I
   pub names : List (List ℕ)
   pub reading : Bool
   pub due : Bool
   pub missed : List Bool
+  pub start : ℕ
 
 -- what is left of the file being read, and its newline where one is due
 abbrev pub left_of_file : {I : Type 0} → (I → Option (List ℕ)) → Joining I → Option (List ℕ)
 left_of_file current j = if j.reading then option_map (with_newline j.due) (current j.inputs) else Some []
 
+-- what the files of these names give, joined, where they are told
+abbrev pub joined_files : {I : Type 0} → (I → List (List ℕ) → Option (List (Option (List ℕ)))) → I → List (List ℕ) → Option (List ℕ)
+joined_files ahead inputs names = option_map (λ files. joined (contents files)) (ahead inputs names)
+
 -- what the files still to open give, joined
 abbrev pub left_of_files : {I : Type 0} → (I → List (List ℕ) → Option (List (Option (List ℕ)))) → Joining I → Option (List ℕ)
-left_of_files ahead j = option_map (λ files. joined (contents files)) (ahead j.inputs j.names)
+left_of_files ahead j = joined_files ahead j.inputs j.names
 
 -- the bytes still to come
 abbrev pub left : {I : Type 0} → (I → Option (List ℕ)) → (I → List (List ℕ) → Option (List (Option (List ℕ)))) → Joining I → Option (List ℕ)

@@ -11,7 +11,7 @@ pub record File : Type 0 where
   pub bytes : List ℕ
 
 -- files over memory: the files, what the standard input has still to give when it is opened, what the current file has
--- still to give, the most bytes of a read, its calls, the call that fails, and its failures
+-- still to give, the most bytes of a read, its calls, the call that fails, its failures, and the openings refused
 pub record Files : Type 0 where
   pub files : List File
   pub standard : List ℕ
@@ -20,6 +20,7 @@ pub record Files : Type 0 where
   pub calls : ℕ
   pub fails_at : Option ℕ
   pub failures : ℕ
+  pub refusals : ℕ
 
 -- the name of the standard input, `-` (XCU sed, Operands)
 abbrev pub dash : List ℕ

@@ -5,7 +5,7 @@ ghost use Rattle.std.specs.Borrow.{GName};
 ghost use Rattle.std.specs.Io.{ReadsAtMost};
 ghost use Rattle.std.specs.Io.KnownBytes.{Keeps, ReadConsumes};
 ghost use Rattle.sedspace.specs.Failures.{FailsAtErr};
-ghost use Rattle.sededit.specs.Opening.{Opens, KeepsFiles, GivesWhole};
+ghost use Rattle.sededit.specs.Opening.{CountsRefusal, Opens, KeepsFiles, GivesWhole};
 
 use sedspace::Broken;
 use std::alloc::{AllocError, Global};
@@ -26,15 +26,23 @@ pub trait Inputs {
     /// How often a read failed, up to 2^64 - 1, where the number stays.
     ghost failures: { Self → ℕ };
 
-    /// Which reference it is, where it is one. A value that holds it keeps it, so that its lender learns what became
-    /// of the inputs.
-    ghost reference: { Self → GName };
+    /// How often a file couldn't be opened, up to 2^64 - 1, where the number stays.
+    ghost refusals: { Self → ℕ };
+
+    /// What no call changes: the references that it holds, the outermost first, by which their lenders learn what became
+    /// of them.
+    ghost reference: { Self → List GName };
+
+    /// How often a file couldn't be opened, up to 2^64 - 1, where the number stays.
+    fn refused(&self) -> u64
+        ensures { result ≡ refusals self.now };
 
     /// Makes the file of this name the current one, and says whether it could be opened: one that couldn't gives
     /// nothing. What wasn't read of the file before it is no longer given.
     fn open(&mut self, name: &str) -> bool
         ensures opens { (names : List (List ℕ)) → Opens (ahead self.old (name.now ∷ names)) result
             (current self.new) (ahead self.new names) }
+        ensures refused { CountsRefusal result (refusals self.old) (refusals self.new) }
         ensures failed { failures self.new ≡ failures self.old }
         ensures same_reference { reference self.new ≡ reference self.old };
 
@@ -45,6 +53,7 @@ pub trait Inputs {
         ensures bound { ReadsAtMost result buf.new }
         ensures bytes { ReadConsumes (current self.old) (current self.new) result buf.new }
         ensures ahead { (names : List (List ℕ)) → KeepsFiles (ahead self.old names) (ahead self.new names) }
+        ensures refused { refusals self.new ≡ refusals self.old }
         ensures failed { FailsAtErr result (failures self.old) (failures self.new) }
         ensures same_reference { reference self.new ≡ reference self.old };
 
@@ -55,6 +64,7 @@ pub trait Inputs {
         ensures kept { Keeps (current self.old) (current self.new) }
         ensures ahead { (names : List (List ℕ)) → KeepsFiles (ahead self.old names) (ahead self.new names) }
         ensures texts { (other : List ℕ) → text self.new other ≡ text self.old other }
+        ensures refused { refusals self.new ≡ refusals self.old }
         ensures failed { failures self.new ≡ failures self.old }
         ensures same_reference { reference self.new ≡ reference self.old };
 
@@ -72,9 +82,15 @@ impl<I: Inputs> Inputs for &mut I {
 
     ghost failures = { λ r. I.failures r.now };
 
-    ghost reference = { λ r. r.ghost_name };
+    ghost refusals = { λ r. I.refusals r.now };
+
+    ghost reference = { λ r. r.ghost_name ∷ I.reference r.now };
 
     ghost none_ahead = { λ r. I.none_ahead r.now };
+
+    fn refused(&self) -> u64 {
+        Inputs::refused(&**self)
+    }
 
     fn open(&mut self, name: &str) -> bool {
         Inputs::open(&mut **self, name)

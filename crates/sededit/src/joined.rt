@@ -2,13 +2,11 @@
 //!
 //! A file is opened by the read that has no byte left to give of those before it, so no two are held open together. One
 //! that can't be opened is as an empty one, and is noted as missed.
-ghost use Rattle.std.specs.Prelude.{◌≡◌, ◌<◌, ◌⊎◌, [], ℕ, List, Ok, true, false, length, map, string_bytes, slice_get, unwrap_or, IfOk};
-ghost use Rattle.std.specs.Option.{option_map};
+ghost use Rattle.std.specs.Prelude.{◌≡◌, ◌<◌, ◌⊎◌, [], ◌∷◌, ℕ, List, Ok, true, false, length, map, string_bytes, slice_get, unwrap_or, IfOk};
 ghost use Rattle.std.specs.Io.{ReadsAtMost};
 ghost use Rattle.std.specs.Io.KnownBytes.{IsAtEnd, ReadConsumes};
 ghost use Rattle.sedspace.specs.Failures.{FailsAtErr};
-ghost use Rattle.sededit.specs.Joined.{joined};
-ghost use Rattle.sededit.specs.Opening.{KeepsFiles, contents};
+ghost use Rattle.sededit.specs.Opening.{KeepsFiles, WereRefused};
 
 use super::Inputs;
 use sedspace::{Broken, ByteSource};
@@ -25,11 +23,14 @@ pub struct Joined<'a, I: Inputs> {
     is_reading: bool,
     is_due: bool,
     missed: Vec<bool>,
+    has_missed: bool,
+    start: u64,
 }
 
 impl<'a, I: Inputs> Model for Joined<'a, I> {
     ghost use Rattle.std.specs.Prelude.{◌≡◌, ◌≤◌, false, map, take, drop, length, string_bytes, vec_len};
     ghost use Rattle.sededit.specs.Joining.{Joining};
+    ghost use Rattle.sededit.specs.Opening.{WereRefused};
 
     ghost Value = { Joining I };
 
@@ -39,13 +40,15 @@ impl<'a, I: Inputs> Model for Joined<'a, I> {
       reading = s.is_reading;
       due = s.is_due;
       missed = take s.next s.missed.items;
+      start = s.start;
     } };
 
-    ghost invariant = { λ s. (s.next ≤ length s.names.now) × (vec_len s.missed ≡ length s.names.now) };
+    ghost invariant = { λ s. (s.next ≤ length s.names.now) × (vec_len s.missed ≡ length s.names.now)
+        × WereRefused s.has_missed s.start (I.refusals s.inputs) };
 }
 
 impl<'a, I: Inputs> Joined<'a, I> {
-    ghost use Rattle.sededit.specs.Joining.{Joining, left, left_of_file, OpensNext};
+    ghost use Rattle.sededit.specs.Joining.{Joining, joined_files, left, left_of_file, OpensNext};
 
     /// The files of these names, of which none is opened yet. At an `Err` the inputs are gone: lend them to keep them.
     pub fn new(alloc: Global, inputs: I, names: &'a [String]) -> Result<Joined<'a, I>, AllocError>
@@ -57,11 +60,13 @@ impl<'a, I: Inputs> Joined<'a, I> {
           reading = false;
           due = false;
           missed = [];
+          start = I.refusals inputs;
         }) }
         ensures joined { IfOk result (λ j. left I.current I.ahead j
-            ≡ option_map (λ files. joined (contents files)) (I.ahead inputs (map string_bytes names.now))) }
+            ≡ joined_files I.ahead inputs (map string_bytes names.now)) }
     {
         let missed = vec![in alloc; false; names.len()]?;
+        let start = inputs.refused();
         Ok(Joined {
             inputs,
             names,
@@ -69,6 +74,8 @@ impl<'a, I: Inputs> Joined<'a, I> {
             is_reading: false,
             is_due: false,
             missed,
+            has_missed: false,
+            start,
         })
     }
 
@@ -78,6 +85,13 @@ impl<'a, I: Inputs> Joined<'a, I> {
         ensures { result ≡ unwrap_or (slice_get self.now.missed number) false }
     {
         number < self.next && self.missed[number]
+    }
+
+    /// Whether a file that was opened since `new` was missed.
+    pub fn has_missed(&self) -> bool
+        ensures { WereRefused result self.now.start (I.refusals self.now.inputs) }
+    {
+        self.has_missed
     }
 
     /// Gives the inputs back.
@@ -91,6 +105,8 @@ impl<'a, I: Inputs> Joined<'a, I> {
             is_reading: _,
             is_due: _,
             missed: _,
+            has_missed: _,
+            start: _,
         } = self;
         inputs
     }
@@ -131,6 +147,7 @@ impl<'a, I: Inputs> Joined<'a, I> {
         ensures opened { result ≡ true → OpensNext I.current I.ahead self.old self.new }
         ensures failed { I.failures self.new.inputs ≡ I.failures self.old.inputs }
         ensures same_reference { I.reference self.new.inputs ≡ I.reference self.old.inputs }
+        ensures same_start { self.new.start ≡ self.old.start }
     {
         if self.next >= self.names.len() {
             return false;
@@ -138,6 +155,7 @@ impl<'a, I: Inputs> Joined<'a, I> {
         let name = self.names[self.next].as_str();
         let is_open = self.inputs.open(name);
         self.missed[self.next] = !is_open;
+        self.has_missed = self.has_missed || !is_open;
         self.next += 1;
         self.is_reading = true;
         self.is_due = false;
@@ -152,13 +170,14 @@ impl<'a, I: Inputs> ByteSource for Joined<'a, I> {
 
     ghost failures = { λ j. I.failures j.inputs };
 
-    ghost reference = { λ j. I.reference j.inputs };
+    ghost reference = { λ j. j.start ∷ I.reference j.inputs };
 
     fn read(&mut self, buf: &mut [u8]) -> Result<usize, Broken>
         ensures bound { ReadsAtMost result buf.new }
         ensures bytes { ReadConsumes (left I.current I.ahead self.old) (left I.current I.ahead self.new) result buf.new }
         ensures failed { FailsAtErr result (I.failures self.old.inputs) (I.failures self.new.inputs) }
-        ensures same_reference { I.reference self.new.inputs ≡ I.reference self.old.inputs }
+        ensures same_reference { self.new.start ∷ I.reference self.new.inputs
+            ≡ self.old.start ∷ I.reference self.old.inputs }
         // A file is opened where those before it have no byte left to give, and no sooner.
         ensures opened { Opened I.ahead self.old self.new }
         ensures waits { (self.new.names ≡ self.old.names) ⊎ IsAtEnd (left_of_file I.current self.old) }

@@ -1,12 +1,27 @@
-//! The editor as a library: `script` reads a script, and `edit` runs it over the bytes of a stream (XCU sed).
+//! The editor as a library: `script` reads a script, `edit` runs it over the bytes of a stream, and `command` runs what the
+//! words of a command line ask for over files that its caller gives (XCU sed).
 #![tactic(auto)]
 
+mod asked;
+mod command_line;
 mod editing;
 mod inputs;
 mod joined;
 mod memory_inputs;
+mod messages;
+mod names;
+mod parts;
+mod program;
+mod reading;
+mod running;
+mod sinks;
 
+pub use asked::{Line, Part, Refused};
+pub use command_line::line;
 pub use editing::{edit, script};
 pub use inputs::Inputs;
 pub use joined::Joined;
 pub use memory_inputs::{MemoryFile, MemoryInputs};
+pub use names::Names;
+pub use program::command;
+pub use sinks::Sinks;

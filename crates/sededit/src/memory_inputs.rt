@@ -5,6 +5,7 @@ ghost use Rattle.std.specs.Str.{bytes_eq};
 ghost use Rattle.std.specs.Io.{ReadsAtMost};
 ghost use Rattle.std.specs.Io.KnownBytes.{ReadConsumes};
 ghost use Rattle.sedspace.specs.Failures.{FailsAtErr, raised};
+ghost use Rattle.sededit.specs.Opening.{CountsRefusal};
 ghost use Rattle.sededit.specs.MemoryFiles.{all_of, bytes_at, dash, file_of, files_of};
 
 use super::Inputs;
@@ -32,7 +33,8 @@ pub struct MemoryFile {
 
 impl Model for MemoryFile {
     ghost use Rattle.std.specs.Prelude.{string_bytes};
-    ghost use Rattle.sededit.specs.MemoryFiles.{File};
+    ghost use Rattle.sededit.specs.Opening.{CountsRefusal};
+ghost use Rattle.sededit.specs.MemoryFiles.{File};
 
     ghost Value = { File };
 
@@ -100,11 +102,13 @@ pub struct MemoryInputs {
     calls: u64,
     fails_at: Option<u64>,
     failures: u64,
+    refusals: u64,
 }
 
 impl Model for MemoryInputs {
     ghost use Rattle.std.specs.Prelude.{◌≤◌, ◌<◌, drop, length, vec_len};
-    ghost use Rattle.sededit.specs.MemoryFiles.{Files, all_of};
+    ghost use Rattle.sededit.specs.Opening.{CountsRefusal};
+ghost use Rattle.sededit.specs.MemoryFiles.{Files, all_of};
 
     ghost Value = { Files };
 
@@ -116,6 +120,7 @@ impl Model for MemoryInputs {
       calls = s.calls;
       fails_at = s.fails_at;
       failures = s.failures;
+      refusals = s.refusals;
     } };
 
     ghost invariant = { λ s. (0 < s.most) × (s.given ≤ vec_len s.standard)
@@ -133,6 +138,7 @@ impl MemoryInputs {
           calls = 0;
           fails_at = None;
           failures = 0;
+          refusals = 0;
         } }
     {
         MemoryInputs {
@@ -145,6 +151,7 @@ impl MemoryInputs {
             calls: 0,
             fails_at: None,
             failures: 0,
+            refusals: 0,
         }
     }
 
@@ -182,7 +189,11 @@ impl MemoryInputs {
     // Makes the file of this name the current one, where there is one.
     fn open_file(&mut self, name: &str) -> bool
         ensures is_open { result ≡ is_some (file_of self.old.files name.now) }
-        ensures opened { self.new ≡ record self.old { current = unwrap_or (file_of self.old.files name.now) [] } }
+        ensures refused { CountsRefusal result self.old.refusals self.new.refusals }
+        ensures opened { self.new ≡ record self.old {
+          current = unwrap_or (file_of self.old.files name.now) [];
+          refusals = self.new.refusals;
+        } }
     {
         self.place = 0;
         match find(self.files.as_slice(), name) {
@@ -192,6 +203,7 @@ impl MemoryInputs {
             }
             None => {
                 self.current = Current::Nothing;
+                self.refusals = self.refusals.saturating_add(1);
                 false
             }
         }
@@ -207,9 +219,15 @@ impl Inputs for MemoryInputs {
 
     ghost failures = { λ s. s.failures };
 
-    ghost reference = { λ _. 0 };
+    ghost refusals = { λ s. s.refusals };
+
+    ghost reference = { λ _. [] };
 
     ghost none_ahead = { λ _. refl };
+
+    fn refused(&self) -> u64 {
+        self.refusals
+    }
 
     fn open(&mut self, name: &str) -> bool {
         if name == "-" {

@@ -134,7 +134,7 @@ shrinks-then : (a b c : Option (List ℕ)) → (n : ℕ) × TakesAtMost a b n �
 shrinks-then a b c (n, h) (m, i) = (n + m, TakesAtMost-then a b c n m h i)
 
 -- one call after another
-pub Reads-then : {R T : Type 0} (remaining : R → Option (List ℕ)) (failures : R → ℕ) (reference : R → GName) (a b c : Stream R) (r : Result T Ended) →
+pub Reads-then : {R T : Type 0} (remaining : R → Option (List ℕ)) (failures : R → ℕ) (reference : R → List GName) (a b c : Stream R) (r : Result T Ended) →
     Reads {T = Unit} remaining failures reference a b (Ok tt) → Reads remaining failures reference b c r → Reads remaining failures reference a c r
 Reads-then {R} {T} remaining failures reference a b c r s t =
     let h = s.ahead in
@@ -149,7 +149,7 @@ Reads-then {R} {T} remaining failures reference a b c r s t =
       failed = λ none. FailedSource-then _ _ _ r (s.failed none) (t.failed (s.sound none));
     }
 
-pub Reads-none : {R : Type 0} (remaining : R → Option (List ℕ)) (failures : R → ℕ) (reference : R → GName) (a : Stream R) → Reads {T = Unit} remaining failures reference a a (Ok tt)
+pub Reads-none : {R : Type 0} (remaining : R → Option (List ℕ)) (failures : R → ℕ) (reference : R → List GName) (a : Stream R) → Reads {T = Unit} remaining failures reference a a (Ok tt)
 Reads-none {R} remaining failures reference a = record {
   same_look = refl;
   same_reference = refl;
@@ -165,7 +165,7 @@ unread {T} n (Err InputBroken) h = absurd (h refl)
 unread {T} n (Err other) h = tt
 
 -- a call that reads nothing
-pub Reads-unread : {R T : Type 0} (remaining : R → Option (List ℕ)) (failures : R → ℕ) (reference : R → GName) (a : Stream R) (r : Result T Ended) → (r ≡ Err InputBroken → ⊥) → Reads remaining failures reference a a r
+pub Reads-unread : {R T : Type 0} (remaining : R → Option (List ℕ)) (failures : R → ℕ) (reference : R → List GName) (a : Stream R) (r : Result T Ended) → (r ≡ Err InputBroken → ⊥) → Reads remaining failures reference a a r
 Reads-unread {R} {T} remaining failures reference a r h = record {
   same_look = refl;
   same_reference = refl;
@@ -213,5 +213,5 @@ some_told (Some ms) ls last known told is =
     none_or_any (m ∷ ms) last told is = refl
 
 -- a call that may read, whatever it told
-pub Reads-told : {R T : Type 0} (remaining : R → Option (List ℕ)) (failures : R → ℕ) (reference : R → GName) (a b : Stream R) (x : T) → Reads remaining failures reference a b (Ok x) → Reads {T = Unit} remaining failures reference a b (Ok tt)
+pub Reads-told : {R T : Type 0} (remaining : R → Option (List ℕ)) (failures : R → ℕ) (reference : R → List GName) (a b : Stream R) (x : T) → Reads remaining failures reference a b (Ok x) → Reads {T = Unit} remaining failures reference a b (Ok tt)
 Reads-told {R} {T} remaining failures reference a b x h = record { same_look = h.same_look; same_reference = h.same_reference; ahead = h.ahead; shrinks = h.shrinks; sound = h.sound; failed = h.failed }

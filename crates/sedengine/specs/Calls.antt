@@ -28,7 +28,7 @@ pub record Delivers {O : Type 0} (tally : O → Tally) (count : O → ℕ) (old 
   pub full : FullSink (tally new) result
 
 -- A call that may read. What it says of faults is for lines that have answered none before.
-pub record Reads {R T : Type 0} (remaining : R → Option (List ℕ)) (failures : R → ℕ) (reference : R → GName)
+pub record Reads {R T : Type 0} (remaining : R → Option (List ℕ)) (failures : R → ℕ) (reference : R → List GName)
     (old new : Stream R) (result : Result T Ended) : Type 0 where
   pub same_look : new.look ≡ old.look
   pub same_reference : reference new.source ≡ reference old.source

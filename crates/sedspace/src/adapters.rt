@@ -1,5 +1,5 @@
 //! Readers and writers of std as sources and outputs.
-ghost use Rattle.std.specs.Prelude.{◌≡◌, ◌==◌, None, if◌then◌else◌};
+ghost use Rattle.std.specs.Prelude.{◌≡◌, ◌==◌, [], None, if◌then◌else◌};
 
 use super::{Broken, ByteSource, Outputs};
 use std::io::{Error, ErrorKind, Read, Write};
@@ -39,7 +39,7 @@ impl<R: Read> ByteSource for FromReader<R> {
 
     ghost failures = { λ s. s.failed };
 
-    ghost reference = { λ _. 0 };
+    ghost reference = { λ _. [] };
 
     fn read(&mut self, buf: &mut [u8]) -> Result<usize, Broken> {
         'tries: for _ in 0..u64::MAX {

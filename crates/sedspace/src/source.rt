@@ -1,5 +1,5 @@
 //! Where bytes come from.
-ghost use Rattle.std.specs.Prelude.{◌≡◌, ℕ, List, Option, length};
+ghost use Rattle.std.specs.Prelude.{◌≡◌, ◌∷◌, ℕ, List, Option, length};
 ghost use Rattle.std.specs.Borrow.{GName};
 ghost use Rattle.std.specs.Io.{ReadsAtMost};
 ghost use Rattle.std.specs.Io.KnownBytes.{ReadConsumes};
@@ -15,9 +15,9 @@ pub trait ByteSource {
     /// How often it failed, up to 2^64 - 1, where the number stays.
     ghost failures: { Self → ℕ };
 
-    /// Which reference it is, where it is one. A value that holds it keeps it, so that its lender learns what
-    /// became of the source.
-    ghost reference: { Self → GName };
+    /// What no read changes: the references that it holds, the outermost first, by which their lenders learn what became
+    /// of them, and numbers that it was made with.
+    ghost reference: { Self → List GName };
 
     /// Places the next bytes at the buffer's front, and says how many, in pieces of any size. 0 for a buffer that isn't
     /// empty is the end. An `Err` gives none and raises the number of failures by one; nothing else raises it.
@@ -34,7 +34,7 @@ impl<R: ByteSource> ByteSource for &mut R {
 
     ghost failures = { λ r. R.failures r.now };
 
-    ghost reference = { λ r. r.ghost_name };
+    ghost reference = { λ r. r.ghost_name ∷ R.reference r.now };
 
     fn read(&mut self, buf: &mut [u8]) -> Result<usize, Broken> {
         ByteSource::read(&mut **self, buf)

@@ -1,5 +1,5 @@
 //! A source over memory.
-ghost use Rattle.std.specs.Prelude.{◌≡◌, ◌↔◌, ◌+◌, ◌-◌, ◌<◌, ◌≤◌, ◌^◌, ℕ, List, Option, Some, None, length, drop, min, IfOk, IsErr, vec_len};
+ghost use Rattle.std.specs.Prelude.{◌≡◌, ◌↔◌, ◌+◌, ◌-◌, ◌<◌, ◌≤◌, ◌^◌, [], ℕ, List, Option, Some, None, length, drop, min, IfOk, IsErr, vec_len};
 ghost use Rattle.std.specs.Io.{ReadsAtMost};
 ghost use Rattle.std.specs.Io.KnownBytes.{ReadConsumes};
 ghost use Rattle.sedspace.specs.Failures.{FailsAtErr, raised};
@@ -121,7 +121,7 @@ impl ByteSource for MemorySource {
 
     ghost failures = { λ s. s.failures };
 
-    ghost reference = { λ _. 0 };
+    ghost reference = { λ _. [] };
 
     fn read(&mut self, buf: &mut [u8]) -> Result<usize, Broken>
         ensures bound { ReadsAtMost result buf.new }

@@ -1,0 +1,129 @@
+-- The parts of a script, put into order one after another.
+use Rattle.std.proofs.Common.{◌≡◌, ◌∙◌, ◌⊎◌, inl, inr, ◌<◌, ◌+◌, ◌&&◌, ◌||◌, ℕ, zero, suc, Bool, true, false, not, List, [], ◌∷◌, ◌++◌, Option, Some, None, drop, map, length, nat_lt, slice_get, take, unwrap_or, refl, sym, ap, arith, append_assoc, ◌≤◌}
+use Rattle.std.proofs.lemmas.Bool.{ltb-false}
+use Rattle.std.proofs.lemmas.List.{map-append}
+use Rattle.clap.specs.Words.{Text}
+use Rattle.sededit.specs.CommandLine.{Asks, Given, file, first_place, given, in_order, text}
+use Rattle.sededit.specs.CommandLineParts.{comes_first, place_at}
+use Rattle.sededit.specs.declared.asked.Part.{Part}
+
+one_more : (i : ℕ) → i + 1 ≡ suc i
+one_more i = omega arith
+
+drop_one : {A : Type 0} (xs : List A) (i : ℕ) → drop 1 (drop i xs) ≡ drop (suc i) xs
+drop_one [] zero = refl
+drop_one [] (suc i) = refl
+drop_one (x ∷ xs) zero = refl
+drop_one (x ∷ xs) (suc i) = drop_one xs i
+
+split_at : {A : Type 0} (xs : List A) (i : ℕ) (x : A) → slice_get xs i ≡ Some x → drop i xs ≡ x ∷ drop (suc i) xs
+split_at [] zero x e = cc
+split_at [] (suc i) x e = cc
+split_at (y ∷ xs) zero x e = let same : y ≡ x = cc in ap (λ z. z ∷ xs) same
+split_at (y ∷ xs) (suc i) x e = split_at xs i x e
+
+-- a word that is there has its number below theirs
+pub some_below : {A : Type 0} (xs : List A) (i : ℕ) (x : A) → slice_get xs i ≡ Some x → i < length xs
+some_below [] zero x e = cc
+some_below [] (suc i) x e = cc
+some_below (y ∷ xs) zero x e = omega arith
+some_below (y ∷ xs) (suc i) x e = let h = some_below xs i x e in omega (arith, h)
+
+first-drop : (es : List ℕ) (i : ℕ) → first_place (drop i es) ≡ place_at es i
+first-drop [] zero = refl
+first-drop [] (suc i) = refl
+first-drop (e ∷ es) zero = refl
+first-drop (e ∷ es) (suc i) = first-drop es i
+
+none_after : {A : Type 0} (xs : List A) (i : ℕ) → length xs ≤ i → drop i xs ≡ []
+none_after [] zero e = refl
+none_after [] (suc i) e = refl
+none_after (x ∷ xs) zero e = absurd (omega (arith, e))
+none_after (x ∷ xs) (suc i) e = none_after xs i (omega (arith, e))
+
+none_left : {A : Type 0} (xs : List A) (i : ℕ) → nat_lt i (length xs) ≡ false → drop i xs ≡ []
+none_left xs i e = none_after xs i (ltb-false i (length xs) e)
+
+texts_alone : (ws : List Text) (es gs : List ℕ) → in_order ws es [] gs ≡ map text ws
+texts_alone [] es gs = refl
+texts_alone (w ∷ ws) es gs = refl
+
+-- the first of the words left is next
+script_next : (left others : List Text) (es gs : List ℕ) (w : Text) (ws : List Text) → left ≡ w ∷ ws → (others ≡ []) ⊎ (nat_lt (first_place es) (first_place gs) ≡ true) →
+    in_order left es others gs ≡ text w ∷ in_order ws (drop 1 es) others gs
+script_next left others es gs w ws is (inl none) = rw (is, none) (ap (λ z. text w ∷ z) (sym (texts_alone ws (drop 1 es) gs)))
+script_next left [] es gs w ws is (inr first) = rw is (ap (λ z. text w ∷ z) (sym (texts_alone ws (drop 1 es) gs)))
+script_next left (f ∷ fs) es gs w ws is (inr first) = rw (is, first) refl
+
+-- the first of the others is
+file_next : (left others : List Text) (es gs : List ℕ) (f : Text) (fs : List Text) → others ≡ f ∷ fs → (left ≡ []) ⊎ (nat_lt (first_place es) (first_place gs) ≡ false) →
+    in_order left es others gs ≡ file f ∷ in_order left es fs (drop 1 gs)
+file_next left others es gs f fs is (inl none) = rw (is, none) refl
+file_next [] others es gs f fs is (inr later) = rw is refl
+file_next (w ∷ ws) others es gs f fs is (inr later) = rw (is, later) refl
+
+first_of : (a b c : Bool) → a && (not b || c) ≡ true → (b ≡ false) ⊎ (c ≡ true)
+first_of true true c e = inr e
+first_of true false c e = inl refl
+first_of false b c e = cc
+
+later_of : (a b c : Bool) → a && (not b || c) ≡ false → (a ≡ false) ⊎ (c ≡ false)
+later_of true true c e = inr e
+later_of true false c e = cc
+later_of false b c e = inl refl
+
+added : (parts : List Part) (part : Part) (said : Given) (rest all old : List Given) → given part ≡ said → old ≡ said ∷ rest → map given parts ++ old ≡ all → map given (parts ++ part ∷ []) ++ rest ≡ all
+added parts part said rest all old is next h =
+    let h' : map given parts ++ said ∷ rest ≡ all = rw next at h in
+    rw (map-append, is) (append_assoc (map given parts) (said ∷ []) rest ∙ h')
+
+-- a script was added to the parts
+pub script_added : (ws fs : List Text) (es gs : List ℕ) (i j : ℕ) (w : Text) (parts : List Part) (part : Part) (all : List Given) →
+    slice_get ws i ≡ Some w → comes_first ws es i fs gs j ≡ true → given part ≡ text w →
+    map given parts ++ in_order (drop i ws) (drop i es) (drop j fs) (drop j gs) ≡ all →
+    map given (parts ++ part ∷ []) ++ in_order (drop (i + 1) ws) (drop (i + 1) es) (drop j fs) (drop j gs) ≡ all
+script_added ws fs es gs i j w parts part all at first is h =
+    let choice : (drop j fs ≡ []) ⊎ (nat_lt (first_place (drop i es)) (first_place (drop j gs)) ≡ true) =
+    elim (first_of (nat_lt i (length ws)) (nat_lt j (length fs)) _ first) [
+      | inl none ↦ inl (none_left fs j none)
+      | inr less ↦ inr (rw (first-drop es i, first-drop gs j) less)
+    ] in
+    let next : in_order (drop i ws) (drop i es) (drop j fs) (drop j gs) ≡ text w ∷ in_order (drop (suc i) ws) (drop (suc i) es) (drop j fs) (drop j gs) =
+    rw (← drop_one es i) (script_next (drop i ws) (drop j fs) (drop i es) (drop j gs) w (drop (suc i) ws) (split_at ws i w at) choice) in
+    rw (one_more i) (added parts part (text w) _ all _ is next h)
+
+-- a file was
+pub file_added : (ws fs : List Text) (es gs : List ℕ) (i j : ℕ) (f : Text) (parts : List Part) (part : Part) (all : List Given) →
+    slice_get fs j ≡ Some f → comes_first ws es i fs gs j ≡ false → given part ≡ file f →
+    map given parts ++ in_order (drop i ws) (drop i es) (drop j fs) (drop j gs) ≡ all →
+    map given (parts ++ part ∷ []) ++ in_order (drop i ws) (drop i es) (drop (j + 1) fs) (drop (j + 1) gs) ≡ all
+file_added ws fs es gs i j f parts part all at later is h =
+    let choice : (drop i ws ≡ []) ⊎ (nat_lt (first_place (drop i es)) (first_place (drop j gs)) ≡ false) =
+    elim (later_of (nat_lt i (length ws)) (nat_lt j (length fs)) _ later) [
+      | inl none ↦ inl (none_left ws i none)
+      | inr less ↦ inr (rw (first-drop es i, first-drop gs j) less)
+    ] in
+    let next : in_order (drop i ws) (drop i es) (drop j fs) (drop j gs) ≡ file f ∷ in_order (drop i ws) (drop i es) (drop (suc j) fs) (drop (suc j) gs) =
+    rw (← drop_one gs j) (file_next (drop i ws) (drop j fs) (drop i es) (drop j gs) f (drop (suc j) fs) (split_at fs j f at) choice) in
+    rw (one_more j) (added parts part (file f) _ all _ is next h)
+
+map-drop_one : {A B : Type 0} (f : A → B) (xs : List A) → map f (drop 1 xs) ≡ drop 1 (map f xs)
+map-drop_one f [] = refl
+map-drop_one f (x ∷ xs) = refl
+
+asks_first : (operands : List Text) (parts : List Given) (names : List Text) → parts ≡ map text (take 1 operands) → names ≡ drop 1 operands → Asks [] [] operands parts names
+asks_first [] parts names p n = (p, n)
+asks_first (operand ∷ operands) parts names p n = (p, n)
+
+-- without -e and -f the first operand is the script
+pub asks_operands : {A : Type 0} (f : A → Text) (scripts files operands rest : List A) (parts : List Given) (names : List Text) → scripts ≡ [] → files ≡ [] →
+    parts ≡ map text (take 1 (map f operands)) → rest ≡ drop 1 operands → names ≡ map f rest → Asks (map f scripts) (map f files) (map f operands) parts names
+asks_operands f scripts files operands rest parts names no_script no_file p r n =
+    rw (no_script, no_file) (asks_first (map f operands) parts names p (n ∙ ap (map f) r ∙ map-drop_one f operands))
+
+-- with one of them they are the script
+pub asks_options : {A : Type 0} (f : A → Text) (scripts files operands : List A) (es gs : List ℕ) (parts : List Given) (names : List Text) → (scripts ≡ [] → files ≡ [] → ⊥) →
+    parts ≡ in_order (map f scripts) es (map f files) gs → names ≡ map f operands → Asks (map f scripts) (map f files) (map f operands) parts names
+asks_options f [] [] operands es gs parts names some p n = absurd (some refl refl)
+asks_options f [] (x ∷ files) operands es gs parts names some p n = ((es, gs, p), n)
+asks_options f (x ∷ scripts) files operands es gs parts names some p n = ((es, gs, p), n)

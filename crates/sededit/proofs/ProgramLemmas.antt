@@ -1,0 +1,46 @@
+-- From the end of an edit to the status of the program.
+use Rattle.std.proofs.Common.{◌≡◌, ◌∙◌, ℕ, Bool, true, false, List, [], Option, Some, Result, Ok, Err, take, refl, sym}
+use Rattle.clap.specs.Words.{Text, kind_of, takes}
+use Rattle.clap.specs.declared.error.Error.{Error}
+use Rattle.clap.specs.declared.error.kind.ErrorKind.TheVariants.{DisplayHelp}
+use Rattle.sedspace.specs.Failures.{Rose}
+use Rattle.sedengine.specs.Calls.{Puts}
+use Rattle.sedengine.specs.Devices.{FailedSink, Gained}
+use Rattle.sedengine.specs.Move.{to_sink}
+use Rattle.sedengine.specs.declared.ends.Ended.{Ended}
+use Rattle.sedengine.specs.declared.ends.Ended.TheVariants.{InputBroken, OutputBroken}
+use Rattle.sedengine.proofs.Gains.{take-to_sink}
+use Rattle.sededit.specs.CommandLine.{IsRefusal, sed_command}
+use Rattle.sededit.specs.Program.{AsksHelp, HasFailed, WritesHelp}
+use Rattle.sededit.specs.declared.asked.Refused.{Refused}
+use Rattle.sededit.specs.declared.asked.Refused.TheVariants.{NoMemory, Words}
+
+-- what was written of a text before its sink failed is a text too
+pub WritesHelp-cut : (old new : ℕ → Option (List ℕ)) (text : List ℕ) (end : Ended) →
+    Puts (Gained old new) (to_sink 0 text) (Err end) → WritesHelp (Gained old new)
+WritesHelp-cut old new text end (k, b, byte, is, due, gained) =
+    (take b text, rw (sym (take-to_sink 0 b text)) gained)
+
+-- the device that an answered end names has failed
+pub has_failed : {E : Type 0} (source_old source_new : ℕ) (sinks_old sinks_new : ℕ → ℕ) (r : Result Ended E) (end : Ended) → r ≡ Ok end →
+    (r ≡ Ok InputBroken → Rose source_old source_new) → ((k : ℕ) → r ≡ Ok (OutputBroken k) → Rose (sinks_old k) (sinks_new k)) →
+    HasFailed source_old source_new sinks_old sinks_new end
+has_failed source_old source_new sinks_old sinks_new r InputBroken is input failed = input is
+has_failed source_old source_new sinks_old sinks_new r (OutputBroken k) is input failed = failed k is
+has_failed source_old source_new sinks_old sinks_new r _ is input failed = tt
+
+-- so has the standard output where a write ended by its failure
+pub output_failed : (old new : ℕ → ℕ) (end : Ended) → end ≡ OutputBroken 0 → FailedSink old new (Err end) → Rose (old 0) (new 0)
+output_failed old new end is h = rw is at h
+
+not_true : (b : Bool) → (b ≡ true → ⊥) → b ≡ false
+not_true true h = absurd (h refl)
+not_true false h = refl
+
+-- words that were refused with help have asked for it
+pub asks_help : (words : List Text) (r : Refused) (e : Error) → r ≡ Words e → IsRefusal words r →
+    (takes sed_command words ≡ true → r ≡ NoMemory) → kind_of e ≡ DisplayHelp → AsksHelp words
+asks_help words r e is refusal taken help =
+    let not_taken : takes sed_command words ≡ true → ⊥ = λ t. let bad : Words e ≡ NoMemory = sym is ∙ taken t in cc in
+    let among = rw is at refusal in
+    (not_true (takes sed_command words) not_taken, rw (← help) among)

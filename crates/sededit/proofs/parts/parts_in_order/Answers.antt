@@ -1,0 +1,24 @@
+use Rattle.std.proofs.Common.{◌∙◌, rules, sym, arith}
+use Rattle.std.proofs.lemmas.List.{length-map}
+use Rattle.std.specs.String.{string_bytes}
+use Rattle.sededit.specs.CommandLineParts.{texts_in}
+use Rattle.sededit.proofs.PartsLemmas.{file_added, script_added, some_below}
+use Rattle.sededit.proofs.parts.parts_in_order.Goals as goal
+
+pub loop-scripted-preserved-then-comes_first : goal.loop-scripted-preserved-then-comes_first
+loop-scripted-preserved-then-comes_first c =
+    let h = c.loop-scripted.invariant in
+    record {
+      all = rw c.in_ok-push.ensures.items (script_added _ _ _ _ c.loop-scripted.scripted c.loop-scripted.filed _ _ _ _ c.word.ensures (sym c.comes_first.ensures ∙ c.if-comes_first.true) (search rules) h.all);
+      scripts = omega (arith, some_below (texts_in c.args.scripts) c.loop-scripted.scripted _ c.word.ensures, length-map c.args.scripts.words.now string_bytes);
+      files = h.files;
+    }
+
+pub loop-scripted-preserved : goal.loop-scripted-preserved
+loop-scripted-preserved c =
+    let h = c.loop-scripted.invariant in
+    record {
+      all = rw c.in_ok-push-2.ensures.items (file_added _ _ _ _ c.loop-scripted.scripted c.loop-scripted.filed _ _ _ _ c.word-else-comes_first.ensures (sym c.comes_first.ensures ∙ c.if-comes_first.false) (search rules) h.all);
+      scripts = h.scripts;
+      files = omega (arith, some_below (texts_in c.args.files) c.loop-scripted.filed _ c.word-else-comes_first.ensures, length-map c.args.files.words.now string_bytes);
+    }

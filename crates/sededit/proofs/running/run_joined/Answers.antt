@@ -1,0 +1,37 @@
+use Rattle.std.proofs.Common.{Ok, ap, inl, inr, refl}
+use Rattle.sedengine.proofs.Metering.{Cause-as}
+use Rattle.sededit.proofs.RunLemmas.{WholeOrCut-same, WritesAll-same, WritesBeginning-same, has_failed, none_refused, some_refused}
+use Rattle.sededit.proofs.running.run_joined.Goals as goal
+
+pub returns-clause-whole : goal.returns-clause-whole
+returns-clause-whole g c is =
+    let f = c.finish.ensures.whole is in
+    let e = c.in-Ok.ensures in
+    let same = c.finish.ensures.contents in
+    (WritesAll-same c.args.script _ _ _ _ _ same (e.whole (ap Ok f.0)), none_refused _ _ _ f.1 c.has_missed-has_missed.ensures)
+
+pub returns-clause-missed : goal.returns-clause-missed
+returns-clause-missed g c is =
+    let f = c.finish.ensures.missed is in
+    let e = c.in-Ok.ensures in
+    let same = c.finish.ensures.contents in
+    (WritesAll-same c.args.script _ _ _ _ _ same (e.whole (ap Ok f.0)), some_refused _ _ _ f.1 c.has_missed-has_missed.ensures)
+
+pub returns-clause-stopped : goal.returns-clause-stopped
+returns-clause-stopped g c is =
+    WritesBeginning-same c.args.script _ _ _ _ _ c.finish.ensures.contents c.in-Ok.ensures.output
+
+pub returns-clause-cause : goal.returns-clause-cause
+returns-clause-cause g c is =
+    let e = c.in-Ok.ensures in
+    let same = c.finish.ensures.contents in
+    let stopped = c.finish.ensures.stopped is in
+    elim stopped [
+      | inl early ↦ inl (
+        c.in-Ok.end,
+        early,
+        has_failed _ _ _ _ _ _ c.in-Ok.end refl e.input e.failed c.finish.ensures.failures,
+        λ bytes known files told. let h = e.ending bytes known files told in (h.t, WholeOrCut-same _ _ _ _ _ _ _ _ _ same (Cause-as _ _ _ _ _ c.in-Ok.end h.t (λ out sent. sent.gained) h.cause)),
+      )
+      | inr flushed ↦ inr (WritesAll-same c.args.script _ _ _ _ _ same (e.whole (ap Ok flushed.0)), flushed.1)
+    ]

@@ -1,0 +1,114 @@
+-- What the program does with the words of its command line (XCU sed, "Options", "Operands", "Exit Status").
+use Rattle.std.specs.Prelude.{◌≡◌, ◌≢◌, ◌<◌, ◌||◌, ℕ, Bool, true, false, List, [], ◌∷◌, map, Option, Some, slice_get}
+use Rattle.std.specs.Option.{ForSome, option_map, option_map_or}
+use Rattle.std.specs.String.{string_bytes}
+use Rattle.clap.specs.Words.{IsAmong, Text, fault_of, matches_of, takes}
+use Rattle.clap.specs.declared.error.kind.ErrorKind.TheVariants.{DisplayHelp}
+use Rattle.sedspace.specs.Failures.{Rose}
+use Rattle.sedscript.specs.Script.{Means, Program}
+use Rattle.sedscript.specs.ScriptText.{with_part}
+use Rattle.sedre.specs.declared.types.Kind.{Kind}
+use Rattle.sedre.specs.declared.types.Kind.TheVariants.{Basic, Extended}
+use Rattle.sedengine.specs.Ends.{Cause}
+use Rattle.sedengine.specs.Limits.{Limits}
+use Rattle.sedengine.specs.Move.{to_sink}
+use Rattle.sedengine.specs.Run.{TellsFiles, setting_of}
+use Rattle.sedengine.specs.declared.ends.Ended.{Ended}
+use Rattle.sedengine.specs.declared.ends.Ended.TheVariants.{Done, InputBroken, OutputBroken}
+use Rattle.sededit.specs.CommandLine.{Given, IsCommandLine, IsLine, file, given, sed_command, text}
+use Rattle.sededit.specs.Editing.{GainsAll, GainsBeginning, start_over}
+use Rattle.sededit.specs.Joined.{joined}
+use Rattle.sededit.specs.MemoryFiles.{dash}
+use Rattle.sededit.specs.Opening.{GivesWhole, contents}
+use Rattle.sededit.specs.declared.asked.Line.{Line}
+
+-- the kind of a script's expressions: extended with -E, basic without it (XCU sed, "Options")
+abbrev pub kind_with : Bool → Kind
+kind_with true = Extended
+kind_with false = Basic
+
+-- The text that the parts of a script make, after those before: the texts of -e and what the files of -f hold, a newline
+-- after each that doesn't end with one (XCU sed, "Options"). Of a file that isn't told, the bytes are any.
+abbrev pub MakesText : (List ℕ → Option (Option (List ℕ))) → List ℕ → List Given → List ℕ → Type 0
+MakesText files before [] whole = whole ≡ before
+MakesText files before (text part ∷ parts) whole = MakesText files (with_part before part) parts whole
+MakesText files before (file name ∷ parts) whole =
+    (bytes : List ℕ) × GivesWhole (files name) (Some bytes) × MakesText files (with_part before bytes) parts whole
+
+-- The parts of a line make a text that means the script p, but that -n suppresses default output too, as a first line
+-- `#n` does (XCU sed, "Options").
+abbrev pub GivesScript : (List ℕ → Option (Option (List ℕ))) → Line → ℕ → Program → Type 0
+GivesScript files l nodes p =
+    (whole : List ℕ) × MakesText files [] (map given l.parts.items) whole
+    × ((q : Program) × Means whole (kind_with l.extended) nodes q × (p ≡ record q { quiet = l.quiet || q.quiet }))
+
+-- the names of the input files; without operands the standard input (XCU sed, "Operands")
+abbrev pub or_standard : List (List ℕ) → List (List ℕ)
+or_standard [] = dash ∷ []
+or_standard names = names
+
+-- the input: the files of the operands joined, where they are told
+abbrev pub input_of : (List (List ℕ) → Option (List (Option (List ℕ)))) → List (List ℕ) → Option (List ℕ)
+input_of ahead names = option_map (λ files. joined (contents files)) (ahead (or_standard names))
+
+-- the texts that a script reads: the files of its names, where they are told
+abbrev pub texts_of : (List ℕ → Option (List ℕ)) → (ℕ → Option (List ℕ)) → Program → ℕ → Option (List ℕ)
+texts_of named others p k = option_map_or named (slice_get p.rfiles k) (others k)
+
+-- A line asks for the run of a script over an input, which may read these texts. What the files hold is told by `scripts`
+-- for those of -f, by `ahead` for the operands, and by `named` for those that the script reads.
+abbrev pub RunsLine : (List ℕ → Option (Option (List ℕ))) → (List (List ℕ) → Option (List (Option (List ℕ)))) →
+    (List ℕ → Option (List ℕ)) → (ℕ → Option (List ℕ)) → ℕ → Line →
+    (Program → Option (List ℕ) → (ℕ → Option (List ℕ)) → Type 0) → Type 0
+RunsLine scripts ahead named others nodes l P =
+    (p : Program) × GivesScript scripts l nodes p
+    × P p (input_of ahead (map string_bytes l.operands.items)) (texts_of named others p)
+
+-- the same for the words of a command line
+abbrev pub Runs : (List ℕ → Option (Option (List ℕ))) → (List (List ℕ) → Option (List (Option (List ℕ)))) →
+    (List ℕ → Option (List ℕ)) → (ℕ → Option (List ℕ)) → ℕ → List Text →
+    (Program → Option (List ℕ) → (ℕ → Option (List ℕ)) → Type 0) → Type 0
+Runs scripts ahead named others nodes words P =
+    IsCommandLine words × ((l : Line) × IsLine (matches_of sed_command words) l × RunsLine scripts ahead named others nodes l P)
+
+-- The sinks have gained all that a script writes over an input, where it and the texts are told.
+abbrev pub WritesAll : Program → Option (List ℕ) → (ℕ → Option (List ℕ)) → (List (ℕ × ℕ) → Type 0) → Type 0
+WritesAll p input texts gained = ForSome input (λ bytes.
+    (files : ℕ → List ℕ) → TellsFiles texts files → GainsAll (setting_of p files) (start_over p bytes) gained)
+
+-- the same for a beginning of what it writes
+abbrev pub WritesBeginning : Program → Option (List ℕ) → (ℕ → Option (List ℕ)) → (List (ℕ × ℕ) → Type 0) → Type 0
+WritesBeginning p input texts gained = ForSome input (λ bytes.
+    (files : ℕ → List ℕ) → TellsFiles texts files → GainsBeginning (setting_of p files) (start_over p bytes) gained)
+
+-- The device that an end names has failed, whether it tells its bytes or not: by the numbers of failures that the
+-- input and each sink had before and have after.
+abbrev pub HasFailed : ℕ → ℕ → (ℕ → ℕ) → (ℕ → ℕ) → Ended → Type 0
+HasFailed input_old input_new sinks_old sinks_new InputBroken = Rose input_old input_new
+HasFailed input_old input_new sinks_old sinks_new (OutputBroken k) = Rose (sinks_old k) (sinks_new k)
+HasFailed input_old input_new sinks_old sinks_new _ = Unit {0}
+
+-- The run of a script came to another end than the ordinary one; a device that this end names has failed; and where the
+-- input and the texts are told, the end has its cause, after some moves.
+abbrev pub StopsEarly : Limits → Program → Option (List ℕ) → (ℕ → Option (List ℕ)) → (List (ℕ × ℕ) → Type 0) →
+    (Ended → Type 0) → Type 0
+StopsEarly limits p input texts gained failed =
+    (end : Ended) × (end ≢ Done) × failed end × ForSome input (λ bytes.
+    (files : ℕ → List ℕ) → TellsFiles texts files →
+    ((t : ℕ) × Cause limits (setting_of p files) (start_over p bytes) gained end t))
+
+-- some sink has failed in this call
+abbrev pub SinkFailed : (ℕ → ℕ) → (ℕ → ℕ) → Type 0
+SinkFailed old new = (k : ℕ) × Rose (old k) (new k)
+
+-- some sink has failed
+abbrev pub HasFailures : (ℕ → ℕ) → Type 0
+HasFailures failures = (k : ℕ) × (0 < failures k)
+
+-- clap doesn't take the words, since they ask for help
+abbrev pub AsksHelp : List Text → Type 0
+AsksHelp words = (takes sed_command words ≡ false) × IsAmong DisplayHelp (fault_of sed_command words)
+
+-- the sinks have gained a text, all of it for sink 0. Which text help is, clap alone says
+abbrev pub WritesHelp : (List (ℕ × ℕ) → Type 0) → Type 0
+WritesHelp gained = (text : List ℕ) × gained (to_sink 0 text)

@@ -1,0 +1,57 @@
+//! What the program says on the standard error, a line each (this project's own words).
+
+use sedengine::Ended;
+use sedscript::{Reason, ScriptFault};
+use std::io::{self, Write};
+
+/// Says that a script isn't accepted: the place, the number and the name of its first fault,
+/// and of a regular expression's fault its number and name too.
+pub(crate) fn say_fault<E: Write>(errors: &mut E, fault: &ScriptFault) -> io::Result<()> {
+    let place = fault.place;
+    let number = fault.reason.number();
+    let name = fault.reason.name();
+    match fault.reason {
+        Reason::NoMemory => say_no_memory(errors),
+        Reason::Expression(inner) => {
+            let expression = inner.reason.number();
+            let meaning = inner.reason.name();
+            writeln!(
+                errors,
+                "sed: script byte {place}: S{number} {name}: E{expression} {meaning}"
+            )
+        }
+        _ => writeln!(errors, "sed: script byte {place}: S{number} {name}"),
+    }
+}
+
+/// Says how a run ended, where that isn't the ordinary end.
+pub(crate) fn say_end<E: Write>(errors: &mut E, end: Ended) -> io::Result<()> {
+    match end {
+        Ended::Done => Ok(()),
+        Ended::PatternFull(number) => writeln!(errors, "sed: line {number}: F1 PatternFull"),
+        Ended::HoldFull(number) => writeln!(errors, "sed: line {number}: F2 HoldFull"),
+        Ended::QueueFull(number) => writeln!(errors, "sed: line {number}: F3 QueueFull"),
+        Ended::TurnsSpent => writeln!(errors, "sed: F4 TurnsSpent"),
+        Ended::NoPrevious(number) => writeln!(errors, "sed: line {number}: F5 NoPrevious"),
+        Ended::InputBroken => writeln!(errors, "sed: F6 InputBroken"),
+        Ended::OutputBroken(sink) => writeln!(errors, "sed: F7 OutputBroken {sink}"),
+        Ended::OutputFull(sink) => writeln!(errors, "sed: F8 OutputFull {sink}"),
+    }
+}
+
+/// Says that a file can't be opened. The name's bytes are written as they are.
+pub(crate) fn say_cannot_open<E: Write>(errors: &mut E, name: &[u8]) -> io::Result<()> {
+    write!(errors, "sed: cannot open ")?;
+    errors.write_all(name)?;
+    writeln!(errors)
+}
+
+/// Says that a request for memory was refused.
+pub(crate) fn say_no_memory<E: Write>(errors: &mut E) -> io::Result<()> {
+    writeln!(errors, "sed: no memory")
+}
+
+/// Says that no script was given.
+pub(crate) fn say_no_script<E: Write>(errors: &mut E) -> io::Result<()> {
+    writeln!(errors, "sed: no script")
+}

@@ -1,0 +1,292 @@
+//! The program, over devices that its caller gives.
+ghost use Rattle.std.specs.Prelude.{◌≡◌, ◌≢◌, ◌<◌, ◌⊎◌, [], ◌∷◌, ℕ, IfErr, IfOk, IsNone, length, map};
+ghost use Rattle.std.specs.String.{string_bytes};
+ghost use Rattle.sedspace.specs.Failures.{Rose};
+ghost use Rattle.sedengine.specs.Calls.{Puts, Writes};
+ghost use Rattle.sedengine.specs.Devices.{Gained};
+ghost use Rattle.sedengine.specs.Move.{to_sink};
+ghost use Rattle.clap.specs.Words.{kind_of};
+ghost use Rattle.sededit.specs.MemoryFiles.{dash};
+ghost use Rattle.sededit.specs.Program.{AsksHelp, HasFailed, HasFailures, Runs, RunsLine, SinkFailed, StopsEarly, WritesAll, WritesBeginning};
+ghost use Rattle.sededit.specs.Program.{WritesHelp, or_standard, texts_of};
+
+use crate::asked::{Line, Refused};
+use crate::command_line::line;
+use crate::inputs::Inputs;
+use crate::messages::{say_cannot_open, say_fault, say_no_script};
+use crate::names::Names;
+use crate::reading::{NoScript, read_script};
+use crate::running::{MISSED, REFUSED, STOPPED, SUCCESS, out_of_memory, run, stopped};
+use crate::sinks::Sinks;
+use clap::error::ErrorKind;
+use sedengine::{Ended, Limits};
+use sedscript::Script;
+use sedspace::Broken;
+use std::alloc::{AllocError, Global};
+use std::convert::AsStr;
+use std::io::Write;
+use std::string::ToString;
+
+/// Runs the program and gives its exit status (XCU sed, "Exit Status"; which number above 0 is this project's own).
+///
+/// `words` are those after the program's name. `inputs` opens the input files, of which `-` is the standard input, and the
+/// script's files of -f; `sinks` has sink 0 alone, the standard output, to which the files that the script writes are
+/// added; `names` are the files that it reads; and `errors` is the standard error. Where a message can't be written, it is
+/// lost. In this order the work is done: the command line, the script's files, the script, the files that it writes, the
+/// run.
+///
+/// * 0: the script ran over the whole input; or `-h` or `--help` was given, and the help was written
+/// * 1: the words are refused, with the text of `clap`; `sed: no script`; a file of -f can't be read, or one that the
+///   script writes can't be created: `sed: cannot open NAME`; the script is refused, as `sed: script byte 4: S1
+///   UnknownCommand` or `sed: script byte 3: S21 Expression: E5 OpenGroup`; or a request for memory was refused: `sed: no
+///   memory`. Nothing was written.
+/// * 2: the script ran over the whole input, but for files that couldn't be opened: `sed: cannot open NAME` for each
+/// * 4: the run stopped, as `sed: line 7: F1 PatternFull`, `sed: line 7: F2 HoldFull`,
+///   `sed: line 7: F3 QueueFull`, `sed: F4 TurnsSpent`, `sed: line 7: F5 NoPrevious`, `sed: F6 InputBroken` or
+///   `sed: F7 OutputBroken 0`. What was written stands. Files that were missed are named before.
+pub fn command<S: AsStr, I: Inputs, O: Sinks, N: Names, E: Write>(
+    alloc: Global,
+    words: &[S],
+    limits: Limits,
+    inputs: &mut I,
+    sinks: &mut O,
+    names: &mut N,
+    errors: &mut E,
+) -> u8
+    requires sinks { O.count sinks.old ≡ 1 }
+    requires names { N.named names.old ≡ 0 }
+    ensures status { (result ≡ SUCCESS) ⊎ ((result ≡ REFUSED) ⊎ ((result ≡ MISSED) ⊎ (result ≡ STOPPED))) }
+    // Status 0 says that all was written that the script writes, and that no file was missed; or that help was asked for
+    // and written.
+    ensures whole { result ≡ SUCCESS →
+        (Runs (I.text inputs.old) (I.ahead inputs.old) (N.file names.old) (N.text names.old) limits.nodes
+        (map S.text words.now)
+        (λ p input texts. WritesAll p input texts (Gained (O.contents sinks.old) (O.contents sinks.new)))
+        × (I.refusals inputs.new ≡ I.refusals inputs.old))
+        ⊎ (AsksHelp (map S.text words.now) × WritesHelp (Gained (O.contents sinks.old) (O.contents sinks.new))) }
+    // Status 2 says the same, and that a file couldn't be opened.
+    ensures missed { result ≡ MISSED →
+        Runs (I.text inputs.old) (I.ahead inputs.old) (N.file names.old) (N.text names.old) limits.nodes
+        (map S.text words.now)
+        (λ p input texts. WritesAll p input texts (Gained (O.contents sinks.old) (O.contents sinks.new)))
+        × Rose (I.refusals inputs.old) (I.refusals inputs.new) }
+    // A run that stopped has written a beginning; where help was asked for, a text.
+    ensures stopped { result ≡ STOPPED →
+        Runs (I.text inputs.old) (I.ahead inputs.old) (N.file names.old) (N.text names.old) limits.nodes
+        (map S.text words.now)
+        (λ p input texts. WritesBeginning p input texts (Gained (O.contents sinks.old) (O.contents sinks.new)))
+        ⊎ (AsksHelp (map S.text words.now) × WritesHelp (Gained (O.contents sinks.old) (O.contents sinks.new))) }
+    // It stopped for a cause, and a device that this cause names has failed in this call; or all was written, and some
+    // sink failed when it was flushed; or a sink failed as help was written.
+    ensures cause { result ≡ STOPPED →
+        Runs (I.text inputs.old) (I.ahead inputs.old) (N.file names.old) (N.text names.old) limits.nodes
+        (map S.text words.now)
+        (λ p input texts. StopsEarly limits p input texts (Gained (O.contents sinks.old) (O.contents sinks.new))
+        (HasFailed (I.failures inputs.old) (I.failures inputs.new) (O.failures sinks.old) (O.failures sinks.new))
+        ⊎ (WritesAll p input texts (Gained (O.contents sinks.old) (O.contents sinks.new))
+        × HasFailures (O.failures sinks.new)))
+        ⊎ (AsksHelp (map S.text words.now) × SinkFailed (O.failures sinks.old) (O.failures sinks.new)) }
+    // A refusal writes nothing.
+    ensures refused { result ≡ REFUSED → (k : ℕ) → O.contents sinks.new k ≡ O.contents sinks.old k }
+{
+    match line(alloc, words) {
+        Ok(line) => run_line(alloc, &line, limits, inputs, sinks, names, errors),
+        Err(Refused::Words(error)) => answer_words(alloc, &error, sinks, errors),
+        Err(Refused::NoMemory) => out_of_memory(errors),
+    }
+}
+
+/// Runs what a line asks for over the files of these operands, its own or what stands for none.
+fn run_over<I: Inputs, O: Sinks, N: Names, E: Write>(
+    alloc: Global,
+    line: &Line,
+    operands: &[String],
+    limits: Limits,
+    inputs: &mut I,
+    sinks: &mut O,
+    names: &mut N,
+    errors: &mut E,
+) -> u8
+    requires operands { map string_bytes operands.now ≡ or_standard (map string_bytes line.now.operands.items) }
+    requires sinks { O.count sinks.old ≡ 1 }
+    requires names { N.named names.old ≡ 0 }
+    ensures status { (result ≡ SUCCESS) ⊎ ((result ≡ REFUSED) ⊎ ((result ≡ MISSED) ⊎ (result ≡ STOPPED))) }
+    ensures whole { result ≡ SUCCESS →
+        RunsLine (I.text inputs.old) (I.ahead inputs.old) (N.file names.old) (N.text names.old) limits.nodes line.now
+        (λ p input texts. WritesAll p input texts (Gained (O.contents sinks.old) (O.contents sinks.new)))
+        × (I.refusals inputs.new ≡ I.refusals inputs.old) }
+    ensures missed { result ≡ MISSED →
+        RunsLine (I.text inputs.old) (I.ahead inputs.old) (N.file names.old) (N.text names.old) limits.nodes line.now
+        (λ p input texts. WritesAll p input texts (Gained (O.contents sinks.old) (O.contents sinks.new)))
+        × Rose (I.refusals inputs.old) (I.refusals inputs.new) }
+    ensures stopped { result ≡ STOPPED →
+        RunsLine (I.text inputs.old) (I.ahead inputs.old) (N.file names.old) (N.text names.old) limits.nodes line.now
+        (λ p input texts. WritesBeginning p input texts (Gained (O.contents sinks.old) (O.contents sinks.new))) }
+    ensures cause { result ≡ STOPPED →
+        RunsLine (I.text inputs.old) (I.ahead inputs.old) (N.file names.old) (N.text names.old) limits.nodes line.now
+        (λ p input texts. StopsEarly limits p input texts (Gained (O.contents sinks.old) (O.contents sinks.new))
+        (HasFailed (I.failures inputs.old) (I.failures inputs.new) (O.failures sinks.old) (O.failures sinks.new))
+        ⊎ (WritesAll p input texts (Gained (O.contents sinks.old) (O.contents sinks.new))
+        × HasFailures (O.failures sinks.new))) }
+    ensures refused { result ≡ REFUSED → (k : ℕ) → O.contents sinks.new k ≡ O.contents sinks.old k }
+{
+    let script = match read_script(alloc, line, limits.nodes(), inputs) {
+        Ok(script) => script,
+        Err(refusal) => return refuse(refusal, errors),
+    };
+    if let Some(name) = create_files(&script, sinks) {
+        let _ = say_cannot_open(errors, name);
+        return REFUSED;
+    }
+    if let Err(AllocError) = name_files(&script, names) {
+        return out_of_memory(errors);
+    }
+    run(alloc, script, operands, limits, inputs, sinks, names, errors)
+}
+
+/// Runs what a line asks for.
+fn run_line<I: Inputs, O: Sinks, N: Names, E: Write>(
+    alloc: Global,
+    line: &Line,
+    limits: Limits,
+    inputs: &mut I,
+    sinks: &mut O,
+    names: &mut N,
+    errors: &mut E,
+) -> u8
+    requires sinks { O.count sinks.old ≡ 1 }
+    requires names { N.named names.old ≡ 0 }
+    ensures status { (result ≡ SUCCESS) ⊎ ((result ≡ REFUSED) ⊎ ((result ≡ MISSED) ⊎ (result ≡ STOPPED))) }
+    ensures whole { result ≡ SUCCESS →
+        RunsLine (I.text inputs.old) (I.ahead inputs.old) (N.file names.old) (N.text names.old) limits.nodes line.now
+        (λ p input texts. WritesAll p input texts (Gained (O.contents sinks.old) (O.contents sinks.new)))
+        × (I.refusals inputs.new ≡ I.refusals inputs.old) }
+    ensures missed { result ≡ MISSED →
+        RunsLine (I.text inputs.old) (I.ahead inputs.old) (N.file names.old) (N.text names.old) limits.nodes line.now
+        (λ p input texts. WritesAll p input texts (Gained (O.contents sinks.old) (O.contents sinks.new)))
+        × Rose (I.refusals inputs.old) (I.refusals inputs.new) }
+    ensures stopped { result ≡ STOPPED →
+        RunsLine (I.text inputs.old) (I.ahead inputs.old) (N.file names.old) (N.text names.old) limits.nodes line.now
+        (λ p input texts. WritesBeginning p input texts (Gained (O.contents sinks.old) (O.contents sinks.new))) }
+    ensures cause { result ≡ STOPPED →
+        RunsLine (I.text inputs.old) (I.ahead inputs.old) (N.file names.old) (N.text names.old) limits.nodes line.now
+        (λ p input texts. StopsEarly limits p input texts (Gained (O.contents sinks.old) (O.contents sinks.new))
+        (HasFailed (I.failures inputs.old) (I.failures inputs.new) (O.failures sinks.old) (O.failures sinks.new))
+        ⊎ (WritesAll p input texts (Gained (O.contents sinks.old) (O.contents sinks.new))
+        × HasFailures (O.failures sinks.new))) }
+    ensures refused { result ≡ REFUSED → (k : ℕ) → O.contents sinks.new k ≡ O.contents sinks.old k }
+{
+    if !line.operands.is_empty() {
+        let operands = line.operands.as_slice();
+        return run_over(alloc, line, operands, limits, inputs, sinks, names, errors);
+    }
+    let Ok(operands) = standard_input(alloc) else {
+        return out_of_memory(errors);
+    };
+    run_over(alloc, line, operands.as_slice(), limits, inputs, sinks, names, errors)
+}
+
+/// The operands that stand for none.
+fn standard_input(alloc: Global) -> Result<Vec<String>, AllocError>
+    ensures { IfOk result (λ names. map string_bytes names.items ≡ dash ∷ []) }
+{
+    let mut names = Vec::new(alloc);
+    names.push(String::from_str(alloc, "-")?)?;
+    Ok(names)
+}
+
+/// Writes what `clap` has to say: help to the standard output, anything else to the standard error.
+fn answer_words<O: Sinks, E: Write>(
+    alloc: Global,
+    error: &clap::Error,
+    sinks: &mut O,
+    errors: &mut E,
+) -> u8
+    requires { 0 < O.count sinks.old }
+    ensures status { (result ≡ SUCCESS) ⊎ ((result ≡ REFUSED) ⊎ (result ≡ STOPPED)) }
+    ensures asked { result ≢ REFUSED → kind_of error.now ≡ ErrorKind.DisplayHelp }
+    ensures failed { result ≡ STOPPED → SinkFailed (O.failures sinks.old) (O.failures sinks.new) }
+    ensures help { result ≢ REFUSED → WritesHelp (Gained (O.contents sinks.old) (O.contents sinks.new)) }
+    ensures refused { result ≡ REFUSED → sinks.new ≡ sinks.old }
+{
+    let ErrorKind::DisplayHelp = error.kind() else {
+        let _ = write!(errors, "{error}");
+        return REFUSED;
+    };
+    let Ok(help) = error.to_string(alloc) else {
+        return out_of_memory(errors);
+    };
+    match write_out(sinks, help.as_bytes()) {
+        Ok(()) => SUCCESS,
+        Err(end) => stopped(end, errors),
+    }
+}
+
+/// Writes the bytes to sink 0 and flushes it.
+fn write_out<O: Sinks>(sinks: &mut O, bytes: &[u8]) -> Result<(), Ended>
+    requires { 0 < O.count sinks.old }
+    ensures help { WritesHelp (Gained (O.contents sinks.old) (O.contents sinks.new)) }
+    ensures failed { IfErr result (λ _. SinkFailed (O.failures sinks.old) (O.failures sinks.new)) }
+{
+    write_all(sinks, bytes)?;
+    match sinks.flush() {
+        Ok(()) => Ok(()),
+        Err(sink) => Err(Ended::OutputBroken(sink)),
+    }
+}
+
+/// Writes the bytes to sink 0, however short the writes are.
+fn write_all<O: Sinks>(sinks: &mut O, bytes: &[u8]) -> Result<(), Ended>
+    requires { 0 < O.count sinks.old }
+    ensures puts { Puts (Gained (O.contents sinks.old) (O.contents sinks.new)) (to_sink 0 bytes.now) result }
+    ensures sink { IfErr result (λ end. end ≡ Ended.OutputBroken 0) }
+    ensures devices { Writes O.failures O.count sinks.old sinks.new result }
+{
+    let mut done = 0;
+    while done < bytes.len() {
+        match sinks.write(0, &bytes[done..]) {
+            Ok(count) => done += count,
+            Err(Broken) => return Err(Ended::OutputBroken(0)),
+        }
+    }
+    Ok(())
+}
+
+/// Creates the files that a script writes, in their order, up to one that can't be created, and answers that one's name.
+fn create_files<'a, O: Sinks>(script: &'a Script, sinks: &mut O) -> Option<&'a [u8]>
+    requires { O.count sinks.old ≡ 1 }
+    ensures count { IsNone result → length script.entry.now.wfiles < O.count sinks.new }
+    ensures contents { (k : ℕ) → O.contents sinks.new k ≡ O.contents sinks.old k }
+    ensures failed { (k : ℕ) → O.failures sinks.new k ≡ O.failures sinks.old k }
+{
+    for name in script.wfiles() {
+        if !sinks.create(name.as_slice()) {
+            return Some(name.as_slice());
+        }
+    }
+    None
+}
+
+/// Tells the names of the files that a script reads.
+fn name_files<N: Names>(script: &Script, names: &mut N) -> Result<(), AllocError>
+    requires { N.named names.old ≡ 0 }
+    ensures { IfOk result (λ _. (k : ℕ) → N.text names.new k ≡ texts_of (N.file names.old) (N.text names.old) script.now k) }
+{
+    for (number, name) in script.rfiles().iter().enumerate() {
+        names.name(number, name.as_slice())?;
+    }
+    Ok(())
+}
+
+/// Says why there is no script to run.
+fn refuse<E: Write>(refusal: NoScript<'_>, errors: &mut E) -> u8
+    ensures { result ≡ REFUSED }
+{
+    let _ = match refusal {
+        NoScript::NotGiven => say_no_script(errors),
+        NoScript::Unreadable(name) => say_cannot_open(errors, name.as_bytes()),
+        NoScript::Faulty(fault) => say_fault(errors, &fault),
+        NoScript::NoMemory => return out_of_memory(errors),
+    };
+    REFUSED
+}

@@ -1,0 +1,154 @@
+//! The run of a script over the files of a command line, and the status that it comes to.
+ghost use Rattle.std.specs.Prelude.{◌≡◌, ◌≢◌, ◌<◌, ◌≤◌, ◌⊎◌, ◌∷◌, ℕ, length, map, true, false};
+ghost use Rattle.std.specs.String.{string_bytes};
+ghost use Rattle.sedspace.specs.Failures.{Rose};
+ghost use Rattle.sedengine.specs.Devices.{Gained};
+ghost use Rattle.sededit.specs.Joining.{joined_files, left};
+ghost use Rattle.sededit.specs.Program.{HasFailed, HasFailures, StopsEarly, WritesAll, WritesBeginning};
+
+use crate::inputs::Inputs;
+use crate::joined::Joined;
+use crate::messages::{say_cannot_open, say_end, say_no_memory};
+use crate::sinks::Sinks;
+use crate::edit;
+use sedengine::{Ended, Limits};
+use sedscript::Script;
+use sedspace::Texts;
+use std::alloc::Global;
+use std::io::Write;
+
+/// The script ran over the whole input, or help was asked for and written.
+pub(crate) const SUCCESS: u8 = 0;
+
+/// Nothing was written: the words, the script, a file or the memory don't allow a run.
+pub(crate) const REFUSED: u8 = 1;
+
+/// The script ran over the whole input, and an input file couldn't be opened.
+pub(crate) const MISSED: u8 = 2;
+
+/// The run ended before its time: a limit or a device ended it.
+pub(crate) const STOPPED: u8 = 4;
+
+/// Says how the run stopped.
+pub(crate) fn stopped<E: Write>(end: Ended, errors: &mut E) -> u8
+    ensures { result ≡ STOPPED }
+{
+    let _ = say_end(errors, end);
+    STOPPED
+}
+
+/// Says that a request for memory was refused.
+pub(crate) fn out_of_memory<E: Write>(errors: &mut E) -> u8
+    ensures { result ≡ REFUSED }
+{
+    let _ = say_no_memory(errors);
+    REFUSED
+}
+
+/// Names the files that were missed, in their order.
+fn say_missed<I: Inputs, E: Write>(joined: &Joined<'_, I>, names: &[String], errors: &mut E) {
+    for (number, name) in names.iter().enumerate() {
+        if joined.missed(number) {
+            let _ = say_cannot_open(errors, name.as_bytes());
+        }
+    }
+}
+
+/// Writes out what is held back, says how the run ended, and gives the status.
+fn finish<O: Sinks, E: Write>(end: Ended, has_missed: bool, sinks: &mut O, errors: &mut E) -> u8
+    ensures status { (result ≡ SUCCESS) ⊎ ((result ≡ MISSED) ⊎ (result ≡ STOPPED)) }
+    ensures whole { result ≡ SUCCESS → (end ≡ Ended.Done) × (has_missed ≡ false) }
+    ensures missed { result ≡ MISSED → (end ≡ Ended.Done) × (has_missed ≡ true) }
+    ensures stopped { result ≡ STOPPED → (end ≢ Ended.Done) ⊎ ((end ≡ Ended.Done)
+        × HasFailures (O.failures sinks.new)) }
+    ensures failures { (k : ℕ) → O.failures sinks.old k ≤ O.failures sinks.new k }
+    ensures contents { (k : ℕ) → O.contents sinks.new k ≡ O.contents sinks.old k }
+{
+    match (end, sinks.flush()) {
+        (Ended::Done, Ok(())) if has_missed => MISSED,
+        (Ended::Done, Ok(())) => SUCCESS,
+        (Ended::Done, Err(sink)) => stopped(Ended::OutputBroken(sink), errors),
+        (end, _) => stopped(end, errors),
+    }
+}
+
+/// Runs a script over files that are joined.
+fn run_joined<I: Inputs, O: Sinks, T: Texts, E: Write>(
+    alloc: Global,
+    script: Script,
+    names: &[String],
+    limits: Limits,
+    joined: &mut Joined<'_, I>,
+    sinks: &mut O,
+    texts: &mut T,
+    errors: &mut E,
+) -> u8
+    requires sinks { length script.wfiles < O.count sinks.old }
+    requires nodes { script.max_nodes ≤ limits.nodes }
+    ensures status { (result ≡ SUCCESS) ⊎ ((result ≡ REFUSED) ⊎ ((result ≡ MISSED) ⊎ (result ≡ STOPPED))) }
+    ensures whole { result ≡ SUCCESS → WritesAll script (left I.current I.ahead joined.old)
+        (T.text texts.old) (Gained (O.contents sinks.old) (O.contents sinks.new))
+        × (I.refusals joined.new.inputs ≡ joined.new.start) }
+    ensures missed { result ≡ MISSED → WritesAll script (left I.current I.ahead joined.old)
+        (T.text texts.old) (Gained (O.contents sinks.old) (O.contents sinks.new))
+        × Rose joined.new.start (I.refusals joined.new.inputs) }
+    ensures stopped { result ≡ STOPPED → WritesBeginning script (left I.current I.ahead joined.old)
+        (T.text texts.old) (Gained (O.contents sinks.old) (O.contents sinks.new)) }
+    ensures cause { result ≡ STOPPED → StopsEarly limits script (left I.current I.ahead joined.old)
+        (T.text texts.old) (Gained (O.contents sinks.old) (O.contents sinks.new))
+        (HasFailed (I.failures joined.old.inputs) (I.failures joined.new.inputs)
+        (O.failures sinks.old) (O.failures sinks.new))
+        ⊎ (WritesAll script (left I.current I.ahead joined.old)
+        (T.text texts.old) (Gained (O.contents sinks.old) (O.contents sinks.new))
+        × HasFailures (O.failures sinks.new)) }
+    ensures refused { result ≡ REFUSED → sinks.new ≡ sinks.old }
+    ensures same_reference { joined.new.start ∷ I.reference joined.new.inputs
+        ≡ joined.old.start ∷ I.reference joined.old.inputs }
+{
+    let Ok(end) = edit(alloc, script, limits, &mut *joined, sinks, texts) else {
+        return out_of_memory(errors);
+    };
+    say_missed(&*joined, names, errors);
+    let has_missed = joined.has_missed();
+    finish(end, has_missed, sinks, errors)
+}
+
+/// Runs a script over the files of these names, joined.
+pub(crate) fn run<I: Inputs, O: Sinks, T: Texts, E: Write>(
+    alloc: Global,
+    script: Script,
+    names: &[String],
+    limits: Limits,
+    inputs: &mut I,
+    sinks: &mut O,
+    texts: &mut T,
+    errors: &mut E,
+) -> u8
+    requires sinks { length script.wfiles < O.count sinks.old }
+    requires nodes { script.max_nodes ≤ limits.nodes }
+    ensures status { (result ≡ SUCCESS) ⊎ ((result ≡ REFUSED) ⊎ ((result ≡ MISSED) ⊎ (result ≡ STOPPED))) }
+    ensures whole { result ≡ SUCCESS → WritesAll script (joined_files I.ahead inputs.old (map string_bytes names.now))
+        (T.text texts.old) (Gained (O.contents sinks.old) (O.contents sinks.new))
+        × (I.refusals inputs.new ≡ I.refusals inputs.old) }
+    ensures missed { result ≡ MISSED → WritesAll script (joined_files I.ahead inputs.old (map string_bytes names.now))
+        (T.text texts.old) (Gained (O.contents sinks.old) (O.contents sinks.new))
+        × Rose (I.refusals inputs.old) (I.refusals inputs.new) }
+    ensures stopped { result ≡ STOPPED → WritesBeginning script
+        (joined_files I.ahead inputs.old (map string_bytes names.now))
+        (T.text texts.old) (Gained (O.contents sinks.old) (O.contents sinks.new)) }
+    ensures cause { result ≡ STOPPED → StopsEarly limits script
+        (joined_files I.ahead inputs.old (map string_bytes names.now))
+        (T.text texts.old) (Gained (O.contents sinks.old) (O.contents sinks.new))
+        (HasFailed (I.failures inputs.old) (I.failures inputs.new) (O.failures sinks.old) (O.failures sinks.new))
+        ⊎ (WritesAll script (joined_files I.ahead inputs.old (map string_bytes names.now))
+        (T.text texts.old) (Gained (O.contents sinks.old) (O.contents sinks.new))
+        × HasFailures (O.failures sinks.new)) }
+    ensures refused { result ≡ REFUSED → sinks.new ≡ sinks.old }
+{
+    let Ok(mut joined) = Joined::new(alloc, &mut *inputs, names) else {
+        return out_of_memory(errors);
+    };
+    let status = run_joined(alloc, script, names, limits, &mut joined, sinks, texts, errors);
+    let _inputs = joined.into_inputs();
+    status
+}

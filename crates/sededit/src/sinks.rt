@@ -1,0 +1,25 @@
+//! The files that a script writes, as sinks that are added to the standard output.
+ghost use Rattle.std.specs.Prelude.{◌≡◌, ◌+◌, ◌≤◌, ℕ, List, [], IfSome, OnErr, OnOk, IfErr};
+ghost use Rattle.sededit.specs.Sinks.{AddsSink, FailsFlush};
+
+use sedspace::Outputs;
+
+/// Sinks to which files can be added, and which can be flushed.
+pub trait Sinks: Outputs {
+    /// Adds a sink, the last: the file of this name, created empty. `false` adds none.
+    fn create(&mut self, name: &[u8]) -> bool
+        ensures count { AddsSink result (Self.count self.old) (Self.count self.new) }
+        ensures contents { (k : ℕ) → Self.contents self.new k ≡ Self.contents self.old k }
+        ensures failed { (k : ℕ) → Self.failures self.new k ≡ Self.failures self.old k };
+
+    /// Writes out what was taken and is still held back, and answers the number of a sink where that failed. An `Err`
+    /// raises that sink's number of failures by one.
+    fn flush(&mut self) -> Result<(), usize>
+        ensures count { Self.count self.new ≡ Self.count self.old }
+        ensures contents { (k : ℕ) → Self.contents self.new k ≡ Self.contents self.old k }
+        ensures failed { FailsFlush result (Self.failures self.old) (Self.failures self.new) };
+
+    /// A sink that isn't there yet is as an empty one.
+    ghost absent_is_empty: { (sinks : Self) → (k : ℕ) → Self.count sinks ≤ k
+        → IfSome (Self.contents sinks k) (λ bytes. bytes ≡ []) };
+}
