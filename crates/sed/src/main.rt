@@ -4,6 +4,7 @@
 //! caller gives. `main` gives it the standard streams and the files of the system.
 #![tactic(auto)]
 
+mod closed;
 mod device;
 mod devices;
 mod inputs;
