@@ -1,19 +1,23 @@
-//! The standard streams of the process as the program's devices (XCU sed, "Stdin", "Stdout", "Stderr").
+//! The words, the standard streams and the files of the process, given to the program (XCU sed, "Stdin", "Stdout", "Stderr",
+//! "Input Files", "Output Files").
 ghost use Rattle.std.specs.Prelude.{◌≡◌, ◌-◌, ◌^◌, ◌⊎◌, map};
 ghost use Rattle.std.specs.String.{string_bytes};
 ghost use Rattle.sedengine.specs.Limits.{limits_of};
-ghost use Rattle.sed.specs.CommandLine.{IsCommandLine};
-ghost use Rattle.sed.specs.Program.{AsksHelp};
+ghost use Rattle.sededit.specs.CommandLine.{IsCommandLine};
+ghost use Rattle.sededit.specs.Program.{AsksHelp};
 
-use crate::messages::{say_end, say_no_memory};
-use crate::program::{REFUSED, STOPPED, SUCCESS, stream};
-use sedengine::{Ended, Limits};
-use sedspace::{FromReader, ToWriter};
+use crate::closed::placeholder;
+use crate::devices::Devices;
+use crate::inputs::FileInputs;
+use crate::names::FileNames;
+use crate::sinks::FileSinks;
+use sededit::command;
+use sedengine::Limits;
 use std::env;
-use std::io::{self, BufWriter, ErrorKind, Write};
+use std::io::{self, ErrorKind, Write};
 
-/// How many bytes are gathered before they are written to the standard output.
-const OUTPUT_ROOM: usize = 65536;
+/// The status of words that are refused.
+const REFUSED: u8 = 1;
 
 /// The limits of the program: 1 MiB in each space, 4,096 entries of the queue, 64 KiB read ahead, 16,384 nodes of an
 /// expression, and more turns than a machine can take.
@@ -26,16 +30,18 @@ pub(crate) fn program_limits() -> Limits
     }
 }
 
-/// Runs the program over the standard streams, and gives its exit status.
+/// Runs the program over the standard streams and the files of the system, and gives its exit status.
 ///
-/// Output is gathered and written in pieces of 64 KiB; a longer write goes through directly. After every end what is
-/// gathered is written out before the status is given. Where that fails, or a write before it, as on a full disk, a
-/// closed pipe or a closed standard output, the status is 4 and the message `sed: F7 OutputBroken 0`; a run that
-/// writes nothing doesn't notice. After another end than the ordinary one its own message stands alone. A closed
-/// standard input and a directory in its place are `sed: F6 InputBroken`.
+/// Output is gathered and written in pieces of 64 KiB, that to a file in pieces of 8 KiB; a longer write goes through
+/// directly. What is gathered is written out before a read that may wait, and before the status is given; a terminal gets
+/// each line as it is written. Where that fails, as on a full disk, a closed pipe or a closed standard output, the status
+/// is 4 and the message `sed: F7 OutputBroken 0`, with the sink's number; a run that writes nothing doesn't notice. After
+/// another end than the ordinary one its own message stands alone. A closed standard input and a directory in a file's
+/// place are `sed: F6 InputBroken`.
 pub(crate) fn run(rt: &HostRuntime) -> u8
-    ensures { (result ≡ SUCCESS) ⊎ (result ≡ REFUSED) ⊎ (result ≡ STOPPED) }
+    ensures { (result ≡ 0) ⊎ ((result ≡ 1) ⊎ ((result ≡ 2) ⊎ (result ≡ 4))) }
 {
+    let _closed = (placeholder(rt), placeholder(rt), placeholder(rt));
     let mut errors = rt.stderr();
     match words(rt) {
         Ok(words) => run_words(rt, words.as_slice(), &mut errors),
@@ -49,6 +55,11 @@ pub(crate) fn run(rt: &HostRuntime) -> u8
     }
 }
 
+/// Says that a request for memory was refused.
+fn say_no_memory<E: Write>(errors: &mut E) -> io::Result<()> {
+    writeln!(errors, "sed: no memory")
+}
+
 /// The words after the program's name.
 fn words(rt: &HostRuntime) -> io::Result<Vec<String>> {
     let words = env::args(rt)?.skip(1).collect(rt.alloc())?;
@@ -56,30 +67,27 @@ fn words(rt: &HostRuntime) -> io::Result<Vec<String>> {
 }
 
 fn run_words<E: Write>(rt: &HostRuntime, words: &[String], errors: &mut E) -> u8
-    ensures status { (result ≡ SUCCESS) ⊎ (result ≡ REFUSED) ⊎ (result ≡ STOPPED) }
-    ensures asked { result ≡ SUCCESS →
+    ensures status { (result ≡ 0) ⊎ ((result ≡ 1) ⊎ ((result ≡ 2) ⊎ (result ≡ 4))) }
+    ensures asked { result ≡ 0 →
         IsCommandLine (map string_bytes words.now) ⊎ AsksHelp (map string_bytes words.now) }
 {
-    let alloc = rt.alloc();
-    let Ok(mut output) = BufWriter::with_capacity(alloc, OUTPUT_ROOM, rt.stdout()) else {
+    let Ok(devices) = Devices::new(rt.alloc(), rt.stdout()) else {
         let _ = say_no_memory(errors);
         return REFUSED;
     };
-    // The lines read straight into their own buffer, so the input needs none here.
-    let mut source = FromReader::new(rt.stdin());
-    let mut outputs = ToWriter::new(&mut output);
-    let status = stream(
-        alloc,
+    let Ok(mut sinks) = FileSinks::new(rt, &devices) else {
+        let _ = say_no_memory(errors);
+        return REFUSED;
+    };
+    let mut inputs = FileInputs::new(rt, &devices);
+    let mut names = FileNames::new(rt, &devices);
+    command(
+        rt.alloc(),
         words,
         program_limits(),
-        &mut source,
-        &mut outputs,
+        &mut inputs,
+        &mut sinks,
+        &mut names,
         errors,
-    );
-    let flushed = output.flush();
-    if status == SUCCESS && flushed.is_err() {
-        let _ = say_end(errors, Ended::OutputBroken(0));
-        return STOPPED;
-    }
-    status
+    )
 }

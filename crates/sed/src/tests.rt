@@ -1,7 +1,5 @@
-//! What no row of a table can say: calls of the program with its words and messages, and single calls of the libraries
-//! below it.
+//! What no row of a table can say: single calls of the libraries below the program.
 
-mod calls;
 mod devices;
 mod searches;
 mod spaces;

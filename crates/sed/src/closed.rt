@@ -1,0 +1,21 @@
+//! Standard streams that are closed when the program starts.
+//!
+//! The system gives the lowest free number to a file that is opened, so a file would take the place of such a stream, and
+//! what is meant for the stream would go into the file.
+
+use std::fs::File;
+use std::os::fd::AsRawFd;
+
+/// A file that keeps the number of a standard stream that is closed, where one is. A read of the standard input still
+/// fails then, and so does a write to the standard output or the standard error.
+pub(crate) fn placeholder(rt: &HostRuntime) -> Option<File> {
+    let written = File::options().write(true).open(rt, "/dev/null").ok()?;
+    match written.as_raw_fd() {
+        0 => Some(written),
+        1 | 2 => {
+            drop(written);
+            File::open(rt, "/dev/null").ok()
+        }
+        _ => None,
+    }
+}

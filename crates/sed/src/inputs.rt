@@ -1,0 +1,151 @@
+//! The standard input and the files of the system, as inputs.
+ghost use Rattle.std.specs.Prelude.{◌≡◌, [], None};
+ghost use Rattle.std.specs.Io.{ReadsAtMost};
+
+use crate::devices::Devices;
+use sededit::Inputs;
+use sedspace::{Broken, ByteSource, FromReader};
+use std::alloc::{AllocError, Global};
+use std::fs::{self, File};
+use std::io::ErrorKind;
+
+/// Which file is current.
+#[derive(Drop)]
+enum Current {
+    /// None: none was opened, or the last couldn't be.
+    Nothing,
+    /// The standard input.
+    Standard,
+    /// A file of the system.
+    File(File),
+}
+
+/// The inputs of the program. A file that is opened takes the place of the one before, which is closed first. They don't
+/// tell their bytes.
+#[derive(Drop)]
+pub(crate) struct FileInputs<'a> {
+    rt: &'a HostRuntime,
+    devices: &'a Devices,
+    current: Current,
+    may_wait: bool,
+    is_standard_ended: bool,
+    failures: u64,
+    refusals: u64,
+}
+
+/// Whether a read of the file of this name may wait, as one of a pipe, a terminal or a device does.
+pub(crate) fn may_wait(rt: &HostRuntime, name: &str) -> bool {
+    match fs::metadata(rt, name) {
+        Ok(metadata) => !metadata.is_file(),
+        Err(_) => true,
+    }
+}
+
+impl<'a> FileInputs<'a> {
+    /// Inputs of which none is open. What the devices have gathered is written out before a read that may wait.
+    pub(crate) fn new(rt: &'a HostRuntime, devices: &'a Devices) -> FileInputs<'a> {
+        FileInputs {
+            rt,
+            devices,
+            current: Current::Nothing,
+            may_wait: false,
+            is_standard_ended: false,
+            failures: 0,
+            refusals: 0,
+        }
+    }
+
+    // Writes out what is gathered where the next call may wait.
+    fn prepare_to_wait(&self) {
+        if self.may_wait {
+            self.devices.write_out(0);
+        }
+    }
+
+    // Reads on in the standard input, unless its end was met before.
+    fn read_standard(&mut self, buf: &mut [u8]) -> Result<usize, Broken>
+        ensures bound { ReadsAtMost result buf.new }
+        ensures failures { self.new.failures ≡ self.old.failures }
+        ensures refusals { self.new.refusals ≡ self.old.refusals }
+    {
+        if self.is_standard_ended {
+            return Ok(0);
+        }
+        let count = FromReader::new(self.rt.stdin()).read(buf)?;
+        self.is_standard_ended = count == 0 && !buf.is_empty();
+        Ok(count)
+    }
+
+    // Reads on in the current file.
+    fn read_current(&mut self, buf: &mut [u8]) -> Result<usize, Broken>
+        ensures bound { ReadsAtMost result buf.new }
+        ensures failures { self.new.failures ≡ self.old.failures }
+        ensures refusals { self.new.refusals ≡ self.old.refusals }
+    {
+        self.prepare_to_wait();
+        match &self.current {
+            Current::Nothing => Ok(0),
+            Current::Standard => self.read_standard(buf),
+            Current::File(file) => FromReader::new(file).read(buf),
+        }
+    }
+}
+
+impl<'a> Inputs for FileInputs<'a> {
+    ghost current = { λ _. None };
+
+    ghost ahead = { λ _ _. None };
+
+    ghost text = { λ _ _. None };
+
+    ghost failures = { λ s. s.failures };
+
+    ghost refusals = { λ s. s.refusals };
+
+    ghost reference = { λ _. [] };
+
+    ghost none_ahead = { λ _. tt };
+
+    fn refused(&self) -> u64 {
+        self.refusals
+    }
+
+    fn open(&mut self, name: &str) -> bool {
+        self.current = Current::Nothing;
+        if name == "-" {
+            self.may_wait = may_wait(self.rt, "/dev/stdin");
+            self.current = Current::Standard;
+            return true;
+        }
+        self.may_wait = may_wait(self.rt, name);
+        self.prepare_to_wait();
+        match File::open(self.rt, name) {
+            Ok(file) => {
+                self.current = Current::File(file);
+                true
+            }
+            Err(_) => {
+                self.refusals = self.refusals.saturating_add(1);
+                false
+            }
+        }
+    }
+
+    fn read(&mut self, buf: &mut [u8]) -> Result<usize, Broken> {
+        match self.read_current(buf) {
+            Ok(count) => Ok(count),
+            Err(Broken) => {
+                self.failures = self.failures.saturating_add(1);
+                Err(Broken)
+            }
+        }
+    }
+
+    fn whole(&mut self, _alloc: Global, name: &str) -> Result<Option<Vec<u8>>, AllocError> {
+        match fs::read(self.rt, name) {
+            Ok(bytes) => Ok(Some(bytes)),
+            Err(error) if error.kind() == ErrorKind::OutOfMemory => Err(AllocError),
+            Err(_) => Ok(None),
+        }
+    }
+}

@@ -1,0 +1,118 @@
+//! The standard output and the files that a script writes, as sinks.
+ghost use Rattle.std.specs.Prelude.{◌≡◌, ◌<◌, [], ◌∷◌, None, length, unwrap_or, slice_get, slice_set, IfOk, IfSome};
+ghost use Rattle.sedspace.specs.Failures.{raised};
+
+use crate::devices::Devices;
+use sededit::Sinks;
+use sedspace::{Broken, Outputs};
+use std::alloc::AllocError;
+use std::fs::File;
+use std::marker::Model;
+use std::str;
+
+/// The sinks of the program: the standard output, and the files that were created. They don't tell their bytes.
+#[derive(Drop)]
+pub(crate) struct FileSinks<'a> {
+    rt: &'a HostRuntime,
+    devices: &'a Devices,
+    failures: Vec<u64>,
+}
+
+impl<'a> Model for FileSinks<'a> {
+    ghost use Rattle.std.specs.Prelude.{List, ℕ};
+
+    ghost Value = { List ℕ };
+
+    ghost view = { λ s. s.failures.items };
+}
+
+impl<'a> FileSinks<'a> {
+    /// The standard output alone, which is the device of sink 0.
+    pub(crate) fn new(
+        rt: &'a HostRuntime,
+        devices: &'a Devices,
+    ) -> Result<FileSinks<'a>, AllocError>
+        ensures { IfOk result (λ sinks. sinks ≡ 0 ∷ []) }
+    {
+        Ok(FileSinks {
+            rt,
+            devices,
+            failures: vec![in rt.alloc(); 0]?,
+        })
+    }
+
+    /// Creates the file of this name, and adds it to the devices.
+    fn add(&self, name: &[u8]) -> bool {
+        let Ok(name) = str::from_utf8(name) else {
+            return false;
+        };
+        match File::create(self.rt, name) {
+            Ok(file) => self.devices.add(self.rt.alloc(), file).is_ok(),
+            Err(_) => false,
+        }
+    }
+
+    /// Writes out what is gathered for all sinks, and answers the first one where that failed.
+    fn first_broken(&self) -> Option<usize>
+        ensures { IfSome result (λ k. k < length self.now) }
+    {
+        let count = self.failures.len();
+        let mut first = count;
+        for sink in 0..count {
+            if self.devices.flush(sink).is_err() {
+                first = first.min(sink);
+            }
+        }
+        if first < count { Some(first) } else { None }
+    }
+
+    /// Counts a failure of a sink.
+    fn count_failure(&mut self, sink: usize)
+        requires { sink < length self.old }
+        ensures { self.new ≡ slice_set self.old sink (raised (unwrap_or (slice_get self.old sink) 0)) }
+    {
+        self.failures[sink] = self.failures[sink].saturating_add(1);
+    }
+}
+
+impl<'a> Outputs for FileSinks<'a> {
+    ghost count = { λ s. length s };
+
+    ghost contents = { λ _ _. None };
+
+    ghost failures = { λ s k. unwrap_or (slice_get s k) 0 };
+
+    fn sinks(&self) -> usize {
+        self.failures.len()
+    }
+
+    fn write(&mut self, sink: usize, bytes: &[u8]) -> Result<usize, Broken> {
+        let taken = self.devices.write(sink, bytes);
+        if taken.is_err() {
+            self.count_failure(sink);
+        }
+        taken
+    }
+}
+
+impl<'a> Sinks for FileSinks<'a> {
+    ghost absent_is_empty = { λ _ _ _. tt };
+
+    fn create(&mut self, name: &[u8]) -> bool {
+        if self.failures.reserve(1).is_err() || !self.add(name) {
+            return false;
+        }
+        self.failures.push_reserved(0);
+        true
+    }
+
+    fn flush(&mut self) -> Result<(), usize> {
+        match self.first_broken() {
+            Some(sink) => {
+                self.count_failure(sink);
+                Err(sink)
+            }
+            None => Ok(()),
+        }
+    }
+}
