@@ -100,7 +100,7 @@ cause-from l p W f0 f1 t0 t1 s0 s1 new i0 i1 i n0 n1 n r is same (inl h) = inl (
   h.1,
   failed-from i0 i1 i n0 n1 n h.0 is same h.2,
   λ bytes known files tells.
-  let w = h.3 bytes (told f0 f1 bytes r.kept known) files (λ k. r.same_texts k ∙ tells k) in
-  (w.0, WholeOrCut-from _ _ _ s0 s1 new _ _ _ r.same_sinks w.1),
+      let w = h.3 bytes (told f0 f1 bytes r.kept known) files (λ k. r.same_texts k ∙ tells k) in
+      (w.0, WholeOrCut-from _ _ _ s0 s1 new _ _ _ r.same_sinks w.1),
 )
 cause-from l p W f0 f1 t0 t1 s0 s1 new i0 i1 i n0 n1 n r is same (inr h) = inr (WritesAll-from p f0 f1 t0 t1 s0 s1 new r h.0, h.1)

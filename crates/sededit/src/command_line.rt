@@ -94,9 +94,9 @@ fn operands<'a>(alloc: Global) -> Arg<'a>
     ensures rule { rule_of result ≡ operand_rule }
     ensures local { result.global ≡ false }
 {
-    Arg::new(alloc, "operand")
-        .action(ArgAction::Append)
-        .help("The script, where neither -e nor -f gives one, and the input files; - or none is the standard input")
+    Arg::new(alloc, "operand").action(ArgAction::Append).help(
+        "The script, where neither -e nor -f gives one, and the input files; - or none is the standard input",
+    )
 }
 
 /// What `clap` is to read.
@@ -104,10 +104,30 @@ fn command<'a>(alloc: Global) -> Result<Command<'a>, clap::Error>
     ensures shape { IfOk result (λ c. app_of c ≡ sed_command) }
     ensures memory { IfErr result (λ e. kind_of e ≡ ErrorKind.OutOfMemory) }
 {
-    let quiet = counted(alloc, "quiet", 'n', "Write no pattern space unless the script asks for it");
-    let extended = counted(alloc, "extended", 'E', "Read extended regular expressions in the script");
-    let expression = repeated(alloc, "expression", 'e', "Add these editing commands to the script");
-    let file = repeated(alloc, "file", 'f', "Add the editing commands in this file to the script");
+    let quiet = counted(
+        alloc,
+        "quiet",
+        'n',
+        "Write no pattern space unless the script asks for it",
+    );
+    let extended = counted(
+        alloc,
+        "extended",
+        'E',
+        "Read extended regular expressions in the script",
+    );
+    let expression = repeated(
+        alloc,
+        "expression",
+        'e',
+        "Add these editing commands to the script",
+    );
+    let file = repeated(
+        alloc,
+        "file",
+        'f',
+        "Add the editing commands in this file to the script",
+    );
     let command = Command::new(alloc, "sed")
         .no_binary_name(true)
         .about("Edits files line by line, and writes to the standard output")

@@ -34,7 +34,7 @@ pub struct MemoryFile {
 impl Model for MemoryFile {
     ghost use Rattle.std.specs.Prelude.{string_bytes};
     ghost use Rattle.sededit.specs.Opening.{CountsRefusal};
-ghost use Rattle.sededit.specs.MemoryFiles.{File};
+    ghost use Rattle.sededit.specs.MemoryFiles.{File};
 
     ghost Value = { File };
 
@@ -108,7 +108,7 @@ pub struct MemoryInputs {
 impl Model for MemoryInputs {
     ghost use Rattle.std.specs.Prelude.{◌≤◌, ◌<◌, drop, length, vec_len};
     ghost use Rattle.sededit.specs.Opening.{CountsRefusal};
-ghost use Rattle.sededit.specs.MemoryFiles.{Files, all_of};
+    ghost use Rattle.sededit.specs.MemoryFiles.{Files, all_of};
 
     ghost Value = { Files };
 

@@ -26,7 +26,11 @@ pub(crate) struct Asked {
 }
 
 /// The words given to the option of this name, or as operands.
-pub(crate) fn words_of(alloc: Global, matches: &ArgMatches<'_>, id: &str) -> Result<Vec<String>, AllocError>
+pub(crate) fn words_of(
+    alloc: Global,
+    matches: &ArgMatches<'_>,
+    id: &str,
+) -> Result<Vec<String>, AllocError>
     ensures { IfOk result (λ words. map string_bytes words.items ≡ given_to id.now (rows_of (found_of matches.now))) }
 {
     match matches.get_strs(id) {
@@ -62,7 +66,11 @@ impl<'m> Uses<'m> {
 }
 
 /// The parts that -e and -f give, in the order of the words.
-fn parts_in_order(alloc: Global, scripts: Uses<'_>, files: Uses<'_>) -> Result<Vec<Part>, AllocError>
+fn parts_in_order(
+    alloc: Global,
+    scripts: Uses<'_>,
+    files: Uses<'_>,
+) -> Result<Vec<Part>, AllocError>
     ensures { IfOk result (λ parts. map given parts.items
         ≡ in_order (texts_in scripts.entry) scripts.entry.places.now (texts_in files.entry) files.entry.places.now) }
 {

@@ -141,7 +141,9 @@ fn run_over<I: Inputs, O: Sinks, N: Names, E: Write>(
     if let Err(AllocError) = name_files(&script, names) {
         return out_of_memory(errors);
     }
-    run(alloc, script, operands, limits, inputs, sinks, names, errors)
+    run(
+        alloc, script, operands, limits, inputs, sinks, names, errors,
+    )
 }
 
 /// Runs what a line asks for.
@@ -183,7 +185,16 @@ fn run_line<I: Inputs, O: Sinks, N: Names, E: Write>(
     let Ok(operands) = standard_input(alloc) else {
         return out_of_memory(errors);
     };
-    run_over(alloc, line, operands.as_slice(), limits, inputs, sinks, names, errors)
+    run_over(
+        alloc,
+        line,
+        operands.as_slice(),
+        limits,
+        inputs,
+        sinks,
+        names,
+        errors,
+    )
 }
 
 /// The operands that stand for none.

@@ -44,7 +44,12 @@ fn expressions(extended: bool) -> Kind
 }
 
 /// Adds a part to the text of a script.
-fn add<'a, I: Inputs>(alloc: Global, text: &mut Vec<u8>, part: &'a Part, inputs: &mut I) -> Result<(), NoScript<'a>>
+fn add<'a, I: Inputs>(
+    alloc: Global,
+    text: &mut Vec<u8>,
+    part: &'a Part,
+    inputs: &mut I,
+) -> Result<(), NoScript<'a>>
     ensures text { IfOk result (λ _. (whole : List ℕ) (parts : _) → MakesText (I.text inputs.old) text.new.items parts whole →
         MakesText (I.text inputs.old) text.old.items (given part.entry.now ∷ parts) whole) }
     ensures inputs { OnlyReadsScripts I.current I.ahead I.text I.refusals I.failures I.reference inputs.old inputs.new }
@@ -62,7 +67,11 @@ fn add<'a, I: Inputs>(alloc: Global, text: &mut Vec<u8>, part: &'a Part, inputs:
 }
 
 /// The text that the parts make.
-fn text_of<'a, I: Inputs>(alloc: Global, parts: &'a [Part], inputs: &mut I) -> Result<Vec<u8>, NoScript<'a>>
+fn text_of<'a, I: Inputs>(
+    alloc: Global,
+    parts: &'a [Part],
+    inputs: &mut I,
+) -> Result<Vec<u8>, NoScript<'a>>
     ensures text { IfOk result (λ text. MakesText (I.text inputs.old) [] (map given parts.entry.now) text.items) }
     ensures inputs { OnlyReadsScripts I.current I.ahead I.text I.refusals I.failures I.reference inputs.old inputs.new }
 {

@@ -6,11 +6,11 @@ ghost use Rattle.sedengine.specs.Devices.{Gained};
 ghost use Rattle.sededit.specs.Joining.{joined_files, left};
 ghost use Rattle.sededit.specs.Program.{HasFailed, HasFailures, StopsEarly, WritesAll, WritesBeginning};
 
+use crate::edit;
 use crate::inputs::Inputs;
 use crate::joined::Joined;
 use crate::messages::{say_cannot_open, say_end, say_no_memory};
 use crate::sinks::Sinks;
-use crate::edit;
 use sedengine::{Ended, Limits};
 use sedscript::Script;
 use sedspace::Texts;
@@ -148,7 +148,16 @@ pub(crate) fn run<I: Inputs, O: Sinks, T: Texts, E: Write>(
     let Ok(mut joined) = Joined::new(alloc, &mut *inputs, names) else {
         return out_of_memory(errors);
     };
-    let status = run_joined(alloc, script, names, limits, &mut joined, sinks, texts, errors);
+    let status = run_joined(
+        alloc,
+        script,
+        names,
+        limits,
+        &mut joined,
+        sinks,
+        texts,
+        errors,
+    );
     let _inputs = joined.into_inputs();
     status
 }

@@ -9,8 +9,8 @@ returns-clause-whole g c is =
     let w = c.run.ensures.whole is in
     let names = or_standard (map string_bytes c.args.line.now.operands.items) in
     let ready : Ready (g.I.Inputs.ahead c.args.inputs.now names) (g.I.Inputs.ahead c.read_script.new.inputs (map string_bytes c.args.operands.now))
-        (texts_of (g.N.Names.file c.args.names.now) (g.N.Texts.text c.args.names.now) c.in-Ok.script) (g.N.Texts.text c.name_files.new.names)
-        (g.O.Outputs.contents c.args.sinks.now) (g.O.Outputs.contents c.create_files.new.sinks) =
+    (texts_of (g.N.Names.file c.args.names.now) (g.N.Texts.text c.args.names.now) c.in-Ok.script) (g.N.Texts.text c.name_files.new.names)
+    (g.O.Outputs.contents c.args.sinks.now) (g.O.Outputs.contents c.create_files.new.sinks) =
     record { kept = rw c.requires.operands (c.in-Ok.ensures.inputs.same_ahead names); same_texts = c.in_default-name_files.ensures; same_sinks = c.create_files.ensures.contents } in
     ((c.in-Ok.script, rw (← c.nodes.ensures.value) c.in-Ok.ensures.gives, WritesAll-from c.in-Ok.script _ _ _ _ _ _ _ ready w.0), w.1 ∙ c.in-Ok.ensures.inputs.refused)
 
@@ -19,8 +19,8 @@ returns-clause-missed g c is =
     let w = c.run.ensures.missed is in
     let names = or_standard (map string_bytes c.args.line.now.operands.items) in
     let ready : Ready (g.I.Inputs.ahead c.args.inputs.now names) (g.I.Inputs.ahead c.read_script.new.inputs (map string_bytes c.args.operands.now))
-        (texts_of (g.N.Names.file c.args.names.now) (g.N.Texts.text c.args.names.now) c.in-Ok.script) (g.N.Texts.text c.name_files.new.names)
-        (g.O.Outputs.contents c.args.sinks.now) (g.O.Outputs.contents c.create_files.new.sinks) =
+    (texts_of (g.N.Names.file c.args.names.now) (g.N.Texts.text c.args.names.now) c.in-Ok.script) (g.N.Texts.text c.name_files.new.names)
+    (g.O.Outputs.contents c.args.sinks.now) (g.O.Outputs.contents c.create_files.new.sinks) =
     record { kept = rw c.requires.operands (c.in-Ok.ensures.inputs.same_ahead names); same_texts = c.in_default-name_files.ensures; same_sinks = c.create_files.ensures.contents } in
     ((c.in-Ok.script, rw (← c.nodes.ensures.value) c.in-Ok.ensures.gives, WritesAll-from c.in-Ok.script _ _ _ _ _ _ _ ready w.0), rw (← c.in-Ok.ensures.inputs.refused) w.1)
 
@@ -28,8 +28,8 @@ pub returns-clause-stopped : goal.returns-clause-stopped
 returns-clause-stopped g c is =
     let names = or_standard (map string_bytes c.args.line.now.operands.items) in
     let ready : Ready (g.I.Inputs.ahead c.args.inputs.now names) (g.I.Inputs.ahead c.read_script.new.inputs (map string_bytes c.args.operands.now))
-        (texts_of (g.N.Names.file c.args.names.now) (g.N.Texts.text c.args.names.now) c.in-Ok.script) (g.N.Texts.text c.name_files.new.names)
-        (g.O.Outputs.contents c.args.sinks.now) (g.O.Outputs.contents c.create_files.new.sinks) =
+    (texts_of (g.N.Names.file c.args.names.now) (g.N.Texts.text c.args.names.now) c.in-Ok.script) (g.N.Texts.text c.name_files.new.names)
+    (g.O.Outputs.contents c.args.sinks.now) (g.O.Outputs.contents c.create_files.new.sinks) =
     record { kept = rw c.requires.operands (c.in-Ok.ensures.inputs.same_ahead names); same_texts = c.in_default-name_files.ensures; same_sinks = c.create_files.ensures.contents } in
     (c.in-Ok.script, rw (← c.nodes.ensures.value) c.in-Ok.ensures.gives, WritesBeginning-from c.in-Ok.script _ _ _ _ _ _ _ ready (c.run.ensures.stopped is))
 
@@ -37,10 +37,9 @@ pub returns-clause-cause : goal.returns-clause-cause
 returns-clause-cause g c is =
     let names = or_standard (map string_bytes c.args.line.now.operands.items) in
     let ready : Ready (g.I.Inputs.ahead c.args.inputs.now names) (g.I.Inputs.ahead c.read_script.new.inputs (map string_bytes c.args.operands.now))
-        (texts_of (g.N.Names.file c.args.names.now) (g.N.Texts.text c.args.names.now) c.in-Ok.script) (g.N.Texts.text c.name_files.new.names)
-        (g.O.Outputs.contents c.args.sinks.now) (g.O.Outputs.contents c.create_files.new.sinks) =
-    record { kept = rw c.requires.operands (c.in-Ok.ensures.inputs.same_ahead names); same_texts = c.in_default-name_files.ensures; same_sinks = c.create_files.ensures.contents } in
-    (
+    (texts_of (g.N.Names.file c.args.names.now) (g.N.Texts.text c.args.names.now) c.in-Ok.script) (g.N.Texts.text c.name_files.new.names)
+    (g.O.Outputs.contents c.args.sinks.now) (g.O.Outputs.contents c.create_files.new.sinks) =
+    record { kept = rw c.requires.operands (c.in-Ok.ensures.inputs.same_ahead names); same_texts = c.in_default-name_files.ensures; same_sinks = c.create_files.ensures.contents } in (
       c.in-Ok.script,
       rw (← c.nodes.ensures.value) c.in-Ok.ensures.gives,
       cause-from c.args.limits c.in-Ok.script _ _ _ _ _ _ _ _ _ _ _ _ _ _ ready c.in-Ok.ensures.inputs.failed c.create_files.ensures.failed (c.run.ensures.cause is),
