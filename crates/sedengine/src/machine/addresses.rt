@@ -125,6 +125,8 @@ impl Machine {
         requires turn { self.old.state.turns < self.old.limits.turns }
         ensures { self.new ≡ come_with self.old k self.old.state.ranges self.old.state.used }
     {
+        // The limit fits its type, so there is room for one more.
+        let _most = self.limits.turns();
         self.turns += 1;
         self.place = Place::Do(k + 1);
     }

@@ -114,6 +114,8 @@ impl Machine {
     {
         match got {
             Got::Line => {
+                // There are more turns than lines, so the number fits.
+                let _turns = self.turns;
                 self.number += 1;
                 self.replaced = false;
             }
