@@ -97,6 +97,8 @@ impl Machine {
         ensures same { KeepsRun self.old self.new }
     {
         self.pattern.clear();
+        // There are more turns than lines, so the next number fits.
+        let _turns = self.turns;
         match bring_line(&mut self.pattern, lines, self.number + 1) {
             Ok(got) => {
                 self.go_on(got);
@@ -165,6 +167,8 @@ impl Machine {
         ensures falls { weight self.new ≤ weight self.old }
         ensures same { KeepsRun self.old self.new }
     {
+        // There are more turns than lines, so the next number fits.
+        let _turns = self.turns;
         match join_line(&mut self.pattern, lines, self.number + 1) {
             Ok(got) => {
                 self.go_on(got);
