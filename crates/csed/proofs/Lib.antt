@@ -1,0 +1,2 @@
+pub mod CallsLemmas
+pub mod RunLemmas

@@ -1,0 +1,125 @@
+-- From what an edit's one sink gained to the bytes that a caller gets.
+use Rattle.std.proofs.Common.{◌≡◌, ◌≢◌, ◌≤◌, ◌+◌, ◌==◌, ℕ, zero, suc, Bool, true, false, List, [], ◌∷◌, Option, Some, None, Result, Err, if◌then◌else◌, length, take, nat_eq, refl, sym, ap, ◌∙◌, arith}
+use Rattle.std.specs.Prelude.{IfSome}
+use Rattle.sedscript.specs.Script.{Program}
+use Rattle.sedengine.specs.Limits.{Limits}
+use Rattle.sedengine.specs.State.{Setting, State}
+use Rattle.sedengine.specs.Move.{written, to_sink}
+use Rattle.sedengine.specs.Devices.{part, FillsSink, Gained, GainedWithin}
+use Rattle.sedengine.specs.Ends.{WholeOrCut, named_sink}
+use Rattle.sedengine.specs.Run.{setting_of}
+use Rattle.sedengine.specs.declared.ends.Ended.{Ended}
+use Rattle.sedengine.specs.declared.ends.Ended.TheVariants.{Done, PatternFull, HoldFull, QueueFull, TurnsSpent, NoPrevious, InputBroken, OutputBroken, OutputFull}
+use Rattle.sedengine.proofs.Metering.{Cause-as}
+use Rattle.sededit.specs.Editing.{Edits, GainsAll, nothing_before, start_over}
+use Rattle.csed.specs.Reports.{cause_of}
+use Rattle.csed.specs.Calls.{AreWritten, Stops, no_files}
+use Rattle.csed.specs.Outcomes.{RunsTo, outcome_of}
+
+-- what the one sink holds, and no other
+abbrev pub of_one : Option (List ℕ) → ℕ → Option (List ℕ)
+of_one held k = if k == 0 then held else Some []
+
+nat_eq_self : (n : ℕ) → nat_eq n n ≡ true
+nat_eq_self n = grind arith
+
+zero_is_not : (k : ℕ) → nat_eq 0 (suc k) ≡ false
+zero_is_not k = grind arith
+
+is_not_zero : (k : ℕ) → nat_eq (suc k) 0 ≡ false
+is_not_zero k = grind arith
+
+-- bytes of which none is for another sink
+only_first : (out : List (ℕ × ℕ)) → ((k : ℕ) → part (suc k) out ≡ []) → out ≡ to_sink 0 (part 0 out)
+only_first [] none = refl
+only_first ((zero, byte) ∷ out) none = ap (λ xs. (0, byte) ∷ xs) (only_first out (λ k. rw (zero_is_not k) at (none k)))
+only_first ((suc m, byte) ∷ out) none = let e = rw (nat_eq_self (suc m)) at (none m) in cc
+
+-- what a sink holds that held nothing is what was written
+module _ (held held' : Option (List ℕ)) (bytes : List ℕ) (before : held ≡ Some []) (after : Some bytes ≡ held') where
+  first_part : (out : List (ℕ × ℕ)) → Gained (of_one held) (of_one held') out → bytes ≡ part 0 out
+  first_part out h = let e = rw (before, ← after) at (h.each 0) in e
+
+  other_parts : (out : List (ℕ × ℕ)) → Gained (of_one held) (of_one held') out → (k : ℕ) → part (suc k) out ≡ []
+  other_parts out h k = let e = rw (is_not_zero k) at (h.each (suc k)) in sym e
+
+  pub Are-written : (out : List (ℕ × ℕ)) → Gained (of_one held) (of_one held') out → AreWritten bytes out
+  Are-written out h = rw (first_part out h) (only_first out (other_parts out h))
+
+  -- an edit that came to the ordinary end has written all
+  pub Gains-written : (g : Setting) (s : State) → GainsAll g s (Gained (of_one held) (of_one held')) → GainsAll g s (AreWritten bytes)
+  Gains-written g s (t, over, gained) = (t, over, Are-written _ gained)
+
+-- what the sinks gained at an end, whole or cut
+sinks_at : (l : Limits) (g : Setting) (s : State) (gained : List (ℕ × ℕ) → Type 0) (end : Ended) (t : ℕ) (k : Option ℕ) → WholeOrCut l g s gained end t k → (out : List (ℕ × ℕ)) × gained out
+sinks_at l g s gained end t None w = (written g s t, w.sinks)
+sinks_at l g s gained end t (Some k) w = (take w.b (written g s (suc t)), w.sinks)
+
+-- the one sink holds no more than the room, and where it is full all of it
+module _ (room : ℕ) (held held' : Option (List ℕ)) (bytes : List ℕ) (before : held ≡ Some []) (after : Some bytes ≡ held') where
+  within_room : (most : Option ℕ) (r : Result Unit Ended) (out : List (ℕ × ℕ)) → most ≡ Some room → GainedWithin most nothing_before (of_one held) (of_one held') r out → length bytes ≤ room
+  within_room most r out is h =
+      let within = rw is at h.within in
+      let le = within 0 in
+      rw (first_part held held' bytes before after out h.gained) (omega (arith, le))
+
+  full_at : (k : ℕ) (out : List (ℕ × ℕ)) → GainedWithin (Some room) nothing_before (of_one held) (of_one held') (Err (OutputFull k)) out → length bytes ≡ room
+  full_at zero out h =
+      let full : Some room ≡ Some (0 + length (part 0 out)) = h.full in
+      let is : room ≡ 0 + length (part 0 out) = cc in
+      rw (first_part held held' bytes before after out h.gained) (omega (arith, is))
+  full_at (suc m) out h =
+      let le = within_room (Some room) _ out refl h in
+      let full : Some room ≡ Some (0 + length (part (suc m) out)) = h.full in
+      let none = rw (other_parts held held' bytes before after out h.gained m) at full in
+      let empty : room ≡ 0 = cc in
+      omega (arith, le, empty)
+
+  full_by : (most : Option ℕ) (end : Ended) (out : List (ℕ × ℕ)) → most ≡ Some room → GainedWithin most nothing_before (of_one held) (of_one held') (Err end) out → cause_of end ≡ 8 → length bytes ≡ room
+  full_by most (OutputFull k) out is h e = full_at k out (rw is at h)
+  full_by most Done out is h e = cc
+  full_by most (PatternFull n) out is h e = cc
+  full_by most (HoldFull n) out is h e = cc
+  full_by most (QueueFull n) out is h e = cc
+  full_by most TurnsSpent out is h e = cc
+  full_by most (NoPrevious n) out is h e = cc
+  full_by most InputBroken out is h e = cc
+  full_by most (OutputBroken k) out is h e = cc
+
+  pub Fits-room : (l : Limits) (g : Setting) (s : State) (old new : Option (List ℕ)) (end : Ended) → l.output ≡ Some room →
+      Edits l g s (GainedWithin l.output nothing_before (of_one held) (of_one held') (Err end)) old new end → length bytes ≤ room
+  Fits-room l g s old new end is h =
+      let (out, sent) = sinks_at l g s _ end h.t (named_sink end) h.cause in
+      within_room l.output (Err end) out is sent
+
+  -- an edit that ended early has stopped for its cause
+  pub Stops-early : (l : Limits) (g : Setting) (s : State) (old new : Option (List ℕ)) (end : Ended) → l.output ≡ Some room → end ≢ Done →
+      Edits l g s (GainedWithin l.output nothing_before (of_one held) (of_one held') (Err end)) old new end → Stops l g s room bytes end
+  Stops-early l g s old new end is early h =
+      let (out, sent) = sinks_at l g s _ end h.t (named_sink end) h.cause in
+      record {
+        early = early;
+        t = h.t;
+        cause = Cause-as l g s _ (AreWritten bytes) end h.t (λ o w. Are-written held held' bytes before after o w.gained) h.cause;
+        full = full_by l.output end out is sent;
+      }
+
+-- what a run comes to whose bytes stand at the front of the output
+pub Runs-to : (l : Limits) (p : Program) (input output bytes : List ℕ) (end : Ended) (n : ℕ) → take n output ≡ bytes →
+    (end ≡ Done → GainsAll (setting_of p no_files) (start_over p input) (AreWritten bytes)) →
+    (end ≢ Done → Stops (record l { output = Some (length output) }) (setting_of p no_files) (start_over p input) (length output) bytes end) →
+    RunsTo l p input output (outcome_of end n)
+Runs-to l p input output bytes Done n same whole stops = rw same (whole refl)
+Runs-to l p input output bytes (PatternFull k) n same whole stops = rw same (stops (λ e. cc))
+Runs-to l p input output bytes (HoldFull k) n same whole stops = rw same (stops (λ e. cc))
+Runs-to l p input output bytes (QueueFull k) n same whole stops = rw same (stops (λ e. cc))
+Runs-to l p input output bytes TurnsSpent n same whole stops = rw same (stops (λ e. cc))
+Runs-to l p input output bytes (NoPrevious k) n same whole stops = rw same (stops (λ e. cc))
+Runs-to l p input output bytes InputBroken n same whole stops = rw same (stops (λ e. cc))
+Runs-to l p input output bytes (OutputBroken k) n same whole stops = rw same (stops (λ e. cc))
+Runs-to l p input output bytes (OutputFull k) n same whole stops = rw same (stops (λ e. cc))
+
+-- the limits with the output's length as room
+pub Stops-as : (l l' : Limits) (g : Setting) (s : State) (room room' : ℕ) (bytes : List ℕ) (end : Ended) → l' ≡ record l { output = Some room } → room' ≡ room →
+    Stops l' g s room bytes end → Stops (record l { output = Some room' }) g s room' bytes end
+Stops-as l l' g s room room' bytes end is same h = rw same (rw is at h)

@@ -1,0 +1,98 @@
+-- What a call does with a script's text over bytes in memory (this project's own).
+use Rattle.std.specs.Prelude.{◌≡◌, ◌≢◌, ◌<◌, ◌≤◌, ◌⊎◌, ◌||◌, ◌==◌, not, ℕ, Bool, true, false, List, [], length, Option, Some, bit_and}
+use Rattle.sedre.specs.declared.types.Kind.{Kind}
+use Rattle.sedre.specs.declared.types.Kind.TheVariants.{Basic, Extended}
+use Rattle.sedscript.specs.Script.{Faulty, Means, Program}
+use Rattle.sedscript.specs.declared.types.ScriptFault.{ScriptFault}
+use Rattle.sedengine.specs.Limits.{AreLimits, Limits, limits_of}
+use Rattle.sedengine.specs.State.{Setting, State}
+use Rattle.sedengine.specs.Move.{to_sink}
+use Rattle.sedengine.specs.Ends.{Cause}
+use Rattle.sedengine.specs.Run.{setting_of}
+use Rattle.sedengine.specs.declared.ends.Ended.{Ended}
+use Rattle.sedengine.specs.declared.ends.Ended.TheVariants.{Done}
+use Rattle.sededit.specs.Editing.{GainsAll, GainsBeginning, start_over}
+use Rattle.csed.specs.declared.asked.Asked.{Asked}
+use Rattle.csed.specs.declared.asked.SedLimits.{SedLimits}
+use Rattle.csed.specs.declared.outcome.SedReport.{SedReport}
+use Rattle.csed.specs.Reports.{cause_of, of_end, of_fault, of_files}
+
+-- whether a flag is among the flags
+abbrev pub has : ℕ → ℕ → Bool
+has flags flag = not (bit_and flags flag == 0)
+
+-- the kind of a script's expressions: extended where that is asked for
+abbrev pub kind_for : Bool → Kind
+kind_for true = Extended
+kind_for false = Basic
+
+-- the limits that are told
+abbrev pub limits_told : SedLimits → Limits
+limits_told l = limits_of l.space l.queue l.look l.turns l.nodes
+
+-- what flags and limits ask for: flag 1 chooses extended expressions, as -E does, and flag 2 suppresses default output, as
+-- -n does (XCU sed, "Options")
+abbrev pub asked_by : ℕ → SedLimits → Asked
+asked_by flags l = record { kind = kind_for (has flags 1); quiet = has flags 2; limits = limits_told l }
+
+-- no flag is set but the two, and each limit is in its range
+pub record MayAsk (flags : ℕ) (l : SedLimits) : Type 0 where
+  pub known : flags ≤ 3
+  pub within : AreLimits (limits_told l)
+
+-- a flag is set that isn't known, or a limit is out of its range
+abbrev pub MayNotAsk : ℕ → SedLimits → Type 0
+MayNotAsk flags l = (3 < flags) ⊎ (AreLimits (limits_told l) → ⊥)
+
+-- The text means a script that names no file to write, and that is p, but that default output is suppressed where this
+-- is asked for, too.
+abbrev pub GivesScript : List ℕ → Asked → Program → Type 0
+GivesScript text a p =
+    (q : Program) × Means text a.kind a.limits.nodes q × (q.wfiles ≡ []) × (p ≡ record q { quiet = a.quiet || q.quiet })
+
+-- the text means a script that names a file to write
+abbrev pub WritesFiles : List ℕ → Asked → Type 0
+WritesFiles text a = (q : Program) × Means text a.kind a.limits.nodes q × (0 < length q.wfiles)
+
+-- A script is refused, as it is reported: for its first fault, or since it names a file to write.
+abbrev pub IsRefused : List ℕ → Asked → SedReport → Type 0
+IsRefused text a report =
+    ((f : ScriptFault) × Faulty text a.kind a.limits.nodes f × (report ≡ of_fault f))
+    ⊎ (WritesFiles text a × (report ≡ of_files))
+
+-- each file that a script reads is empty
+abbrev pub no_files : ℕ → List ℕ
+no_files k = []
+
+-- these bytes are what was written, all of it to the standard output
+abbrev pub AreWritten : List ℕ → List (ℕ × ℕ) → Type 0
+AreWritten bytes out = out ≡ to_sink 0 bytes
+
+-- the bytes are all that the text's script writes over the input
+abbrev pub IsWhole : List ℕ → Asked → List ℕ → List ℕ → Type 0
+IsWhole text a input bytes =
+    (p : Program) × GivesScript text a p × GainsAll (setting_of p no_files) (start_over p input) (AreWritten bytes)
+
+-- the bytes are a beginning of it
+abbrev pub IsBeginning : List ℕ → Asked → List ℕ → List ℕ → Type 0
+IsBeginning text a input bytes =
+    (p : Program) × GivesScript text a p × GainsBeginning (setting_of p no_files) (start_over p input) (AreWritten bytes)
+
+-- A run from the state s stopped for a cause that is true after some moves, with these bytes written; F8 at exactly the
+-- room.
+pub record Stops (l : Limits) (g : Setting) (s : State) (room : ℕ) (bytes : List ℕ) (end : Ended) : Type 0 where
+  pub early : end ≢ Done
+  pub t : ℕ
+  pub cause : Cause l g s (AreWritten bytes) end t
+  pub full : cause_of end ≡ 8 → length bytes ≡ room
+
+-- the same for the run of the text's script over the input, where no more is written than there is room for
+abbrev pub StopsFor : List ℕ → Asked → List ℕ → ℕ → List ℕ → Ended → Type 0
+StopsFor text a input room bytes end =
+    (p : Program) × GivesScript text a p
+    × Stops (record a.limits { output = Some room }) (setting_of p no_files) (start_over p input) room bytes end
+
+-- the same, as it is reported
+abbrev pub IsStopped : List ℕ → Asked → List ℕ → ℕ → List ℕ → SedReport → Type 0
+IsStopped text a input room bytes report =
+    (end : Ended) × StopsFor text a input room bytes end × (report ≡ of_end report.written end)

@@ -1,0 +1,74 @@
+-- What calls come to, before it is told in numbers. Private to this crate.
+use Rattle.std.specs.Prelude.{◌≡◌, ℕ, ℤ, pos, List, Option, Some, take, length}
+use Rattle.sedscript.specs.Script.{Faulty, Program}
+use Rattle.sedscript.specs.declared.types.ScriptFault.{ScriptFault}
+use Rattle.sedengine.specs.Limits.{Limits}
+use Rattle.sedengine.specs.Run.{setting_of}
+use Rattle.sedengine.specs.declared.ends.Ended.{Ended}
+use Rattle.sedengine.specs.declared.ends.Ended.TheVariants as ends
+use Rattle.sededit.specs.Editing.{GainsAll, start_over}
+use Rattle.csed.specs.declared.asked.Asked.{Asked}
+use Rattle.csed.specs.declared.asked.SedLimits.{SedLimits}
+use Rattle.csed.specs.declared.outcome.SedReport.{SedReport}
+use Rattle.csed.specs.declared.outcome.Outcome.{Outcome}
+use Rattle.csed.specs.declared.outcome.Outcome.TheVariants.{Done, Faulty as HasFault, WritesFiles as HasFiles, BadLimits, NoMemory, Stopped}
+use Rattle.csed.specs.Reports.{blank, of_bytes, of_end, of_fault, of_files}
+use Rattle.csed.specs.Calls.{AreWritten, GivesScript, IsWhole, MayAsk, MayNotAsk, Stops, StopsFor, WritesFiles, asked_by, no_files}
+
+-- the status that tells it
+abbrev pub status_of : Outcome → ℤ
+status_of (Done n) = pos 0
+status_of (HasFault f) = pos 1
+status_of HasFiles = pos 1
+status_of BadLimits = pos 2
+status_of NoMemory = pos 3
+status_of (Stopped n end) = pos 4
+
+-- the report that tells it
+abbrev pub report_of : Outcome → SedReport
+report_of (Done n) = of_bytes n
+report_of (HasFault f) = of_fault f
+report_of HasFiles = of_files
+report_of BadLimits = blank
+report_of NoMemory = blank
+report_of (Stopped n end) = of_end n end
+
+-- how many bytes were written
+abbrev pub written_of : Outcome → ℕ
+written_of (Done n) = n
+written_of (Stopped n end) = n
+written_of other = 0
+
+-- why a script isn't run
+abbrev pub IsRefusal : List ℕ → Asked → Outcome → Type 0
+IsRefusal text a (HasFault f) = Faulty text a.kind a.limits.nodes f
+IsRefusal text a HasFiles = WritesFiles text a
+IsRefusal text a NoMemory = Unit {0}
+IsRefusal text a other = ⊥
+
+-- what the reading of a script comes to
+abbrev pub ChecksTo : List ℕ → ℕ → SedLimits → Outcome → Type 0
+ChecksTo text flags l BadLimits = MayNotAsk flags l
+ChecksTo text flags l (Done n) = MayAsk flags l × (n ≡ 0) × ((p : Program) × GivesScript text (asked_by flags l) p)
+ChecksTo text flags l other = MayAsk flags l × IsRefusal text (asked_by flags l) other
+
+-- what an edit comes to
+abbrev pub EditsTo : List ℕ → ℕ → SedLimits → List ℕ → List ℕ → Outcome → Type 0
+EditsTo text flags l input output BadLimits = MayNotAsk flags l
+EditsTo text flags l input output (Done n) = MayAsk flags l × IsWhole text (asked_by flags l) input (take n output)
+EditsTo text flags l input output (Stopped n end) =
+    MayAsk flags l × StopsFor text (asked_by flags l) input (length output) (take n output) end
+EditsTo text flags l input output other = MayAsk flags l × IsRefusal text (asked_by flags l) other
+
+-- what the run of a script comes to
+abbrev pub RunsTo : Limits → Program → List ℕ → List ℕ → Outcome → Type 0
+RunsTo l p input output (Done n) = GainsAll (setting_of p no_files) (start_over p input) (AreWritten (take n output))
+RunsTo l p input output (Stopped n end) =
+    Stops (record l { output = Some (length output) }) (setting_of p no_files) (start_over p input) (length output) (take n output) end
+RunsTo l p input output NoMemory = Unit {0}
+RunsTo l p input output other = ⊥
+
+-- a run that ended so, with so many bytes written
+abbrev pub outcome_of : Ended → ℕ → Outcome
+outcome_of ends.Done n = Done n
+outcome_of end n = Stopped n end

@@ -1,0 +1,106 @@
+//! A script is read, and run over bytes in memory.
+ghost use Rattle.std.specs.Prelude.{◌≡◌, ◌≢◌, ◌<◌, ◌≤◌, ◌⊎◌, ◌||◌, [], IfErr, IfOk, drop, length, take};
+ghost use Rattle.csed.specs.declared.outcome.Outcome.TheVariants.{Faulty as HasFault, NoMemory, WritesFiles as HasFiles};
+ghost use Rattle.csed.specs.Calls.{GivesScript};
+ghost use Rattle.csed.specs.Outcomes.{IsRefusal, RunsTo, outcome_of, written_of};
+
+use crate::asked::Asked;
+use crate::outcome::Outcome;
+use crate::standard_output::StandardOutput;
+use sededit::{edit, script};
+use sedengine::{Ended, Limits};
+use sedscript::{NO_MEMORY, Reason, Script, ScriptFault};
+use sedspace::{FromReader, MemoryTexts};
+use std::alloc::Global;
+
+/// Reads a script that may run here.
+pub(crate) fn read(alloc: Global, text: &[u8], asked: &Asked) -> Result<Script, Outcome>
+    ensures gives { IfOk result (GivesScript text.now asked.now) }
+    ensures refused { IfErr result (IsRefusal text.now asked.now) }
+{
+    match script(alloc, text, asked.kind, asked.limits.nodes()) {
+        Err(fault) => Err(refusal_of(fault)),
+        Ok(program) => without_files(program, asked.quiet),
+    }
+}
+
+/// What keeps a script from being read.
+fn refusal_of(fault: ScriptFault) -> Outcome
+    ensures { (result ≡ NoMemory) ⊎ ((result ≡ HasFault fault) × (fault ≢ NO_MEMORY)) }
+{
+    match fault.reason {
+        Reason::NoMemory => Outcome::NoMemory,
+        _ => Outcome::Faulty(fault),
+    }
+}
+
+/// The script, with its default output suppressed where that is asked for, if it names no file to write.
+fn without_files(mut program: Script, quiet: bool) -> Result<Script, Outcome>
+    ensures gives { IfOk result (λ p. (program.wfiles ≡ []) × (p ≡ record program { quiet = quiet || program.quiet })) }
+    ensures refused { IfErr result (λ o. (o ≡ HasFiles) × (0 < length program.wfiles)) }
+{
+    if !program.wfiles().is_empty() {
+        return Err(Outcome::WritesFiles);
+    }
+    if quiet {
+        program.set_quiet();
+    }
+    Ok(program)
+}
+
+/// Copies bytes to the front of the output.
+fn deliver(bytes: &[u8], output: &mut [u8])
+    requires { length bytes.now ≤ length output.old }
+    ensures front { take (length bytes.now) output.new ≡ bytes.now }
+    ensures rest { drop (length bytes.now) output.new ≡ drop (length bytes.now) output.old }
+    ensures length { length output.new ≡ length output.old }
+{
+    output[..bytes.len()].copy_from_slice(bytes);
+}
+
+/// What a run came to that ended so, with so many bytes written.
+fn outcome_of(end: Ended, written: usize) -> Outcome
+    ensures { result ≡ outcome_of end written }
+{
+    match end {
+        Ended::Done => Outcome::Done(written),
+        end => Outcome::Stopped(written, end),
+    }
+}
+
+/// Runs a script over the input into the output, which limits what is written.
+pub(crate) fn run(
+    alloc: Global,
+    program: Script,
+    limits: Limits,
+    input: &[u8],
+    output: &mut [u8],
+) -> Outcome
+    requires nodes { program.max_nodes ≤ limits.nodes }
+    requires files { program.wfiles ≡ [] }
+    ensures runs { RunsTo limits program input.now output.new result }
+    ensures written { written_of result ≤ length output.new }
+    ensures rest { drop (written_of result) output.new ≡ drop (written_of result) output.old }
+    ensures same_length { length output.new ≡ length output.old }
+{
+    let room = output.len();
+    let Ok(mut standard) = StandardOutput::with_room(alloc, room) else {
+        return Outcome::NoMemory;
+    };
+    let mut source = FromReader::new(input);
+    let mut texts = MemoryTexts::new(Vec::new(alloc));
+    let ended = edit(
+        alloc,
+        program,
+        limits.with_output(room as u64),
+        &mut source,
+        &mut standard,
+        &mut texts,
+    );
+    let Ok(end) = ended else {
+        return Outcome::NoMemory;
+    };
+    let bytes = standard.bytes();
+    deliver(bytes, output);
+    outcome_of(end, bytes.len())
+}
