@@ -10,6 +10,7 @@
  *     threads COUNT  calls sed_edit for all cases in so many threads at once, and compares with calls made alone
  *     stack KIB      calls both for all cases in a thread with so small a stack
  *     time COUNT     calls sed_edit so often for each case, and prints the nanoseconds of one call
+ *     memory         calls sed_edit for each case, and prints the most bytes that it held
  *
  * It is linked with --wrap for malloc, realloc and free. Where something is wrong it says so, with status 1.
  */
@@ -17,6 +18,7 @@
 #include "csed.h"
 
 #include <inttypes.h>
+#include <malloc.h>
 #include <pthread.h>
 #include <stdbool.h>
 #include <stdio.h>
@@ -42,6 +44,7 @@ struct answer {
 /* What the library asks for memory, where it is counted: only while one thread runs. */
 static bool counts;
 static long requests, live, refused_request;
+static size_t held, most_held;
 
 void *__real_malloc(size_t size);
 void *__real_realloc(void *block, size_t size);
@@ -51,23 +54,45 @@ static bool is_refused(void) {
     return counts && ++requests == refused_request;
 }
 
+static void take(void *block) {
+    if (!counts || !block) return;
+    live++;
+    held += malloc_usable_size(block);
+    if (held > most_held) most_held = held;
+}
+
+static void give_back(void *block) {
+    if (!counts || !block) return;
+    live--;
+    held -= malloc_usable_size(block);
+}
+
 void *__wrap_malloc(size_t size) {
     if (is_refused()) return NULL;
     void *block = __real_malloc(size);
-    if (counts && block) live++;
+    take(block);
     return block;
 }
 
 void *__wrap_realloc(void *block, size_t size) {
     if (is_refused()) return NULL;
+    give_back(block);
     void *moved = __real_realloc(block, size);
-    if (counts && moved && !block) live++;
+    take(moved ? moved : block);
     return moved;
 }
 
 void __wrap_free(void *block) {
-    if (counts && block) live--;
+    give_back(block);
     __real_free(block);
+}
+
+/* Counts from here on. */
+static void count_from_zero(long refused) {
+    requests = live = 0;
+    held = most_held = 0;
+    refused_request = refused;
+    counts = true;
 }
 
 static void fail(const char *what, size_t number) {
@@ -159,10 +184,7 @@ static long refuse_each(const struct one_case *c, size_t number) {
     edit(c, &plain, number);
     long refused = 0;
     for (bool is_over = false; !is_over;) {
-        requests = 0;
-        live = 0;
-        refused_request = refused + 1;
-        counts = true;
+        count_from_zero(refused + 1);
         edit(c, &a, number);
         counts = false;
         is_over = requests < refused_request;
@@ -228,11 +250,22 @@ static void run_threads(const struct one_case *cases, size_t count, size_t threa
         pthread_join(handles[t], NULL);
         if (shares[t].differs) fail("a thread has another answer", 0);
     }
-    printf("%zu threads agree on %zu cases\n", threads, count);
+    printf("%zu at once agree on %zu cases\n", threads, count);
     for (size_t number = 0; number < count; number++) free(alone[number].output);
     free(alone);
     free(handles);
     free(shares);
+}
+
+static void take_memory(const struct one_case *cases, size_t count) {
+    for (size_t number = 0; number < count; number++) {
+        struct answer a = answer_for(&cases[number]);
+        count_from_zero(0);
+        edit(&cases[number], &a, number);
+        counts = false;
+        printf("%zu\n", most_held);
+        free(a.output);
+    }
 }
 
 static double seconds(void) {
@@ -267,6 +300,7 @@ int main(int argc, char **argv) {
     if (!strcmp(what, "threads")) run_threads(cases, count, (size_t)number, 0);
     if (!strcmp(what, "stack")) run_threads(cases, count, 1, (size_t)number * 1024);
     if (!strcmp(what, "time")) take_time(cases, count, number);
+    if (!strcmp(what, "memory")) take_memory(cases, count);
     for (size_t at = 0; at < count; at++) {
         free(cases[at].script);
         free(cases[at].input);

@@ -14,13 +14,14 @@
  * released: what a call allocates it frees before it returns.
  *
  * Memory. A call asks malloc and realloc of the C library (or of the allocator that stands for them), and gives back by
- * free. The three must be those of one allocator. A run takes 3 * space + look + 8 * queue + room bytes at most, and besides
- * what the script takes, which grows with its length and with nodes, not with the input.
+ * free. The three must be those of one allocator. A run asks for 3 * space + look + 8 * queue + room bytes, for searches
+ * 8 * space bytes more where the script has an expression and about 73 * nodes, and for what the script takes. None of it
+ * grows with the input.
  *
  * Threads. There is no state that calls share: any number of threads may call at once, each with its own output and report.
  * Don't call from a signal handler, or in the child of a fork of a process that has several threads.
  *
- * Stack. 256 KiB are enough for whatever script and input (the tests run in 128 KiB).
+ * Stack. 128 KiB are enough; the tests run in 64 KiB.
  */
 #ifndef CSED_H
 #define CSED_H

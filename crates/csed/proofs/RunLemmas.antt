@@ -1,11 +1,10 @@
 -- From what an edit's one sink gained to the bytes that a caller gets.
-use Rattle.std.proofs.Common.{◌≡◌, ◌≢◌, ◌≤◌, ◌+◌, ◌==◌, ℕ, zero, suc, Bool, true, false, List, [], ◌∷◌, Option, Some, None, Result, Err, if◌then◌else◌, length, take, nat_eq, refl, sym, ap, ◌∙◌, arith}
-use Rattle.std.specs.Prelude.{IfSome}
+use Rattle.std.proofs.Common.{◌≡◌, ◌≢◌, ◌≤◌, ◌+◌, ◌==◌, ℕ, zero, suc, true, false, List, [], ◌∷◌, Option, Some, None, Result, Err, if◌then◌else◌, length, take, nat_eq, refl, sym, ap, arith}
 use Rattle.sedscript.specs.Script.{Program}
 use Rattle.sedengine.specs.Limits.{Limits}
 use Rattle.sedengine.specs.State.{Setting, State}
 use Rattle.sedengine.specs.Move.{written, to_sink}
-use Rattle.sedengine.specs.Devices.{part, FillsSink, Gained, GainedWithin}
+use Rattle.sedengine.specs.Devices.{part, Gained, GainedWithin}
 use Rattle.sedengine.specs.Ends.{WholeOrCut, named_sink}
 use Rattle.sedengine.specs.Run.{setting_of}
 use Rattle.sedengine.specs.declared.ends.Ended.{Ended}

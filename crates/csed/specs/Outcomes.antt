@@ -1,7 +1,6 @@
--- What calls come to, before it is told in numbers. Private to this crate.
-use Rattle.std.specs.Prelude.{◌≡◌, ℕ, ℤ, pos, List, Option, Some, take, length}
+-- Private to this crate: what calls come to, before it is told in numbers.
+use Rattle.std.specs.Prelude.{◌≡◌, ℕ, ℤ, pos, List, Some, take, length}
 use Rattle.sedscript.specs.Script.{Faulty, Program}
-use Rattle.sedscript.specs.declared.types.ScriptFault.{ScriptFault}
 use Rattle.sedengine.specs.Limits.{Limits}
 use Rattle.sedengine.specs.Run.{setting_of}
 use Rattle.sedengine.specs.declared.ends.Ended.{Ended}

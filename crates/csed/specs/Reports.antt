@@ -1,5 +1,5 @@
 -- The numbers by which a call tells what it came to (this project's own).
-use Rattle.std.specs.Prelude.{ℕ, ℤ, pos}
+use Rattle.std.specs.Prelude.{ℕ}
 use Rattle.sedre.specs.Reasons.{number}
 use Rattle.sedscript.specs.declared.types.Reason.{Reason}
 use Rattle.sedscript.specs.declared.types.Reason.TheVariants.{Expression}

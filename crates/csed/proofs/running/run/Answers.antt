@@ -1,4 +1,4 @@
-use Rattle.std.proofs.Common.{rules, ◌≡◌, Some, Ok, [], length, ap}
+use Rattle.std.proofs.Common.{rules, Ok, [], length, ap}
 use Rattle.csed.proofs.RunLemmas.{Fits-room, Gains-written, Runs-to, Stops-as, Stops-early}
 use Rattle.csed.proofs.running.run.Goals as goal
 
