@@ -16,9 +16,6 @@ use sedre::{ByteSet, Expr, Steps};
 /// How many bytes a table tells in the time of one look ahead.
 const FAR: usize = 24;
 
-/// So many bytes' time may be spent on looks ahead beyond what was passed over.
-const SPARE: usize = 48;
-
 /// Up to three bytes.
 #[derive(Clone, Copy)]
 pub enum Few {
@@ -92,12 +89,11 @@ pub fn few_of(begins: &Begins) -> Option<Few>
     }
 }
 
-/// Whether a look ahead is worth its cost at a start before which so many bytes were passed over and so many looks were
-/// taken in vain. In a short text none is.
-fn is_worth(passed: usize, looks: usize, len: usize) -> bool
-    ensures { IsTrue result → 8 ≤ len }
+/// Whether so many bytes were passed over that one look ahead more than these is paid for by the time they saved.
+fn is_worth(passed: usize, looks: usize) -> bool
+    ensures { IsTrue result → 8 ≤ passed }
 {
-    len >= FAR && looks.saturating_mul(FAR) <= passed.saturating_add(SPARE)
+    passed / FAR > looks
 }
 
 /// The first place from `from` on at which a match can begin, by its first byte and, as long as that is rare, by what
@@ -124,7 +120,7 @@ fn few_place(
     let mut place = from;
     let mut looks = 0usize;
     while let Some(start) = text.find_few(few, place, steps) {
-        if !is_worth(start.saturating_sub(from), looks, text.len()) {
+        if !is_worth(start.saturating_sub(from), looks) {
             return Some((start, Lead::Unknown));
         }
         match look_ahead(expr, text, start, steps) {

@@ -41,8 +41,9 @@ returns-in_default-look_ahead-clause-sought c =
 pub returns-in_default-look_ahead-clause-cost : goal.returns-in_default-look_ahead-clause-cost
 returns-in_default-look_ahead-clause-cost c =
     let first = c.in-Some.ensures.first in
+    let inside = few_inside c.args.few.now c.args.text.now c.in-Some.start first.1 in
     look_step (length c.args.expr.now.nodes) (length c.args.text.now) c.args.from c.loop-start.place c.in-Some.start c.args.steps.now c.loop-start.steps c.find_few.new.steps
-    (omega arith) first.0 c.loop-start.invariant.cost (omega (arith, first.0, c.in-Some.ensures.cost)) c.look_ahead.new.steps (omega (arith, c.is_worth.ensures)) c.look_ahead.ensures.cost
+    (omega arith) first.0 c.loop-start.invariant.cost (omega (arith, first.0, c.in-Some.ensures.cost)) c.look_ahead.new.steps (omega (arith, c.is_worth.ensures, inside)) c.look_ahead.ensures.cost
 
 pub returns-clause-sought : goal.returns-clause-sought
 returns-clause-sought c =
