@@ -11,17 +11,14 @@ use Rattle.sedmatch.specs.declared.passes.Starts.{Starts}
 use Rattle.sedmatch.specs.declared.states.Ends.{Ends}
 use Rattle.sedmatch.specs.declared.tables.Table.{Table}
 use Rattle.sedmatch.specs.declared.region.Region.{Region}
-use Rattle.sedmatch.specs.declared.skip.Begins.{Begins}
-use Rattle.sedmatch.specs.Skip.{AllBegin, CanBegin}
 use Rattle.sedmatch.specs.Spans.{Spans, Found, NotFound, SomeFound}
 use Rattle.sedmatch.specs.Reach.{At, SomeSpan, OpenAt, TellBegun, Longest}
 use Rattle.sedmatch.specs.Search.{LastEnd, starts_to, IsRegion, IsEarliest}
 use Rattle.sedmatch.specs.States.{IsAt}
 use Rattle.sedmatch.specs.Tables.{StartsAre, starts_from}
-use Rattle.sedmatch.specs.Linear.{IsBound, NoneBefore}
+use Rattle.sedmatch.specs.Linear.{IsBound}
 use Rattle.sedmatch.proofs.SpanLemmas.{Spans-forward}
 use Rattle.sedmatch.proofs.RegionLemmas.{begun_restart, closed_at, closed_end, earliest_found}
-use Rattle.sedmatch.proofs.SweepLemmas.{missed_end, found_later}
 
 -- the steps: bytes that are followed, and one that is not
 pub line_step : (m k from place p s0 s1 s2 : ℕ) → 0 < m → place ≤ p → s1 + 42 * m * from ≤ s0 + k + 42 * m * place → s2 + 2 * place ≤ s1 + 2 * p + 32 * m + 10 →
