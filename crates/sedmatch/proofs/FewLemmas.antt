@@ -1,5 +1,5 @@
 -- A few bytes with which matches begin.
-use Rattle.std.proofs.Common.{◌≡◌, ℕ, ◌+◌, ◌-◌, ◌<◌, ◌≤◌, ◌⊎◌, ◌||◌, Bool, true, List, length, take, drop, Option, Some, None, refl, sym, ap, ◌∙◌, inl, inr, ⊎_elim, arith, length-drop}
+use Rattle.std.proofs.Common.{◌≡◌, ℕ, ◌+◌, ◌-◌, ◌<◌, ◌≤◌, ◌↔◌, ◌⊎◌, ◌||◌, Bool, true, List, length, take, drop, Option, Some, None, refl, sym, ap, subst, ◌∙◌, inl, inr, ⊎_elim, arith, length-drop}
 use Rattle.std.specs.Prelude.{slice_index, eqb, IfSome}
 use Rattle.std.proofs.lemmas.Bool.{eqb-true, eq-eqb, or_left, or_right, or_cases, cases_lt}
 use Rattle.std.proofs.lemmas.List.{take_rest, get_or-drop}
@@ -7,14 +7,15 @@ use Rattle.std.proofs.lemmas.Option.{slice_get_within, get_or_from_slice_get, sl
 use Rattle.memchr.specs.Find.{Passes, IsFirstByte, is_byte, is_byte2, is_byte3}
 use Rattle.sedre.specs.Tree.{Tree}
 use Rattle.sedmatch.specs.Spans.{Spans, NotFound, IsIn}
+use Rattle.sedmatch.specs.Bytes.{looked_at}
 use Rattle.sedmatch.specs.Ahead.{LeadsTo}
 use Rattle.sedmatch.specs.declared.ahead.Lead.{Lead}
 use Rattle.sedmatch.specs.Search.{NoneIn, Sought}
-use Rattle.sedmatch.specs.Skip.{AllBegin}
+use Rattle.sedmatch.specs.Skip.{AllBegin, EitherHas}
 use Rattle.sedmatch.specs.declared.skip.Begins.{Begins}
-use Rattle.sedmatch.specs.declared.skip.Begins.TheVariants.{WithByte, WithEither}
+use Rattle.sedmatch.specs.declared.skip.Begins.TheVariants.{WithByte, WithSet, WithEither}
 use Rattle.sedmatch.specs.declared.skip.Either.{Either}
-use Rattle.sedmatch.specs.Few.{HasFew, FewAt, FirstFew, IsFewOf, FewOf, HoldsAll, AllFew}
+use Rattle.sedmatch.specs.Few.{HasFew, FewAt, FirstFew, Gathered, AreMembers, AreBytes, IsFewOf, FewOf, AllFew}
 use Rattle.sedmatch.specs.declared.few.Few.{Few}
 use Rattle.sedmatch.specs.declared.few.Few.TheVariants.{One, Two, Three}
 
@@ -101,63 +102,104 @@ module _ (few : Few) (w rest : List ℕ) (p : ℕ) (from : p ≤ length w) (e : 
 pub few_inside : (few : Few) (w : List ℕ) (i : ℕ) → FewAt few w i → i < length w
 few_inside few w i at = slice_get_within w i at.0 at.1
 
--- the bytes of sets of one byte each
-pub in_two : (s : Either) (a b : ℕ) → ((c : ℕ) → IsIn c s.first → c ≡ a) → ((c : ℕ) → IsIn c s.second → c ≡ b) → ((c : ℕ) → IsIn c s.third → c ≡ a) → ((c : ℕ) → IsIn c s.fourth → c ≡ a) →
-    HoldsAll s (Two a b)
-in_two s a b first second third fourth c has =
-    ⊎_elim (λ (h : IsIn c s.first). inl (first c h))
-    (λ (more : IsIn c s.second ⊎ (IsIn c s.third ⊎ IsIn c s.fourth)).
-    ⊎_elim (λ (h : IsIn c s.second). inr (second c h))
-    (λ (last : IsIn c s.third ⊎ IsIn c s.fourth). ⊎_elim (λ (h : IsIn c s.third). inl (third c h)) (λ (h : IsIn c s.fourth). inl (fourth c h)) last) more) has
+-- the bytes looked at up to that place, or to the end
+pub few_looked : (few : Few) (w : List ℕ) (p s0 s1 : ℕ) (r : Option ℕ) → p ≤ length w → FirstFew few w p r → s1 ≡ s0 + looked_at (length w) p r → s1 + p ≤ s0 + (length w + 1)
+few_looked few w p s0 s1 None from none cost = omega (arith, cost)
+few_looked few w p s0 s1 (Some k) from first cost = let inside = few_inside few w k first.1 in omega (arith, first.0, inside, cost)
 
-pub in_three : (s : Either) (a b d : ℕ) → ((c : ℕ) → IsIn c s.first → c ≡ a) → ((c : ℕ) → IsIn c s.second → c ≡ b) → ((c : ℕ) → IsIn c s.third → c ≡ d) → ((c : ℕ) → IsIn c s.fourth → c ≡ a) →
-    HoldsAll s (Three a b d)
-in_three s a b d first second third fourth c has =
-    ⊎_elim (λ (h : IsIn c s.first). inl (first c h))
-    (λ (more : IsIn c s.second ⊎ (IsIn c s.third ⊎ IsIn c s.fourth)).
-    ⊎_elim (λ (h : IsIn c s.second). inr (inl (second c h)))
-    (λ (last : IsIn c s.third ⊎ IsIn c s.fourth). ⊎_elim (λ (h : IsIn c s.third). inr (inr (third c h))) (λ (h : IsIn c s.fourth). inl (fourth c h)) last) more) has
+-- the members of sets among the first bytes are those gathered
+abbrev pub AllGathered : Either → ℕ → Option Few → Type 0
+AllGathered sets n few = (c : ℕ) → Gathered few c ↔ ((c < n) × EitherHas sets c)
+
+pub gather_none : (sets : Either) → AllGathered sets 0 None
+gather_none sets c = ((λ h. absurd h), (λ h. absurd (omega (arith, h.0))))
+
+module _ (sets : Either) (n byte : ℕ) (few : Option Few) (same : byte ≡ n) (before : AllGathered sets n few) where
+  pub gather_more : (f : Few) → EitherHas sets byte → ((c : ℕ) → HasFew f c ↔ (Gathered few c ⊎ (c ≡ byte))) → AllGathered sets (n + 1) (Some f)
+  gather_more f has joins c = (
+    (λ h.
+        ⊎_elim
+        (λ (old : Gathered few c). let is = (before c).0 old in (omega (arith, is.0), is.1))
+        (λ (new : c ≡ byte). (omega arith, subst (EitherHas sets) (sym new) has))
+        ((joins c).0 h)),
+    (λ h.
+        ⊎_elim
+        (λ (lt : c < n). (joins c).1 (inl ((before c).1 (lt, h.1))))
+        (λ (ge : n ≤ c). (joins c).1 (inr (omega (arith, h.0))))
+        (cases_lt c n)),
+  )
+
+  pub gather_same : (EitherHas sets byte → ⊥) → AllGathered sets (n + 1) few
+  gather_same lacks c = (
+    (λ h. let is = (before c).0 h in (omega (arith, is.0), is.1)),
+    (λ h.
+        ⊎_elim
+        (λ (lt : c < n). (before c).1 (lt, h.1))
+        (λ (ge : n ≤ c). absurd (lacks (subst (EitherHas sets) (omega (arith, h.0)) h.1)))
+        (cases_lt c n)),
+  )
+
+pub gather_all : (sets : Either) (few : Option Few) → AllGathered sets 256 few → IfSome few (AreMembers sets)
+gather_all sets None all = tt
+gather_all sets (Some few) all = λ c small. ((λ h. ((all c).0 h).1), (λ h. (all c).1 (small, h)))
+
+-- one set in place of four
+abbrev pub four_times : List Bool → Either
+four_times s = record { first = s; second = s; third = s; fourth = s }
+
+one_set : (s : List Bool) (c : ℕ) → EitherHas (four_times s) c ↔ IsIn c s
+one_set s c = (
+  (λ h.
+      ⊎_elim (λ (first : IsIn c s). first)
+      (λ (more : IsIn c s ⊎ (IsIn c s ⊎ IsIn c s)). ⊎_elim (λ (second : IsIn c s). second) (λ (last : IsIn c s ⊎ IsIn c s). ⊎_elim (λ (third : IsIn c s). third) (λ (fourth : IsIn c s). fourth) last) more) h),
+  (λ h. inl h),
+)
+
+pub set_members : (s : List Bool) (r : Option Few) → IfSome r (AreMembers (four_times s)) → IfSome r (λ f. (c : ℕ) → c < 256 → HasFew f c ↔ IsIn c s)
+set_members s None are = tt
+set_members s (Some few) are = λ c small. ((λ h. (one_set s c).0 ((are c small).0 h)), (λ h. (are c small).1 ((one_set s c).1 h)))
 
 -- what begins so begins with one of the few
 pub few_byte : (b : ℕ) → IsFewOf (WithByte b) (One b)
-few_byte b w i can = (b, can, refl)
+few_byte b w bytes i can = (b, can, refl)
 
-pub few_either : (s : Either) (few : Few) → HoldsAll s few → IsFewOf (WithEither s) few
-few_either s few holds w i can = (can.0, can.1, holds can.0 can.2)
+pub few_sets : (s : Either) (r : Option Few) → IfSome r (AreMembers s) → FewOf (WithEither s) r
+few_sets s None are = tt
+few_sets s (Some few) are = λ w bytes i can. (can.0, can.1, (are can.0 (bytes i can.0 can.1)).1 can.2)
 
-pub few_sets : (s : Either) (r : Option Few) → IfSome r (λ f. HoldsAll s f) → FewOf (WithEither s) r
-few_sets s None holds = tt
-few_sets s (Some few) holds = few_either s few holds
+pub few_set : (s : List Bool) (r : Option Few) → IfSome r (λ f. (c : ℕ) → c < 256 → HasFew f c ↔ IsIn c s) → FewOf (WithSet s) r
+few_set s None are = tt
+few_set s (Some few) are = λ w bytes i can. (can.0, can.1, (are can.0 (bytes i can.0 can.1)).1 can.2)
 
 -- an expression that begins so
 pub all_few : (e : Tree) (begins : Begins) (few : Option Few) → AllBegin e begins → FewOf begins few → AllFew e few
 all_few e begins None all is = tt
-all_few e begins (Some few) all is = λ w i j s. is w i (all w i j s)
+all_few e begins (Some few) all is = λ w bytes i j s. is w bytes i (all w i j s)
 
--- no match begins before p, none where none of the few stands
-pub few_step : (e : Tree) (w : List ℕ) (from p start q : ℕ) (few : Few) → AllFew e (Some few) → ((i : ℕ) → p ≤ i → i < start → FewAt few w i → ⊥) →
-    NoneIn e w from p → NoneIn e w start q → NoneIn e w from q
-few_step e w from p start q few all passed before after i k low high s =
-    ⊎_elim
-    (λ (early : i < p). before i k low early s)
-    (λ (late : p ≤ i). ⊎_elim
-    (λ (lt : i < start). passed i late lt (all w i k s))
-    (λ (ge : start ≤ i). after i k ge high s)
-    (cases_lt i start))
-    (cases_lt i p)
+-- a text of bytes
+module _ (e : Tree) (w : List ℕ) (bytes : AreBytes w) (from p : ℕ) (few : Few) (all : AllFew e (Some few)) (before : NoneIn e w from p) where
+  -- no match begins before p, none where none of the few stands
+  pub few_step : (start q : ℕ) → ((i : ℕ) → p ≤ i → i < start → FewAt few w i → ⊥) → NoneIn e w start q → NoneIn e w from q
+  few_step start q passed after i k low high s =
+      ⊎_elim
+      (λ (early : i < p). before i k low early s)
+      (λ (late : p ≤ i). ⊎_elim
+      (λ (lt : i < start). passed i late lt (all w bytes i k s))
+      (λ (ge : start ≤ i). after i k ge high s)
+      (cases_lt i start))
+      (cases_lt i p)
 
--- none stands from p on
-pub few_nowhere : (e : Tree) (w : List ℕ) (from p : ℕ) (few : Few) → AllFew e (Some few) → FirstFew few w p None → NoneIn e w from p → NotFound e w from
-few_nowhere e w from p few all none before i k low within s =
-    ⊎_elim (λ (early : i < p). before i k low early s) (λ (late : p ≤ i). none i late (all w i k s)) (cases_lt i p)
+  -- none stands from p on
+  pub few_nowhere : FirstFew few w p None → NotFound e w from
+  few_nowhere none i k low within s =
+      ⊎_elim (λ (early : i < p). before i k low early s) (λ (late : p ≤ i). none i late (all w bytes i k s)) (cases_lt i p)
 
--- one stands at a place at which a match may begin
-pub few_sought : (e : Tree) (w : List ℕ) (from p start : ℕ) (few : Few) (lead : Lead) → AllFew e (Some few) → FirstFew few w p (Some start) → from ≤ p → NoneIn e w from p →
-    LeadsTo (length w) (Spans e w start) lead → Sought e w from (Some (start, lead))
-few_sought e w from p start few lead all first low before leads =
-    let inside = few_inside few w start first.1 in (
-      omega (arith, first.0),
-      omega (arith, inside),
-      few_step e w from p start start few all first.2 before (λ i k lo hi s. absurd (omega arith)),
-      leads,
-    )
+  -- one stands at a place at which a match may begin
+  pub few_sought : (start : ℕ) (lead : Lead) → FirstFew few w p (Some start) → from ≤ p → LeadsTo (length w) (Spans e w start) lead → Sought e w from (Some (start, lead))
+  few_sought start lead first low leads =
+      let inside = few_inside few w start first.1 in (
+        omega (arith, first.0),
+        omega (arith, inside),
+        few_step start start first.2 (λ i k lo hi s. absurd (omega arith)),
+        leads,
+      )

@@ -11,17 +11,14 @@ use Rattle.sedmatch.specs.declared.passes.Starts.{Starts}
 use Rattle.sedmatch.specs.declared.states.Ends.{Ends}
 use Rattle.sedmatch.specs.declared.tables.Table.{Table}
 use Rattle.sedmatch.specs.declared.region.Region.{Region}
-use Rattle.sedmatch.specs.declared.skip.Begins.{Begins}
-use Rattle.sedmatch.specs.Skip.{AllBegin, CanBegin}
 use Rattle.sedmatch.specs.Spans.{Spans, Found, NotFound, SomeFound}
 use Rattle.sedmatch.specs.Reach.{At, SomeSpan, OpenAt, TellBegun, Longest}
 use Rattle.sedmatch.specs.Search.{LastEnd, starts_to, IsRegion, IsEarliest}
 use Rattle.sedmatch.specs.States.{IsAt}
 use Rattle.sedmatch.specs.Tables.{StartsAre, starts_from}
-use Rattle.sedmatch.specs.Linear.{IsBound, NoneBefore}
+use Rattle.sedmatch.specs.Linear.{IsBound}
 use Rattle.sedmatch.proofs.SpanLemmas.{Spans-forward}
 use Rattle.sedmatch.proofs.RegionLemmas.{begun_restart, closed_at, closed_end, earliest_found}
-use Rattle.sedmatch.proofs.SweepLemmas.{missed_end, found_later}
 
 -- the steps: bytes that are followed, and one that is not
 pub line_step : (m k from place p s0 s1 s2 : ℕ) → 0 < m → place ≤ p → s1 + 42 * m * from ≤ s0 + k + 42 * m * place → s2 + 2 * place ≤ s1 + 2 * p + 32 * m + 10 →
@@ -167,24 +164,6 @@ span_long e w r i j first long = earliest_found e w r.start r i j (omega arith) 
 pub span_none : (e : Tree) (w : List ℕ) (r : Region) (i : ℕ) → IsEarliest e w r i → Longest e w i None → ⊥
 span_none e w r i first long = long first.some.0 first.some.1
 
--- where none can begin before, the first of the region is the first
-pub found_first : (e : Tree) (w : List ℕ) (from start i j : ℕ) (begins : Begins) → AllBegin e begins → from ≤ start → ((i : ℕ) → from ≤ i → i < start → CanBegin begins w i → ⊥) →
-    Found e w start i j → Found e w from i j
-found_first e w from start i j begins all low none found = found_later e w from start i j low (λ h k lo hi s. none h lo hi (all w h k s)) found
-
--- nowhere
-pub none_first : (e : Tree) (w : List ℕ) (from : ℕ) (begins : Begins) → AllBegin e begins → ((i : ℕ) → from ≤ i → i ≤ length w → CanBegin begins w i → ⊥) → NotFound e w from
-none_first e w from begins all none i k low within s = none i low within (all w i k s)
-
-pub none_second : (nodes : List Node) (w : List ℕ) (r from start : ℕ) (begins : Begins) → (r + 1 ≡ length nodes) → AllBegin (tree_at nodes (length nodes - 1)) begins →
-    ((i : ℕ) → from ≤ i → i < start → CanBegin begins w i → ⊥) → NoneBefore nodes w r start (length w + 1) → NotFound (tree_at nodes (length nodes - 1)) w from
-none_second nodes w r from start begins root all none before i k low within s =
-    let behind = missed_end nodes w r start (length w) root refl before in
-    ⊎_elim
-    (λ (lt : i < start). none i low lt (all w i k s))
-    (λ (ge : start ≤ i). behind i k ge (omega arith) s)
-    (cases_lt i start)
-
 -- the steps from a region on
 pub span_steps : (m start i bound n s0 s1 s2 : ℕ) → start ≤ i → s1 + 42 * m * start ≤ s0 + 38 * m + 42 * m * bound → s2 + 42 * m * i ≤ s1 + 38 * m + 42 * m * n →
     s2 + 84 * m * start ≤ s0 + 76 * m + 42 * m * bound + 42 * m * n
@@ -197,49 +176,6 @@ short_steps m start bound n s same low =
     let all = mul-le-mul_left (42 * m) low in
     let e = ap (λ v. 42 * m * v) same in
     omega (arith, all, e)
-
--- the steps of the whole
-module _ (m n from start p bound s0 s1 s2 s3 s4 : ℕ) (some : 0 < m) (low : start ≤ n) (high : bound ≤ n) (bounded : p ≤ bound) (ordered : start ≤ p)
-    (skip : s1 + from ≤ s0 + (start + 1)) (sweep : s2 + 42 * m * start ≤ s1 + 40 * m + 42 * m * p) (on : s3 + 42 * m * p ≤ s2 + 6 * m + 42 * m * bound)
-    (rest : s4 + 84 * m * start ≤ s3 + 76 * m + 42 * m * bound + 42 * m * n) where
-  pub all_steps : s4 ≤ s0 + 123 * m + 127 * m * n
-  all_steps =
-      let up = mul-le-mul_left (84 * m) high in
-      let one : 1 ≤ m = omega arith in
-      let places = mul-le-mul_left n one in
-      omega (arith, up, places)
-
-  pub linear_steps : s4 ≤ s0 + 128 * m * (n + 1)
-  linear_steps = let all = all_steps in omega (arith, all)
-
-  pub square_steps : (bound ≡ start → s4 ≡ s3) → s4 ≤ s0 + 64 * m * (n + 1) * (n + 1)
-  square_steps short =
-      let all = all_steps in
-      ⊎_elim
-      (λ (lt : 0 < n).
-      let one : 1 ≤ n = omega arith in
-      let a = mul-le-mul_left m one in
-      let b = mul-le-mul_left (m * n) one in
-      omega (arith, a, b, all))
-      (λ (ge : n ≤ 0).
-      let n_is : n ≡ 0 = omega arith in
-      let bound_is : bound ≡ 0 = omega arith in
-      let start_is : start ≡ 0 = omega arith in
-      let p_is : p ≡ 0 = omega arith in
-      let same = short (omega arith) in
-      let e1 = ap (λ v. 42 * m * v) bound_is in
-      let e2 = ap (λ v. 42 * m * v) start_is in
-      let e3 = ap (λ v. 42 * m * v) p_is in
-      let e4 = ap (λ v. 64 * m * (v + 1) * (v + 1)) n_is in
-      omega (arith, same, e1, e2, e3, e4))
-      (cases_lt 0 n)
-
--- the steps where there is no match
-pub none_steps : (m n from start s0 s1 s2 : ℕ) → 0 < m → start ≤ n → s1 + from ≤ s0 + (start + 1) → s2 + 42 * m * start ≤ s1 + 40 * m + 42 * m * n → s2 ≤ s0 + 41 * m + 43 * m * n
-none_steps m n from start s0 s1 s2 some low skip sweep =
-    let one : 1 ≤ m = omega arith in
-    let places = mul-le-mul_left n one in
-    omega (arith, places)
 
 -- a literal was sought before
 module _ (m n s0 s1 s2 : ℕ) (some : 0 < m) (sought : s1 ≤ s0 + n) where

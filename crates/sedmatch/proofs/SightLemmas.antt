@@ -8,30 +8,31 @@ use Rattle.sedre.specs.declared.types.Node.{Node}
 use Rattle.sedre.specs.declared.types.NodeId.{NodeId}
 use Rattle.sedre.specs.declared.types.Node.TheVariants.{Set, Seq}
 use Rattle.sedmatch.specs.Spans.{Spans, Found, NotFound, SomeFound, IsIn, no_copy}
-use Rattle.sedmatch.specs.Bytes.{FirstAt}
+use Rattle.sedmatch.specs.Few.{AreBytes, FirstFew}
+use Rattle.sedmatch.specs.declared.few.Few.{Few}
 use Rattle.sedmatch.specs.Reach.{At}
 use Rattle.sedmatch.specs.Skip.{CanBegin, NextStart}
 use Rattle.sedmatch.specs.declared.skip.Begins.TheVariants.{WithSet}
 use Rattle.sedmatch.specs.Runs.{AllRepeat, IsRun}
 use Rattle.sedmatch.specs.Sight.{IsFirst, StartsWith, SightSpans, IsSight, CanStart, FirstWith, FirstStart, EndsAt}
 use Rattle.sedmatch.specs.declared.sight.First.{First}
-use Rattle.sedmatch.specs.declared.sight.First.TheVariants.{Byte, Member}
+use Rattle.sedmatch.specs.declared.sight.First.TheVariants.{Among, Member}
 use Rattle.sedmatch.specs.declared.sight.Sight.{Sight}
 use Rattle.sedmatch.specs.declared.sight.Sight.TheVariants.{One, Run, Led}
 use Rattle.sedmatch.proofs.ReachLemmas.{open_at, close_at}
 use Rattle.sedmatch.proofs.RunLemmas.{run_far}
 use Rattle.sedmatch.proofs.SpanLemmas.{Copies-forward}
 
--- the only member of a set, and one of it
-pub first_sole : (members : List Bool) (b : ℕ) → IsIn b members → ((c : ℕ) → IsIn c members → c ≡ b) → (c : ℕ) → IsFirst (Byte b) c ↔ IsIn c members
-first_sole members b has sole c = ((λ (e : c ≡ b). subst (λ v. IsIn v members) (sym e) has), sole c)
+-- what comes first, where its bytes are those of the set
+abbrev pub AreFirst : First → List Bool → Type 0
+AreFirst first members = (c : ℕ) → c < 256 → IsFirst first c ↔ IsIn c members
 
 -- a span of a set
-set_spans : (members : List Bool) (first : First) → ((c : ℕ) → IsFirst first c ↔ IsIn c members) → (w : List ℕ) (i j : ℕ) →
+set_spans : (members : List Bool) (first : First) → AreFirst first members → (w : List ℕ) → AreBytes w → (i j : ℕ) →
     Spans (set members) w i j ↔ (StartsWith first w i × (j ≡ i + 1))
-set_spans members first same w i j = (
-  (λ s. ((s.0, s.1, (same s.0).1 s.2), s.3)),
-  (λ h. (h.0.0, h.0.1, (same h.0.0).0 h.0.2, h.1)),
+set_spans members first same w bytes i j = (
+  (λ s. ((s.0, s.1, (same s.0 (bytes i s.0 s.1)).1 s.2), s.3)),
+  (λ h. (h.0.0, h.0.1, (same h.0.0 (bytes i h.0.0 h.0.1)).0 h.0.2, h.1)),
 )
 
 module _ (nodes : List Node) (arena : IsArena nodes) (x last : ℕ) (whole : last ≡ x) where
@@ -42,35 +43,35 @@ module _ (nodes : List Node) (arena : IsArena nodes) (x last : ℕ) (whole : las
   from_node w i j at = subst (λ v. At nodes w v i j) (sym whole) at
 
   -- a set
-  pub sight_one : (members : List Bool) (first : First) → slice_get nodes x ≡ Some (Set members) → ((c : ℕ) → IsFirst first c ↔ IsIn c members) → IsSight (tree_at nodes last) (One first)
-  sight_one members first is same w i j =
-      let spans = set_spans members first same w i j in (
+  pub sight_one : (members : List Bool) (first : First) → slice_get nodes x ≡ Some (Set members) → AreFirst first members → IsSight (tree_at nodes last) (One first)
+  sight_one members first is same w bytes i j =
+      let spans = set_spans members first same w bytes i j in (
         (λ s. spans.0 (open_at nodes w x (Set members) arena is i j (to_node w i j s))),
         (λ h. from_node w i j (close_at nodes w x (Set members) arena is i j (spans.1 h))),
       )
 
   -- a run
   pub sight_run : (members : List Bool) → AllRepeat nodes x members → IsSight (tree_at nodes last) (Run members)
-  sight_run members repeats w i j = ((λ s. (repeats w i j).0 (to_node w i j s)), (λ h. from_node w i j ((repeats w i j).1 h)))
+  sight_run members repeats w bytes i j = ((λ s. (repeats w i j).0 (to_node w i j s)), (λ h. from_node w i j ((repeats w i j).1 h)))
 
   -- a byte of a set, and a run
   pub sight_led : (a b : NodeId) (these : List Bool) (first : First) (y : ℕ) (members : List Bool) → slice_get nodes x ≡ Some (Seq a b) → slice_get nodes a.index ≡ Some (Set these) → y ≡ b.index →
-      ((c : ℕ) → IsFirst first c ↔ IsIn c these) → AllRepeat nodes y members → IsSight (tree_at nodes last) (Led first members)
-  sight_led a b these first y members is there y_is same repeats w i j = (
+      AreFirst first these → AllRepeat nodes y members → IsSight (tree_at nodes last) (Led first members)
+  sight_led a b these first y members is there y_is same repeats w bytes i j = (
     (λ s.
         let f = open_at nodes w x (Seq a b) arena is i j (to_node w i j s) in
-        let h = (set_spans these first same w i f.0).0 (open_at nodes w a.index (Set these) arena there i f.0 f.1) in
+        let h = (set_spans these first same w bytes i f.0).0 (open_at nodes w a.index (Set these) arena there i f.0 f.1) in
         (h.0, (repeats w (i + 1) j).0 (subst (λ v. At nodes w v (i + 1) j) (sym y_is) (subst (λ v. At nodes w b.index v j) h.1 f.2)))),
     (λ h.
-        let left : At nodes w a.index i (i + 1) = close_at nodes w a.index (Set these) arena there i (i + 1) ((set_spans these first same w i (i + 1)).1 (h.0, refl)) in
+        let left : At nodes w a.index i (i + 1) = close_at nodes w a.index (Set these) arena there i (i + 1) ((set_spans these first same w bytes i (i + 1)).1 (h.0, refl)) in
         let right : At nodes w b.index (i + 1) j = subst (λ v. At nodes w v (i + 1) j) y_is ((repeats w (i + 1) j).1 h.1) in
         from_node w i j (close_at nodes w x (Seq a b) arena is i j (i + 1, left, right))),
   )
 
 -- the byte that is sought
-pub first_byte : (b : ℕ) (w : List ℕ) (p : ℕ) (r : Option ℕ) → FirstAt w b p r → FirstWith (Byte b) w p r
-first_byte b w p None none = λ k low starts. none k low (subst (λ v. slice_get w k ≡ Some v) starts.2 starts.1)
-first_byte b w p (Some k) first = (first.0, (b, first.1, refl), λ h low lt starts. first.2 h low lt (subst (λ v. slice_get w h ≡ Some v) starts.2 starts.1))
+pub first_few : (few : Few) (w : List ℕ) (p : ℕ) (r : Option ℕ) → FirstFew few w p r → FirstWith (Among few) w p r
+first_few few w p None none = none
+first_few few w p (Some k) first = first
 
 pub first_member : (s : List Bool) (w : List ℕ) (p : ℕ) (r : Option ℕ) → NextStart (WithSet s) w p r → IfSome r (λ k. CanBegin (WithSet s) w k) → FirstWith (Member s) w p r
 first_member s w p None none here = λ k low starts. none k low (let inside = slice_get_within w k starts.0 starts.1 in omega arith) starts
@@ -110,26 +111,26 @@ start_spans (One first) w i can = (i + 1, (can, refl))
 start_spans (Run members) w i can = (i, no_copy)
 start_spans (Led first members) w i can = (i + 1, (can, no_copy))
 
-module _ (e : Tree) (sight : Sight) (is : IsSight e sight) (w : List ℕ) (p : ℕ) where
+module _ (e : Tree) (sight : Sight) (is : IsSight e sight) (w : List ℕ) (bytes : AreBytes w) (p : ℕ) where
   pub sight_found : (i j : ℕ) → FirstStart sight w p (Some i) → EndsAt sight w i j → Found e w p i j
   sight_found i j start end = record {
     after = start.0;
-    spans = (is w i j).1 end.0;
-    longest = λ k s. end.2 k ((is w i k).0 s);
-    leftmost = λ h k low lt s. start.3 h low lt (spans_start sight w h k ((is w h k).0 s));
+    spans = (is w bytes i j).1 end.0;
+    longest = λ k s. end.2 k ((is w bytes i k).0 s);
+    leftmost = λ h k low lt s. start.3 h low lt (spans_start sight w h k ((is w bytes h k).0 s));
   }
 
   pub sight_some : (r : Option ℕ) → FirstStart sight w p r → IsTrue (is_some r) ↔ SomeFound e w p
   sight_some None none = (
     (λ h. absurd (true≢false (sym h))),
-    (λ some. absurd (none some.0 some.2 some.3 (spans_start sight w some.0 some.1 ((is w some.0 some.1).0 some.4)))),
+    (λ some. absurd (none some.0 some.2 some.3 (spans_start sight w some.0 some.1 ((is w bytes some.0 some.1).0 some.4)))),
   )
   sight_some (Some i) start =
       let span = start_spans sight w i start.2 in
-      ((λ h. (i, span.0, start.0, start.1, (is w i span.0).1 span.1)), (λ some. refl))
+      ((λ h. (i, span.0, start.0, start.1, (is w bytes i span.0).1 span.1)), (λ some. refl))
 
   pub sight_none : FirstStart sight w p None → NotFound e w p
-  sight_none none i k low within s = none i low within (spans_start sight w i k ((is w i k).0 s))
+  sight_none none i k low within s = none i low within (spans_start sight w i k ((is w bytes i k).0 s))
 
 ends_on : (sight : Sight) (w : List ℕ) (i j : ℕ) → SightSpans sight w i j → i ≤ j
 ends_on (One first) w i j s = omega (arith, s.1)

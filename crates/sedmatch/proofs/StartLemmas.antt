@@ -24,19 +24,19 @@ ended_after nodes w r start marks None within none = within
 ended_after nodes w r start marks (Some f) within told = told.0
 
 -- the steps to it, and those of the pass from there on
-pub some_steps : (m n from start p s0 s1 s2 : ℕ) → start ≤ n → start ≤ p → p ≤ n → s1 + 8 * m * from ≤ s0 + 8 * m * (start + 1) → s2 + 42 * m * start ≤ s1 + 40 * m + 42 * m * p →
-    s2 ≤ s0 + 48 * m + 42 * m * n
-some_steps m n from start p s0 s1 s2 low ordered high skip sweep =
+pub some_steps : (m n from start p s0 s1 s2 : ℕ) → 0 < m → start ≤ n → start ≤ p → p ≤ n → s1 + 8 * m * from ≤ s0 + 8 * m * start + m * n + 1 → s2 + 42 * m * start ≤ s1 + 40 * m + 42 * m * p →
+    s2 ≤ s0 + 41 * m + 43 * m * n
+some_steps m n from start p s0 s1 s2 some low ordered high skip sweep =
     let up = mul-le-mul_left (42 * m) high in
     omega (arith, up)
 
-pub seek_steps : (m n from start s0 s1 : ℕ) → start ≤ n → s1 + 8 * m * from ≤ s0 + 8 * m * (start + 1) → s1 ≤ s0 + 48 * m + 42 * m * n
-seek_steps m n from start s0 s1 low skip =
+pub seek_steps : (m n from start s0 s1 : ℕ) → 0 < m → start ≤ n → s1 + 8 * m * from ≤ s0 + 8 * m * start + m * n + 1 → s1 ≤ s0 + 41 * m + 43 * m * n
+seek_steps m n from start s0 s1 some low skip =
     let up = mul-le-mul_left (8 * m) low in
     omega (arith, up)
 
 -- a literal was sought before
-pub some_linear : (m n s0 s1 s2 : ℕ) → 0 < m → s1 ≤ s0 + n → s2 ≤ s1 + 48 * m + 42 * m * n → s2 ≤ s0 + 64 * m * (n + 1)
+pub some_linear : (m n s0 s1 s2 : ℕ) → 0 < m → s1 ≤ s0 + n → s2 ≤ s1 + 41 * m + 43 * m * n → s2 ≤ s0 + 64 * m * (n + 1)
 some_linear m n s0 s1 s2 some sought less =
     let one : 1 ≤ m = omega arith in
     let places = mul-le-mul_left n one in

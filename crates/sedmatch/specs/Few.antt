@@ -1,5 +1,5 @@
 -- Private to this crate: expressions whose matches begin with one of a few bytes.
-use Rattle.std.specs.Prelude.{◌≡◌, ◌⊎◌, ℕ, ◌<◌, ◌≤◌, List, slice_get, Option, Some, None}
+use Rattle.std.specs.Prelude.{◌≡◌, ◌⊎◌, ℕ, ◌<◌, ◌≤◌, ◌↔◌, List, slice_get, Option, Some, None}
 use Rattle.sedre.specs.Tree.{Tree}
 use Rattle.sedmatch.specs.Spans.{Spans}
 use Rattle.sedmatch.specs.Skip.{CanBegin, EitherHas}
@@ -23,20 +23,29 @@ abbrev pub FirstFew : Few → List ℕ → ℕ → Option ℕ → Type 0
 FirstFew few w p None = (k : ℕ) → p ≤ k → FewAt few w k → ⊥
 FirstFew few w p (Some k) = (p ≤ k) × FewAt few w k × ((h : ℕ) → p ≤ h → h < k → FewAt few w h → ⊥)
 
+-- one of those gathered so far
+abbrev pub Gathered : Option Few → ℕ → Type 0
+Gathered None c = ⊥
+Gathered (Some few) c = HasFew few c
+
+-- each byte is in one of the sets just where it is one of the few
+abbrev pub AreMembers : Either → Few → Type 0
+AreMembers sets few = (c : ℕ) → c < 256 → HasFew few c ↔ EitherHas sets c
+
+-- the text is of bytes
+abbrev pub AreBytes : List ℕ → Type 0
+AreBytes w = (i c : ℕ) → slice_get w i ≡ Some c → c < 256
+
 -- what begins so begins with one of the few
 abbrev pub IsFewOf : Begins → Few → Type 0
-IsFewOf begins few = (w : List ℕ) (i : ℕ) → CanBegin begins w i → FewAt few w i
+IsFewOf begins few = (w : List ℕ) → AreBytes w → (i : ℕ) → CanBegin begins w i → FewAt few w i
 
 -- the same, where they are known
 abbrev pub FewOf : Begins → Option Few → Type 0
 FewOf begins None = Unit {0}
 FewOf begins (Some few) = IsFewOf begins few
 
--- all members of the sets are among the few
-abbrev pub HoldsAll : Either → Few → Type 0
-HoldsAll sets few = (c : ℕ) → EitherHas sets c → HasFew few c
-
 -- all spans of the expression begin with one of the few, where they are known
 abbrev pub AllFew : Tree → Option Few → Type 0
 AllFew e None = Unit {0}
-AllFew e (Some few) = (w : List ℕ) (i j : ℕ) → Spans e w i j → FewAt few w i
+AllFew e (Some few) = (w : List ℕ) → AreBytes w → (i j : ℕ) → Spans e w i j → FewAt few w i

@@ -3,14 +3,15 @@ use Rattle.std.specs.Prelude.{◌≡◌, ℕ, ◌+◌, ◌<◌, ◌≤◌, ◌�
 use Rattle.sedre.specs.Tree.{Tree}
 use Rattle.sedmatch.specs.Spans.{Spans, IsIn}
 use Rattle.sedmatch.specs.Runs.{Repeated}
+use Rattle.sedmatch.specs.Few.{HasFew, AreBytes}
 use Rattle.sedmatch.specs.declared.sight.First.{First}
-use Rattle.sedmatch.specs.declared.sight.First.TheVariants.{Byte, Member}
+use Rattle.sedmatch.specs.declared.sight.First.TheVariants.{Among, Member}
 use Rattle.sedmatch.specs.declared.sight.Sight.{Sight}
 use Rattle.sedmatch.specs.declared.sight.Sight.TheVariants.{One, Run, Led}
 
 -- the byte can come first
 abbrev pub IsFirst : First → ℕ → Type 0
-IsFirst (Byte b) c = c ≡ b
+IsFirst (Among few) c = HasFew few c
 IsFirst (Member s) c = IsIn c s
 
 -- the byte at the place can come first
@@ -23,9 +24,9 @@ SightSpans (One first) w i j = StartsWith first w i × (j ≡ i + 1)
 SightSpans (Run members) w i j = Repeated members w i j
 SightSpans (Led first members) w i j = StartsWith first w i × Repeated members w (i + 1) j
 
--- the spans of the expression are these
+-- the spans of the expression in a text of bytes are these
 abbrev pub IsSight : Tree → Sight → Type 0
-IsSight e sight = (w : List ℕ) (i j : ℕ) → Spans e w i j ↔ SightSpans sight w i j
+IsSight e sight = (w : List ℕ) → AreBytes w → (i j : ℕ) → Spans e w i j ↔ SightSpans sight w i j
 
 -- the same, where it is known
 abbrev pub IsSightOf : Tree → Option Sight → Type 0

@@ -5,7 +5,7 @@ ghost use Rattle.std.specs.Prelude.{vec_len};
 ghost use Rattle.std.specs.Int.{bit_at};
 ghost use Rattle.std.specs.Prelude.{reverse};
 ghost use Rattle.sedmatch.specs.Bytes.{FirstAt, looked_at, in_order};
-ghost use Rattle.sedmatch.specs.Few.{FirstFew};
+ghost use Rattle.sedmatch.specs.Few.{AreBytes, FirstFew};
 ghost use Rattle.sedmatch.specs.Needed.{FirstLiteral, passed_to};
 ghost use Rattle.sedmatch.specs.Words.{marks_of};
 
@@ -44,6 +44,13 @@ impl<'a> Text<'a> {
         ensures { result ≡ length self.now }
     {
         self.bytes.len()
+    }
+
+    /// For proofs: it is of bytes.
+    pub(crate) fn are_bytes(&self)
+        ensures { AreBytes self.now }
+    {
+        all_bytes(self.bytes)
     }
 
     /// Its bytes as they are.
@@ -139,6 +146,13 @@ impl<'a> Text<'a> {
             }
         }
     }
+}
+
+/// For proofs: what a slice of bytes holds are bytes.
+fn all_bytes(bytes: &[u8])
+    ensures { AreBytes bytes.now }
+{
+    let _count = bytes.len();
 }
 
 /// The bytes of a text, as they are or from the last to the first, looked at by calls that count.

@@ -14,6 +14,7 @@
 #![tactic(auto)]
 
 mod ahead;
+mod anywhere;
 mod classes;
 mod counted;
 mod cuts;

@@ -5,22 +5,18 @@ ghost use Rattle.sedre.specs.Mirror.{seen, mirror};
 ghost use Rattle.sedre.specs.Tree.{Tree};
 ghost use Rattle.sedre.specs.declared.types.Node.{Node};
 ghost use Rattle.sedmatch.specs.Fits.{FitsNodes, SameMarks};
-ghost use Rattle.sedmatch.specs.Spans.{Spans, Found as IsFound, NotFound};
+ghost use Rattle.sedmatch.specs.Spans.{Found as IsFound};
 ghost use Rattle.sedmatch.specs.Reach.{At, SomeSpan};
 ghost use Rattle.sedmatch.specs.Search.{IsRegion, LastEnd, IsEarliest, starts_to};
-ghost use Rattle.sedmatch.specs.Skip.{AllBegin};
-ghost use Rattle.sedmatch.specs.Needed.{IsNeeded};
 ghost use Rattle.sedmatch.specs.States.{IsAt};
 ghost use Rattle.sedmatch.specs.Tables.{IsTable, NextIs, starts_from};
 ghost use Rattle.sedmatch.specs.Linear.{NoneBefore, IsFirstEnd, ended_to, IsBound};
 
 use crate::counted::{Bytes, Text};
-use crate::needed::{Needed, narrowed};
 use crate::passes::{Starts, advance};
 use crate::quick::longest_in;
 use crate::region::Region;
 use crate::scratch::Sets;
-use crate::skip::{Begins, next_start};
 use crate::states::Ends;
 use crate::tables::{Next, Table, first_state, follow, follow_past, go, settle, stay};
 use sedre::{Expr, Nodes, Steps};
@@ -507,7 +503,7 @@ fn bound_in(
 }
 
 /// The region that begins at `start`, whose last place is where the first match ends.
-fn region_by(
+pub fn region_by(
     expr: &Expr,
     root: usize,
     text: &Text,
@@ -594,7 +590,7 @@ fn earliest_by(
 }
 
 /// The leftmost-longest span among those that begin in the region.
-fn span_by(
+pub fn span_by(
     expr: &Expr,
     root: usize,
     text: &Text,
@@ -635,152 +631,4 @@ fn span_by(
         None => None,
         Some(end) => Some((start, end)),
     }
-}
-
-/// The leftmost-longest span of an expression that matches at the beginning of the text alone, by one pass from there.
-pub fn anchored_by(
-    expr: &Expr,
-    root: usize,
-    text: &Text,
-    from: usize,
-    single: &mut Table,
-    sets: &mut Sets,
-    steps: &mut Steps,
-) -> Option<(usize, usize)>
-    requires root { root + 1 ≡ length expr.now.nodes }
-    requires few { length expr.now.nodes ≤ 65536 }
-    requires short { length text.now ≤ 2 ^ 30 }
-    requires from { from ≤ length text.now }
-    requires begins { (i j : ℕ) → Spans (tree expr.now) text.now i j → i ≡ 0 }
-    requires single { IsTable expr.now.nodes root single.old }
-    requires single_sweeps { single.old.sweeps ≡ false }
-    requires fits { FitsNodes (length expr.now.nodes) sets.old }
-    requires room { steps.old < 2 ^ 110 }
-    ensures single { IsTable expr.now.nodes root single.new }
-    ensures single_sweeps { single.new.sweeps ≡ false }
-    ensures marks { SameMarks sets.old sets.new }
-    ensures found { IfSome result (λ f. IsFound (tree expr.now) text.now from f.0 f.1) }
-    ensures none { IfNone result (NotFound (tree expr.now) text.now from) }
-    ensures lies { IfSome result (λ f. (f.0 ≤ f.1) × (f.1 ≤ length text.now)) }
-    ensures grows { steps.old ≤ steps.new }
-    ensures cost { let m = length expr.now.nodes in steps.new ≤ steps.old + 38 * m + 42 * m * length text.now }
-{
-    if from > 0 {
-        return None;
-    }
-    match longest_in(expr, root, text, from, single, sets, steps) {
-        None => None,
-        Some(end) => Some((from, end)),
-    }
-}
-
-/// The leftmost-longest span that begins at `from` or later.
-pub fn leftmost_by(
-    expr: &Expr,
-    root: usize,
-    begins: &Begins,
-    needed: &Option<Needed>,
-    text: &Text,
-    from: usize,
-    every: &mut Table,
-    single: &mut Table,
-    back: &mut Table,
-    sets: &mut Sets,
-    steps: &mut Steps,
-) -> Option<(usize, usize)>
-    requires root { root + 1 ≡ length expr.now.nodes }
-    requires few { length expr.now.nodes ≤ 65536 }
-    requires short { length text.now ≤ 2 ^ 30 }
-    requires from { from ≤ length text.now }
-    requires begins { AllBegin (tree expr.now) begins.now }
-    requires needed { IsNeeded (tree expr.now) needed.now }
-    requires every { IsTable expr.now.nodes root every.old }
-    requires every_sweeps { IsTrue every.old.sweeps }
-    requires single { IsTable expr.now.nodes root single.old }
-    requires single_sweeps { single.old.sweeps ≡ false }
-    requires back { IsTable (seen true expr.now).nodes root back.old }
-    requires back_sweeps { IsTrue back.old.sweeps }
-    requires fits { FitsNodes (length expr.now.nodes) sets.old }
-    requires room { steps.old ≤ 2 ^ 100 }
-    ensures every { IsTable expr.now.nodes root every.new }
-    ensures every_sweeps { IsTrue every.new.sweeps }
-    ensures single { IsTable expr.now.nodes root single.new }
-    ensures single_sweeps { single.new.sweeps ≡ false }
-    ensures back { IsTable (seen true expr.now).nodes root back.new }
-    ensures back_sweeps { IsTrue back.new.sweeps }
-    ensures marks { SameMarks sets.old sets.new }
-    ensures found { IfSome result (λ f. IsFound (tree expr.now) text.now from f.0 f.1) }
-    ensures none { IfNone result (NotFound (tree expr.now) text.now from) }
-    ensures lies { IfSome result (λ f. (f.0 ≤ f.1) × (f.1 ≤ length text.now)) }
-    ensures grows { steps.old ≤ steps.new }
-    ensures cost { let m = length expr.now.nodes in let n = length text.now in
-        steps.new ≤ steps.old + 128 * m * (n + 1) }
-    ensures short_cost { let m = length expr.now.nodes in let n = length text.now in
-        steps.new ≤ steps.old + 64 * m * (n + 1) * (n + 1) }
-    ensures none_cost { let m = length expr.now.nodes in let n = length text.now in
-        IfNone result (steps.new ≤ steps.old + 64 * m * (n + 1)) }
-{
-    match begins {
-        Begins::AtStart => anchored_by(expr, root, text, from, single, sets, steps),
-        _ => match narrowed(needed, text, from, steps) {
-            None => None,
-            Some(start) => anywhere_by(
-                expr, root, begins, text, start, every, single, back, sets, steps,
-            ),
-        },
-    }
-}
-
-/// The same where matches may begin at any place.
-fn anywhere_by(
-    expr: &Expr,
-    root: usize,
-    begins: &Begins,
-    text: &Text,
-    from: usize,
-    every: &mut Table,
-    single: &mut Table,
-    back: &mut Table,
-    sets: &mut Sets,
-    steps: &mut Steps,
-) -> Option<(usize, usize)>
-    requires root { root + 1 ≡ length expr.now.nodes }
-    requires few { length expr.now.nodes ≤ 65536 }
-    requires short { length text.now ≤ 2 ^ 30 }
-    requires from { from ≤ length text.now }
-    requires begins { AllBegin (tree expr.now) begins.now }
-    requires every { IsTable expr.now.nodes root every.old }
-    requires every_sweeps { IsTrue every.old.sweeps }
-    requires single { IsTable expr.now.nodes root single.old }
-    requires single_sweeps { single.old.sweeps ≡ false }
-    requires back { IsTable (seen true expr.now).nodes root back.old }
-    requires back_sweeps { IsTrue back.old.sweeps }
-    requires fits { FitsNodes (length expr.now.nodes) sets.old }
-    requires room { steps.old ≤ 2 ^ 101 }
-    ensures every { IsTable expr.now.nodes root every.new }
-    ensures every_sweeps { IsTrue every.new.sweeps }
-    ensures single { IsTable expr.now.nodes root single.new }
-    ensures single_sweeps { single.new.sweeps ≡ false }
-    ensures back { IsTable (seen true expr.now).nodes root back.new }
-    ensures back_sweeps { IsTrue back.new.sweeps }
-    ensures marks { SameMarks sets.old sets.new }
-    ensures found { IfSome result (λ f. IsFound (tree expr.now) text.now from f.0 f.1) }
-    ensures none { IfNone result (NotFound (tree expr.now) text.now from) }
-    ensures lies { IfSome result (λ f. (f.0 ≤ f.1) × (f.1 ≤ length text.now)) }
-    ensures grows { steps.old ≤ steps.new }
-    ensures cost { let m = length expr.now.nodes in let n = length text.now in
-        steps.new ≤ steps.old + 123 * m + 127 * m * n }
-    ensures short_cost { let m = length expr.now.nodes in let n = length text.now in
-        steps.new ≤ steps.old + 64 * m * (n + 1) * (n + 1) }
-    ensures none_cost { let m = length expr.now.nodes in let n = length text.now in
-        IfNone result (steps.new ≤ steps.old + 41 * m + 43 * m * n) }
-{
-    let Some(start) = next_start(begins, text, from, steps) else {
-        return None;
-    };
-    let Some(first) = first_end_in(expr, root, text, start, every, sets, steps) else {
-        return None;
-    };
-    let region = region_by(expr, root, text, start, first, single, sets, steps);
-    span_by(expr, root, text, region, single, back, sets, steps)
 }

@@ -15,11 +15,12 @@ ghost use Rattle.sedmatch.specs.Parts.{SpanIn, span_of};
 ghost use Rattle.sedre.specs.Mirror.{seen};
 
 use crate::ahead::Lead;
+use crate::anywhere::{anchored_by, leftmost_by};
 use crate::classes::{Classes, find_classes};
 use crate::counted::{Bytes, Text};
 use crate::few::{Few, few_of, first_place};
 use crate::groups::report;
-use crate::linear::{anchored_by, first_end_in, leftmost_by};
+use crate::linear::first_end_in;
 use crate::matcher::{Found, find, find_span};
 use crate::needed::{Needed, find_needed, narrowed};
 use crate::scratch::{Scratch, Sets};
@@ -103,7 +104,7 @@ fn some_anywhere(
     ensures marks { SameMarks sets.old sets.new }
     ensures matches { IsTrue result ↔ SomeFound (tree expr.now) text.now from }
     ensures grows { steps.old ≤ steps.new }
-    ensures cost { let m = length expr.now.nodes in steps.new ≤ steps.old + 48 * m + 42 * m * length text.now }
+    ensures cost { let m = length expr.now.nodes in steps.new ≤ steps.old + 41 * m + 43 * m * length text.now }
 {
     match first_place(expr, begins, few, text, from, steps) {
         None => false,
@@ -219,6 +220,7 @@ fn find_by(
     root: usize,
     begins: &Begins,
     needed: &Option<Needed>,
+    few: &Option<Few>,
     text: &Text,
     from: usize,
     every: &mut Table,
@@ -234,6 +236,7 @@ fn find_by(
     requires expr_fits { length expr.now.nodes ≤ scratch.old.nodes }
     requires begins { AllBegin (tree expr.now) begins.now }
     requires needed { IsNeeded (tree expr.now) needed.now }
+    requires begins_few { AllFew (tree expr.now) few.now }
     requires every { IsTable expr.now.nodes root every.old }
     requires every_sweeps { IsTrue every.old.sweeps }
     requires single { IsTable expr.now.nodes root single.old }
@@ -266,7 +269,7 @@ fn find_by(
 {
     let sets = &mut scratch.sets;
     let (start, end) = leftmost_by(
-        expr, root, begins, needed, text, from, every, single, back, sets, steps,
+        expr, root, begins, needed, few, text, from, every, single, back, sets, steps,
     )?;
     let groups = report(
         expr,
@@ -488,6 +491,7 @@ impl TableMatcher {
             self.root,
             &self.begins,
             &self.needed,
+            &self.few,
             text,
             from,
             &mut self.every,
@@ -536,6 +540,7 @@ impl TableMatcher {
             self.root,
             &self.begins,
             &self.needed,
+            &self.few,
             text,
             from,
             &mut self.every,

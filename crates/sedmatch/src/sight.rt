@@ -9,6 +9,7 @@ ghost use Rattle.sedmatch.specs.Spans.{Found as IsFound, NotFound, SomeFound, Is
 ghost use Rattle.sedmatch.specs.Sight.{IsFirst, FirstWith, IsSight, CanStart, FirstStart, EndsAt};
 
 use crate::counted::Text;
+use crate::few::{Few, members_of};
 use crate::runs::{run_end, star_set};
 use crate::skip::find_member;
 use sedre::{ByteSet, Expr, Node, Steps};
@@ -16,8 +17,8 @@ use sedre::{ByteSet, Expr, Node, Steps};
 /// The byte that comes first in a match.
 #[derive(Clone, Copy)]
 pub enum First {
-    /// This one.
-    Byte(u8),
+    /// One of these few.
+    Among(Few),
     /// One of this set.
     Member(ByteSet),
 }
@@ -35,14 +36,10 @@ pub enum Sight {
 
 /// A member of a set, as it is sought.
 fn first_of(set: &ByteSet) -> First
-    ensures { (c : ℕ) → IsFirst result c ↔ IsIn c set.now }
+    ensures { (c : ℕ) → c < 256 → IsFirst result c ↔ IsIn c set.now }
 {
-    match set.sole() {
-        Some(byte) => if set.has(byte) {
-            First::Byte(byte)
-        } else {
-            First::Member(*set)
-        },
+    match members_of(set) {
+        Some(few) => First::Among(few),
         None => First::Member(*set),
     }
 }
@@ -82,7 +79,7 @@ fn find_first(first: &First, text: &Text, from: usize, steps: &mut Steps) -> Opt
     ensures cost { steps.new + from ≤ steps.old + (length text.now + 1) }
 {
     match first {
-        First::Byte(byte) => text.find_byte(*byte, from, steps),
+        First::Among(few) => text.find_few(few, from, steps),
         First::Member(set) => find_member(set, text, from, steps),
     }
 }
@@ -112,6 +109,7 @@ pub fn sight_matches(sight: &Sight, text: &Text, from: usize, steps: &mut Steps)
     ensures grows { steps.old ≤ steps.new }
     ensures cost { steps.new ≤ steps.old + 2 * (length text.now + 1) }
 {
+    text.are_bytes();
     sight_start(sight, text, from, steps).is_some()
 }
 
@@ -148,6 +146,7 @@ pub fn sight_span(
     ensures grows { steps.old ≤ steps.new }
     ensures cost { steps.new ≤ steps.old + 2 * (length text.now + 1) }
 {
+    text.are_bytes();
     match sight_start(sight, text, from, steps) {
         None => None,
         Some(start) => Some((start, sight_end(sight, text, start, steps))),

@@ -24,7 +24,7 @@ pub struct Either {
 
 impl Either {
     /// Whether the byte is in one of the sets.
-    fn has(&self, byte: u8) -> bool
+    pub fn has(&self, byte: u8) -> bool
         ensures { IsTrue result ↔ EitherHas self.now byte }
     {
         self.first.has(byte)

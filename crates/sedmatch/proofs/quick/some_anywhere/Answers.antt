@@ -1,4 +1,4 @@
-use Rattle.std.proofs.Common.{◌↔◌, length, IsTrue, sym, subst}
+use Rattle.std.proofs.Common.{◌↔◌, length, IsTrue, sym, subst, arith}
 use Rattle.sedre.specs.Arena.{tree}
 use Rattle.sedmatch.specs.Spans.{SomeFound}
 use Rattle.sedmatch.specs.Linear.{ended_to}
@@ -23,6 +23,6 @@ returns-in_default-clause-cost c =
     let sought = c.in-Some.ensures.sought in
     let first = c.first_end_in.result in
     some_steps (length c.args.expr.now.nodes) (length c.args.text.now) c.args.from c.in-Some.start (ended_to (length c.args.text.now) first) c.args.steps.now c.first_place.new.steps c.first_end_in.new.steps
-    sought.1 (ended_after c.args.expr.now.nodes c.args.text.now c.args.root c.in-Some.start c.first_end_in.new.sets.entered first sought.1 c.first_end_in.ensures.first)
+    (omega arith) sought.1 (ended_after c.args.expr.now.nodes c.args.text.now c.args.root c.in-Some.start c.first_end_in.new.sets.entered first sought.1 c.first_end_in.ensures.first)
     (ended_within c.args.expr.now.nodes c.args.text.now c.args.root c.in-Some.start c.first_end_in.new.sets.entered first c.first_end_in.ensures.first)
     c.in-Some.ensures.cost c.first_end_in.ensures.cost

@@ -1,7 +1,17 @@
 use Rattle.std.proofs.Common.{sym, subst}
 use Rattle.sedmatch.specs.Sight.{FirstWith}
-use Rattle.sedmatch.proofs.SightLemmas.{first_member}
+use Rattle.sedmatch.proofs.FewLemmas.{few_looked}
+use Rattle.sedmatch.proofs.SightLemmas.{first_few, first_member}
 use Rattle.sedmatch.proofs.sight.find_first.Goals as goal
+
+pub returns-in-Among-clause-first : goal.returns-in-Among-clause-first
+returns-in-Among-clause-first c =
+    subst (λ f. FirstWith f c.args.text.now c.args.from c.find_few.result) (sym c.in-Among.is)
+    (first_few c.in-Among.few c.args.text.now c.args.from c.find_few.result c.find_few.ensures.first)
+
+pub returns-in-Among-clause-cost : goal.returns-in-Among-clause-cost
+returns-in-Among-clause-cost c =
+    few_looked c.in-Among.few c.args.text.now c.args.from c.args.steps.now c.find_few.new.steps c.find_few.result c.requires.from c.find_few.ensures.first c.find_few.ensures.cost
 
 pub returns-in-Member-clause-first : goal.returns-in-Member-clause-first
 returns-in-Member-clause-first c =

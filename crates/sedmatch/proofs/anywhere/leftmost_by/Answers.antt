@@ -6,7 +6,7 @@ use Rattle.sedmatch.specs.Spans.{NotFound}
 use Rattle.sedmatch.proofs.LinearLemmas.{anchored_steps, none_linear, whole_linear, whole_square}
 use Rattle.sedmatch.proofs.NarrowLemmas.{none_then, not_before}
 use Rattle.sedmatch.proofs.SweepLemmas.{found_later}
-use Rattle.sedmatch.proofs.linear.leftmost_by.Goals as goal
+use Rattle.sedmatch.proofs.anywhere.leftmost_by.Goals as goal
 
 pub anchored_by-requires-clause-begins : goal.anchored_by-requires-clause-begins
 anchored_by-requires-clause-begins c i j s = subst (λ b. CanBegin b c.args.text.now i) c.in-AtStart.is (c.requires.begins c.args.text.now i j s)

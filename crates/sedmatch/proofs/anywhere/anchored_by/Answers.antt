@@ -1,7 +1,7 @@
 use Rattle.std.proofs.Common.{arith}
 use Rattle.sedre.specs.Arena.{tree}
 use Rattle.sedmatch.proofs.LinearLemmas.{anchored_found, anchored_none, anchored_later}
-use Rattle.sedmatch.proofs.linear.anchored_by.Goals as goal
+use Rattle.sedmatch.proofs.anywhere.anchored_by.Goals as goal
 
 pub returns-then-from-gt0-clause-none : goal.returns-then-from-gt0-clause-none
 returns-then-from-gt0-clause-none c = anchored_later (tree c.args.expr.now) c.args.text.now c.args.from (omega arith) c.requires.begins
