@@ -45,7 +45,7 @@ pub record IsNewlineAt (bytes : List ℕ) (i : ℕ) : Type 0 where
   pub before : before_first is_newline bytes ≡ take i bytes
   pub after : after_first is_newline bytes ≡ drop (i + 1) bytes
 
-position_cases : (bytes : List ℕ) (i : ℕ) → Some i ≡ cond (nat_lt (position_or_len is_newline bytes) (length bytes)) (Some (position_or_len is_newline bytes)) None → (i ≡ position_or_len is_newline bytes) × (i < length bytes)
+pub position_cases : (bytes : List ℕ) (i : ℕ) → Some i ≡ cond (nat_lt (position_or_len is_newline bytes) (length bytes)) (Some (position_or_len is_newline bytes)) None → (i ≡ position_or_len is_newline bytes) × (i < length bytes)
 position_cases bytes i e = grind (arith, nat_tests)
 
 newline_parts : (bytes : List ℕ) (i : ℕ) → i ≡ position_or_len is_newline bytes → i < length bytes → IsNewlineAt bytes i
@@ -79,7 +79,7 @@ line_through bytes i e =
     let all : bytes ++ 10 ∷ [] ≡ line ++ rest = ap (λ z. z ++ 10 ∷ []) n.parts ∙ append_assoc line (10 ∷ drop (i + 1) bytes) (10 ∷ []) in
     ap (take (i + 1)) all ∙ ap (λ k. take (k + 1) (line ++ rest)) long ∙ take-append-add line rest 1 ∙ ap (λ z. z ++ 10 ∷ []) (sym n.before)
 
-none_cases : (bytes : List ℕ) → None ≡ cond (nat_lt (position_or_len is_newline bytes) (length bytes)) (Some (position_or_len is_newline bytes)) None → length bytes ≤ position_or_len is_newline bytes
+pub none_cases : (bytes : List ℕ) → None ≡ cond (nat_lt (position_or_len is_newline bytes) (length bytes)) (Some (position_or_len is_newline bytes)) None → length bytes ≤ position_or_len is_newline bytes
 none_cases bytes e = grind (arith, nat_tests)
 
 pub newline_none : (bytes : List ℕ) → None ≡ position is_newline bytes → HasNoNewline bytes

@@ -1,5 +1,6 @@
 -- How a space holds its bytes: in a list that may be longer, with a newline behind them.
-use Rattle.std.specs.Prelude.{◌≡◌, ℕ, List, Some, take, drop, slice_get}
+use Rattle.std.specs.Prelude.{◌≡◌, ℕ, ◌-◌, ◌≤◌, List, Some, length, take, drop, slice_get}
+use Rattle.sedspace.specs.Lines.{HasNoNewline}
 
 -- the bytes from the front to the end
 abbrev pub between : ℕ → ℕ → List ℕ → List ℕ
@@ -8,3 +9,10 @@ between front end held = drop front (take end held)
 -- a newline stands at the end
 abbrev pub EndsAt : ℕ → List ℕ → Type 0
 EndsAt end held = slice_get held end ≡ Some 10
+
+-- the first so many bytes hold no newline, and neither do the last so many
+pub record IsClear (first last : ℕ) (bytes : List ℕ) : Type 0 where
+  pub first_within : first ≤ length bytes
+  pub last_within : last ≤ length bytes
+  pub first_clear : HasNoNewline (take first bytes)
+  pub last_clear : HasNoNewline (drop (length bytes - last) bytes)

@@ -275,7 +275,7 @@ impl<R: ByteSource> Lines<R> {
         let ahead = self.ahead();
         match newline_in(ahead) {
             Some(at) => {
-                space.append_first(ahead, at)?;
+                space.append_clear(ahead, at)?;
                 self.front += at + 1;
                 Ok(true)
             }

@@ -2,8 +2,10 @@
 //!
 //! The pattern space and the hold space of XCU sed are spaces. The contents stand from a front on, so that a line is
 //! cut off without moving what stands behind it, and a newline is kept behind them, so that they can be written with
-//! their newline at once. What stands behind that newline is left from longer contents, and is written over.
-ghost use Rattle.std.specs.Prelude.{◌≡◌, ◌==◌, ◌+◌, ◌-◌, ◌<◌, ◌≤◌, [], ◌∷◌, ◌++◌, length, IfOk, OnOk, OnErr, IfSome, IsTrue, Contains, ℕ, false, map, take, slice_get, slice_index_or, vec_len, vec_capacity};
+//! their newline at once. What stands behind that newline is left from longer contents, and is written over. A space
+//! knows of some bytes at its beginning and at its end that no newline is among them, so that `N`, `P` and `D` look at a
+//! line no second time.
+ghost use Rattle.std.specs.Prelude.{◌≡◌, ◌==◌, ◌+◌, ◌-◌, ◌<◌, ◌≤◌, [], ◌∷◌, ◌++◌, if◌then◌else◌, length, IfOk, OnOk, OnErr, IfSome, IsTrue, Contains, ℕ, false, map, nat_lt, position, take, slice_get, slice_index_or, vec_len, vec_capacity};
 ghost use Rattle.std.specs.List.{after_first, before_first};
 ghost use Rattle.std.specs.Io.KnownBytes.{Keeps};
 ghost use Rattle.sedspace.specs.Lines.{is_newline, HasNoNewline};
@@ -27,19 +29,24 @@ pub struct Space {
     // Where the newline stands.
     end: usize,
     most: usize,
+    // The first so many bytes hold no newline,
+    clear_first: usize,
+    // and the last so many.
+    clear_last: usize,
 }
 
 impl Model for Space {
     ghost use Rattle.std.specs.Prelude.{◌+◌, ◌<◌, ◌≤◌, vec_len, vec_capacity};
     ghost use Rattle.sedspace.specs.Spaces.{Contents};
-    ghost use Rattle.sedspace.specs.Ended.{EndsAt, between};
+    ghost use Rattle.sedspace.specs.Ended.{EndsAt, IsClear, between};
 
     ghost Value = { Contents };
 
     ghost view = { λ s. record { bytes = between s.front s.end s.held.items; limit = s.most } };
 
     ghost invariant = { λ s. (s.front ≤ s.end) × (s.end < vec_len s.held) × (vec_len s.held ≤ s.most + 1)
-        × (s.most < vec_capacity s.held) × EndsAt s.end s.held.items };
+        × (s.most < vec_capacity s.held) × EndsAt s.end s.held.items
+        × IsClear s.clear_first s.clear_last (between s.front s.end s.held.items) };
 }
 
 impl Space {
@@ -57,6 +64,8 @@ impl Space {
             front: 0,
             end: 0,
             most: limit,
+            clear_first: 0,
+            clear_last: 0,
         })
     }
 
@@ -103,9 +112,19 @@ impl Space {
         ensures value { result.now ≡ before_first is_newline self.now.bytes ++ 10 ∷ [] }
         ensures bound { length self.now.bytes ≤ self.now.limit }
     {
-        match newline_in(self.bytes()) {
+        match self.newline() {
             Some(at) => &self.line()[..at + 1],
             None => self.line(),
+        }
+    }
+
+    // The place of the first newline.
+    fn newline(&self) -> Option<usize>
+        ensures { result ≡ position is_newline self.now.bytes }
+    {
+        match newline_in(&self.bytes()[self.clear_first..]) {
+            Some(at) => Some(self.clear_first + at),
+            None => None,
         }
     }
 
@@ -115,6 +134,8 @@ impl Space {
     {
         self.front = 0;
         self.end = 0;
+        self.clear_first = 0;
+        self.clear_last = 0;
         end_line(&mut self.held, 0);
     }
 
@@ -124,6 +145,8 @@ impl Space {
     {
         if count < self.len() {
             self.end = self.front + count;
+            self.clear_first = self.clear_first.min(count);
+            self.clear_last = 0;
             end_line(&mut self.held, self.end);
         }
     }
@@ -139,7 +162,7 @@ impl Space {
     }
 
     /// Appends the first `count` bytes of the text. What the text holds behind them makes a short copy faster.
-    pub(crate) fn append_first(&mut self, text: &[u8], count: usize) -> Result<(), Full>
+    fn append_first(&mut self, text: &[u8], count: usize) -> Result<(), Full>
         requires { count ≤ length text.now }
         ensures ok { OnOk result (self.new ≡ record self.old { bytes = self.old.bytes ++ take count text.now }) }
         ensures fits { OnOk result (length self.old.bytes + count ≤ self.old.limit) }
@@ -149,12 +172,31 @@ impl Space {
         if self.most - self.len() < count {
             return Err(Full);
         }
-        if self.held.len() - self.end <= count {
-            let (front, end) = make_room(&mut self.held, self.front, self.end, self.most, count);
-            self.front = front;
-            self.end = end;
+        let (front, end) = put_behind(&mut self.held, self.front, self.end, self.most, text, count);
+        self.front = front;
+        self.end = end;
+        self.clear_last = 0;
+        Ok(())
+    }
+
+    /// The same for bytes without a newline.
+    pub(crate) fn append_clear(&mut self, text: &[u8], count: usize) -> Result<(), Full>
+        requires inside { count ≤ length text.now }
+        requires clear { HasNoNewline (take count text.now) }
+        ensures ok { OnOk result (self.new ≡ record self.old { bytes = self.old.bytes ++ take count text.now }) }
+        ensures fits { OnOk result (length self.old.bytes + count ≤ self.old.limit) }
+        ensures full { OnErr result (self.old.limit < length self.old.bytes + count) }
+        ensures err { OnErr result (self.new ≡ self.old) }
+    {
+        let len = self.len();
+        if self.most - len < count {
+            return Err(Full);
         }
-        self.end = put(&mut self.held, self.end, text, count);
+        let (front, end) = put_behind(&mut self.held, self.front, self.end, self.most, text, count);
+        self.front = front;
+        self.end = end;
+        self.clear_first = clear_with(self.clear_first, len, count);
+        self.clear_last += count;
         Ok(())
     }
 
@@ -187,6 +229,8 @@ impl Space {
         }
         grow(&mut self.held, bytes.len() + 1);
         self.front = 0;
+        self.clear_first = 0;
+        self.clear_last = 0;
         self.end = put(&mut self.held, 0, bytes, bytes.len());
         Ok(())
     }
@@ -198,9 +242,12 @@ impl Space {
             × (self.new ≡ record self.old { bytes = after_first is_newline self.old.bytes }) }
         ensures whole { result ≡ false → HasNoNewline self.old.bytes × (self.new ≡ self.old) }
     {
-        match newline_in(self.bytes()) {
+        match self.newline() {
             Some(at) => {
                 self.front += at + 1;
+                let rest = self.end - self.front;
+                self.clear_first = clear_of_rest(self.clear_last, rest);
+                self.clear_last = self.clear_last.min(rest);
                 true
             }
             None => false,
@@ -229,6 +276,8 @@ impl Space {
         let count = read_in(texts, number, offset, &mut self.held, most);
         self.front = 0;
         self.end = count;
+        self.clear_first = 0;
+        self.clear_last = 0;
         end_line(&mut self.held, count);
         count
     }
@@ -238,6 +287,8 @@ impl Space {
         requires { length table.now ≡ 256 }
         ensures { self.new ≡ record self.old { bytes = map (λ b. slice_index_or table.now b b) self.old.bytes } }
     {
+        self.clear_first = 0;
+        self.clear_last = 0;
         translate_between(&mut self.held, self.front, self.end, table);
     }
 
@@ -260,6 +311,52 @@ fn end_line(held: &mut Vec<u8>, end: usize)
     ensures capacity { vec_capacity held.old ≤ vec_capacity held.new }
 {
     held[end] = b'\n';
+}
+
+// How many of the first bytes hold no newline, with so many more behind all of them.
+fn clear_with(first: usize, len: usize, count: usize) -> usize
+    requires { len + count ≤ usize.MAX }
+    ensures { result ≡ if first == len then len + count else first }
+{
+    if first == len { len + count } else { first }
+}
+
+// How many of the first bytes hold no newline where the last so many bytes are left, of which `last` hold none.
+fn clear_of_rest(last: usize, rest: usize) -> usize
+    ensures { result ≡ if nat_lt last rest then 0 else rest }
+{
+    if last < rest { 0 } else { rest }
+}
+
+// Puts the first `count` bytes of the text behind the contents, and the newline behind them. Says where the contents then
+// begin and end.
+#[inline(always)]
+fn put_behind(
+    held: &mut Vec<u8>,
+    front: usize,
+    end: usize,
+    most: usize,
+    text: &[u8],
+    count: usize,
+) -> (usize, usize)
+    requires inside_text { count ≤ length text.now }
+    requires order { front ≤ end }
+    requires inside { end < vec_len held.old }
+    requires held_within { vec_len held.old ≤ most + 1 }
+    requires reserved { most < vec_capacity held.old }
+    requires fits { end - front + count ≤ most }
+    ensures bytes { between result.0 result.1 held.new.items ≡ between front end held.old.items ++ take count text.now }
+    ensures ended { EndsAt result.1 held.new.items }
+    ensures order { result.0 ≤ result.1 }
+    ensures inside { result.1 < vec_len held.new }
+    ensures within { vec_len held.new ≤ most + 1 }
+    ensures capacity { vec_capacity held.old ≤ vec_capacity held.new }
+{
+    if held.len() - end > count {
+        return (front, put(held, end, text, count));
+    }
+    let (front, end) = make_room(held, front, end, most, count);
+    (front, put(held, end, text, count))
 }
 
 // Puts the first `count` bytes of the text behind the first `end`, and the newline behind them. Says where that stands.

@@ -6,5 +6,5 @@ use Rattle.sedspace.proofs.space.Space.first_line.Goals as goal
 pub returns-in-Some-clause-value : goal.returns-in-Some-clause-value
 returns-in-Some-clause-value c =
     let bytes = c.args.self.now.bytes in
-    let found : Some c.in-Some.at ≡ position is_newline bytes = rw c.bytes.ensures.value at c.in-Some.ensures in
+    let found : Some c.in-Some.at ≡ position is_newline bytes = c.in-Some.ensures in
     rw c.line.ensures.value (line_through bytes c.in-Some.at found)
