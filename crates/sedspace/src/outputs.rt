@@ -18,6 +18,9 @@ pub trait Outputs {
     /// How often a sink failed, up to 2^64 - 1, where the number stays.
     ghost failures: { Self → ℕ → ℕ };
 
+    /// The names of the files among the sinks, which are those after the first, where it has any. No write changes them.
+    ghost names: { Self → List (List ℕ) };
+
     /// How many sinks there are.
     fn sinks(&self) -> usize
         ensures { result ≡ count self.now };
@@ -32,5 +35,6 @@ pub trait Outputs {
         ensures failed { FailsAtErr result (failures self.old sink) (failures self.new sink) }
         ensures others { (k : ℕ) → k ≢ sink → Keeps (contents self.old k) (contents self.new k) }
         ensures others_failed { (k : ℕ) → k ≢ sink → failures self.new k ≡ failures self.old k }
-        ensures sinks { count self.new ≡ count self.old };
+        ensures sinks { count self.new ≡ count self.old }
+        ensures same_names { names self.new ≡ names self.old };
 }

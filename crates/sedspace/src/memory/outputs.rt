@@ -1,5 +1,5 @@
 //! Outputs over memory.
-ghost use Rattle.std.specs.Prelude.{◌≡◌, ◌≢◌, ◌<◌, ℕ, Some, length, replicate, true, false, IfOk, IfSome, slice_get, slice_set};
+ghost use Rattle.std.specs.Prelude.{◌≡◌, ◌≢◌, ◌<◌, ℕ, [], Some, length, replicate, true, false, IfOk, IfSome, slice_get, slice_set};
 ghost use Rattle.std.specs.Option.{option_map};
 ghost use Rattle.std.specs.Io.{WritesAtMost};
 ghost use Rattle.std.specs.Io.KnownBytes.{WriteAppends};
@@ -186,6 +186,8 @@ impl Outputs for MemoryOutputs {
     ghost contents = { sink_bytes };
 
     ghost failures = { sink_failures };
+
+    ghost names = { λ _. [] };
 
     fn sinks(&self) -> usize {
         self.held.len()
