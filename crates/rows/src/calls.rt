@@ -246,7 +246,7 @@ fn sinks_of(alloc: Global, options: Options<'_>, most: usize) -> Option<MemorySi
 
 /// Whether the standard output has what it should, or begins so.
 fn compare_output(sinks: &MemorySinks, row: &Row, report: &mut Report) {
-    let written = bytes_of(sinks, 0);
+    let written = sinks.bytes(0);
     match row.options(4).value(b"output_begins") {
         Some(wanted) => compare_beginning("the output", written, wanted, report),
         None => report.compare("the output", written, row.field(2)),
@@ -260,7 +260,7 @@ fn compare_files(sinks: &MemorySinks, options: Options<'_>, report: &mut Report)
         if let Some(file) = option.as_slice().strip_prefix(b"w:") {
             sink = sink.saturating_add(1);
             let (_, wanted) = name_and_value(file);
-            report.compare("a file", bytes_of(sinks, sink), wanted);
+            report.compare("a file", sinks.bytes(sink), wanted);
         }
     }
     report.compare_numbers("files created", sinks.sinks() - 1, sink);
@@ -281,13 +281,4 @@ fn compare_errors(written: &[u8], options: Options<'_>, report: &mut Report) {
 fn compare_beginning(what: &str, written: &[u8], wanted: &[u8], report: &mut Report) {
     let count = wanted.len().min(written.len());
     report.compare(what, &written[..count], wanted);
-}
-
-/// What a sink holds, nothing where there is no such sink.
-fn bytes_of(sinks: &MemorySinks, sink: usize) -> &[u8] {
-    if sink < sinks.sinks() {
-        sinks.bytes(sink)
-    } else {
-        b""
-    }
 }

@@ -68,11 +68,12 @@ impl MemorySinks {
     /// The write of this number to the sink fails, counted from 1, a flush among them; those after it work again.
     pub fn fail_at(&mut self, sink: usize, write: u64)
         requires { sink < length self.old.outputs.held }
-        ensures { IfSome (slice_get self.old.outputs.held sink) (λ s. self.new ≡ record self.old {
+        ensures told { IfSome (slice_get self.old.outputs.held sink) (λ s. self.new ≡ record self.old {
           outputs = record self.old.outputs {
             held = slice_set self.old.outputs.held sink (record s { fails_at = Some write });
           };
         }) }
+        ensures created { self.new.created ≡ self.old.created }
     {
         self.outputs.fail_at(sink, write);
     }
@@ -87,11 +88,13 @@ impl MemorySinks {
         }
     }
 
-    /// What the sink holds; a file that wasn't created yet holds nothing.
+    /// What the sink holds; one that isn't there yet holds nothing.
     pub fn bytes(&self, sink: usize) -> &[u8]
-        requires { sink < length self.now.outputs.held }
         ensures { Some result.now ≡ contents_of self.now sink }
     {
+        if sink > self.created {
+            return &[];
+        }
         self.outputs.bytes(sink)
     }
 }
