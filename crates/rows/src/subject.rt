@@ -3,7 +3,9 @@
 use crate::report::Report;
 use crate::shape::Shape;
 use crate::table::Row;
-use crate::{cycles, delimiters, expressions, limits, lists, matches, readings, refusals, runs};
+use crate::{
+    calls, cycles, delimiters, expressions, limits, lists, matches, readings, refusals, runs,
+};
 use anyhow::{Result, bail};
 use std::alloc::Global;
 
@@ -28,10 +30,12 @@ pub(crate) enum Subject {
     Cycles,
     /// Limits of a run that are accepted or refused.
     Limits,
+    /// Calls of the program: what they write, and their status.
+    Calls,
 }
 
 /// The subjects and their names.
-const SUBJECTS: [(&str, Subject); 9] = [
+const SUBJECTS: [(&str, Subject); 10] = [
     ("expressions", Subject::Expressions),
     ("lists", Subject::Lists),
     ("delimiters", Subject::Delimiters),
@@ -41,6 +45,7 @@ const SUBJECTS: [(&str, Subject); 9] = [
     ("runs", Subject::Runs),
     ("cycles", Subject::Cycles),
     ("limits", Subject::Limits),
+    ("calls", Subject::Calls),
 ];
 
 impl Subject {
@@ -66,6 +71,7 @@ impl Subject {
             Subject::Runs => runs::SHAPE,
             Subject::Cycles => cycles::SHAPE,
             Subject::Limits => limits::SHAPE,
+            Subject::Calls => calls::SHAPE,
         }
     }
 
@@ -81,6 +87,7 @@ impl Subject {
             Subject::Runs => runs::run(alloc, row, report),
             Subject::Cycles => cycles::run(alloc, row, report),
             Subject::Limits => limits::run(row, report),
+            Subject::Calls => calls::run(alloc, row, report),
         }
     }
 }

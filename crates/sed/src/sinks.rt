@@ -16,14 +16,16 @@ pub(crate) struct FileSinks<'a> {
     rt: &'a HostRuntime,
     devices: &'a Devices,
     failures: Vec<u64>,
+    names: Vec<Vec<u8>>,
 }
 
 impl<'a> Model for FileSinks<'a> {
-    ghost use Rattle.std.specs.Prelude.{List, ℕ};
+    ghost use Rattle.std.specs.Prelude.{List, ℕ, map};
 
-    ghost Value = { List ℕ };
+    // How often each sink failed, and the names of the files.
+    ghost Value = { List ℕ × List (List ℕ) };
 
-    ghost view = { λ s. s.failures.items };
+    ghost view = { λ s. (s.failures.items, map (λ name. name.items) s.names.items) };
 }
 
 impl<'a> FileSinks<'a> {
@@ -32,12 +34,13 @@ impl<'a> FileSinks<'a> {
         rt: &'a HostRuntime,
         devices: &'a Devices,
     ) -> Result<FileSinks<'a>, AllocError>
-        ensures { IfOk result (λ sinks. sinks ≡ 0 ∷ []) }
+        ensures { IfOk result (λ sinks. sinks ≡ (0 ∷ [], [])) }
     {
         Ok(FileSinks {
             rt,
             devices,
             failures: vec![in rt.alloc(); 0]?,
+            names: Vec::new(rt.alloc()),
         })
     }
 
@@ -54,7 +57,7 @@ impl<'a> FileSinks<'a> {
 
     /// Writes out what is gathered for all sinks, and answers the first one where that failed.
     fn first_broken(&self) -> Option<usize>
-        ensures { IfSome result (λ k. k < length self.now) }
+        ensures { IfSome result (λ k. k < length self.now.0) }
     {
         let count = self.failures.len();
         let mut first = count;
@@ -68,19 +71,21 @@ impl<'a> FileSinks<'a> {
 
     /// Counts a failure of a sink.
     fn count_failure(&mut self, sink: usize)
-        requires { sink < length self.old }
-        ensures { self.new ≡ slice_set self.old sink (raised (unwrap_or (slice_get self.old sink) 0)) }
+        requires { sink < length self.old.0 }
+        ensures { self.new ≡ (slice_set self.old.0 sink (raised (unwrap_or (slice_get self.old.0 sink) 0)), self.old.1) }
     {
         self.failures[sink] = self.failures[sink].saturating_add(1);
     }
 }
 
 impl<'a> Outputs for FileSinks<'a> {
-    ghost count = { λ s. length s };
+    ghost count = { λ s. length s.0 };
 
     ghost contents = { λ _ _. None };
 
-    ghost failures = { λ s k. unwrap_or (slice_get s k) 0 };
+    ghost failures = { λ s k. unwrap_or (slice_get s.0 k) 0 };
+
+    ghost names = { λ s. s.1 };
 
     fn sinks(&self) -> usize {
         self.failures.len()
@@ -99,9 +104,13 @@ impl<'a> Sinks for FileSinks<'a> {
     ghost absent_is_empty = { λ _ _ _. tt };
 
     fn create(&mut self, name: &[u8]) -> bool {
-        if self.failures.reserve(1).is_err() || !self.add(name) {
+        let Ok(kept) = name.to_vec(self.rt.alloc()) else {
+            return false;
+        };
+        if self.names.reserve(1).is_err() || self.failures.reserve(1).is_err() || !self.add(name) {
             return false;
         }
+        self.names.push_reserved(kept);
         self.failures.push_reserved(0);
         true
     }

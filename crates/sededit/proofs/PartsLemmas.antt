@@ -1,5 +1,5 @@
 -- The parts of a script, put into order one after another.
-use Rattle.std.proofs.Common.{◌≡◌, ◌∙◌, ◌⊎◌, inl, inr, ◌<◌, ◌+◌, ◌&&◌, ◌||◌, ℕ, zero, suc, Bool, true, false, not, List, [], ◌∷◌, ◌++◌, Option, Some, None, drop, map, length, nat_lt, slice_get, take, unwrap_or, refl, sym, ap, arith, append_assoc, ◌≤◌}
+use Rattle.std.proofs.Common.{◌≡◌, ◌∙◌, ◌⊎◌, inl, inr, ◌<◌, ◌+◌, ◌&&◌, ◌||◌, ℕ, zero, suc, Bool, true, false, not, List, [], ◌∷◌, ◌++◌, Some, drop, map, length, nat_lt, slice_get, take, refl, sym, ap, arith, append_assoc, ◌≤◌}
 use Rattle.std.proofs.lemmas.Bool.{ltb-false}
 use Rattle.std.proofs.lemmas.List.{map-append}
 use Rattle.clap.specs.Words.{Text}

@@ -1,5 +1,6 @@
 -- From the end of an edit to the status of the program.
-use Rattle.std.proofs.Common.{◌≡◌, ◌∙◌, ℕ, Bool, true, false, List, [], Option, Some, Result, Ok, Err, take, refl, sym}
+use Rattle.std.proofs.Common.{◌≡◌, ◌∙◌, ◌+◌, ◌<◌, ◌∷◌, ◌++◌, ℕ, Bool, true, false, List, [], Option, Result, Ok, Err, take, map, length, get_or, refl, sym, ap}
+use Rattle.std.proofs.lemmas.List.{map_more, take-map}
 use Rattle.clap.specs.Words.{Text, kind_of, takes}
 use Rattle.clap.specs.declared.error.Error.{Error}
 use Rattle.clap.specs.declared.error.kind.ErrorKind.TheVariants.{DisplayHelp}
@@ -14,6 +15,13 @@ use Rattle.sededit.specs.CommandLine.{IsRefusal, sed_command}
 use Rattle.sededit.specs.Program.{AsksHelp, HasFailed, WritesHelp}
 use Rattle.sededit.specs.declared.asked.Refused.{Refused}
 use Rattle.sededit.specs.declared.asked.Refused.TheVariants.{NoMemory, Words}
+
+-- the next of some names
+pub next_name : {X : Type 0} (f : X → List ℕ) (xs : List X) (names : List (List ℕ)) (i : ℕ) (x : X) → map f xs ≡ names → i < length xs → x ≡ get_or xs i x →
+    take (i + 1) names ≡ take i names ++ f x ∷ []
+next_name f xs names i x are inside at =
+    let more : take (i + 1) names ≡ take i names ++ f (get_or xs i x) ∷ [] = rw (← are, take-map f (i + 1) xs, take-map f i xs) (map_more f xs i x inside) in
+    more ∙ ap (λ z. take i names ++ f z ∷ []) (sym at)
 
 -- what was written of a text before its sink failed is a text too
 pub WritesHelp-cut : (old new : ℕ → Option (List ℕ)) (text : List ℕ) (end : Ended) →

@@ -7,7 +7,7 @@ use Rattle.sedengine.specs.State.{State, Setting}
 use Rattle.sedengine.specs.Devices.{Gained}
 use Rattle.sedengine.specs.Ends.{WholeOrCut}
 use Rattle.sedengine.specs.declared.ends.Ended.{Ended}
-use Rattle.sedengine.specs.declared.ends.Ended.TheVariants.{Done, InputBroken, OutputBroken}
+use Rattle.sedengine.specs.declared.ends.Ended.TheVariants.{InputBroken, OutputBroken}
 use Rattle.std.specs.Option.{option_map}
 use Rattle.sededit.specs.Joined.{joined}
 use Rattle.sededit.specs.Opening.{KeepsFiles, WereRefused, contents}

@@ -46,3 +46,12 @@ abbrev pub all_of : List File → List ℕ → Current → List ℕ
 all_of files standard Nothing = []
 all_of files standard Standard = standard
 all_of files standard (Number k) = bytes_at files k
+
+-- files over memory that are named by numbers: the files, and the one of each number
+pub record NamedFiles : Type 0 where
+  pub files : List File
+  pub named : List Current
+
+-- the text of a number: the file that was named by it
+abbrev pub named_text : List File → List Current → ℕ → List ℕ
+named_text files named k = unwrap_or (option_map (all_of files []) (slice_get named k)) []

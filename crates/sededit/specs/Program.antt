@@ -56,20 +56,22 @@ abbrev pub texts_of : (List ℕ → Option (List ℕ)) → (ℕ → Option (List
 texts_of named others p k = option_map_or named (slice_get p.rfiles k) (others k)
 
 -- A line asks for the run of a script over an input, which may read these texts. What the files hold is told by `scripts`
--- for those of -f, by `ahead` for the operands, and by `named` for those that the script reads.
+-- for those of -f, by `ahead` for the operands, and by `named` for those that the script reads; `created` says which files
+-- were created, which are those that the script writes, in its order.
 abbrev pub RunsLine : (List ℕ → Option (Option (List ℕ))) → (List (List ℕ) → Option (List (Option (List ℕ)))) →
-    (List ℕ → Option (List ℕ)) → (ℕ → Option (List ℕ)) → ℕ → Line →
+    (List ℕ → Option (List ℕ)) → (ℕ → Option (List ℕ)) → ℕ → Line → (List (List ℕ) → Type 0) →
     (Program → Option (List ℕ) → (ℕ → Option (List ℕ)) → Type 0) → Type 0
-RunsLine scripts ahead named others nodes l P =
-    (p : Program) × GivesScript scripts l nodes p
+RunsLine scripts ahead named others nodes l created P =
+    (p : Program) × GivesScript scripts l nodes p × created p.wfiles
     × P p (input_of ahead (map string_bytes l.operands.items)) (texts_of named others p)
 
 -- the same for the words of a command line
 abbrev pub Runs : (List ℕ → Option (Option (List ℕ))) → (List (List ℕ) → Option (List (Option (List ℕ)))) →
-    (List ℕ → Option (List ℕ)) → (ℕ → Option (List ℕ)) → ℕ → List Text →
+    (List ℕ → Option (List ℕ)) → (ℕ → Option (List ℕ)) → ℕ → List Text → (List (List ℕ) → Type 0) →
     (Program → Option (List ℕ) → (ℕ → Option (List ℕ)) → Type 0) → Type 0
-Runs scripts ahead named others nodes words P =
-    IsCommandLine words × ((l : Line) × IsLine (matches_of sed_command words) l × RunsLine scripts ahead named others nodes l P)
+Runs scripts ahead named others nodes words created P =
+    IsCommandLine words
+    × ((l : Line) × IsLine (matches_of sed_command words) l × RunsLine scripts ahead named others nodes l created P)
 
 -- The sinks have gained all that a script writes over an input, where it and the texts are told.
 abbrev pub WritesAll : Program → Option (List ℕ) → (ℕ → Option (List ℕ)) → (List (ℕ × ℕ) → Type 0) → Type 0

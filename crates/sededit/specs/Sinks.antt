@@ -1,12 +1,21 @@
 -- Sinks that files are added to (XCU sed, "w wfile"). That a sink is empty before it is created is how contracts tell that
 -- it is created empty.
-use Rattle.std.specs.Prelude.{◌≡◌, ◌≤◌, ℕ, ◌+◌, Bool, true, false, Result, Ok, Err}
+use Rattle.std.specs.Prelude.{◌≡◌, ◌≤◌, ℕ, ◌+◌, Bool, true, false, List, [], ◌∷◌, ◌++◌, Result, Ok, Err}
 use Rattle.sedspace.specs.Failures.{Rose}
 
 -- a sink more where one was added
 abbrev pub AddsSink : Bool → ℕ → ℕ → Type 0
 AddsSink true old new = new ≡ old + 1
 AddsSink false old new = new ≡ old
+
+-- the name of a file more where one was added, the last
+abbrev pub AddsName : Bool → List ℕ → List (List ℕ) → List (List ℕ) → Type 0
+AddsName true name old new = new ≡ old ++ name ∷ []
+AddsName false name old new = new ≡ old
+
+-- files of these names were created in this order, after those that were there
+abbrev pub Creates : List (List ℕ) → List (List ℕ) → List (List ℕ) → Type 0
+Creates old new names = new ≡ old ++ names
 
 -- No sink failed at an Ok, and the one that an Err names did. No number of failures falls.
 abbrev pub FailsFlush : Result Unit ℕ → (ℕ → ℕ) → (ℕ → ℕ) → Type 0

@@ -71,6 +71,7 @@ pub fn edit<R: ByteSource, O: Outputs, T: Texts>(
     ensures failed { (k : ℕ) → result ≡ Ok (Ended.OutputBroken k) →
         Rose (O.failures outputs.old k) (O.failures outputs.new k) }
     ensures sinks { O.count outputs.new ≡ O.count outputs.old }
+    ensures names { O.names outputs.new ≡ O.names outputs.old }
     ensures same_reference { R.reference source.new ≡ R.reference source.old }
     // The texts are only read.
     ensures same_texts { (k : ℕ) → Keeps (T.text texts.old k) (T.text texts.new k) }

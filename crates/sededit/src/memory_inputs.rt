@@ -49,10 +49,10 @@ impl MemoryFile {
         MemoryFile { name, bytes }
     }
 
-    fn is_named(&self, name: &str) -> bool
+    fn is_named(&self, name: &[u8]) -> bool
         ensures { result ≡ bytes_eq self.now.name name.now }
     {
-        self.name.as_str() == name
+        self.name.as_bytes() == name
     }
 
     fn bytes(&self) -> &[u8]
@@ -63,7 +63,7 @@ impl MemoryFile {
 }
 
 // The number of the first file of this name.
-fn find(files: &[MemoryFile], name: &str) -> Option<usize>
+pub(crate) fn find(files: &[MemoryFile], name: &[u8]) -> Option<usize>
     ensures { MatchOption result (file_of files.now name.now ≡ None)
         (λ k. (k < length files.now) × (file_of files.now name.now ≡ Some (bytes_at files.now k))) }
 {
@@ -76,7 +76,7 @@ fn find(files: &[MemoryFile], name: &str) -> Option<usize>
 }
 
 // All bytes of the current file.
-fn all_of<'a>(files: &'a [MemoryFile], standard: &'a [u8], current: Current) -> &'a [u8]
+pub(crate) fn all_of<'a>(files: &'a [MemoryFile], standard: &'a [u8], current: Current) -> &'a [u8]
     ensures { result.now ≡ all_of files.now standard.now current }
 {
     match current {
@@ -196,7 +196,7 @@ impl MemoryInputs {
         } }
     {
         self.place = 0;
-        match find(self.files.as_slice(), name) {
+        match find(self.files.as_slice(), name.as_bytes()) {
             Some(k) => {
                 self.current = Current::Number(k);
                 true
@@ -265,7 +265,7 @@ impl Inputs for MemoryInputs {
     }
 
     fn whole(&mut self, alloc: Global, name: &str) -> Result<Option<Vec<u8>>, AllocError> {
-        match find(self.files.as_slice(), name) {
+        match find(self.files.as_slice(), name.as_bytes()) {
             Some(k) => {
                 let bytes = self.files[k].bytes().to_vec(alloc)?;
                 Ok(Some(bytes))

@@ -9,6 +9,7 @@ ghost use Rattle.clap.specs.Words.{kind_of};
 ghost use Rattle.sededit.specs.MemoryFiles.{dash};
 ghost use Rattle.sededit.specs.Program.{AsksHelp, HasFailed, HasFailures, Runs, RunsLine, SinkFailed, StopsEarly, WritesAll, WritesBeginning};
 ghost use Rattle.sededit.specs.Program.{WritesHelp, or_standard, texts_of};
+ghost use Rattle.sededit.specs.Sinks.{Creates};
 
 use crate::asked::{Line, Refused};
 use crate::command_line::line;
@@ -60,27 +61,27 @@ pub fn command<S: AsStr, I: Inputs, O: Sinks, N: Names, E: Write>(
     // and written.
     ensures whole { result ≡ SUCCESS →
         (Runs (I.text inputs.old) (I.ahead inputs.old) (N.file names.old) (N.text names.old) limits.nodes
-        (map S.text words.now)
+        (map S.text words.now) (Creates (O.names sinks.old) (O.names sinks.new))
         (λ p input texts. WritesAll p input texts (Gained (O.contents sinks.old) (O.contents sinks.new)))
         × (I.refusals inputs.new ≡ I.refusals inputs.old))
         ⊎ (AsksHelp (map S.text words.now) × WritesHelp (Gained (O.contents sinks.old) (O.contents sinks.new))) }
     // Status 2 says the same, and that a file couldn't be opened.
     ensures missed { result ≡ MISSED →
         Runs (I.text inputs.old) (I.ahead inputs.old) (N.file names.old) (N.text names.old) limits.nodes
-        (map S.text words.now)
+        (map S.text words.now) (Creates (O.names sinks.old) (O.names sinks.new))
         (λ p input texts. WritesAll p input texts (Gained (O.contents sinks.old) (O.contents sinks.new)))
         × Rose (I.refusals inputs.old) (I.refusals inputs.new) }
     // A run that stopped has written a beginning; where help was asked for, a text.
     ensures stopped { result ≡ STOPPED →
         Runs (I.text inputs.old) (I.ahead inputs.old) (N.file names.old) (N.text names.old) limits.nodes
-        (map S.text words.now)
+        (map S.text words.now) (Creates (O.names sinks.old) (O.names sinks.new))
         (λ p input texts. WritesBeginning p input texts (Gained (O.contents sinks.old) (O.contents sinks.new)))
         ⊎ (AsksHelp (map S.text words.now) × WritesHelp (Gained (O.contents sinks.old) (O.contents sinks.new))) }
     // It stopped for a cause, and a device that this cause names has failed in this call; or all was written, and some
     // sink failed when it was flushed; or a sink failed as help was written.
     ensures cause { result ≡ STOPPED →
         Runs (I.text inputs.old) (I.ahead inputs.old) (N.file names.old) (N.text names.old) limits.nodes
-        (map S.text words.now)
+        (map S.text words.now) (Creates (O.names sinks.old) (O.names sinks.new))
         (λ p input texts. StopsEarly limits p input texts (Gained (O.contents sinks.old) (O.contents sinks.new))
         (HasFailed (I.failures inputs.old) (I.failures inputs.new) (O.failures sinks.old) (O.failures sinks.new))
         ⊎ (WritesAll p input texts (Gained (O.contents sinks.old) (O.contents sinks.new))
@@ -94,56 +95,6 @@ pub fn command<S: AsStr, I: Inputs, O: Sinks, N: Names, E: Write>(
         Err(Refused::Words(error)) => answer_words(alloc, &error, sinks, errors),
         Err(Refused::NoMemory) => out_of_memory(errors),
     }
-}
-
-/// Runs what a line asks for over the files of these operands, its own or what stands for none.
-fn run_over<I: Inputs, O: Sinks, N: Names, E: Write>(
-    alloc: Global,
-    line: &Line,
-    operands: &[String],
-    limits: Limits,
-    inputs: &mut I,
-    sinks: &mut O,
-    names: &mut N,
-    errors: &mut E,
-) -> u8
-    requires operands { map string_bytes operands.now ≡ or_standard (map string_bytes line.now.operands.items) }
-    requires sinks { O.count sinks.old ≡ 1 }
-    requires names { N.named names.old ≡ 0 }
-    ensures status { (result ≡ SUCCESS) ⊎ ((result ≡ REFUSED) ⊎ ((result ≡ MISSED) ⊎ (result ≡ STOPPED))) }
-    ensures whole { result ≡ SUCCESS →
-        RunsLine (I.text inputs.old) (I.ahead inputs.old) (N.file names.old) (N.text names.old) limits.nodes line.now
-        (λ p input texts. WritesAll p input texts (Gained (O.contents sinks.old) (O.contents sinks.new)))
-        × (I.refusals inputs.new ≡ I.refusals inputs.old) }
-    ensures missed { result ≡ MISSED →
-        RunsLine (I.text inputs.old) (I.ahead inputs.old) (N.file names.old) (N.text names.old) limits.nodes line.now
-        (λ p input texts. WritesAll p input texts (Gained (O.contents sinks.old) (O.contents sinks.new)))
-        × Rose (I.refusals inputs.old) (I.refusals inputs.new) }
-    ensures stopped { result ≡ STOPPED →
-        RunsLine (I.text inputs.old) (I.ahead inputs.old) (N.file names.old) (N.text names.old) limits.nodes line.now
-        (λ p input texts. WritesBeginning p input texts (Gained (O.contents sinks.old) (O.contents sinks.new))) }
-    ensures cause { result ≡ STOPPED →
-        RunsLine (I.text inputs.old) (I.ahead inputs.old) (N.file names.old) (N.text names.old) limits.nodes line.now
-        (λ p input texts. StopsEarly limits p input texts (Gained (O.contents sinks.old) (O.contents sinks.new))
-        (HasFailed (I.failures inputs.old) (I.failures inputs.new) (O.failures sinks.old) (O.failures sinks.new))
-        ⊎ (WritesAll p input texts (Gained (O.contents sinks.old) (O.contents sinks.new))
-        × HasFailures (O.failures sinks.new))) }
-    ensures refused { result ≡ REFUSED → (k : ℕ) → O.contents sinks.new k ≡ O.contents sinks.old k }
-{
-    let script = match read_script(alloc, line, limits.nodes(), inputs) {
-        Ok(script) => script,
-        Err(refusal) => return refuse(refusal, errors),
-    };
-    if let Some(name) = create_files(&script, sinks) {
-        let _ = say_cannot_open(errors, name);
-        return REFUSED;
-    }
-    if let Err(AllocError) = name_files(&script, names) {
-        return out_of_memory(errors);
-    }
-    run(
-        alloc, script, operands, limits, inputs, sinks, names, errors,
-    )
 }
 
 /// Runs what a line asks for.
@@ -161,39 +112,44 @@ fn run_line<I: Inputs, O: Sinks, N: Names, E: Write>(
     ensures status { (result ≡ SUCCESS) ⊎ ((result ≡ REFUSED) ⊎ ((result ≡ MISSED) ⊎ (result ≡ STOPPED))) }
     ensures whole { result ≡ SUCCESS →
         RunsLine (I.text inputs.old) (I.ahead inputs.old) (N.file names.old) (N.text names.old) limits.nodes line.now
+        (Creates (O.names sinks.old) (O.names sinks.new))
         (λ p input texts. WritesAll p input texts (Gained (O.contents sinks.old) (O.contents sinks.new)))
         × (I.refusals inputs.new ≡ I.refusals inputs.old) }
     ensures missed { result ≡ MISSED →
         RunsLine (I.text inputs.old) (I.ahead inputs.old) (N.file names.old) (N.text names.old) limits.nodes line.now
+        (Creates (O.names sinks.old) (O.names sinks.new))
         (λ p input texts. WritesAll p input texts (Gained (O.contents sinks.old) (O.contents sinks.new)))
         × Rose (I.refusals inputs.old) (I.refusals inputs.new) }
     ensures stopped { result ≡ STOPPED →
         RunsLine (I.text inputs.old) (I.ahead inputs.old) (N.file names.old) (N.text names.old) limits.nodes line.now
+        (Creates (O.names sinks.old) (O.names sinks.new))
         (λ p input texts. WritesBeginning p input texts (Gained (O.contents sinks.old) (O.contents sinks.new))) }
     ensures cause { result ≡ STOPPED →
         RunsLine (I.text inputs.old) (I.ahead inputs.old) (N.file names.old) (N.text names.old) limits.nodes line.now
+        (Creates (O.names sinks.old) (O.names sinks.new))
         (λ p input texts. StopsEarly limits p input texts (Gained (O.contents sinks.old) (O.contents sinks.new))
         (HasFailed (I.failures inputs.old) (I.failures inputs.new) (O.failures sinks.old) (O.failures sinks.new))
         ⊎ (WritesAll p input texts (Gained (O.contents sinks.old) (O.contents sinks.new))
         × HasFailures (O.failures sinks.new))) }
     ensures refused { result ≡ REFUSED → (k : ℕ) → O.contents sinks.new k ≡ O.contents sinks.old k }
 {
-    if !line.operands.is_empty() {
-        let operands = line.operands.as_slice();
-        return run_over(alloc, line, operands, limits, inputs, sinks, names, errors);
-    }
-    let Ok(operands) = standard_input(alloc) else {
+    let Ok(standard) = standard_input(alloc) else {
         return out_of_memory(errors);
     };
-    run_over(
-        alloc,
-        line,
-        operands.as_slice(),
-        limits,
-        inputs,
-        sinks,
-        names,
-        errors,
+    let script = match read_script(alloc, line, limits.nodes(), inputs) {
+        Ok(script) => script,
+        Err(refusal) => return refuse(refusal, errors),
+    };
+    if let Some(name) = create_files(&script, sinks) {
+        let _ = say_cannot_open(errors, name);
+        return REFUSED;
+    }
+    if let Err(AllocError) = name_files(&script, names) {
+        return out_of_memory(errors);
+    }
+    let operands = operands_of(line, standard.as_slice());
+    run(
+        alloc, script, operands, limits, inputs, sinks, names, errors,
     )
 }
 
@@ -204,6 +160,18 @@ fn standard_input(alloc: Global) -> Result<Vec<String>, AllocError>
     let mut names = Vec::new(alloc);
     names.push(String::from_str(alloc, "-")?)?;
     Ok(names)
+}
+
+/// The files of a line's operands, or what stands for none.
+fn operands_of<'a>(line: &'a Line, standard: &'a [String]) -> &'a [String]
+    requires { map string_bytes standard.now ≡ dash ∷ [] }
+    ensures { map string_bytes result.now ≡ or_standard (map string_bytes line.now.operands.items) }
+{
+    if line.operands.is_empty() {
+        standard
+    } else {
+        line.operands.as_slice()
+    }
 }
 
 /// Writes what `clap` has to say: help to the standard output, anything else to the standard error.
@@ -267,6 +235,7 @@ fn write_all<O: Sinks>(sinks: &mut O, bytes: &[u8]) -> Result<(), Ended>
 fn create_files<'a, O: Sinks>(script: &'a Script, sinks: &mut O) -> Option<&'a [u8]>
     requires { O.count sinks.old ≡ 1 }
     ensures count { IsNone result → length script.entry.now.wfiles < O.count sinks.new }
+    ensures names { IsNone result → Creates (O.names sinks.old) (O.names sinks.new) script.entry.now.wfiles }
     ensures contents { (k : ℕ) → O.contents sinks.new k ≡ O.contents sinks.old k }
     ensures failed { (k : ℕ) → O.failures sinks.new k ≡ O.failures sinks.old k }
 {

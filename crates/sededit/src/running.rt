@@ -63,6 +63,7 @@ fn finish<O: Sinks, E: Write>(end: Ended, has_missed: bool, sinks: &mut O, error
         × HasFailures (O.failures sinks.new)) }
     ensures failures { (k : ℕ) → O.failures sinks.old k ≤ O.failures sinks.new k }
     ensures contents { (k : ℕ) → O.contents sinks.new k ≡ O.contents sinks.old k }
+    ensures names { O.names sinks.new ≡ O.names sinks.old }
 {
     match (end, sinks.flush()) {
         (Ended::Done, Ok(())) if has_missed => MISSED,
@@ -102,6 +103,7 @@ fn run_joined<I: Inputs, O: Sinks, T: Texts, E: Write>(
         (T.text texts.old) (Gained (O.contents sinks.old) (O.contents sinks.new))
         × HasFailures (O.failures sinks.new)) }
     ensures refused { result ≡ REFUSED → sinks.new ≡ sinks.old }
+    ensures names { O.names sinks.new ≡ O.names sinks.old }
     ensures same_reference { joined.new.start ∷ I.reference joined.new.inputs
         ≡ joined.old.start ∷ I.reference joined.old.inputs }
 {
@@ -144,6 +146,7 @@ pub(crate) fn run<I: Inputs, O: Sinks, T: Texts, E: Write>(
         (T.text texts.old) (Gained (O.contents sinks.old) (O.contents sinks.new))
         × HasFailures (O.failures sinks.new)) }
     ensures refused { result ≡ REFUSED → sinks.new ≡ sinks.old }
+    ensures names { O.names sinks.new ≡ O.names sinks.old }
 {
     let Ok(mut joined) = Joined::new(alloc, &mut *inputs, names) else {
         return out_of_memory(errors);

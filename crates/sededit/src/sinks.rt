@@ -1,6 +1,6 @@
 //! The files that a script writes, as sinks that are added to the standard output.
 ghost use Rattle.std.specs.Prelude.{◌≡◌, ◌+◌, ◌≤◌, ℕ, List, [], IfSome, OnErr, OnOk, IfErr};
-ghost use Rattle.sededit.specs.Sinks.{AddsSink, FailsFlush};
+ghost use Rattle.sededit.specs.Sinks.{AddsName, AddsSink, FailsFlush};
 
 use sedspace::Outputs;
 
@@ -9,6 +9,7 @@ pub trait Sinks: Outputs {
     /// Adds a sink, the last: the file of this name, created empty. `false` adds none.
     fn create(&mut self, name: &[u8]) -> bool
         ensures count { AddsSink result (Self.count self.old) (Self.count self.new) }
+        ensures names { AddsName result name.now (Self.names self.old) (Self.names self.new) }
         ensures contents { (k : ℕ) → Self.contents self.new k ≡ Self.contents self.old k }
         ensures failed { (k : ℕ) → Self.failures self.new k ≡ Self.failures self.old k };
 
@@ -16,6 +17,7 @@ pub trait Sinks: Outputs {
     /// raises that sink's number of failures by one.
     fn flush(&mut self) -> Result<(), usize>
         ensures count { Self.count self.new ≡ Self.count self.old }
+        ensures same_names { Self.names self.new ≡ Self.names self.old }
         ensures contents { (k : ℕ) → Self.contents self.new k ≡ Self.contents self.old k }
         ensures failed { FailsFlush result (Self.failures self.old) (Self.failures self.new) };
 

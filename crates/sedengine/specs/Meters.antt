@@ -37,12 +37,13 @@ Counts None new n = Unit {0}
 Counts (Some a) None n = ⊥
 Counts (Some a) (Some b) n = b ≡ a + n
 
--- What no write changes: how many sinks there are and how many counts, the limit, and which references hold the sinks
--- and the meter, so that their lender learns what became of them.
+-- What no write changes: how many sinks there are and how many counts, the limit, the names of the files among the sinks,
+-- and which references hold the sinks and the meter, so that their lender learns what became of them.
 pub record Frame : Type 0 where
   pub sinks : ℕ
   pub counts : ℕ
   pub most : Option ℕ
+  pub names : List (List ℕ)
   pub references : GName × GName
 
 -- the sinks: what each holds, where it tells, how often it failed, and how many bytes it has gained since the engine was

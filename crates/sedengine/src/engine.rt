@@ -97,6 +97,7 @@ impl Engine {
         ensures same_look { lines.new.look ≡ lines.old.look }
         ensures same_reference { R.reference lines.new.source ≡ R.reference lines.old.source }
         ensures same_count { O.count outputs.new ≡ O.count outputs.old }
+        ensures same_names { O.names outputs.new ≡ O.names outputs.old }
         ensures same_texts { (k : ℕ) → Keeps (T.text texts.old k) (T.text texts.new k) }
     {
         let mut sinks = Metered {
@@ -140,6 +141,7 @@ impl Engine {
         ensures same_look { lines.new.look ≡ lines.old.look }
         ensures same_reference { R.reference lines.new.source ≡ R.reference lines.old.source }
         ensures same_count { O.count outputs.new ≡ O.count outputs.old }
+        ensures same_names { O.names outputs.new ≡ O.names outputs.old }
         ensures same_texts { (k : ℕ) → Keeps (T.text texts.old k) (T.text texts.new k) }
     {
         let mut sinks = Metered {

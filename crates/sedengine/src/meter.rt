@@ -118,6 +118,7 @@ impl<'a, O: Outputs> Sinks for Metered<'a, O> {
         sinks = O.count m.outputs.now;
         counts = length m.meter.now.sent;
         most = m.meter.now.most;
+        names = O.names m.outputs.now;
         references = (m.outputs.ghost_name, m.meter.ghost_name);
       };
     } };

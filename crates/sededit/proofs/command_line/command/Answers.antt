@@ -1,4 +1,4 @@
-use Rattle.std.proofs.Common.{rules, ap, ap₂, ◌≡◌, ◌∙◌, codes}
+use Rattle.std.proofs.Common.{ap, ap₂, ◌≡◌, ◌∙◌, codes}
 use Rattle.clap.specs.Words.{app_of, new_app, with_rule}
 use Rattle.sededit.specs.CommandLine.{sed_command, without_name}
 use Rattle.sededit.proofs.command_line.command.Goals as goal

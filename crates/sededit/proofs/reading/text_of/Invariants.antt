@@ -1,4 +1,4 @@
-use Rattle.std.proofs.Common.{◌≡◌, ℕ, List, [], drop, map}
+use Rattle.std.proofs.Common.{ℕ, List, [], drop, map}
 use Rattle.sededit.specs.CommandLine.{given}
 use Rattle.sededit.specs.Program.{MakesText}
 use Rattle.sededit.specs.Reading.{OnlyReadsScripts}

@@ -1,0 +1,11 @@
+use Rattle.std.proofs.Common.{◌≡◌, ℕ, length}
+use Rattle.sedspace.specs.Memory.{sink_bytes, sink_failures}
+use Rattle.sededit.proofs.memory_sinks.flush_first.Given as goal
+
+-- nothing of the sinks has changed but how many writes came
+abbrev pub invariant-loop-sink : goal.invariant-loop-sink
+invariant-loop-sink l = record {
+  sinks : length l.outputs.held ≡ length l.fn.outputs.held;
+  kept : (k : ℕ) → sink_bytes l.outputs k ≡ sink_bytes l.fn.outputs k;
+  failed : (k : ℕ) → sink_failures l.outputs k ≡ sink_failures l.fn.outputs k;
+}

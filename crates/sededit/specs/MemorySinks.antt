@@ -1,0 +1,20 @@
+-- What contracts see of sinks over memory to which files are added.
+use Rattle.std.specs.Prelude.{ℕ, Bool, false, nat_lt, if◌then◌else◌, List, [], Option, Some, slice_get}
+use Rattle.std.specs.Option.{option_map_or}
+use Rattle.std.specs.Str.{bytes_eq}
+use Rattle.sedspace.specs.Memory.{Sinks, sink_bytes}
+
+-- sinks over memory: all that there can be, the names of the files among them (all but the first) in their order, and how
+-- many of these were created
+pub record SinkFiles : Type 0 where
+  pub outputs : Sinks
+  pub names : List (List ℕ)
+  pub created : ℕ
+
+-- what a sink holds: a file that wasn't created yet holds nothing
+abbrev pub contents_of : SinkFiles → ℕ → Option (List ℕ)
+contents_of s k = if nat_lt s.created k then Some [] else sink_bytes s.outputs k
+
+-- whether the file that can be created next has this name
+abbrev pub is_next : SinkFiles → List ℕ → Bool
+is_next s name = option_map_or (λ next. bytes_eq next name) (slice_get s.names s.created) false
