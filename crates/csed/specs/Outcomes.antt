@@ -1,4 +1,5 @@
--- Private to this crate: what calls come to, before it is told in numbers.
+-- Private to the proofs: no contract of a public item cites what stands here.
+-- What calls come to, before it is told in numbers.
 use Rattle.std.specs.Prelude.{◌≡◌, ℕ, ℤ, pos, List, Some, take, length}
 use Rattle.sedscript.specs.Script.{Faulty, Program}
 use Rattle.sedengine.specs.Limits.{Limits}

@@ -36,6 +36,8 @@ impl Outputs for StandardOutput {
 
     ghost failures = { λ o k. if k == 0 then sink_failures o.sinks 0 else 0 };
 
+    ghost names = { λ _. [] };
+
     fn sinks(&self) -> usize {
         1
     }

@@ -3,7 +3,8 @@
 //! * `-n`, `-E`: those of the command line
 //! * `space=`, `queue=`, `look=`, `turns=`, `nodes=`: the limits, without a word those of the program
 //! * `read=`: the most bytes of a read of the input; `fails=`: the read that fails, counted from 1
-//! * `room=`: the bytes that each sink takes before it fails; `refuses=`: the sink whose first write fails
+//! * `room=`: the bytes that each sink takes before it fails; `refuses=`: the sink of which a write
+//!   fails, the first or that of the number `write=`
 //! * `r:NAME=TEXT`, `w:NAME=TEXT`: the files that are read, and what those get that are written
 ghost use Rattle.std.specs.Prelude.{◌≡◌, ◌<◌, ◌≤◌, length, IfSome};
 
@@ -108,7 +109,8 @@ pub(crate) fn outputs_of(
         if sink >= outputs.sinks() {
             return None;
         }
-        outputs.fail_at(sink, 1);
+        let write = row.options(3).number_or(b"write", 1);
+        outputs.fail_at(sink, write as u64);
     }
     if script.wfiles().len() < outputs.sinks() {
         Some(outputs)

@@ -11,6 +11,7 @@ mod decoder;
 mod delimiters;
 mod engines;
 mod expressions;
+mod failing;
 mod faults;
 mod files;
 mod job;

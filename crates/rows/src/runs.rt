@@ -274,7 +274,7 @@ pub(crate) fn compare_sink(
 }
 
 /// The end that the options name.
-fn end_in(options: Options<'_>) -> &[u8] {
+pub(crate) fn end_in(options: Options<'_>) -> &[u8] {
     let mut end = b"F0".as_slice();
     for option in options.written {
         if option.starts_with(b"F") {
@@ -306,7 +306,7 @@ fn run_engine(alloc: Global, row: &Row, report: &mut Report) {
 }
 
 /// A cycle, and the rest of the run.
-fn end_of(
+pub(crate) fn end_of(
     engine: &mut Engine,
     lines: &mut Lines<MemorySource>,
     outputs: &mut MemoryOutputs,
@@ -322,7 +322,7 @@ fn end_of(
 }
 
 /// Whether the engine answers its end again, and reads nothing more.
-fn stays_at(
+pub(crate) fn stays_at(
     engine: &mut Engine,
     lines: &mut Lines<MemorySource>,
     outputs: &mut MemoryOutputs,

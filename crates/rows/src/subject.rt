@@ -4,7 +4,8 @@ use crate::report::Report;
 use crate::shape::Shape;
 use crate::table::Row;
 use crate::{
-    calls, cycles, delimiters, expressions, limits, lists, matches, readings, refusals, runs,
+    calls, cycles, delimiters, expressions, failing, limits, lists, matches, readings, refusals,
+    runs,
 };
 use anyhow::{Result, bail};
 use std::alloc::Global;
@@ -26,6 +27,8 @@ pub(crate) enum Subject {
     Readings,
     /// Scripts over inputs: what is written, and how the run ends.
     Runs,
+    /// Scripts over devices of which one call fails, the first, the second and so on.
+    Failing,
     /// One cycle of a script: what was taken from the input, and what is held.
     Cycles,
     /// Limits of a run that are accepted or refused.
@@ -35,7 +38,7 @@ pub(crate) enum Subject {
 }
 
 /// The subjects and their names.
-const SUBJECTS: [(&str, Subject); 10] = [
+const SUBJECTS: [(&str, Subject); 11] = [
     ("expressions", Subject::Expressions),
     ("lists", Subject::Lists),
     ("delimiters", Subject::Delimiters),
@@ -43,6 +46,7 @@ const SUBJECTS: [(&str, Subject); 10] = [
     ("refusals", Subject::Refusals),
     ("readings", Subject::Readings),
     ("runs", Subject::Runs),
+    ("failing", Subject::Failing),
     ("cycles", Subject::Cycles),
     ("limits", Subject::Limits),
     ("calls", Subject::Calls),
@@ -69,6 +73,7 @@ impl Subject {
             Subject::Refusals => refusals::shape_of(row),
             Subject::Readings => readings::SHAPE,
             Subject::Runs => runs::SHAPE,
+            Subject::Failing => failing::SHAPE,
             Subject::Cycles => cycles::SHAPE,
             Subject::Limits => limits::SHAPE,
             Subject::Calls => calls::SHAPE,
@@ -85,6 +90,7 @@ impl Subject {
             Subject::Refusals => refusals::run(alloc, row, report),
             Subject::Readings => readings::run(alloc, row, report),
             Subject::Runs => runs::run(alloc, row, report),
+            Subject::Failing => failing::run(alloc, row, report),
             Subject::Cycles => cycles::run(alloc, row, report),
             Subject::Limits => limits::run(row, report),
             Subject::Calls => calls::run(alloc, row, report),

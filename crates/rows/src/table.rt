@@ -25,6 +25,19 @@ impl Row {
         shape.has(self.fields.as_slice())
     }
 
+    /// The row with an option more. None for want of memory.
+    pub(crate) fn with(&self, alloc: Global, option: &[u8]) -> Option<Row> {
+        let mut fields = Vec::new(alloc);
+        for field in &self.fields {
+            fields.push(field.to_vec(alloc).ok()?).ok()?;
+        }
+        fields.push(option.to_vec(alloc).ok()?).ok()?;
+        Some(Row {
+            line: self.line,
+            fields,
+        })
+    }
+
     /// The field of a number, counted from 0.
     pub(crate) fn field(&self, k: usize) -> &[u8] {
         match self.fields.get(k) {

@@ -1,4 +1,5 @@
--- The parts of a script as they are put into order. Private machinery of the command line.
+-- Private to the proofs: no contract of a public item cites what stands here.
+-- The parts of a script as they are put into order.
 use Rattle.std.specs.Prelude.{ℕ, Bool, ◌&&◌, ◌||◌, not, List, map, length, nat_lt, slice_get, unwrap_or}
 use Rattle.std.specs.String.{string_bytes}
 use Rattle.sededit.specs.declared.parts.Uses.{Uses}

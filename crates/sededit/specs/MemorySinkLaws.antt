@@ -1,4 +1,5 @@
--- The law of sinks over memory that aren't there yet. Private machinery of these sinks.
+-- Private to the proofs: no contract of a public item cites what stands here.
+-- The law of sinks over memory that aren't there yet.
 use Rattle.std.specs.Prelude.{◌≡◌, ◌≤◌, ◌+◌, ℕ, [], IfSome}
 use Rattle.std.proofs.Common.{refl, arith}
 use Rattle.std.proofs.lemmas.Bool.{lt-ltb}

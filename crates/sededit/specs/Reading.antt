@@ -1,4 +1,5 @@
--- What reading the files of -f leaves as it is. Private machinery of the program.
+-- Private to the proofs: no contract of a public item cites what stands here.
+-- What reading the files of -f leaves as it is.
 use Rattle.std.specs.Prelude.{◌≡◌, ℕ, List, Option}
 use Rattle.std.specs.Io.KnownBytes.{Keeps}
 use Rattle.sededit.specs.Opening.{KeepsFiles}

@@ -1,4 +1,5 @@
--- Private to this crate: what calls that bring the next line into a space promise.
+-- Private to the proofs: no contract of a public item cites what stands here.
+-- What calls that bring the next line into a space promise.
 use Rattle.std.specs.Prelude.{◌≡◌, ℕ, false, ◌<◌, ◌≤◌, ◌+◌, Option, Result, Ok, Err, List, [], ◌∷◌, ◌++◌, length}
 use Rattle.sedspace.specs.Spaces.{Contents}
 use Rattle.sedspace.specs.Stream.{Stream, left, TakesAtMost}

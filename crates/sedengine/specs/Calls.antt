@@ -1,4 +1,5 @@
--- Private to this crate: what its calls do to the devices that they are given.
+-- Private to the proofs: no contract of a public item cites what stands here.
+-- What its calls do to the devices that they are given.
 use Rattle.std.specs.Prelude.{◌≡◌, ℕ, ◌≤◌, max, Option, Some, None, Result, Ok, Err, OnOk, List, length, take, slice_get}
 use Rattle.std.specs.Borrow.{GName}
 use Rattle.sedspace.specs.Stream.{Stream, TakesAtMost}

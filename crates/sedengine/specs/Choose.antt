@@ -1,3 +1,4 @@
+-- Private to the proofs: no contract of a public item cites what stands here.
 -- How addresses are judged: one address decides at a line, and the choice follows from whether it matches.
 use Rattle.std.specs.Prelude.{◌≡◌, ℕ, ◌+◌, Bool, true, false, not, Option, Some, None, List, [], ◌∷◌, nat_lt, nat_le, nat_eq, slice_set, Result, Ok, Err, if◌then◌else◌}
 use Rattle.sedscript.specs.declared.types.Address.{Address}

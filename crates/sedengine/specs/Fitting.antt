@@ -1,4 +1,5 @@
--- Private to this crate: what seeks the expressions of a script.
+-- Private to the proofs: no contract of a public item cites what stands here.
+-- What seeks the expressions of a script.
 use Rattle.std.specs.Prelude.{◌≡◌, ℕ, ◌≤◌, List, length}
 use Rattle.std.specs.List.{All}
 use Rattle.sedre.specs.Arena.{Written}

@@ -1,4 +1,5 @@
--- Private to this crate: what the calls that write the queue promise one another.
+-- Private to the proofs: no contract of a public item cites what stands here.
+-- What the calls that write the queue promise one another.
 use Rattle.std.specs.Prelude.{ℕ, List, Result, Ok, Err}
 use Rattle.sedengine.specs.Limits.{Limits}
 use Rattle.sedengine.specs.State.{State, Setting}

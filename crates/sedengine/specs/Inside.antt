@@ -1,4 +1,5 @@
--- Private to this crate: the fields of the machine, and what they stand for.
+-- Private to the proofs: no contract of a public item cites what stands here.
+-- The fields of the machine, and what they stand for.
 use Rattle.std.specs.Prelude.{◌≡◌, ℕ, ◌<◌, ◌≤◌, Bool, true, false, Option, Some, None, List, [], ◌∷◌, length, map, slice_get}
 use Rattle.sedscript.specs.declared.types.Command.{Command}
 use Rattle.sedscript.specs.declared.types.Action.{Action}

@@ -1,4 +1,5 @@
--- Private to this crate: a listing in the making, and what the calls that make it promise one another.
+-- Private to the proofs: no contract of a public item cites what stands here.
+-- A listing in the making, and what the calls that make it promise one another.
 use Rattle.std.specs.Prelude.{◌≡◌, ℕ, ◌+◌, List, [], ◌∷◌, ◌++◌, Bool, length, nat_lt, nat_le, not, ◌==◌, ◌&&◌, if◌then◌else◌}
 use Rattle.sedengine.specs.Move.{to_sink}
 use Rattle.sedengine.specs.Listing.{item, listed, listed_from, most_listed}

@@ -1,4 +1,5 @@
--- Private to this crate: what the engine's calls for the queue promise one another.
+-- Private to the proofs: no contract of a public item cites what stands here.
+-- What the engine's calls for the queue promise one another.
 use Rattle.std.specs.Prelude.{◌≡◌, ℕ, ◌<◌, Result, Ok, Err, [], ◌∷◌, ◌++◌, length}
 use Rattle.sedengine.specs.State.{Entry}
 use Rattle.sedengine.specs.Run.{Run}

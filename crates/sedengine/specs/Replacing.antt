@@ -1,4 +1,5 @@
--- Private to this crate: what the parts of a substitution tell.
+-- Private to the proofs: no contract of a public item cites what stands here.
+-- What the parts of a substitution tell.
 use Rattle.std.specs.Prelude.{◌≡◌, ℕ, ◌+◌, ◌-◌, ◌<◌, ◌≤◌, List, [], ◌∷◌, ◌++◌, length, drop, Bool, true, false}
 use Rattle.std.specs.Prelude.{Option, Some, None, Result, Ok, Err, if◌then◌else◌}
 use Rattle.sedre.specs.Arena.{Written, tree}

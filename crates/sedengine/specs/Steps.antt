@@ -1,4 +1,5 @@
--- Private to this crate: moves of the engine, and what its calls promise one another.
+-- Private to the proofs: no contract of a public item cites what stands here.
+-- Moves of the engine, and what its calls promise one another.
 use Rattle.std.specs.Prelude.{◌≡◌, ℕ, true, ◌+◌, ◌*◌, ◌-◌, ◌<◌, Bool, false, Option, Some, None, Result, Ok, Err, List, [], ◌∷◌, ◌++◌}
 use Rattle.sedspace.specs.Stream.{Stream, left, lines_left, TakesAtMost}
 use Rattle.sedscript.specs.declared.types.Command.{Command}

@@ -1,4 +1,5 @@
--- Private to this crate: what comes first in a match.
+-- Private to the proofs: no contract of a public item cites what stands here.
+-- What comes first in a match.
 use Rattle.std.specs.Prelude.{Bool, true, false, ◌≡◌, ℕ, ◌<◌, ◌≤◌, ◌↔◌, List, length}
 use Rattle.sedre.specs.declared.types.Node.{Node}
 use Rattle.sedmatch.specs.Reach.{At}

@@ -1,4 +1,5 @@
--- Private to this crate: where a copy of a part ends.
+-- Private to the proofs: no contract of a public item cites what stands here.
+-- Where a copy of a part ends.
 use Rattle.std.specs.Prelude.{◌<◌, ℕ, ◌≤◌, Option, Some, None}
 use Rattle.sedmatch.specs.Spans.{Copies}
 

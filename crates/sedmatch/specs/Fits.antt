@@ -1,4 +1,5 @@
--- Private to this crate: what fits into the room for a search.
+-- Private to the proofs: no contract of a public item cites what stands here.
+-- What fits into the room for a search.
 use Rattle.std.specs.Prelude.{◌≡◌, ℕ, ◌+◌, ◌*◌, ◌^◌, ◌<◌, ◌≤◌, [], length, vec_len, vec_capacity}
 use Rattle.sedmatch.specs.declared.scratch.Sets.{Sets}
 use Rattle.sedmatch.specs.declared.scratch.Notes.{Notes}

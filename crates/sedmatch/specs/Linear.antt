@@ -1,4 +1,5 @@
--- Private to this crate: what the passes by tables tell.
+-- Private to the proofs: no contract of a public item cites what stands here.
+-- What the passes by tables tell.
 use Rattle.std.specs.Prelude.{ℕ, ◌+◌, ◌<◌, ◌≤◌, Bool, List, length, Option, Some, None}
 use Rattle.sedre.specs.declared.types.Node.{Node}
 use Rattle.sedmatch.specs.declared.linear.FirstEnd.{FirstEnd}

@@ -1,4 +1,5 @@
--- Private to this crate: what a node's marks at a place are, given those of its parts.
+-- Private to the proofs: no contract of a public item cites what stands here.
+-- What a node's marks at a place are, given those of its parts.
 use Rattle.std.specs.Prelude.{◌<◌, ℕ, Bool, true, false, ◌&&◌, ◌||◌, List, slice_index_or, slice_set, Option, Some, None}
 use Rattle.sedre.specs.declared.types.Node.{Node}
 use Rattle.sedre.specs.declared.types.Node.TheVariants.{Empty, Set, Begin, End, Seq, Alt, Group, Star, Opt}

@@ -1,4 +1,5 @@
--- Private to this crate: an expression with its tables.
+-- Private to the proofs: no contract of a public item cites what stands here.
+-- An expression with its tables.
 use Rattle.std.specs.Prelude.{◌≡◌, ℕ, ◌+◌, true, false, length, IsTrue, Option}
 use Rattle.sedre.specs.Arena.{Written, tree}
 use Rattle.sedre.specs.Mirror.{seen}

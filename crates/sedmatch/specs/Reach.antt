@@ -1,4 +1,5 @@
--- Private to this crate: where the nodes of an expression can begin and end in a match from one of some starts.
+-- Private to the proofs: no contract of a public item cites what stands here.
+-- Where the nodes of an expression can begin and end in a match from one of some starts.
 use Rattle.std.specs.Prelude.{◌≡◌, ℕ, ◌+◌, ◌<◌, ◌≤◌, Bool, false, ◌⊎◌, ◌↔◌, List, slice_get, slice_index_or, Option, Some, None, IsTrue}
 use Rattle.sedre.specs.Tree.{Tree}
 use Rattle.sedmatch.specs.Spans.{Spans}

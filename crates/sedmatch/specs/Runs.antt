@@ -1,4 +1,5 @@
--- Private to this crate: what a match begins with where single bytes are repeated.
+-- Private to the proofs: no contract of a public item cites what stands here.
+-- What a match begins with where single bytes are repeated.
 use Rattle.std.specs.Prelude.{◌≡◌, ℕ, ◌<◌, ◌≤◌, ◌↔◌, Bool, List, length, slice_get, Some}
 use Rattle.sedre.specs.Tree.{set}
 use Rattle.sedre.specs.declared.types.Node.{Node}

@@ -1,4 +1,5 @@
--- Private to this crate: what the parts of a search tell.
+-- Private to the proofs: no contract of a public item cites what stands here.
+-- What the parts of a search tell.
 use Rattle.std.specs.Prelude.{◌≡◌, ℕ, ◌+◌, ◌<◌, ◌≤◌, Bool, List, length, Option, Some, None, IsTrue}
 use Rattle.sedre.specs.Tree.{Tree}
 use Rattle.sedmatch.specs.Spans.{Spans, NotFound}

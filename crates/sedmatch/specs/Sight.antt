@@ -1,4 +1,5 @@
--- Private to this crate: expressions whose matches are seen at the first look.
+-- Private to the proofs: no contract of a public item cites what stands here.
+-- Expressions whose matches are seen at the first look.
 use Rattle.std.specs.Prelude.{◌≡◌, ℕ, ◌+◌, ◌<◌, ◌≤◌, ◌↔◌, List, length, slice_get, Option, Some, None}
 use Rattle.sedre.specs.Tree.{Tree}
 use Rattle.sedmatch.specs.Spans.{Spans, IsIn}

@@ -1,4 +1,5 @@
--- Private to this crate: from which places a match can begin.
+-- Private to the proofs: no contract of a public item cites what stands here.
+-- From which places a match can begin.
 use Rattle.std.specs.Prelude.{Bool, ◌⊎◌, ◌≡◌, ℕ, ◌+◌, ◌<◌, ◌≤◌, List, length, slice_get, Option, Some, None}
 use Rattle.sedre.specs.Tree.{Tree}
 use Rattle.sedre.specs.declared.types.Node.{Node}

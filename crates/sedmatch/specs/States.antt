@@ -1,4 +1,5 @@
--- Private to this crate: what a state of a table tells of a place.
+-- Private to the proofs: no contract of a public item cites what stands here.
+-- What a state of a table tells of a place.
 use Rattle.std.specs.Prelude.{◌≡◌, ℕ, ◌<◌, ◌↔◌, Bool, List, length, IsTrue}
 use Rattle.sedre.specs.declared.types.Node.{Node}
 use Rattle.sedmatch.specs.declared.passes.Starts.{Starts}

@@ -1,4 +1,5 @@
--- Private to this crate: what is left to do while the groups of a match are decided.
+-- Private to the proofs: no contract of a public item cites what stands here.
+-- What is left to do while the groups of a match are decided.
 use Rattle.std.specs.Prelude.{◌≡◌, ℕ, ◌+◌, ◌-◌, ◌*◌, ◌<◌, ◌≤◌, Bool, false, if◌then◌else◌, List, [], ◌∷◌, ◌++◌, length, slice_set, Some, None}
 use Rattle.sedre.specs.Arena.{tree_at}
 use Rattle.sedre.specs.Tree.{Tree, empty, set, begin, end, seq, alt, group, star, opt, size}

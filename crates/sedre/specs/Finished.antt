@@ -1,4 +1,5 @@
--- What the reader answers at the end of a text: no caller sees it.
+-- Private to the proofs: no contract of a public item cites what stands here.
+-- What the reader answers at the end of a text.
 use Rattle.std.specs.Prelude.{◌≡◌, ◌≤◌, ◌<◌, ◌⊎◌, ℕ, length}
 use Rattle.sedre.specs.declared.types.Reason.TheVariants.{TooDeep, TooManyNodes}
 use Rattle.sedre.specs.declared.types.ExprFault.{ExprFault}

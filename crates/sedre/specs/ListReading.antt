@@ -1,4 +1,5 @@
--- What the reader of bracket expressions sees of what is left of a text. Private to it.
+-- Private to the proofs: no contract of a public item cites what stands here.
+-- What the reader of bracket expressions sees of what is left of a text.
 use Rattle.std.specs.Prelude.{ℕ, ◌+◌, List, [], ◌∷◌, drop, Bool, false, not, slice_index_or, ◌&&◌, ◌==◌, Option, Result}
 use Rattle.std.specs.Prelude.{Ok, Err, if◌then◌else◌}
 use Rattle.sedre.specs.Brackets.{item, single, range, Listing, is_negated}

@@ -1,3 +1,4 @@
+-- Private to the proofs: no contract of a public item cites what stands here.
 -- Nodes as numbers: what the table keeps of each, and the node that this stands for.
 use Rattle.std.specs.Prelude.{◌≡◌, ◌<◌, ◌≤◌, ℕ, ◌+◌, ◌-◌, List, [], ◌∷◌, ◌++◌, Bool, true, false, length, slice_get}
 use Rattle.std.specs.Prelude.{slice_index_or, Option, Some}

@@ -1,4 +1,5 @@
--- What the reader holds while it reads: no caller sees it.
+-- Private to the proofs: no contract of a public item cites what stands here.
+-- What the reader holds while it reads.
 use Rattle.std.specs.Prelude.{◌≡◌, ◌≢◌, ℕ, suc, ◌+◌, ◌-◌, ◌<◌, ◌≤◌, min, take, length, List, [], ◌∷◌, ◌++◌, Bool, true}
 use Rattle.std.specs.Prelude.{false, nat_lt, if◌then◌else◌}
 use Rattle.sedre.specs.declared.types.Node.{Node}

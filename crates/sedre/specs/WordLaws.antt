@@ -1,4 +1,5 @@
--- The words of a set are those that it was made of. Private to ByteSet.
+-- Private to the proofs: no contract of a public item cites what stands here.
+-- The words of a set are those that it was made of.
 use Rattle.std.specs.Prelude.{◌≡◌, ℕ, zero, suc, ◌+◌, ◌*◌, ◌/◌, ◌%◌, ◌^◌, ◌<◌, Bool, false, eqb, List, [], ◌∷◌}
 use Rattle.std.specs.Prelude.{slice_index_or, if◌then◌else◌}
 use Rattle.std.specs.Int.{bit_at}

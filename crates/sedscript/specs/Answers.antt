@@ -1,4 +1,5 @@
--- What the reader's functions answer, against the definitions. Private machinery of the reader.
+-- Private to the proofs: no contract of a public item cites what stands here.
+-- What the reader's functions answer, against the definitions.
 use Rattle.std.specs.Prelude.{◌≡◌, ◌≢◌, ◌<◌, ◌≤◌, ◌⊎◌, ℕ, List, ◌++◌, map, drop, length, Bool, true, false, Option}
 use Rattle.std.specs.Prelude.{if◌then◌else◌, Result, Ok, Err}
 use Rattle.std.specs.List.{range_with_len}

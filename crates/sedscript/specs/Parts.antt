@@ -1,4 +1,5 @@
--- The parts that a script is kept in. Private machinery of the reader.
+-- Private to the proofs: no contract of a public item cites what stands here.
+-- The parts that a script is kept in.
 use Rattle.std.specs.Prelude.{◌≡◌, ℕ, List, Bool, map}
 use Rattle.sedre.specs.Arena.{Written}
 use Rattle.sedscript.specs.declared.items.Item.{Item}

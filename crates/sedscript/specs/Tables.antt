@@ -1,4 +1,5 @@
--- The tables by which labels, blocks and files are found without searching anew. Private machinery of the reader.
+-- Private to the proofs: no contract of a public item cites what stands here.
+-- The tables by which labels, blocks and files are found without searching anew.
 use Rattle.std.specs.Prelude.{◌≡◌, ◌≤◌, ℕ, suc, ◌+◌, List, [], ◌∷◌, ◌++◌, length, Bool, true, false, not, ◌||◌, ◌==◌, Option}
 use Rattle.std.specs.Prelude.{Some, None, if◌then◌else◌, map, take, drop, slice_get}
 use Rattle.std.specs.Borrow.{Bor}

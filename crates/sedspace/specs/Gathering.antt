@@ -1,3 +1,4 @@
+-- Private to the proofs: no contract of a public item cites what stands here.
 -- How a line is gathered from several reads.
 use Rattle.std.specs.Prelude.{◌≡◌, ℕ, ◌+◌, ◌<◌, ◌≤◌, ◌⊎◌, true, List, [], ◌∷◌, ◌++◌, length, Option, Result, Ok, Err}
 use Rattle.std.specs.List.{before_first}
