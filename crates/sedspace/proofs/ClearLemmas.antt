@@ -1,5 +1,5 @@
 -- Bytes that are known to hold no newline.
-use Rattle.std.proofs.Common.{◌≡◌, ℕ, ◌+◌, ◌-◌, ◌<◌, ◌≤◌, List, ◌++◌, length, take, drop, Option, None, Some, sym, ap, ◌∙◌, arith, position, take-append-drop, not, if◌then◌else◌, min, length-append, length-drop, length-take, nat_lt, nat_eq, Bool, true, false, refl, ◌⊎◌, inl, inr, ◌≢◌, eqb}
+use Rattle.std.proofs.Common.{◌≡◌, ℕ, ◌+◌, ◌-◌, ◌<◌, ◌≤◌, List, ◌++◌, length, take, drop, get_or, get_or-take, Option, None, Some, sym, ap, ◌∙◌, arith, position, take-append-drop, not, if◌then◌else◌, min, length-append, length-drop, length-take, nat_lt, nat_eq, Bool, true, false, refl, ◌⊎◌, inl, inr, ◌≢◌, eqb}
 use Rattle.std.specs.List.{position_or_len}
 use Rattle.std.proofs.Math.Dec.{ltb}
 use Rattle.std.proofs.lemmas.Bool.{ltb-false}
@@ -130,6 +130,18 @@ newline_past bytes a at within none e =
     let low : a + at < length bytes = omega (arith, length-drop a bytes, both.1) in
     let here : a + at ≡ position_or_len is_newline bytes = omega (arith, place, both.0) in
     grind (arith, nat_tests)
+
+-- the first newline, where it stands behind bytes that hold none
+pub newline_at : (bytes : List ℕ) (a : ℕ) → a < length bytes → get_or bytes a 0 ≡ 10 → HasNoNewline (take a bytes) → Some a ≡ position is_newline bytes
+newline_at bytes a inside here none =
+    let at : position_or_len is_newline bytes ≡ a = position_or_len_is is_newline bytes a 0 (omega arith) (λ k l. none_before k l) (λ l. is_here) in
+    grind (arith, nat_tests)
+  where
+    is_here : is_newline (get_or bytes a 0) ≡ true
+    is_here = rw here refl
+
+    none_before : (k : ℕ) → k < a → is_newline (get_or bytes k 0) ≡ false
+    none_before k l = rw (get_or-take a bytes k 0 l) at (none k 0 (omega (arith, l, length-take-le a bytes (omega (arith, inside)))))
 
 pub no_newline_past : (bytes : List ℕ) (a : ℕ) → a ≤ length bytes → HasNoNewline (take a bytes) → None ≡ position is_newline (drop a bytes) → None ≡ position is_newline bytes
 no_newline_past bytes a within none e =

@@ -122,8 +122,14 @@ impl Space {
     fn newline(&self) -> Option<usize>
         ensures { result ≡ position is_newline self.now.bytes }
     {
-        match newline_in(&self.bytes()[self.clear_first..]) {
-            Some(at) => Some(self.clear_first + at),
+        let bytes = self.bytes();
+        let first = self.clear_first;
+        // After `N` it stands there, and no search is needed.
+        if first < bytes.len() && bytes[first] == b'\n' {
+            return Some(first);
+        }
+        match newline_in(&bytes[first..]) {
+            Some(at) => Some(first + at),
             None => None,
         }
     }
