@@ -1,6 +1,6 @@
 -- From the end of an edit to the status of the program.
-use Rattle.std.proofs.Common.{◌≡◌, ◌∙◌, ◌+◌, ◌<◌, ◌∷◌, ◌++◌, ℕ, Bool, true, false, List, [], Option, Result, Ok, Err, take, map, length, get_or, refl, sym, ap}
-use Rattle.std.proofs.lemmas.List.{map_more, take-map}
+use Rattle.std.proofs.Common.{◌≡◌, ◌∙◌, ◌+◌, ◌<◌, ◌∷◌, ◌++◌, ℕ, Bool, true, false, List, [], Option, Result, Ok, Err, take, map, length, get_or, refl, sym, ap, arith}
+use Rattle.std.proofs.lemmas.List.{map_more, take-map, take_all}
 use Rattle.clap.specs.Words.{Text, kind_of, takes}
 use Rattle.clap.specs.declared.error.Error.{Error}
 use Rattle.clap.specs.declared.error.kind.ErrorKind.TheVariants.{DisplayHelp}
@@ -12,7 +12,8 @@ use Rattle.sedengine.specs.declared.ends.Ended.{Ended}
 use Rattle.sedengine.specs.declared.ends.Ended.TheVariants.{InputBroken, OutputBroken}
 use Rattle.sedengine.proofs.Gains.{take-to_sink}
 use Rattle.sededit.specs.CommandLine.{IsRefusal, sed_command}
-use Rattle.sededit.specs.Program.{AsksHelp, HasFailed, WritesHelp}
+use Rattle.sededit.specs.Program.{AsksHelp, HasFailed}
+use Rattle.sededit.specs.Sinks.{Creates, CreatesFirst}
 use Rattle.sededit.specs.declared.asked.Refused.{Refused}
 use Rattle.sededit.specs.declared.asked.Refused.TheVariants.{NoMemory, Words}
 
@@ -23,11 +24,19 @@ next_name f xs names i x are inside at =
     let more : take (i + 1) names ≡ take i names ++ f (get_or xs i x) ∷ [] = rw (← are, take-map f (i + 1) xs, take-map f i xs) (map_more f xs i x inside) in
     more ∙ ap (λ z. take i names ++ f z ∷ []) (sym at)
 
--- what was written of a text before its sink failed is a text too
-pub WritesHelp-cut : (old new : ℕ → Option (List ℕ)) (text : List ℕ) (end : Ended) →
-    Puts (Gained old new) (to_sink 0 text) (Err end) → WritesHelp (Gained old new)
-WritesHelp-cut old new text end (k, b, byte, is, due, gained) =
-    (take b text, rw (sym (take-to_sink 0 b text)) gained)
+-- what was written of a text before its sink failed is a beginning of it
+pub begun : (old new : ℕ → Option (List ℕ)) (text : List ℕ) (end : Ended) →
+    Puts (Gained old new) (to_sink 0 text) (Err end) → (count : ℕ) × Gained old new (to_sink 0 (take count text))
+begun old new text end (k, b, byte, is, due, gained) = (b, rw (sym (take-to_sink 0 b text)) gained)
+
+-- all of it is one too
+pub begun_whole : (old new : ℕ → Option (List ℕ)) (text : List ℕ) →
+    Gained old new (to_sink 0 text) → (count : ℕ) × Gained old new (to_sink 0 (take count text))
+begun_whole old new text gained = (length text, rw (take_all (length text) text (omega arith)) gained)
+
+-- files of all these names are the first ones of them
+pub all_first : (old new names : List (List ℕ)) → Creates old new names → CreatesFirst old new names
+all_first old new names all = (length names, rw (take_all (length names) names (omega arith)) all)
 
 -- the device that an answered end names has failed
 pub has_failed : {E : Type 0} (source_old source_new : ℕ) (sinks_old sinks_new : ℕ → ℕ) (r : Result Ended E) (end : Ended) → r ≡ Ok end →

@@ -1,6 +1,6 @@
 -- Sinks that files are added to (XCU sed, "w wfile"). That a sink is empty before it is created is how contracts tell that
 -- it is created empty.
-use Rattle.std.specs.Prelude.{◌≡◌, ◌≤◌, ℕ, ◌+◌, Bool, true, false, List, [], ◌∷◌, ◌++◌, Result, Ok, Err}
+use Rattle.std.specs.Prelude.{◌≡◌, ◌≤◌, ℕ, ◌+◌, Bool, true, false, List, [], ◌∷◌, ◌++◌, take, slice_get, Some, Result, Ok, Err}
 use Rattle.sedspace.specs.Failures.{Rose}
 
 -- a sink more where one was added
@@ -16,6 +16,14 @@ AddsName false name old new = new ≡ old
 -- files of these names were created in this order, after those that were there
 abbrev pub Creates : List (List ℕ) → List (List ℕ) → List (List ℕ) → Type 0
 Creates old new names = new ≡ old ++ names
+
+-- so were the first of these names, if any
+abbrev pub CreatesFirst : List (List ℕ) → List (List ℕ) → List (List ℕ) → Type 0
+CreatesFirst old new names = (count : ℕ) × Creates old new (take count names)
+
+-- so were those before this one of the names
+abbrev pub CreatesUpTo : List (List ℕ) → List (List ℕ) → List (List ℕ) → List ℕ → Type 0
+CreatesUpTo old new names name = (k : ℕ) × (slice_get names k ≡ Some name) × Creates old new (take k names)
 
 -- No sink failed at an Ok, and the one that an Err names did. No number of failures falls.
 abbrev pub FailsFlush : Result Unit ℕ → (ℕ → ℕ) → (ℕ → ℕ) → Type 0

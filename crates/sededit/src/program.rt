@@ -1,5 +1,5 @@
 //! The program, over devices that its caller gives.
-ghost use Rattle.std.specs.Prelude.{◌≡◌, ◌≢◌, ◌<◌, ◌⊎◌, [], ◌∷◌, ℕ, IfErr, IfOk, IsNone, length, map};
+ghost use Rattle.std.specs.Prelude.{◌≡◌, ◌≢◌, ◌<◌, ◌⊎◌, [], ◌∷◌, ℕ, IfErr, IfOk, IfSome, IsNone, OnOk, length, map, take, ⊤};
 ghost use Rattle.std.specs.String.{string_bytes};
 ghost use Rattle.sedspace.specs.Failures.{Rose};
 ghost use Rattle.sedengine.specs.Calls.{Puts, Writes};
@@ -9,7 +9,7 @@ ghost use Rattle.clap.specs.Words.{kind_of};
 ghost use Rattle.sededit.specs.MemoryFiles.{dash};
 ghost use Rattle.sededit.specs.Program.{AsksHelp, HasFailed, HasFailures, Runs, RunsLine, SinkFailed, StopsEarly, WritesAll, WritesBeginning};
 ghost use Rattle.sededit.specs.Program.{WritesHelp, or_standard, texts_of};
-ghost use Rattle.sededit.specs.Sinks.{Creates};
+ghost use Rattle.sededit.specs.Sinks.{Creates, CreatesFirst, CreatesUpTo};
 
 use crate::asked::{Line, Refused};
 use crate::command_line::line;
@@ -87,8 +87,11 @@ pub fn command<S: AsStr, I: Inputs, O: Sinks, N: Names, E: Write>(
         ⊎ (WritesAll p input texts (Gained (O.contents sinks.old) (O.contents sinks.new))
         × HasFailures (O.failures sinks.new)))
         ⊎ (AsksHelp (map S.text words.now) × SinkFailed (O.failures sinks.old) (O.failures sinks.new)) }
-    // A refusal writes nothing.
+    // A refusal writes nothing, and of the files that the script writes it leaves the first ones created, if any.
     ensures refused { result ≡ REFUSED → (k : ℕ) → O.contents sinks.new k ≡ O.contents sinks.old k }
+    ensures created { result ≡ REFUSED → (O.names sinks.new ≡ O.names sinks.old)
+        ⊎ Runs (I.text inputs.old) (I.ahead inputs.old) (N.file names.old) (N.text names.old) limits.nodes
+        (map S.text words.now) (CreatesFirst (O.names sinks.old) (O.names sinks.new)) (λ _ _ _. ⊤) }
 {
     match line(alloc, words) {
         Ok(line) => run_line(alloc, &line, limits, inputs, sinks, names, errors),
@@ -132,6 +135,9 @@ fn run_line<I: Inputs, O: Sinks, N: Names, E: Write>(
         ⊎ (WritesAll p input texts (Gained (O.contents sinks.old) (O.contents sinks.new))
         × HasFailures (O.failures sinks.new))) }
     ensures refused { result ≡ REFUSED → (k : ℕ) → O.contents sinks.new k ≡ O.contents sinks.old k }
+    ensures created { result ≡ REFUSED → (O.names sinks.new ≡ O.names sinks.old)
+        ⊎ RunsLine (I.text inputs.old) (I.ahead inputs.old) (N.file names.old) (N.text names.old) limits.nodes line.now
+        (CreatesFirst (O.names sinks.old) (O.names sinks.new)) (λ _ _ _. ⊤) }
 {
     let Ok(standard) = standard_input(alloc) else {
         return out_of_memory(errors);
@@ -204,7 +210,8 @@ fn answer_words<O: Sinks, E: Write>(
 /// Writes the bytes to sink 0 and flushes it.
 fn write_out<O: Sinks>(sinks: &mut O, bytes: &[u8]) -> Result<(), Ended>
     requires { 0 < O.count sinks.old }
-    ensures help { WritesHelp (Gained (O.contents sinks.old) (O.contents sinks.new)) }
+    ensures whole { OnOk result (Gained (O.contents sinks.old) (O.contents sinks.new) (to_sink 0 bytes.now)) }
+    ensures part { (count : ℕ) × Gained (O.contents sinks.old) (O.contents sinks.new) (to_sink 0 (take count bytes.now)) }
     ensures failed { IfErr result (λ _. SinkFailed (O.failures sinks.old) (O.failures sinks.new)) }
 {
     write_all(sinks, bytes)?;
@@ -236,6 +243,8 @@ fn create_files<'a, O: Sinks>(script: &'a Script, sinks: &mut O) -> Option<&'a [
     requires { O.count sinks.old ≡ 1 }
     ensures count { IsNone result → length script.entry.now.wfiles < O.count sinks.new }
     ensures names { IsNone result → Creates (O.names sinks.old) (O.names sinks.new) script.entry.now.wfiles }
+    ensures refused { IfSome result (λ name.
+        CreatesUpTo (O.names sinks.old) (O.names sinks.new) script.entry.now.wfiles name.now) }
     ensures contents { (k : ℕ) → O.contents sinks.new k ≡ O.contents sinks.old k }
     ensures failed { (k : ℕ) → O.failures sinks.new k ≡ O.failures sinks.old k }
 {

@@ -1,4 +1,4 @@
-use Rattle.std.proofs.Common.{inl}
+use Rattle.std.proofs.Common.{inl, inr, ⊎_elim}
 use Rattle.sededit.proofs.program.command.Goals as goal
 
 pub returns-in-Ok-clause-whole : goal.returns-in-Ok-clause-whole
@@ -16,3 +16,7 @@ returns-in-Ok-clause-stopped g c is = inl (c.in-Ok.ensures.sound, (c.in-Ok.line,
 
 pub returns-in-Ok-clause-cause : goal.returns-in-Ok-clause-cause
 returns-in-Ok-clause-cause g c is = inl (c.in-Ok.ensures.sound, (c.in-Ok.line, c.in-Ok.ensures.line, c.run_line.ensures.cause is))
+
+pub returns-in-Ok-clause-created : goal.returns-in-Ok-clause-created
+returns-in-Ok-clause-created g c is =
+    ⊎_elim inl (λ r. inr (c.in-Ok.ensures.sound, (c.in-Ok.line, c.in-Ok.ensures.line, r))) (c.run_line.ensures.created is)

@@ -1,6 +1,7 @@
-use Rattle.std.proofs.Common.{◌∙◌, map, rules}
+use Rattle.std.proofs.Common.{◌∙◌, inr, map, rules}
 use Rattle.std.specs.String.{string_bytes}
 use Rattle.sededit.specs.Program.{or_standard, texts_of}
+use Rattle.sededit.proofs.ProgramLemmas.{all_first}
 use Rattle.sededit.proofs.RunLemmas.{Ready, WritesAll-from, WritesBeginning-from, cause-from}
 use Rattle.sededit.proofs.program.run_line.Goals as goal
 
@@ -45,3 +46,13 @@ returns-clause-cause g c is =
       c.run.ensures.names ∙ c.create_files.ensures.names (search rules),
       cause-from c.args.limits c.in-Ok-read_script.script _ _ _ _ _ _ _ _ _ _ _ _ _ _ ready c.in-Ok-read_script.ensures.inputs.failed c.create_files.ensures.failed (c.run.ensures.cause is),
     )
+
+pub returns-in-Err-name_files-clause-created : goal.returns-in-Err-name_files-clause-created
+returns-in-Err-name_files-clause-created g c is =
+    let all = c.create_files.ensures.names (search rules) in
+    inr (c.in-Ok-read_script.script, rw (← c.nodes.ensures.value) c.in-Ok-read_script.ensures.gives, all_first _ _ _ all, tt)
+
+pub returns-clause-created : goal.returns-clause-created
+returns-clause-created g c is =
+    let all = c.run.ensures.names ∙ c.create_files.ensures.names (search rules) in
+    inr (c.in-Ok-read_script.script, rw (← c.nodes.ensures.value) c.in-Ok-read_script.ensures.gives, all_first _ _ _ all, tt)
