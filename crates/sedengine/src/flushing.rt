@@ -69,6 +69,7 @@ fn copy_file<O: Sinks, T: Texts>(
 }
 
 /// Writes an entry of the queue, by the number of its command: a text with a newline, a file as it is.
+#[inline(never)]
 fn write_entry<O: Sinks, T: Texts>(
     script: &Script,
     entry: u64,
@@ -103,6 +104,7 @@ fn write_entry<O: Sinks, T: Texts>(
 }
 
 /// Writes the queue: texts with a newline, files as they are.
+#[inline(always)]
 pub(crate) fn flush_queue<O: Sinks, T: Texts>(
     script: &Script,
     queue: &Queue,

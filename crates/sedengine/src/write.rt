@@ -1,5 +1,5 @@
 //! Writing to a sink.
-ghost use Rattle.std.specs.Prelude.{◌≡◌, ◌<◌};
+ghost use Rattle.std.specs.Prelude.{◌≡◌, ◌<◌, ◌≤◌, ◌+◌, [], ◌∷◌, ◌++◌, length, take};
 ghost use Rattle.sedengine.specs.Move.{line_to, to_sink};
 ghost use Rattle.sedengine.specs.Meters.{Sent};
 ghost use Rattle.sedengine.specs.Calls.{Puts, Delivers};
@@ -23,12 +23,38 @@ pub(crate) fn write_all<O: Sinks>(outputs: &mut O, sink: usize, bytes: &[u8]) ->
     Ok(())
 }
 
-/// Writes all the bytes and a newline.
-pub(crate) fn write_line<O: Sinks>(outputs: &mut O, sink: usize, bytes: &[u8]) -> Result<(), Ended>
+/// The most bytes that are copied, so that they are written with their newline at once.
+const SHORT: usize = 127;
+
+/// The bytes and newlines behind them.
+fn with_newline(bytes: &[u8]) -> [u8; 128]
+    requires { length bytes.now ≤ 127 }
+    ensures { take (length bytes.now + 1) result ≡ bytes.now ++ 10 ∷ [] }
+{
+    let mut line = [b'\n'; 128];
+    line[..bytes.len()].copy_from_slice(bytes);
+    line
+}
+
+/// Writes all the bytes and then a newline.
+fn write_apart<O: Sinks>(outputs: &mut O, sink: usize, bytes: &[u8]) -> Result<(), Ended>
     requires { sink < O.count outputs.old }
     ensures puts { Puts (Sent (O.tally outputs.old) (O.tally outputs.new)) (line_to sink bytes.now) result }
     ensures devices { Delivers O.tally O.count outputs.old outputs.new result }
 {
     write_all(outputs, sink, bytes)?;
     write_all(outputs, sink, b"\n")
+}
+
+/// Writes all the bytes and a newline.
+pub(crate) fn write_line<O: Sinks>(outputs: &mut O, sink: usize, bytes: &[u8]) -> Result<(), Ended>
+    requires { sink < O.count outputs.old }
+    ensures puts { Puts (Sent (O.tally outputs.old) (O.tally outputs.new)) (line_to sink bytes.now) result }
+    ensures devices { Delivers O.tally O.count outputs.old outputs.new result }
+{
+    if bytes.len() > SHORT {
+        return write_apart(outputs, sink, bytes);
+    }
+    let line = with_newline(bytes);
+    write_all(outputs, sink, &line[..bytes.len() + 1])
 }

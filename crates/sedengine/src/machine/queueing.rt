@@ -32,6 +32,7 @@ impl Machine {
     }
 
     /// Writes the queue, which is then empty.
+    #[inline(always)]
     pub(super) fn flush<O: Sinks, T: Texts>(
         &mut self,
         outputs: &mut O,
@@ -68,6 +69,7 @@ impl Machine {
     }
 
     /// Writes the pattern space, unless default output is suppressed, and then the queue.
+    #[inline(always)]
     pub(super) fn print_and_flush<O: Sinks, T: Texts>(
         &mut self,
         outputs: &mut O,

@@ -3,7 +3,7 @@ use Rattle.std.proofs.lemmas.Result.{err_from_is_err_and}
 use Rattle.sedengine.specs.Move.{to_sink, newline}
 use Rattle.sedengine.proofs.Gains.{to_sink-append}
 use Rattle.sedengine.proofs.Writing.{Puts-left, Puts-append}
-use Rattle.sedengine.proofs.write.write_line.Goals as goal
+use Rattle.sedengine.proofs.write.write_apart.Goals as goal
 
 pub returns-in_err-write_all-clause-puts : goal.returns-in_err-write_all-clause-puts
 returns-in_err-write_all-clause-puts g c =
