@@ -212,7 +212,8 @@ fn write_out<O: Sinks>(sinks: &mut O, bytes: &[u8]) -> Result<(), Ended>
     requires { 0 < O.count sinks.old }
     ensures whole { OnOk result (Gained (O.contents sinks.old) (O.contents sinks.new) (to_sink 0 bytes.now)) }
     ensures part { (count : ℕ) × Gained (O.contents sinks.old) (O.contents sinks.new) (to_sink 0 (take count bytes.now)) }
-    ensures failed { IfErr result (λ _. SinkFailed (O.failures sinks.old) (O.failures sinks.new)) }
+    ensures failed { IfErr result (λ end. (k : ℕ)
+        × (end ≡ Ended.OutputBroken k) × Rose (O.failures sinks.old k) (O.failures sinks.new k)) }
 {
     write_all(sinks, bytes)?;
     match sinks.flush() {
