@@ -16,7 +16,8 @@ use std::alloc::{AllocError, Global};
 
 /// Reads a script: the commands that a text means (XCU sed, "Extended Description").
 ///
-/// `kind` chooses basic or extended expressions, and `nodes` is the most nodes of one written out, 1 to 65,536.
+/// `kind` chooses basic or extended expressions, and `nodes` is the most nodes of one written out, 1 to 65,536. The crate
+/// `own_limits` is an example.
 ///
 /// # Errors
 /// The first fault of the text with its place, a byte counted from 0; or `NO_MEMORY`.
@@ -36,7 +37,7 @@ pub fn script(alloc: Global, text: &[u8], kind: Kind, nodes: usize) -> Result<Sc
 /// first of the script's `wfiles` and so on; text 0 is the first of its `rfiles`.
 ///
 /// What the engine holds and what each sink gains stays within the limits, whatever the input; what was written stands
-/// at every end.
+/// at every end. The crate `own_limits` is an example.
 ///
 /// # Errors
 /// `AllocError` where a request for memory was refused, before anything is read or written.

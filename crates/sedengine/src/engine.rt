@@ -66,7 +66,7 @@ impl Engine {
     /// All calls of a run get the same lines, outputs and texts; the lines read ahead as much as the limits say, and
     /// sink 0 is the standard output, and there is one for each of the script's files to write, sink 1 for the first
     /// of `wfiles`; text 0 is the first of `rfiles`. An engine whose run has ended answers the same end again, and
-    /// touches no device.
+    /// touches no device. The crate `by_cycles` is an example.
     pub fn cycle<R: ByteSource, O: Outputs, T: Texts>(
         &mut self,
         lines: &mut Lines<R>,

@@ -1,0 +1,8 @@
+use Rattle.std.proofs.Common.{◌∙◌, ap, arith, length, sym}
+use Rattle.by_cycles.proofs.first_cycles.Goals as goal
+
+pub loop-cycle-preserved : goal.loop-cycle-preserved
+loop-cycle-preserved g c =
+    let e = c.cycle.ensures in
+    let h = c.loop-cycle.invariant in
+    (e.same_look ∙ h.0 ∙ sym (ap (λ l. l.look) e.same_run.limits), omega (arith, h.1, e.same_count, ap (λ s. length s.wfiles) e.same_run.script))
