@@ -26,6 +26,7 @@ mod matcher;
 mod needed;
 mod passes;
 mod quick;
+mod rare;
 mod region;
 mod runs;
 mod scratch;

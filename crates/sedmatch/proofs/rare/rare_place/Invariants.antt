@@ -1,7 +1,7 @@
 use Rattle.std.proofs.Common.{◌+◌, ◌-◌, ◌*◌, ◌≤◌, length}
 use Rattle.sedre.specs.Arena.{tree}
 use Rattle.sedmatch.specs.Search.{NoneIn}
-use Rattle.sedmatch.proofs.few.few_place.Given as goal
+use Rattle.sedmatch.proofs.rare.rare_place.Given as goal
 
 abbrev pub invariant-loop-start : goal.invariant-loop-start
 invariant-loop-start l = record {
