@@ -16,6 +16,7 @@ pub mod NarrowLemmas
 pub mod SightLemmas
 pub mod FewLemmas
 pub mod RareLemmas
+pub mod LaneLemmas
 pub mod AnywhereLemmas
 pub mod StartLemmas
 pub mod BytesLemmas

@@ -1,5 +1,6 @@
 -- Few bytes of which one stands at a fixed distance behind the beginning of every match.
 use Rattle.std.proofs.Common.{◌≡◌, ℕ, ◌+◌, ◌-◌, ◌*◌, ◌<◌, ◌≤◌, ◌↔◌, Bool, List, length, Option, Some, None, ap, subst, ⊎_elim, arith, mul-le-mul_left}
+use Rattle.std.specs.Prelude.{IfSome}
 use Rattle.std.proofs.lemmas.Bool.{cases_lt}
 use Rattle.sedre.specs.Tree.{Tree}
 use Rattle.sedre.specs.Arena.{tree_at}
@@ -7,16 +8,15 @@ use Rattle.sedre.specs.declared.types.Node.{Node}
 use Rattle.sedmatch.specs.Ahead.{LeadsTo}
 use Rattle.sedmatch.specs.declared.ahead.Lead.{Lead}
 use Rattle.sedmatch.specs.declared.few.Few.{Few}
-use Rattle.sedmatch.specs.declared.needed.Link.TheVariants.{OneOf, Last, Inner}
+use Rattle.sedmatch.specs.declared.needed.Link.TheVariants.{OneOf, Last}
 use Rattle.sedmatch.specs.declared.rare.Fixed.{Fixed}
 use Rattle.sedmatch.specs.declared.rare.Rare.{Rare}
-use Rattle.sedmatch.specs.declared.skip.Begins.{Begins}
-use Rattle.sedmatch.specs.Few.{HasFew, FewAt, FirstFew, AreBytes, FewOf}
+use Rattle.sedmatch.specs.Bytes.{looked_at}
+use Rattle.sedmatch.specs.Few.{HasFew, FewAt, FirstFew, AreBytes}
 use Rattle.sedmatch.specs.Needed.{LinksTo}
-use Rattle.sedmatch.specs.Rare.{StandsAt, HeldAt, RareAt, FirstFixed, FirstRare, AllStand, AllHave, AllHeld, AllRare}
+use Rattle.sedmatch.specs.Rare.{StandsAt, HeldAt, RareAt, FirstFixed, FirstRare, RareNowhere, AllStand, AllHave, AllHeld, AllRare}
 use Rattle.sedmatch.specs.Reach.{At}
 use Rattle.sedmatch.specs.Search.{NoneIn, Sought}
-use Rattle.sedmatch.specs.Skip.{AllBegin}
 use Rattle.sedmatch.specs.Spans.{Spans, NotFound, IsIn}
 use Rattle.sedmatch.proofs.FewLemmas.{few_inside}
 
@@ -34,9 +34,9 @@ module _ (f : Fixed) (w : List ℕ) (p : ℕ) where
       (omega (arith, first.0), subst (FewAt f.few w) same first.1, λ h low lt at. first.2 (h + f.offset) (omega arith) (omega arith) at)
 
 -- a search for what is sought, as far as the place q
-module _ (r : Rare) (w : List ℕ) (p q : ℕ) (before : (h : ℕ) → p ≤ h → h < q → RareAt r w h → ⊥) where
+module _ (r : Rare) (w : List ℕ) (p q : ℕ) (before : RareNowhere r w p q) where
   -- where what is held is lacking
-  pub rare_lacks : (k : ℕ) → FirstFixed r.sought w q (Some k) → (HeldAt r.held w k → ⊥) → (h : ℕ) → p ≤ h → h < k + 1 → RareAt r w h → ⊥
+  pub rare_lacks : (k : ℕ) → FirstFixed r.sought w q (Some k) → (HeldAt r.held w k → ⊥) → RareNowhere r w p (k + 1)
   rare_lacks k first lacks h low lt at =
       ⊎_elim
       (λ (early : h < q). before h low early at)
@@ -57,6 +57,24 @@ module _ (r : Rare) (w : List ℕ) (p q : ℕ) (before : (h : ℕ) → p ≤ h �
         ⊎_elim (λ (early : h < q). before h after early at) (λ (late : q ≤ h). first.2 h late lt at.0) (cases_lt h q),
   )
 
+-- where it stands nowhere before the place from which on it is sought
+pub rare_later : (r : Rare) (w : List ℕ) (p q : ℕ) (o : Option ℕ) → p ≤ q → RareNowhere r w p q → FirstRare r w q o → FirstRare r w p o
+rare_later r w p q None low before none = λ h after at. ⊎_elim (λ (early : h < q). before h after early at) (λ (late : q ≤ h). none h late at) (cases_lt h q)
+rare_later r w p q (Some k) low before first = (
+  omega (arith, first.0),
+  first.1,
+  λ h after lt at. ⊎_elim (λ (early : h < q). before h after early at) (λ (late : q ≤ h). first.2 h late lt at) (cases_lt h q),
+)
+
+pub rare_lies : (r : Rare) (w : List ℕ) (q : ℕ) (o : Option ℕ) → FirstRare r w q o → IfSome o (λ k. k < length w)
+rare_lies r w q None none = tt
+rare_lies r w q (Some k) first = let inside = fixed_inside r.sought w k first.1.0 in omega (arith, inside)
+
+pub rare_looked : (r : Rare) (w : List ℕ) (p q s0 s1 s2 : ℕ) (o : Option ℕ) → p ≤ q → q ≤ length w → FirstRare r w q o →
+    s1 + 2 * p ≤ s0 + 2 * q → s2 ≤ s1 + 2 * looked_at (length w) q o → s2 ≤ s0 + 2 * looked_at (length w) p o
+rare_looked r w p q s0 s1 s2 None low within none pass near = omega (arith, pass, near)
+rare_looked r w p q s0 s1 s2 (Some k) low within first pass near = omega (arith, first.0, pass, near)
+
 -- few bytes of a set
 pub have_few : (e : Tree) (offset : ℕ) (s : List Bool) (few : Few) → AllHave e offset s → ((c : ℕ) → c < 256 → HasFew few c ↔ IsIn c s) → AllStand e (record { offset = offset; few = few })
 have_few e offset s few all same w bytes i j spans =
@@ -67,25 +85,15 @@ abbrev pub GoOnAs : List Node → ℕ → ℕ → ℕ → Type 0
 GoOnAs nodes x offset y = (w : List ℕ) (i j : ℕ) → At nodes w x i j → At nodes w y (i + offset) j
 
 module _ (nodes : List Node) (x : ℕ) where
-  pub on_here : GoOnAs nodes x 0 x
-  on_here w i j at = subst (λ v. At nodes w x v j) (let e : i ≡ i + 0 = omega arith in e) at
-
   module _ (offset y : ℕ) (on : GoOnAs nodes x offset y) where
     pub on_set : (s : List Bool) (z : ℕ) → LinksTo nodes y (OneOf s z) → GoOnAs nodes x (offset + 1) z
     on_set s z link w i j at = subst (λ v. At nodes w z v j) (let e : i + offset + 1 ≡ i + (offset + 1) = omega arith in e) (link.1 w (i + offset) j (on w i j at)).1
-
-    pub on_inner : (z : ℕ) → LinksTo nodes y (Inner z) → GoOnAs nodes x offset z
-    on_inner z link w i j at = link.1 w (i + offset) j (on w i j at)
 
     pub have_set : (s : List Bool) (z : ℕ) → LinksTo nodes y (OneOf s z) → AllHave (tree_at nodes x) offset s
     have_set s z link w i j at = (link.1 w (i + offset) j (on w i j at)).0
 
     pub have_last : (s : List Bool) → LinksTo nodes y (Last s) → AllHave (tree_at nodes x) offset s
     have_last s link w i j at = (link w (i + offset) j (on w i j at)).0
-
--- the bytes with which all spans begin
-pub rare_begins : (e : Tree) (begins : Begins) (few : Few) → AllBegin e begins → FewOf begins (Some few) → AllStand e (record { offset = 0; few = few })
-rare_begins e begins few all is w bytes i j s = subst (FewAt few w) (let same : i ≡ i + 0 = omega arith in same) (is w bytes i (all w i j s))
 
 -- a text of bytes
 module _ (e : Tree) (w : List ℕ) (bytes : AreBytes w) (from p : ℕ) (r : Rare) (all : AllRare e (Some r)) (before : NoneIn e w from p) where

@@ -26,10 +26,18 @@ abbrev pub FirstFixed : Fixed → List ℕ → ℕ → Option ℕ → Type 0
 FirstFixed f w p None = (k : ℕ) → p ≤ k → StandsAt f w k → ⊥
 FirstFixed f w p (Some k) = (p ≤ k) × StandsAt f w k × ((h : ℕ) → p ≤ h → h < k → StandsAt f w h → ⊥)
 
+-- behind no place from p up to but not including q both stand
+abbrev pub ApartIn : Fixed → Fixed → List ℕ → ℕ → ℕ → Type 0
+ApartIn f g w p q = (h : ℕ) → p ≤ h → h < q → StandsAt f w h → StandsAt g w h → ⊥
+
+-- behind no place from p up to but not including q all of it stands
+abbrev pub RareNowhere : Rare → List ℕ → ℕ → ℕ → Type 0
+RareNowhere r w p q = (h : ℕ) → p ≤ h → h < q → RareAt r w h → ⊥
+
 -- the first place from p on behind which all of it stands
 abbrev pub FirstRare : Rare → List ℕ → ℕ → Option ℕ → Type 0
 FirstRare r w p None = (k : ℕ) → p ≤ k → RareAt r w k → ⊥
-FirstRare r w p (Some k) = (p ≤ k) × RareAt r w k × ((h : ℕ) → p ≤ h → h < k → RareAt r w h → ⊥)
+FirstRare r w p (Some k) = (p ≤ k) × RareAt r w k × RareNowhere r w p k
 
 -- one of the bytes stands so far behind the beginning of each span of the expression
 abbrev pub AllStand : Tree → Fixed → Type 0

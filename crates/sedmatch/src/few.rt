@@ -1,11 +1,13 @@
 //! Up to three bytes, one of which is sought.
-ghost use Rattle.std.specs.Prelude.{◌≡◌, ℕ, ◌<◌, ◌↔◌, ◌⊎◌, IfSome, IsTrue};
+ghost use Rattle.std.specs.Prelude.{◌≡◌, ℕ, ◌<◌, ◌↔◌, ◌⊎◌, IfSome, IsTrue, slice_index};
+ghost use Rattle.std.specs.Int.{bit_at};
 ghost use Rattle.sedmatch.specs.Spans.{IsIn};
 ghost use Rattle.sedmatch.specs.Few.{FewOf, AreMembers, Gathered, HasFew, FirstFew};
 
 use crate::skip::{Begins, Either};
 use memchr::{memchr, memchr2, memchr3};
 use sedre::ByteSet;
+use std::simd::prelude::*;
 
 /// Up to three bytes.
 #[derive(Clone, Copy)]
@@ -40,6 +42,28 @@ impl Few {
             Few::Three(first, second, third) => memchr3(*first, *second, *third, bytes),
         }
     }
+
+    /// A bit for each lane in which one of them stands.
+    #[inline(always)]
+    pub fn marks(&self, lanes: u8x32) -> u64
+        ensures { (k : ℕ) → k < 32 → HasFew self.now (slice_index lanes k) → bit_at result k ≡ 1 }
+    {
+        match self {
+            Few::One(first) => byte_marks(*first, lanes),
+            Few::Two(first, second) => byte_marks(*first, lanes) | byte_marks(*second, lanes),
+            Few::Three(first, second, third) => {
+                byte_marks(*first, lanes) | byte_marks(*second, lanes) | byte_marks(*third, lanes)
+            }
+        }
+    }
+}
+
+/// A bit for each lane in which the byte stands.
+#[inline(always)]
+fn byte_marks(byte: u8, lanes: u8x32) -> u64
+    ensures { (k : ℕ) → k < 32 → slice_index lanes k ≡ byte → bit_at result k ≡ 1 }
+{
+    lanes.simd_eq(u8x32::splat(byte)).to_bitmask()
 }
 
 /// The bytes gathered so far and one more, where they are still few.

@@ -15,6 +15,7 @@
 
 mod ahead;
 mod anywhere;
+mod apart;
 mod classes;
 mod counted;
 mod cuts;

@@ -4,7 +4,7 @@ ghost use Rattle.std.specs.Prelude.{◌≡◌, ℕ, ◌+◌, ◌*◌, ◌^◌, �
 ghost use Rattle.sedre.specs.Arena.{tree, tree_at};
 ghost use Rattle.sedre.specs.Tree.{Tree};
 ghost use Rattle.sedmatch.specs.Bytes.{looked_at};
-ghost use Rattle.sedmatch.specs.Rare.{StandsAt, HeldAt, FirstFixed, FirstRare, AllStand, AllHave, AllHeld, AllRare};
+ghost use Rattle.sedmatch.specs.Rare.{StandsAt, HeldAt, FirstFixed, FirstRare, RareNowhere, AllStand, AllHave, AllHeld, AllRare};
 ghost use Rattle.sedmatch.specs.Skip.{AllBegin};
 ghost use Rattle.sedmatch.specs.Search.{Sought, sought_to};
 
@@ -66,7 +66,7 @@ impl Fixed {
     /// Whether one of them stands so far behind the place. Counts one look.
     fn stands(&self, text: &Text, place: usize, steps: &mut Steps) -> bool
         requires place { place ≤ length text.now }
-        requires room { steps.old < 2 ^ 118 }
+        requires room { steps.old < 2 ^ 119 }
         ensures stands { IsTrue result ↔ StandsAt self.now text.now place }
         ensures grows { steps.old ≤ steps.new }
         ensures cost { steps.new ≤ steps.old + 1 }
@@ -82,7 +82,7 @@ impl Fixed {
     /// The first place from `from` on behind which one of them stands so far.
     fn find(&self, text: &Text, from: usize, steps: &mut Steps) -> Option<usize>
         requires from { from ≤ length text.now }
-        requires room { steps.old < 2 ^ 118 }
+        requires room { steps.old < 2 ^ 119 }
         ensures first { FirstFixed self.now text.now from result }
         ensures grows { steps.old ≤ steps.new }
         ensures cost { steps.new ≤ steps.old + looked_at (length text.now) from result }
@@ -110,7 +110,7 @@ impl Rare {
     /// Whether what is held stands where it does in a match that begins at the place. Counts one look.
     fn holds(&self, text: &Text, place: usize, steps: &mut Steps) -> bool
         requires place { place ≤ length text.now }
-        requires room { steps.old < 2 ^ 118 }
+        requires room { steps.old < 2 ^ 119 }
         ensures holds { IsTrue result ↔ HeldAt self.now.held text.now place }
         ensures grows { steps.old ≤ steps.new }
         ensures cost { steps.new ≤ steps.old + 1 }
@@ -121,13 +121,29 @@ impl Rare {
         }
     }
 
-    /// The first place from `from` on at which a match can begin as far as these bytes tell.
-    fn find(&self, text: &Text, from: usize, steps: &mut Steps) -> Option<usize>
+    /// How far from `from` on vectors tell that a match begins nowhere.
+    fn pass(&self, text: &Text, from: usize, steps: &mut Steps) -> usize
         requires from { from ≤ length text.now }
         requires short { length text.now ≤ 2 ^ 30 }
         requires room { steps.old < 2 ^ 117 }
+        ensures after { from ≤ result }
+        ensures within { result ≤ length text.now }
+        ensures missed { RareNowhere self.now text.now from result }
+        ensures grows { steps.old ≤ steps.new }
+        ensures cost { steps.new + 2 * from ≤ steps.old + 2 * result }
+    {
+        match &self.held {
+            None => from,
+            Some(held) => text.pass_apart(&self.sought, held, from, steps),
+        }
+    }
+
+    /// The first place from `from` on at which a match can begin as far as these bytes tell, one by one.
+    fn find_near(&self, text: &Text, from: usize, steps: &mut Steps) -> Option<usize>
+        requires from { from ≤ length text.now }
+        requires short { length text.now ≤ 2 ^ 30 }
+        requires room { steps.old < 2 ^ 118 }
         ensures first { FirstRare self.now text.now from result }
-        ensures lies { IfSome result (λ k. k < length text.now) }
         ensures grows { steps.old ≤ steps.new }
         ensures cost { steps.new ≤ steps.old + 2 * looked_at (length text.now) from result }
     {
@@ -139,6 +155,20 @@ impl Rare {
             place = start + 1;
         }
         None
+    }
+
+    /// The same, vectors first.
+    fn find(&self, text: &Text, from: usize, steps: &mut Steps) -> Option<usize>
+        requires from { from ≤ length text.now }
+        requires short { length text.now ≤ 2 ^ 30 }
+        requires room { steps.old < 2 ^ 117 }
+        ensures first { FirstRare self.now text.now from result }
+        ensures lies { IfSome result (λ k. k < length text.now) }
+        ensures grows { steps.old ≤ steps.new }
+        ensures cost { steps.new ≤ steps.old + 2 * looked_at (length text.now) from result }
+    {
+        let place = self.pass(text, from, steps);
+        self.find_near(text, place, steps)
     }
 
     /// Whether one look ahead more than these is paid for by the time that was saved where so many bytes were passed.

@@ -1,6 +1,6 @@
-use Rattle.std.proofs.Common.{ℕ, ◌+◌, ◌-◌, ◌*◌, ◌<◌, ◌≤◌, length}
-use Rattle.sedmatch.specs.Rare.{RareAt}
-use Rattle.sedmatch.proofs.rare.Rare.find.Given as goal
+use Rattle.std.proofs.Common.{◌+◌, ◌-◌, ◌*◌, ◌≤◌, length}
+use Rattle.sedmatch.specs.Rare.{RareNowhere}
+use Rattle.sedmatch.proofs.rare.Rare.find_near.Given as goal
 
 abbrev pub invariant-loop-start : goal.invariant-loop-start
 invariant-loop-start l = record {
@@ -8,7 +8,7 @@ invariant-loop-start l = record {
   after : l.from ≤ l.place;
   within : l.place ≤ length l.text;
   cost : l.steps + 2 * l.from ≤ l.initial.steps + 2 * l.place;
-  missed : (h : ℕ) → l.from ≤ h → h < l.place → RareAt l.self l.text h → ⊥;
+  missed : RareNowhere l.self l.text l.from l.place;
 }
 
 abbrev pub decreases-loop-start : goal.decreases-loop-start
