@@ -24,7 +24,7 @@ place_last m n from start s0 s low cost =
     let all = mul-le-mul_left (8 * m) up in
     omega (arith, all)
 
--- a start to which bytes are passed over, and which isn't looked at further, or is in a text of some length
+-- a start to which bytes are passed over, and which isn't looked at further
 module _ (m n from at start s0 s s1 : ℕ) (some : 0 < m) (low : at ≤ start) (before : s + 8 * m * from ≤ s0 + 8 * m * at) (skip : s1 + at ≤ s + (start + 1)) where
   pub start_step : s1 + 8 * m * from ≤ s0 + 8 * m * start + m * n + 1
   start_step =
@@ -33,15 +33,6 @@ module _ (m n from at start s0 s s1 : ℕ) (some : 0 < m) (low : at ≤ start) (
       let most = mul-le-mul_left d some in
       let all : 8 * m * start ≡ 8 * m * (at + d) = ap (λ v. 8 * m * v) e in
       omega (arith, most, all)
-
-  pub look_step : (s2 : ℕ) → 8 ≤ n → s2 ≤ s1 + 7 * m → s2 + 8 * m * from ≤ s0 + 8 * m * start + m * n + 1
-  look_step s2 long look =
-      let d = start - at in
-      let e : start ≡ at + d = omega arith in
-      let most = mul-le-mul_left d some in
-      let length = mul-le-mul_left m long in
-      let all : 8 * m * start ≡ 8 * m * (at + d) = ap (λ v. 8 * m * v) e in
-      omega (arith, most, length, all)
 
 -- a pass that enters every start: the places looked at before it, and its own
 pub sweep_step : (m from at start stop s0 s s1 s2 : ℕ) → at ≤ start → start ≤ stop →

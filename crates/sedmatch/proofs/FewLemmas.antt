@@ -5,17 +5,12 @@ use Rattle.std.proofs.lemmas.Bool.{eqb-true, eq-eqb, or_left, or_right, or_cases
 use Rattle.std.proofs.lemmas.List.{take_rest, get_or-drop}
 use Rattle.std.proofs.lemmas.Option.{slice_get_within, get_or_from_slice_get, slice_get-get_or}
 use Rattle.memchr.specs.Find.{Passes, IsFirstByte, is_byte, is_byte2, is_byte3}
-use Rattle.sedre.specs.Tree.{Tree}
-use Rattle.sedmatch.specs.Spans.{Spans, NotFound, IsIn}
+use Rattle.sedmatch.specs.Spans.{IsIn}
 use Rattle.sedmatch.specs.Bytes.{looked_at}
-use Rattle.sedmatch.specs.Ahead.{LeadsTo}
-use Rattle.sedmatch.specs.declared.ahead.Lead.{Lead}
-use Rattle.sedmatch.specs.Search.{NoneIn, Sought}
-use Rattle.sedmatch.specs.Skip.{AllBegin, EitherHas}
-use Rattle.sedmatch.specs.declared.skip.Begins.{Begins}
+use Rattle.sedmatch.specs.Skip.{EitherHas}
 use Rattle.sedmatch.specs.declared.skip.Begins.TheVariants.{WithByte, WithSet, WithEither}
 use Rattle.sedmatch.specs.declared.skip.Either.{Either}
-use Rattle.sedmatch.specs.Few.{HasFew, FewAt, FirstFew, Gathered, AreMembers, AreBytes, IsFewOf, FewOf, AllFew}
+use Rattle.sedmatch.specs.Few.{HasFew, FewAt, FirstFew, Gathered, AreMembers, IsFewOf, FewOf}
 use Rattle.sedmatch.specs.declared.few.Few.{Few}
 use Rattle.sedmatch.specs.declared.few.Few.TheVariants.{One, Two, Three}
 
@@ -170,36 +165,3 @@ few_sets s (Some few) are = λ w bytes i can. (can.0, can.1, (are can.0 (bytes i
 pub few_set : (s : List Bool) (r : Option Few) → IfSome r (λ f. (c : ℕ) → c < 256 → HasFew f c ↔ IsIn c s) → FewOf (WithSet s) r
 few_set s None are = tt
 few_set s (Some few) are = λ w bytes i can. (can.0, can.1, (are can.0 (bytes i can.0 can.1)).1 can.2)
-
--- an expression that begins so
-pub all_few : (e : Tree) (begins : Begins) (few : Option Few) → AllBegin e begins → FewOf begins few → AllFew e few
-all_few e begins None all is = tt
-all_few e begins (Some few) all is = λ w bytes i j s. is w bytes i (all w i j s)
-
--- a text of bytes
-module _ (e : Tree) (w : List ℕ) (bytes : AreBytes w) (from p : ℕ) (few : Few) (all : AllFew e (Some few)) (before : NoneIn e w from p) where
-  -- no match begins before p, none where none of the few stands
-  pub few_step : (start q : ℕ) → ((i : ℕ) → p ≤ i → i < start → FewAt few w i → ⊥) → NoneIn e w start q → NoneIn e w from q
-  few_step start q passed after i k low high s =
-      ⊎_elim
-      (λ (early : i < p). before i k low early s)
-      (λ (late : p ≤ i). ⊎_elim
-      (λ (lt : i < start). passed i late lt (all w bytes i k s))
-      (λ (ge : start ≤ i). after i k ge high s)
-      (cases_lt i start))
-      (cases_lt i p)
-
-  -- none stands from p on
-  pub few_nowhere : FirstFew few w p None → NotFound e w from
-  few_nowhere none i k low within s =
-      ⊎_elim (λ (early : i < p). before i k low early s) (λ (late : p ≤ i). none i late (all w bytes i k s)) (cases_lt i p)
-
-  -- one stands at a place at which a match may begin
-  pub few_sought : (start : ℕ) (lead : Lead) → FirstFew few w p (Some start) → from ≤ p → LeadsTo (length w) (Spans e w start) lead → Sought e w from (Some (start, lead))
-  few_sought start lead first low leads =
-      let inside = few_inside few w start first.1 in (
-        omega (arith, first.0),
-        omega (arith, inside),
-        few_step start start first.2 (λ i k lo hi s. absurd (omega arith)),
-        leads,
-      )

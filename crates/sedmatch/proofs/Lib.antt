@@ -15,6 +15,8 @@ pub mod NeededLemmas
 pub mod NarrowLemmas
 pub mod SightLemmas
 pub mod FewLemmas
+pub mod RareLemmas
+pub mod LaneLemmas
 pub mod AnywhereLemmas
 pub mod StartLemmas
 pub mod BytesLemmas

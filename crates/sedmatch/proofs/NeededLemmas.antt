@@ -12,10 +12,12 @@ use Rattle.sedre.specs.declared.types.NodeId.{NodeId}
 use Rattle.sedre.specs.declared.types.Node.TheVariants.{Set, Seq, Group}
 use Rattle.sedmatch.specs.Spans.{NotFound}
 use Rattle.sedmatch.specs.Reach.{At}
-use Rattle.sedmatch.specs.Needed.{IsByte, LinksTo, BeginsAs, IsLiteral, GoesOnAs, IsUpTo, AllHold, AllEndWith, IsNeeded, FirstLiteral, Narrowed}
+use Rattle.sedmatch.specs.Skip.{CanBegin}
+use Rattle.sedmatch.specs.declared.skip.Begins.TheVariants.{WithSet}
+use Rattle.sedmatch.specs.Needed.{IsOfSet, LinksTo, BeginsAs, IsLiteral, GoesOnAs, IsUpTo, AllHold, AllEndWith, IsNeeded, FirstLiteral, Narrowed}
 use Rattle.sedmatch.specs.declared.needed.Needed.{Needed}
 use Rattle.sedmatch.specs.declared.needed.Literal.{Literal}
-use Rattle.sedmatch.specs.declared.needed.Link.TheVariants.{Byte, Last, Inner}
+use Rattle.sedmatch.specs.declared.needed.Link.TheVariants.{OneOf, Last, Inner}
 use Rattle.sedmatch.proofs.ReachLemmas.{open_at}
 use Rattle.sedmatch.proofs.SpanLemmas.{Spans-forward, Spans-within}
 
@@ -42,19 +44,17 @@ pub occurs_empty : (w : List ℕ) (i : ℕ) → i ≤ length w → OccursAt w []
 occurs_empty w i within = record { fits = omega arith; reads = λ j lt. absurd (omega arith) }
 
 module _ (nodes : List Node) (arena : IsArena nodes) (x : ℕ) where
-  -- a set of one byte
-  pub set_byte : (members : List Bool) (byte : ℕ) → slice_get nodes x ≡ Some (Set members) → ((c : ℕ) → IsTrue (slice_index_or members c false) → c ≡ byte) → IsByte nodes x byte
-  set_byte members byte is sole w i j at =
-      let f = open_at nodes w x (Set members) arena is i j at in
-      (subst (λ b. slice_get w i ≡ Some b) (sole f.0 f.2) f.1, f.3)
+  -- a set
+  pub node_set : (s : List Bool) → slice_get nodes x ≡ Some (Set s) → IsOfSet nodes x s
+  node_set s is w i j at = let f = open_at nodes w x (Set s) arena is i j at in ((f.0, f.1, f.2), f.3)
 
   -- the parts of a concatenation stand before it
   pub seq_below : (a b : NodeId) → slice_get nodes x ≡ Some (Seq a b) → (a.index < x) × (b.index < x)
   seq_below a b is = (arena.below x a.index (Seq a b) is (inl refl), arena.below x b.index (Seq a b) is (inr refl))
 
-  -- a byte, and what stands behind it
-  pub byte_links : (a b : NodeId) (y left byte : ℕ) → slice_get nodes x ≡ Some (Seq a b) → left ≡ a.index → y ≡ b.index → IsByte nodes left byte → LinksTo nodes x (Byte byte y)
-  byte_links a b y left byte is left_is y_is first =
+  -- a byte of a set, and what stands behind it
+  pub set_links : (a b : NodeId) (y left : ℕ) (s : List Bool) → slice_get nodes x ≡ Some (Seq a b) → left ≡ a.index → y ≡ b.index → IsOfSet nodes left s → LinksTo nodes x (OneOf s y)
+  set_links a b y left s is left_is y_is first =
       let below = seq_below a b is in (
         omega (arith, below.1),
         λ w i j at.
@@ -77,27 +77,34 @@ module _ (nodes : List Node) (arena : IsArena nodes) (x : ℕ) where
       let f = open_at nodes w x (Seq a b) arena is i j at in
       (f.0, Spans-forward (tree_at nodes a.index) w i f.0 f.1, Spans-within (tree_at nodes a.index) w i f.0 within f.1, subst (λ v. At nodes w v f.0 j) (sym y_is) f.2)
 
+-- the byte is the only one of the set
+abbrev pub IsSole : List Bool → ℕ → Type 0
+IsSole s byte = (c : ℕ) → IsTrue (slice_index_or s c false) → c ≡ byte
+
+sole_stands : (s : List Bool) (byte : ℕ) (w : List ℕ) (i : ℕ) → IsSole s byte → CanBegin (WithSet s) w i → slice_get w i ≡ Some byte
+sole_stands s byte w i sole can = subst (λ b. slice_get w i ≡ Some b) (sole can.0 can.2) can.1
+
 module _ (nodes : List Node) (x : ℕ) where
   -- no bytes yet
   pub begins_empty : BeginsAs nodes x [] x
   begins_empty w i j within at = (occurs_empty w i within, let same : i ≡ i + 0 = omega arith in subst (λ v. At nodes w x v j) same at)
 
   -- one more byte
-  pub begins_byte : (bytes : List ℕ) (y byte z : ℕ) → BeginsAs nodes x bytes y → LinksTo nodes y (Byte byte z) → BeginsAs nodes x (bytes ++ byte ∷ []) z
-  begins_byte bytes y byte z begins link w i j within at =
+  pub begins_byte : (bytes : List ℕ) (s : List Bool) (y byte z : ℕ) → BeginsAs nodes x bytes y → LinksTo nodes y (OneOf s z) → IsSole s byte → BeginsAs nodes x (bytes ++ byte ∷ []) z
+  begins_byte bytes s y byte z begins link sole w i j within at =
       let h = begins w i j within at in
       let k = link.1 w (i + length bytes) j h.1 in
       let long = length-append bytes (byte ∷ []) in
       let same : i + length bytes + 1 ≡ i + length (bytes ++ byte ∷ []) = omega (arith, long) in
-      (occurs_more w bytes i byte h.0 k.0, subst (λ v. At nodes w z v j) same k.1)
+      (occurs_more w bytes i byte h.0 (sole_stands s byte w (i + length bytes) sole k.0), subst (λ v. At nodes w z v j) same k.1)
 
   -- the last byte
-  pub begins_last : (bytes : List ℕ) (y byte : ℕ) → BeginsAs nodes x bytes y → LinksTo nodes y (Last byte) →
+  pub begins_last : (bytes : List ℕ) (s : List Bool) (y byte : ℕ) → BeginsAs nodes x bytes y → LinksTo nodes y (Last s) → IsSole s byte →
       (w : List ℕ) (i j : ℕ) → i ≤ length w → At nodes w x i j → OccursAt w (bytes ++ byte ∷ []) i
-  begins_last bytes y byte begins link w i j within at =
+  begins_last bytes s y byte begins link sole w i j within at =
       let h = begins w i j within at in
       let k = link w (i + length bytes) j h.1 in
-      occurs_more w bytes i byte h.0 k.0
+      occurs_more w bytes i byte h.0 (sole_stands s byte w (i + length bytes) sole k.0)
 
   -- the same in a group
   pub begins_inner : (bytes : List ℕ) (y z : ℕ) → BeginsAs nodes x bytes y → LinksTo nodes y (Inner z) → BeginsAs nodes x bytes z

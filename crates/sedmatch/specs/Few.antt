@@ -1,7 +1,5 @@
--- Private to this crate: expressions whose matches begin with one of a few bytes.
+-- Private to this crate: up to three bytes, one of which is sought.
 use Rattle.std.specs.Prelude.{◌≡◌, ◌⊎◌, ℕ, ◌<◌, ◌≤◌, ◌↔◌, List, slice_get, Option, Some, None}
-use Rattle.sedre.specs.Tree.{Tree}
-use Rattle.sedmatch.specs.Spans.{Spans}
 use Rattle.sedmatch.specs.Skip.{CanBegin, EitherHas}
 use Rattle.sedmatch.specs.declared.skip.Begins.{Begins}
 use Rattle.sedmatch.specs.declared.skip.Either.{Either}
@@ -44,8 +42,3 @@ IsFewOf begins few = (w : List ℕ) → AreBytes w → (i : ℕ) → CanBegin be
 abbrev pub FewOf : Begins → Option Few → Type 0
 FewOf begins None = Unit {0}
 FewOf begins (Some few) = IsFewOf begins few
-
--- all spans of the expression begin with one of the few, where they are known
-abbrev pub AllFew : Tree → Option Few → Type 0
-AllFew e None = Unit {0}
-AllFew e (Some few) = (w : List ℕ) → AreBytes w → (i j : ℕ) → Spans e w i j → FewAt few w i

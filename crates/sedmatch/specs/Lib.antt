@@ -20,6 +20,7 @@ pub mod Ahead
 pub mod Runs
 pub mod Sight
 pub mod Few
+pub mod Rare
 pub mod Search
 pub mod Cuts
 pub mod Work

@@ -1,24 +1,26 @@
 -- Private to this crate: literals that the spans of an expression hold.
-use Rattle.std.specs.Prelude.{◌≡◌, ℕ, ◌+◌, ◌-◌, ◌<◌, ◌≤◌, List, length, slice_get, Option, Some, None, IsTrue}
+use Rattle.std.specs.Prelude.{◌≡◌, ℕ, ◌+◌, ◌-◌, ◌<◌, ◌≤◌, Bool, List, length, Option, Some, None, IsTrue}
 use Rattle.memchr.specs.Find.{OccursAt}
 use Rattle.sedre.specs.Tree.{Tree}
 use Rattle.sedre.specs.declared.types.Node.{Node}
 use Rattle.sedmatch.specs.Spans.{Spans, NotFound}
 use Rattle.sedmatch.specs.Reach.{At}
 use Rattle.sedmatch.specs.Search.{NoneIn}
+use Rattle.sedmatch.specs.Skip.{CanBegin}
+use Rattle.sedmatch.specs.declared.skip.Begins.TheVariants.{WithSet}
 use Rattle.sedmatch.specs.declared.needed.Link.{Link}
-use Rattle.sedmatch.specs.declared.needed.Link.TheVariants.{Byte, Last, Inner, Other}
+use Rattle.sedmatch.specs.declared.needed.Link.TheVariants.{OneOf, Last, Inner, Other}
 use Rattle.sedmatch.specs.declared.needed.Literal.{Literal}
 use Rattle.sedmatch.specs.declared.needed.Needed.{Needed}
 
--- the spans of the node x are of the one byte
-abbrev pub IsByte : List Node → ℕ → ℕ → Type 0
-IsByte nodes x byte = (w : List ℕ) (i j : ℕ) → At nodes w x i j → (slice_get w i ≡ Some byte) × (j ≡ i + 1)
+-- the spans of the node x are of one byte of the set
+abbrev pub IsOfSet : List Node → ℕ → List Bool → Type 0
+IsOfSet nodes x s = (w : List ℕ) (i j : ℕ) → At nodes w x i j → CanBegin (WithSet s) w i × (j ≡ i + 1)
 
 -- how the spans of the node x begin
 abbrev pub LinksTo : List Node → ℕ → Link → Type 0
-LinksTo nodes x (Byte byte y) = (y < x) × ((w : List ℕ) (i j : ℕ) → At nodes w x i j → (slice_get w i ≡ Some byte) × At nodes w y (i + 1) j)
-LinksTo nodes x (Last byte) = IsByte nodes x byte
+LinksTo nodes x (OneOf s y) = (y < x) × ((w : List ℕ) (i j : ℕ) → At nodes w x i j → CanBegin (WithSet s) w i × At nodes w y (i + 1) j)
+LinksTo nodes x (Last s) = IsOfSet nodes x s
 LinksTo nodes x (Inner y) = (y < x) × ((w : List ℕ) (i j : ℕ) → At nodes w x i j → At nodes w y i j)
 LinksTo nodes x Other = Unit {0}
 

@@ -8,18 +8,18 @@ use Rattle.sedmatch.specs.declared.skip.Begins.{Begins}
 use Rattle.sedmatch.specs.declared.needed.Needed.{Needed}
 use Rattle.sedmatch.specs.Skip.{AllBegin}
 use Rattle.sedmatch.specs.Needed.{IsNeeded}
-use Rattle.sedmatch.specs.declared.few.Few.{Few}
-use Rattle.sedmatch.specs.Few.{AllFew}
+use Rattle.sedmatch.specs.declared.rare.Rare.{Rare}
+use Rattle.sedmatch.specs.Rare.{AllRare}
 use Rattle.sedmatch.specs.declared.sight.Sight.{Sight}
 use Rattle.sedmatch.specs.Sight.{IsSightOf}
 use Rattle.sedmatch.specs.Tables.{IsTable}
 
 -- the tables are for the whole expression: in the one every place is a start, in the other the first alone
-pub record IsReady (e : Written) (root : ℕ) (begins : Begins) (needed : Option Needed) (few : Option Few) (sight : Option Sight) (every single back : Table) : Type 0 where
+pub record IsReady (e : Written) (root : ℕ) (begins : Begins) (needed : Option Needed) (few : Option Rare) (sight : Option Sight) (every single back : Table) : Type 0 where
   pub whole : root + 1 ≡ length e.nodes
   pub begins_so : AllBegin (tree e) begins
   pub needed_so : IsNeeded (tree e) needed
-  pub begins_few : AllFew (tree e) few
+  pub begins_few : AllRare (tree e) few
   pub sight_so : IsSightOf (tree e) sight
   pub every_table : IsTable e.nodes root every
   pub every_sweeps : IsTrue every.sweeps

@@ -5,16 +5,16 @@ ghost use Rattle.sedre.specs.Mirror.{seen};
 ghost use Rattle.sedmatch.specs.Fits.{FitsNodes, SameMarks};
 ghost use Rattle.sedmatch.specs.Spans.{Spans, Found as IsFound, NotFound};
 ghost use Rattle.sedmatch.specs.Skip.{AllBegin};
-ghost use Rattle.sedmatch.specs.Few.{AllFew};
+ghost use Rattle.sedmatch.specs.Rare.{AllRare};
 ghost use Rattle.sedmatch.specs.Needed.{IsNeeded};
 ghost use Rattle.sedmatch.specs.Tables.{IsTable};
 
 use crate::ahead::Lead;
 use crate::counted::Text;
-use crate::few::{Few, first_place};
 use crate::linear::{first_end_in, region_by, span_by};
 use crate::needed::{Needed, narrowed};
 use crate::quick::longest_in;
+use crate::rare::{Rare, first_place};
 use crate::scratch::Sets;
 use crate::skip::Begins;
 use crate::tables::Table;
@@ -63,7 +63,7 @@ pub fn leftmost_by(
     root: usize,
     begins: &Begins,
     needed: &Option<Needed>,
-    few: &Option<Few>,
+    few: &Option<Rare>,
     text: &Text,
     from: usize,
     every: &mut Table,
@@ -78,7 +78,7 @@ pub fn leftmost_by(
     requires from { from ≤ length text.now }
     requires begins { AllBegin (tree expr.now) begins.now }
     requires needed { IsNeeded (tree expr.now) needed.now }
-    requires begins_few { AllFew (tree expr.now) few.now }
+    requires begins_few { AllRare (tree expr.now) few.now }
     requires every { IsTable expr.now.nodes root every.old }
     requires every_sweeps { IsTrue every.old.sweeps }
     requires single { IsTable expr.now.nodes root single.old }
@@ -121,7 +121,7 @@ fn anywhere_by(
     expr: &Expr,
     root: usize,
     begins: &Begins,
-    few: &Option<Few>,
+    few: &Option<Rare>,
     text: &Text,
     from: usize,
     every: &mut Table,
@@ -135,7 +135,7 @@ fn anywhere_by(
     requires short { length text.now ≤ 2 ^ 30 }
     requires from { from ≤ length text.now }
     requires begins { AllBegin (tree expr.now) begins.now }
-    requires begins_few { AllFew (tree expr.now) few.now }
+    requires begins_few { AllRare (tree expr.now) few.now }
     requires every { IsTable expr.now.nodes root every.old }
     requires every_sweeps { IsTrue every.old.sweeps }
     requires single { IsTable expr.now.nodes root single.old }

@@ -7,11 +7,14 @@ ghost use Rattle.std.specs.Prelude.{reverse};
 ghost use Rattle.sedmatch.specs.Bytes.{FirstAt, looked_at, in_order};
 ghost use Rattle.sedmatch.specs.Few.{AreBytes, FirstFew};
 ghost use Rattle.sedmatch.specs.Needed.{FirstLiteral, passed_to};
+ghost use Rattle.sedmatch.specs.Rare.{ApartIn};
 ghost use Rattle.sedmatch.specs.Words.{marks_of};
 
 mod rows;
 
+use crate::apart::apart_to;
 use crate::few::Few;
+use crate::rare::Fixed;
 use memchr::memchr;
 use memchr::memmem::Finder;
 pub use rows::Rows;
@@ -124,6 +127,22 @@ impl<'a> Text<'a> {
                 Some(from + k)
             }
         }
+    }
+
+    /// A place such that from `from` up to it the two stand together nowhere, as far as vectors tell.
+    /// Counts two looks for each place from `from` to that one.
+    pub fn pass_apart(&self, first: &Fixed, second: &Fixed, from: usize, steps: &mut Steps) -> usize
+        requires from { from ≤ length self.now }
+        requires short { length self.now ≤ 2 ^ 30 }
+        requires room { steps.old < 2 ^ 119 }
+        ensures after { from ≤ result }
+        ensures within { result ≤ length self.now }
+        ensures apart { ApartIn first.now second.now self.now from result }
+        ensures cost { steps.new + 2 * from ≡ steps.old + 2 * result }
+    {
+        let place = apart_to(self.bytes, first, second, from);
+        steps.add(2 * (place - from));
+        place
     }
 
     /// The first place from `from` on at which one of the few bytes stands.

@@ -1,20 +1,13 @@
-//! Expressions whose matches begin with one of up to three bytes: those are sought, and the nodes that come first in a
-//! match are held against what stands there.
-ghost use Rattle.std.specs.Prelude.{◌≡◌, ℕ, ◌+◌, ◌*◌, ◌^◌, ◌<◌, ◌≤◌, ◌↔◌, ◌⊎◌, length, IfSome, IsTrue};
-ghost use Rattle.sedre.specs.Arena.{tree};
+//! Up to three bytes, one of which is sought.
+ghost use Rattle.std.specs.Prelude.{◌≡◌, ℕ, ◌<◌, ◌↔◌, ◌⊎◌, IfSome, IsTrue, slice_index};
+ghost use Rattle.std.specs.Int.{bit_at};
 ghost use Rattle.sedmatch.specs.Spans.{IsIn};
-ghost use Rattle.sedmatch.specs.Few.{FewOf, AreMembers, Gathered, HasFew, AllFew, FirstFew};
-ghost use Rattle.sedmatch.specs.Skip.{AllBegin};
-ghost use Rattle.sedmatch.specs.Search.{Sought, sought_to};
+ghost use Rattle.sedmatch.specs.Few.{FewOf, AreMembers, Gathered, HasFew, FirstFew};
 
-use crate::ahead::{Lead, look_ahead};
-use crate::counted::Text;
-use crate::skip::{Begins, Either, next_start};
+use crate::skip::{Begins, Either};
 use memchr::{memchr, memchr2, memchr3};
-use sedre::{ByteSet, Expr, Steps};
-
-/// How many bytes a table tells in the time of one look ahead.
-const FAR: usize = 24;
+use sedre::ByteSet;
+use std::simd::prelude::*;
 
 /// Up to three bytes.
 #[derive(Clone, Copy)]
@@ -28,6 +21,17 @@ pub enum Few {
 }
 
 impl Few {
+    /// Whether the byte is one of them.
+    pub fn has(&self, byte: u8) -> bool
+        ensures { IsTrue result ↔ HasFew self.now byte }
+    {
+        match self {
+            Few::One(first) => byte == *first,
+            Few::Two(first, second) => byte == *first || byte == *second,
+            Few::Three(first, second, third) => byte == *first || byte == *second || byte == *third,
+        }
+    }
+
     /// The first place at which one of them stands.
     pub fn find(&self, bytes: &[u8]) -> Option<usize>
         ensures { FirstFew self.now bytes.now 0 result }
@@ -38,6 +42,28 @@ impl Few {
             Few::Three(first, second, third) => memchr3(*first, *second, *third, bytes),
         }
     }
+
+    /// A bit for each lane in which one of them stands.
+    #[inline(always)]
+    pub fn marks(&self, lanes: u8x32) -> u64
+        ensures { (k : ℕ) → k < 32 → HasFew self.now (slice_index lanes k) → bit_at result k ≡ 1 }
+    {
+        match self {
+            Few::One(first) => byte_marks(*first, lanes),
+            Few::Two(first, second) => byte_marks(*first, lanes) | byte_marks(*second, lanes),
+            Few::Three(first, second, third) => {
+                byte_marks(*first, lanes) | byte_marks(*second, lanes) | byte_marks(*third, lanes)
+            }
+        }
+    }
+}
+
+/// A bit for each lane in which the byte stands.
+#[inline(always)]
+fn byte_marks(byte: u8, lanes: u8x32) -> u64
+    ensures { (k : ℕ) → k < 32 → slice_index lanes k ≡ byte → bit_at result k ≡ 1 }
+{
+    lanes.simd_eq(u8x32::splat(byte)).to_bitmask()
 }
 
 /// The bytes gathered so far and one more, where they are still few.
@@ -86,80 +112,5 @@ pub fn few_of(begins: &Begins) -> Option<Few>
         Begins::WithSet(set) => members_of(set),
         Begins::WithEither(sets) => few_in(sets),
         _ => None,
-    }
-}
-
-/// Whether so many bytes were passed over that one look ahead more than these is paid for by the time they saved.
-fn is_worth(passed: usize, looks: usize) -> bool
-    ensures { IsTrue result → 8 ≤ passed }
-{
-    passed / FAR > looks
-}
-
-/// The first place from `from` on at which a match can begin, by its first byte and, as long as that is rare, by what
-/// comes first in it.
-fn few_place(
-    expr: &Expr,
-    few: &Few,
-    text: &Text,
-    from: usize,
-    steps: &mut Steps,
-) -> Option<(usize, Lead)>
-    requires few { length expr.now.nodes ≤ 65536 }
-    requires short { length text.now ≤ 2 ^ 30 }
-    requires from { from ≤ length text.now }
-    requires begins { AllFew (tree expr.now) (Some few.now) }
-    requires room { steps.old < 2 ^ 116 }
-    ensures sought { Sought (tree expr.now) text.now from result }
-    ensures grows { steps.old ≤ steps.new }
-    ensures cost { let m = length expr.now.nodes in let n = length text.now in
-        steps.new + 8 * m * from ≤ steps.old + 8 * m * sought_to n result + m * n + 1 }
-{
-    let _count = expr.nodes();
-    text.are_bytes();
-    let mut place = from;
-    let mut looks = 0usize;
-    while let Some(start) = text.find_few(few, place, steps) {
-        if !is_worth(start.saturating_sub(from), looks) {
-            return Some((start, Lead::Unknown));
-        }
-        match look_ahead(expr, text, start, steps) {
-            Lead::Nowhere => {
-                place = start + 1;
-                looks = looks.saturating_add(1);
-            }
-            lead => return Some((start, lead)),
-        }
-    }
-    None
-}
-
-/// The first place from `from` on at which a match can begin, and what a look ahead tells of it.
-pub fn first_place(
-    expr: &Expr,
-    begins: &Begins,
-    few: &Option<Few>,
-    text: &Text,
-    from: usize,
-    steps: &mut Steps,
-) -> Option<(usize, Lead)>
-    requires few { length expr.now.nodes ≤ 65536 }
-    requires short { length text.now ≤ 2 ^ 30 }
-    requires from { from ≤ length text.now }
-    requires begins { AllBegin (tree expr.now) begins.now }
-    requires begins_few { AllFew (tree expr.now) few.now }
-    requires room { steps.old < 2 ^ 116 }
-    ensures sought { Sought (tree expr.now) text.now from result }
-    ensures grows { steps.old ≤ steps.new }
-    ensures cost { let m = length expr.now.nodes in let n = length text.now in
-        steps.new + 8 * m * from ≤ steps.old + 8 * m * sought_to n result + m * n + 1 }
-{
-    let _count = expr.nodes();
-    match few {
-        Some(few) => few_place(expr, few, text, from, steps),
-        None => match next_start(begins, text, from, steps) {
-            None => None,
-            Some(start) => Some((start, Lead::Unknown)),
-        },
     }
 }

@@ -15,6 +15,7 @@
 
 mod ahead;
 mod anywhere;
+mod apart;
 mod classes;
 mod counted;
 mod cuts;
@@ -26,6 +27,7 @@ mod matcher;
 mod needed;
 mod passes;
 mod quick;
+mod rare;
 mod region;
 mod runs;
 mod scratch;

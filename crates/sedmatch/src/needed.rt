@@ -4,11 +4,11 @@
 ghost use Rattle.std.specs.Prelude.{◌≡◌, ℕ, ◌+◌, ◌*◌, ◌^◌, ◌<◌, ◌≤◌, ◌⊎◌, length, IfOk, IfSome};
 ghost use Rattle.sedre.specs.Arena.{tree};
 ghost use Rattle.sedre.specs.Tree.{Tree};
-ghost use Rattle.sedmatch.specs.Needed.{IsByte, LinksTo, IsLiteral, IsUpTo, AllHold, AllEndWith, IsNeeded, Narrowed};
+ghost use Rattle.sedmatch.specs.Needed.{IsOfSet, LinksTo, IsLiteral, IsUpTo, AllHold, AllEndWith, IsNeeded, Narrowed};
 
 use crate::counted::Text;
 use memchr::memmem::Finder;
-use sedre::{Expr, Node, Steps};
+use sedre::{ByteSet, Expr, Node, Steps};
 use std::alloc::{AllocError, Global};
 
 /// The most bytes of a literal.
@@ -17,10 +17,10 @@ const MAX_LITERAL: usize = 32;
 /// How the spans of a node begin.
 #[derive(Clone, Copy)]
 pub enum Link {
-    /// With this byte, behind which they go on as the spans of this node.
-    Byte(u8, usize),
-    /// They are of this one byte.
-    Last(u8),
+    /// With a byte of this set, behind which they go on as the spans of this node.
+    OneOf(ByteSet, usize),
+    /// They are of one byte of this set.
+    Last(ByteSet),
     /// As the spans of this node.
     Inner(usize),
     /// That isn't known.
@@ -45,22 +45,22 @@ pub struct Needed {
     pub leads: bool,
 }
 
-/// The byte of which the spans of the node are, if it is one byte alone.
-fn sole_byte(expr: &Expr, index: usize, steps: &mut Steps) -> Option<u8>
+/// The set of whose bytes the spans of the node have one, if the node is a set.
+fn set_of(expr: &Expr, index: usize, steps: &mut Steps) -> Option<ByteSet>
     requires inside { index < length expr.now.nodes }
     requires room { steps.old < 2 ^ 119 }
-    ensures byte { IfSome result (λ b. IsByte expr.now.nodes index b) }
+    ensures set { IfSome result (λ s. IsOfSet expr.now.nodes index s) }
     ensures cost { steps.new ≡ steps.old + 1 }
 {
     let _count = expr.nodes();
     match expr.look(expr.id(index), steps) {
-        Node::Set(set) => set.sole(),
+        Node::Set(set) => Some(set),
         _ => None,
     }
 }
 
 /// How the spans of the node begin.
-fn link_of(expr: &Expr, index: usize, steps: &mut Steps) -> Link
+pub fn link_of(expr: &Expr, index: usize, steps: &mut Steps) -> Link
     requires inside { index < length expr.now.nodes }
     requires room { steps.old < 2 ^ 118 }
     ensures links { LinksTo expr.now.nodes index result }
@@ -70,13 +70,13 @@ fn link_of(expr: &Expr, index: usize, steps: &mut Steps) -> Link
     let _count = expr.nodes();
     let node = expr.look(expr.id(index), steps);
     match node {
-        Node::Seq(a, b) => match sole_byte(expr, a.index(), steps) {
-            Some(byte) => Link::Byte(byte, b.index()),
+        Node::Seq(a, b) => match set_of(expr, a.index(), steps) {
+            Some(set) => Link::OneOf(set, b.index()),
             None => Link::Other,
         },
         Node::Group(_, a) => Link::Inner(a.index()),
-        _ => match sole_byte(expr, index, steps) {
-            Some(byte) => Link::Last(byte),
+        _ => match set_of(expr, index, steps) {
+            Some(set) => Link::Last(set),
             None => Link::Other,
         },
     }
@@ -100,29 +100,30 @@ fn literal_from(
     let _count = expr.nodes();
     let mut bytes = Vec::new(alloc);
     let mut index = from;
-    loop {
-        if bytes.len() >= MAX_LITERAL {
-            return Ok(Literal {
-                bytes,
-                rest: Some(index),
-            });
-        }
+    while bytes.len() < MAX_LITERAL {
         match link_of(expr, index, steps) {
-            Link::Byte(byte, next) => {
+            Link::OneOf(set, next) => {
+                let Some(byte) = set.sole() else {
+                    break;
+                };
                 bytes.push(byte)?;
                 index = next;
             }
-            Link::Last(byte) => {
+            Link::Last(set) => {
+                let Some(byte) = set.sole() else {
+                    break;
+                };
                 bytes.push(byte)?;
                 return Ok(Literal { bytes, rest: None });
             }
             Link::Inner(part) => index = part,
-            Link::Other => return Ok(Literal {
-                bytes,
-                rest: Some(index),
-            }),
+            Link::Other => break,
         }
     }
+    Ok(Literal {
+        bytes,
+        rest: Some(index),
+    })
 }
 
 /// The second part of a node that is a concatenation.

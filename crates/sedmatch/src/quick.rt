@@ -4,7 +4,7 @@ ghost use Rattle.sedre.specs.Arena.{tree};
 ghost use Rattle.sedmatch.specs.Fits.{FitsNodes, SameMarks};
 ghost use Rattle.sedmatch.specs.Spans.{Found as IsFound, NotFound, SomeFound};
 ghost use Rattle.sedmatch.specs.Skip.{AllBegin};
-ghost use Rattle.sedmatch.specs.Few.{AllFew};
+ghost use Rattle.sedmatch.specs.Rare.{AllRare};
 ghost use Rattle.sedmatch.specs.Needed.{IsNeeded};
 ghost use Rattle.sedmatch.specs.Tables.{IsTable, IsCut};
 ghost use Rattle.sedmatch.specs.Reach.{Longest};
@@ -18,11 +18,11 @@ use crate::ahead::Lead;
 use crate::anywhere::{anchored_by, leftmost_by};
 use crate::classes::{Classes, find_classes};
 use crate::counted::{Bytes, Text};
-use crate::few::{Few, few_of, first_place};
 use crate::groups::report;
 use crate::linear::first_end_in;
 use crate::matcher::{Found, find, find_span};
 use crate::needed::{Needed, find_needed, narrowed};
+use crate::rare::{Rare, first_place, rare_of};
 use crate::scratch::{Scratch, Sets};
 use crate::search::{better, longest_on};
 use crate::sight::{Sight, sight_matches, sight_of, sight_span};
@@ -38,7 +38,7 @@ fn some_by(
     root: usize,
     begins: &Begins,
     needed: &Option<Needed>,
-    few: &Option<Few>,
+    few: &Option<Rare>,
     text: &Text,
     from: usize,
     every: &mut Table,
@@ -52,7 +52,7 @@ fn some_by(
     requires from { from ≤ length text.now }
     requires begins { AllBegin (tree expr.now) begins.now }
     requires needed { IsNeeded (tree expr.now) needed.now }
-    requires begins_few { AllFew (tree expr.now) few.now }
+    requires begins_few { AllRare (tree expr.now) few.now }
     requires every { IsTable expr.now.nodes root every.old }
     requires every_sweeps { IsTrue every.old.sweeps }
     requires single { IsTable expr.now.nodes root single.old }
@@ -82,7 +82,7 @@ fn some_anywhere(
     expr: &Expr,
     root: usize,
     begins: &Begins,
-    few: &Option<Few>,
+    few: &Option<Rare>,
     text: &Text,
     from: usize,
     table: &mut Table,
@@ -94,7 +94,7 @@ fn some_anywhere(
     requires short { length text.now ≤ 2 ^ 30 }
     requires from { from ≤ length text.now }
     requires begins { AllBegin (tree expr.now) begins.now }
-    requires begins_few { AllFew (tree expr.now) few.now }
+    requires begins_few { AllRare (tree expr.now) few.now }
     requires table { IsTable expr.now.nodes root table.old }
     requires sweeps { IsTrue table.old.sweeps }
     requires fits { FitsNodes (length expr.now.nodes) sets.old }
@@ -220,7 +220,7 @@ fn find_by(
     root: usize,
     begins: &Begins,
     needed: &Option<Needed>,
-    few: &Option<Few>,
+    few: &Option<Rare>,
     text: &Text,
     from: usize,
     every: &mut Table,
@@ -236,7 +236,7 @@ fn find_by(
     requires expr_fits { length expr.now.nodes ≤ scratch.old.nodes }
     requires begins { AllBegin (tree expr.now) begins.now }
     requires needed { IsNeeded (tree expr.now) needed.now }
-    requires begins_few { AllFew (tree expr.now) few.now }
+    requires begins_few { AllRare (tree expr.now) few.now }
     requires every { IsTable expr.now.nodes root every.old }
     requires every_sweeps { IsTrue every.old.sweeps }
     requires single { IsTable expr.now.nodes root single.old }
@@ -346,7 +346,7 @@ pub struct TableMatcher {
     root: usize,
     begins: Begins,
     needed: Option<Needed>,
-    few: Option<Few>,
+    few: Option<Rare>,
     // Where a look at the text tells as much as the tables would.
     sight: Option<Sight>,
     every: Table,
@@ -394,13 +394,14 @@ impl TableMatcher {
         let mut steps = Steps::new();
         let begins = how_begins(expr, &mut steps);
         let sight = sight_of(expr, &mut steps);
+        let few = rare_of(expr, &begins, &mut steps);
         let needed = find_needed(alloc, expr, &mut steps)?;
         Ok(TableMatcher {
             expr: expr.copy(alloc)?,
             root,
             begins,
             needed,
-            few: few_of(&begins),
+            few,
             sight,
             every,
             single,

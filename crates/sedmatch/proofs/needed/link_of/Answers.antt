@@ -1,11 +1,11 @@
 use Rattle.std.proofs.Common.{◌≡◌, Some, arith}
 use Rattle.std.specs.Prelude.{slice_get}
 use Rattle.sedre.specs.declared.types.Node.TheVariants.{Seq, Group}
-use Rattle.sedmatch.proofs.NeededLemmas.{seq_below, byte_links, group_links}
+use Rattle.sedmatch.proofs.NeededLemmas.{seq_below, set_links, group_links}
 use Rattle.sedmatch.proofs.needed.link_of.Goals as goal
 
-pub sole_byte-requires-clause-inside : goal.sole_byte-requires-clause-inside
-sole_byte-requires-clause-inside c =
+pub set_of-requires-clause-inside : goal.set_of-requires-clause-inside
+set_of-requires-clause-inside c =
     let is : slice_get c.args.expr.now.nodes c.args.index ≡ Some (Seq c.in-Seq.a c.in-Seq.b) = cc in
     let below = seq_below c.args.expr.now.nodes c.nodes-count.ensures.arena c.args.index c.in-Seq.a c.in-Seq.b is in
     omega (arith, below.0)
@@ -13,8 +13,8 @@ sole_byte-requires-clause-inside c =
 pub returns-in-Some-clause-links : goal.returns-in-Some-clause-links
 returns-in-Some-clause-links c =
     let is : slice_get c.args.expr.now.nodes c.args.index ≡ Some (Seq c.in-Seq.a c.in-Seq.b) = cc in
-    byte_links c.args.expr.now.nodes c.nodes-count.ensures.arena c.args.index c.in-Seq.a c.in-Seq.b c.index-in-Some.result c.index.result c.in-Some.byte is
-    c.index.ensures c.index-in-Some.ensures c.in-Some.ensures.byte
+    set_links c.args.expr.now.nodes c.nodes-count.ensures.arena c.args.index c.in-Seq.a c.in-Seq.b c.index-in-Some.result c.index.result c.in-Some.set is
+    c.index.ensures c.index-in-Some.ensures c.in-Some.ensures.set
 
 pub returns-in-Group-clause-links : goal.returns-in-Group-clause-links
 returns-in-Group-clause-links c =

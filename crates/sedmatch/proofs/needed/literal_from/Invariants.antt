@@ -2,8 +2,8 @@ use Rattle.std.proofs.Common.{◌+◌, ◌*◌, ◌<◌, ◌≤◌, length}
 use Rattle.sedmatch.specs.Needed.{BeginsAs}
 use Rattle.sedmatch.proofs.needed.literal_from.Given as goal
 
-abbrev pub invariant-loop-bytes : goal.invariant-loop-bytes
-invariant-loop-bytes l = record {
+abbrev pub invariant-loop-steps : goal.invariant-loop-steps
+invariant-loop-steps l = record {
   inside : l.index < length l.expr.nodes;
   below : l.index ≤ l.from;
   grows : l.initial.steps ≤ l.steps;
@@ -11,5 +11,5 @@ invariant-loop-bytes l = record {
   begins : BeginsAs l.expr.nodes l.from l.bytes.items l.index;
 }
 
-abbrev pub decreases-loop-bytes : goal.decreases-loop-bytes
-decreases-loop-bytes l = l.index
+abbrev pub decreases-loop-steps : goal.decreases-loop-steps
+decreases-loop-steps l = l.index

@@ -1,6 +1,6 @@
 use Rattle.std.proofs.Common.{length, arith}
 use Rattle.sedmatch.proofs.CostLemmas.{start_step}
-use Rattle.sedmatch.proofs.few.first_place.Goals as goal
+use Rattle.sedmatch.proofs.rare.first_place.Goals as goal
 
 pub returns-in-None-next_start-clause-cost : goal.returns-in-None-next_start-clause-cost
 returns-in-None-next_start-clause-cost c =

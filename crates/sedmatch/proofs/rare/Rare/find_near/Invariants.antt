@@ -1,15 +1,14 @@
 use Rattle.std.proofs.Common.{◌+◌, ◌-◌, ◌*◌, ◌≤◌, length}
-use Rattle.sedre.specs.Arena.{tree}
-use Rattle.sedmatch.specs.Search.{NoneIn}
-use Rattle.sedmatch.proofs.few.few_place.Given as goal
+use Rattle.sedmatch.specs.Rare.{RareNowhere}
+use Rattle.sedmatch.proofs.rare.Rare.find_near.Given as goal
 
 abbrev pub invariant-loop-start : goal.invariant-loop-start
 invariant-loop-start l = record {
   grows : l.initial.steps ≤ l.steps;
   after : l.from ≤ l.place;
   within : l.place ≤ length l.text;
-  cost : l.steps + 8 * length l.expr.nodes * l.from ≤ l.initial.steps + 8 * length l.expr.nodes * l.place;
-  missed : NoneIn (tree l.expr) l.text l.from l.place;
+  cost : l.steps + 2 * l.from ≤ l.initial.steps + 2 * l.place;
+  missed : RareNowhere l.self l.text l.from l.place;
 }
 
 abbrev pub decreases-loop-start : goal.decreases-loop-start

@@ -1,0 +1,358 @@
+//! Few bytes of which one stands at a fixed distance behind the beginning of every match: the rarest are sought, the
+//! next rarest are held against what stands there, and after them the nodes that come first in a match.
+ghost use Rattle.std.specs.Prelude.{◌≡◌, ℕ, ◌+◌, ◌*◌, ◌^◌, ◌<◌, ◌≤◌, ◌↔◌, Some, length, IfSome, IsTrue};
+ghost use Rattle.sedre.specs.Arena.{tree, tree_at};
+ghost use Rattle.sedre.specs.Tree.{Tree};
+ghost use Rattle.sedmatch.specs.Bytes.{looked_at};
+ghost use Rattle.sedmatch.specs.Rare.{StandsAt, HeldAt, FirstFixed, FirstRare, RareNowhere, AllStand, AllHave, AllHeld, AllRare};
+ghost use Rattle.sedmatch.specs.Skip.{AllBegin};
+ghost use Rattle.sedmatch.specs.Search.{Sought, sought_to};
+
+use crate::ahead::{Lead, look_ahead};
+use crate::counted::Text;
+use crate::few::{Few, few_of, members_of};
+use crate::needed::{Link, link_of};
+use crate::skip::{Begins, next_start};
+use sedre::{ByteSet, Expr, Steps};
+
+/// How many bytes a table tells in the time of one look ahead.
+const FAR: usize = 24;
+
+/// How many looks ahead are made at once where two bytes are known to stand before each of them.
+const SPARE: usize = 4;
+
+/// How many bytes behind its beginning a match is followed.
+const MAX_OFFSET: usize = 32;
+
+/// How often each letter stands in a thousand bytes of ordinary text, that is prose, logs and programs.
+const LETTERS: [u8; 26] = [
+    65, 12, 30, 33, 95, 18, 16, 30, 60, 2, 7, 35, 22, 60, 60, 22, 1, 55, 55, 70, 25, 8, 12, 3, 12,
+    1,
+];
+
+/// How often the byte stands in a thousand bytes of ordinary text.
+fn weight(byte: u8) -> usize
+    ensures { result ≤ 255 }
+{
+    match byte {
+        b' ' => 150,
+        b'a'..=b'z' => LETTERS[(byte - b'a') as usize] as usize,
+        b'0'..=b'9' => 12,
+        b'A'..=b'Z' => 4,
+        b'!'..=b'~' => 6,
+        _ => 1,
+    }
+}
+
+/// A few bytes of which one stands at a fixed distance behind the beginning of every match.
+#[derive(Clone, Copy)]
+pub struct Fixed {
+    /// The distance.
+    pub offset: usize,
+    /// The bytes.
+    pub few: Few,
+}
+
+impl Fixed {
+    /// How often they stand in a thousand bytes of ordinary text.
+    fn weight(&self) -> usize {
+        match self.few {
+            Few::One(first) => weight(first),
+            Few::Two(first, second) => weight(first) + weight(second),
+            Few::Three(first, second, third) => weight(first) + weight(second) + weight(third),
+        }
+    }
+
+    /// Whether one of them stands so far behind the place. Counts one look.
+    fn stands(&self, text: &Text, place: usize, steps: &mut Steps) -> bool
+        requires place { place ≤ length text.now }
+        requires room { steps.old < 2 ^ 119 }
+        ensures stands { IsTrue result ↔ StandsAt self.now text.now place }
+        ensures grows { steps.old ≤ steps.new }
+        ensures cost { steps.new ≤ steps.old + 1 }
+    {
+        if self.offset < text.len() - place {
+            let byte = text.byte(place + self.offset, steps);
+            self.few.has(byte)
+        } else {
+            false
+        }
+    }
+
+    /// The first place from `from` on behind which one of them stands so far.
+    fn find(&self, text: &Text, from: usize, steps: &mut Steps) -> Option<usize>
+        requires from { from ≤ length text.now }
+        requires room { steps.old < 2 ^ 119 }
+        ensures first { FirstFixed self.now text.now from result }
+        ensures grows { steps.old ≤ steps.new }
+        ensures cost { steps.new ≤ steps.old + looked_at (length text.now) from result }
+    {
+        if self.offset > text.len() - from {
+            return None;
+        }
+        match text.find_few(&self.few, from + self.offset, steps) {
+            None => None,
+            Some(place) => Some(place - self.offset),
+        }
+    }
+}
+
+/// What stands behind the beginning of every match.
+#[derive(Clone, Copy)]
+pub struct Rare {
+    /// The rarest bytes, which are sought.
+    pub sought: Fixed,
+    /// The next rarest, which are held against what stands there.
+    pub held: Option<Fixed>,
+}
+
+impl Rare {
+    /// Whether what is held stands where it does in a match that begins at the place. Counts one look.
+    fn holds(&self, text: &Text, place: usize, steps: &mut Steps) -> bool
+        requires place { place ≤ length text.now }
+        requires room { steps.old < 2 ^ 119 }
+        ensures holds { IsTrue result ↔ HeldAt self.now.held text.now place }
+        ensures grows { steps.old ≤ steps.new }
+        ensures cost { steps.new ≤ steps.old + 1 }
+    {
+        match &self.held {
+            None => true,
+            Some(held) => held.stands(text, place, steps),
+        }
+    }
+
+    /// How far from `from` on vectors tell that a match begins nowhere.
+    fn pass(&self, text: &Text, from: usize, steps: &mut Steps) -> usize
+        requires from { from ≤ length text.now }
+        requires short { length text.now ≤ 2 ^ 30 }
+        requires room { steps.old < 2 ^ 117 }
+        ensures after { from ≤ result }
+        ensures within { result ≤ length text.now }
+        ensures missed { RareNowhere self.now text.now from result }
+        ensures grows { steps.old ≤ steps.new }
+        ensures cost { steps.new + 2 * from ≤ steps.old + 2 * result }
+    {
+        match &self.held {
+            None => from,
+            Some(held) => text.pass_apart(&self.sought, held, from, steps),
+        }
+    }
+
+    /// The first place from `from` on at which a match can begin as far as these bytes tell, one by one.
+    fn find_near(&self, text: &Text, from: usize, steps: &mut Steps) -> Option<usize>
+        requires from { from ≤ length text.now }
+        requires short { length text.now ≤ 2 ^ 30 }
+        requires room { steps.old < 2 ^ 118 }
+        ensures first { FirstRare self.now text.now from result }
+        ensures grows { steps.old ≤ steps.new }
+        ensures cost { steps.new ≤ steps.old + 2 * looked_at (length text.now) from result }
+    {
+        let mut place = from;
+        while let Some(start) = self.sought.find(text, place, steps) {
+            if self.holds(text, start, steps) {
+                return Some(start);
+            }
+            place = start + 1;
+        }
+        None
+    }
+
+    /// The same, vectors first.
+    fn find(&self, text: &Text, from: usize, steps: &mut Steps) -> Option<usize>
+        requires from { from ≤ length text.now }
+        requires short { length text.now ≤ 2 ^ 30 }
+        requires room { steps.old < 2 ^ 117 }
+        ensures first { FirstRare self.now text.now from result }
+        ensures lies { IfSome result (λ k. k < length text.now) }
+        ensures grows { steps.old ≤ steps.new }
+        ensures cost { steps.new ≤ steps.old + 2 * looked_at (length text.now) from result }
+    {
+        let place = self.pass(text, from, steps);
+        self.find_near(text, place, steps)
+    }
+
+    /// Whether one look ahead more than these is paid for by the time that was saved where so many bytes were passed.
+    fn is_worth(&self, passed: usize, looks: usize) -> bool {
+        let spare = if self.held.is_some() { SPARE } else { 0 };
+        looks < passed / FAR + spare
+    }
+}
+
+/// The rarer of what was held and one more.
+fn rarer(held: Option<Fixed>, more: Fixed) -> Fixed
+    ensures { (e : Tree) → AllHeld e held → AllStand e more → AllStand e result }
+{
+    match held {
+        Some(held) => if held.weight() <= more.weight() {
+            held
+        } else {
+            more
+        },
+        None => more,
+    }
+}
+
+/// The two rarest of these and one more.
+fn with_fixed(rare: Option<Rare>, more: Fixed) -> Rare
+    ensures { (e : Tree) → AllRare e rare → AllStand e more → AllRare e (Some result) }
+{
+    match rare {
+        None => Rare {
+            sought: more,
+            held: None,
+        },
+        Some(rare) => if more.weight() < rare.sought.weight() {
+            Rare {
+                sought: more,
+                held: Some(rare.sought),
+            }
+        } else {
+            Rare {
+                sought: rare.sought,
+                held: Some(rarer(rare.held, more)),
+            }
+        },
+    }
+}
+
+/// The same where a byte of the set stands so far behind the beginning of every match: sets of many bytes are left out.
+fn with_set(rare: Option<Rare>, offset: usize, set: &ByteSet) -> Option<Rare>
+    ensures { (e : Tree) → AllRare e rare → AllHave e offset set.now → AllRare e result }
+{
+    match members_of(set) {
+        None => rare,
+        Some(few) => Some(with_fixed(rare, Fixed { offset, few })),
+    }
+}
+
+/// The rarest bytes that stand behind the beginning of every span of a node, as long as it is a concatenation of sets.
+fn rare_from(expr: &Expr, from: usize, steps: &mut Steps) -> Option<Rare>
+    requires inside { from < length expr.now.nodes }
+    requires few { length expr.now.nodes ≤ 65536 }
+    requires room { steps.old < 2 ^ 111 }
+    ensures rare { AllRare (tree_at expr.now.nodes from) result }
+    ensures grows { steps.old ≤ steps.new }
+    ensures cost { steps.new ≤ steps.old + 131074 }
+{
+    let _count = expr.nodes();
+    let mut rare = None;
+    let mut offset = 0usize;
+    let mut index = from;
+    while offset < MAX_OFFSET {
+        match link_of(expr, index, steps) {
+            Link::OneOf(set, next) => {
+                rare = with_set(rare, offset, &set);
+                offset += 1;
+                index = next;
+            }
+            Link::Last(set) => return with_set(rare, offset, &set),
+            Link::Inner(part) => index = part,
+            Link::Other => return rare,
+        }
+    }
+    rare
+}
+
+/// The bytes with which every match begins, where they are few.
+fn rare_first(begins: &Begins) -> Option<Rare>
+    ensures { (e : Tree) → AllBegin e begins.now → AllRare e result }
+{
+    match few_of(begins) {
+        None => None,
+        Some(few) => Some(Rare {
+            sought: Fixed { offset: 0, few },
+            held: None,
+        }),
+    }
+}
+
+/// The rarest bytes that stand behind the beginning of every match, where they are few.
+pub fn rare_of(expr: &Expr, begins: &Begins, steps: &mut Steps) -> Option<Rare>
+    requires few { length expr.now.nodes ≤ 65536 }
+    requires begins { AllBegin (tree expr.now) begins.now }
+    requires room { steps.old < 2 ^ 110 }
+    ensures rare { AllRare (tree expr.now) result }
+    ensures grows { steps.old ≤ steps.new }
+    ensures cost { steps.new ≤ steps.old + 131074 }
+{
+    let root = expr.root().index();
+    match rare_from(expr, root, steps) {
+        Some(rare) => Some(rare),
+        None => rare_first(begins),
+    }
+}
+
+/// Whether looks ahead are within what a search is allowed, for so many nodes and bytes.
+fn is_large(nodes: usize, bytes: usize) -> bool
+    ensures { IsTrue result → (2 ≤ nodes) × (8 ≤ bytes) }
+{
+    nodes >= 2 && bytes >= 8
+}
+
+/// The first place from `from` on at which a match can begin, by its rarest bytes and, as long as that is worth it, by
+/// what comes first in it.
+fn rare_place(
+    expr: &Expr,
+    rare: &Rare,
+    text: &Text,
+    from: usize,
+    steps: &mut Steps,
+) -> Option<(usize, Lead)>
+    requires few { length expr.now.nodes ≤ 65536 }
+    requires short { length text.now ≤ 2 ^ 30 }
+    requires from { from ≤ length text.now }
+    requires rare { AllRare (tree expr.now) (Some rare.now) }
+    requires room { steps.old < 2 ^ 116 }
+    ensures sought { Sought (tree expr.now) text.now from result }
+    ensures grows { steps.old ≤ steps.new }
+    ensures cost { let m = length expr.now.nodes in let n = length text.now in
+        steps.new + 8 * m * from ≤ steps.old + 8 * m * sought_to n result + m * n + 1 }
+{
+    let large = is_large(expr.nodes(), text.len());
+    text.are_bytes();
+    let mut place = from;
+    let mut looks = 0usize;
+    while let Some(start) = rare.find(text, place, steps) {
+        if !large || !rare.is_worth(start.saturating_sub(from), looks) {
+            return Some((start, Lead::Unknown));
+        }
+        match look_ahead(expr, text, start, steps) {
+            Lead::Nowhere => {
+                place = start + 1;
+                looks = looks.saturating_add(1);
+            }
+            lead => return Some((start, lead)),
+        }
+    }
+    None
+}
+
+/// The first place from `from` on at which a match can begin, and what a look ahead tells of it.
+pub fn first_place(
+    expr: &Expr,
+    begins: &Begins,
+    few: &Option<Rare>,
+    text: &Text,
+    from: usize,
+    steps: &mut Steps,
+) -> Option<(usize, Lead)>
+    requires few { length expr.now.nodes ≤ 65536 }
+    requires short { length text.now ≤ 2 ^ 30 }
+    requires from { from ≤ length text.now }
+    requires begins { AllBegin (tree expr.now) begins.now }
+    requires begins_few { AllRare (tree expr.now) few.now }
+    requires room { steps.old < 2 ^ 116 }
+    ensures sought { Sought (tree expr.now) text.now from result }
+    ensures grows { steps.old ≤ steps.new }
+    ensures cost { let m = length expr.now.nodes in let n = length text.now in
+        steps.new + 8 * m * from ≤ steps.old + 8 * m * sought_to n result + m * n + 1 }
+{
+    let _count = expr.nodes();
+    match few {
+        Some(rare) => rare_place(expr, rare, text, from, steps),
+        None => match next_start(begins, text, from, steps) {
+            None => None,
+            Some(start) => Some((start, Lead::Unknown)),
+        },
+    }
+}
