@@ -14,6 +14,7 @@ pub mod Bounds
 pub mod Sound
 pub mod Complete
 pub mod Exclusive
+pub mod OneFault
 pub mod Repeating
 pub mod Reading
 pub mod Tables

@@ -20,3 +20,10 @@ pub fn reads_without_fault()
         ReadsAs kind folded delimiter text expression groups → depth expression ≤ 600 → size expression ≤ max_nodes →
         ExprFaulty kind delimiter text max_nodes place reason → ⊥ }
 {}
+
+/// A text has one first fault at most: its place and its reason.
+pub fn one_fault()
+    ensures { (kind : Kind) (delimiter : Option ℕ) (text : List ℕ) (max_nodes place more : ℕ) (reason other : Reason) →
+        ExprFaulty kind delimiter text max_nodes place reason → ExprFaulty kind delimiter text max_nodes more other →
+        (place ≡ more) × (reason ≡ other) }
+{}

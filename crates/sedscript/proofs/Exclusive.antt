@@ -13,9 +13,7 @@ use Rattle.sedscript.specs.Bytes.{past, part}
 use Rattle.sedscript.specs.Reading.{Pattern, Reading}
 use Rattle.sedscript.specs.Items.{item_at, item_from}
 use Rattle.sedscript.specs.Expressions.{IsRead, Gives, value, behind, Fails, no_expression, later}
-use Rattle.sedscript.specs.Script.{Cut, done, item, IsEnd, Means, Faulty, early, afterwards, Program, Judged, commands_of, none_counted, texts_of, substitutions_of, tables_of}
-use Rattle.sedscript.specs.declared.items.FileUse.TheVariants.{Read, Write}
-use Rattle.sedscript.specs.Files.{files_in}
+use Rattle.sedscript.specs.Script.{Cut, done, item, IsEnd, Means, Faulty, early, afterwards, Program, Judged}
 use Rattle.sedscript.specs.Targets.{late}
 
 -- a text reads as one expression, with one number of groups
@@ -24,7 +22,7 @@ ReadsAsOne = (kind : Kind) (folded : Bool) (delimiter : Option ℕ) (text : List
     ReadsAs kind folded delimiter text one groups → ReadsAs kind folded delimiter text other more → (one ≡ other) × (groups ≡ more)
 
 -- what stands behind one reading of a pattern stands behind the other
-as_other : (text : List ℕ) (kind : Kind) (m : ℕ) (p : Pattern) (d e : Written) → ReadsAsOne → IsRead text kind m p d → IsRead text kind m p e → d.groups ≡ e.groups
+pub as_other : (text : List ℕ) (kind : Kind) (m : ℕ) (p : Pattern) (d e : Written) → ReadsAsOne → IsRead text kind m p d → IsRead text kind m p e → d.groups ≡ e.groups
 as_other text kind m p d e one h g = (one kind p.folded (Some p.delimiter) (part text p.from p.to) (tree d) (tree e) d.groups e.groups h.reads g.reads).1
 
 -- what is read is one value, with one number of expressions
@@ -100,17 +98,3 @@ judged_no_fault text kind m is0 fs to f one h (afterwards items es stop cut ends
 -- what means a script has no fault
 pub means_no_fault : ReadsAsOne → (text : List ℕ) (kind : Kind) (m : ℕ) (s : Program) (f : ScriptFault) → Means text kind m s → Faulty text kind m f → ⊥
 means_no_fault one text kind m s f h bad = judged_no_fault text kind m h.items s.expressions h.to f one h.judged bad
-
-pub one_meaning : ReadsAsOne → (text : List ℕ) (kind : Kind) (m : ℕ) (s t : Program) → Means text kind m s → Means text kind m t →
-    (s.commands ≡ t.commands) × (s.texts ≡ t.texts) × (s.substitutions ≡ t.substitutions) × (s.tables ≡ t.tables) × (s.rfiles ≡ t.rfiles) × (s.wfiles ≡ t.wfiles) × (s.quiet ≡ t.quiet) × (s.max_nodes ≡ t.max_nodes)
-one_meaning one text kind m s t h k =
-    let same : h.items ≡ k.items = cut_same text kind m 0 0 h.to k.to h.items k.items s.expressions t.expressions one h.judged.cut h.judged.ends k.judged.cut k.judged.ends in (
-      h.commands ∙ (ap (λ (is : List Item). commands_of text is [] none_counted is) same ∙ sym k.commands),
-      h.texts ∙ (ap (texts_of text) same ∙ sym k.texts),
-      h.substitutions ∙ (ap (λ (is : List Item). substitutions_of text is is) same ∙ sym k.substitutions),
-      h.tables ∙ (ap (tables_of text) same ∙ sym k.tables),
-      h.rfiles ∙ (ap (files_in Read text) same ∙ sym k.rfiles),
-      h.wfiles ∙ (ap (files_in Write text) same ∙ sym k.wfiles),
-      h.quiet ∙ sym k.quiet,
-      h.nodes ∙ sym k.nodes,
-    )

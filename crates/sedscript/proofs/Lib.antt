@@ -5,6 +5,8 @@ pub mod Pieces
 pub mod ByteTables
 pub mod Cuts
 pub mod Exclusive
+mod OneMeaning
+mod OneFault
 pub mod Labels
 pub mod FileTables
 pub mod Blocks

@@ -1,7 +1,8 @@
 //! Laws of what a text means, for callers' proofs. The calls do nothing.
 
-ghost use Rattle.std.specs.Prelude.{◌≡◌, ℕ, List};
+ghost use Rattle.std.specs.Prelude.{◌≡◌, ℕ, List, map};
 ghost use Rattle.sedre.specs.declared.types.Kind.{Kind};
+ghost use Rattle.sedre.specs.Arena.{tree};
 ghost use Rattle.sedscript.specs.Script.{Program, Means, Faulty};
 ghost use Rattle.sedscript.specs.Ranges.{InRange};
 ghost use Rattle.sedscript.specs.declared.types.ScriptFault.{ScriptFault};
@@ -16,13 +17,24 @@ pub fn no_fault()
     reads_as_one();
 }
 
-/// A text means the same commands, texts, substitutions, tables and files whenever it means a script, and is quiet or
-/// not.
+/// A text has one first fault at most.
+pub fn one_fault()
+    ensures { (text : List ℕ) (kind : Kind) (max_nodes : ℕ) (f g : ScriptFault) →
+        Faulty text kind max_nodes f → Faulty text kind max_nodes g → f ≡ g }
+{
+    reads_as_one();
+    sedre::laws::one_fault();
+}
+
+/// A text means the same commands, expressions, texts, substitutions, tables and files whenever it means a script, and
+/// is quiet or not. Of an expression this is its tree and how many groups it has.
 pub fn one_meaning()
     ensures { (text : List ℕ) (kind : Kind) (max_nodes : ℕ) (s t : Program) →
         Means text kind max_nodes s → Means text kind max_nodes t →
         (s.commands ≡ t.commands) × (s.texts ≡ t.texts) × (s.substitutions ≡ t.substitutions) × (s.tables ≡ t.tables)
-        × (s.rfiles ≡ t.rfiles) × (s.wfiles ≡ t.wfiles) × (s.quiet ≡ t.quiet) × (s.max_nodes ≡ t.max_nodes) }
+        × (s.rfiles ≡ t.rfiles) × (s.wfiles ≡ t.wfiles) × (s.quiet ≡ t.quiet) × (s.max_nodes ≡ t.max_nodes)
+        × (map tree s.expressions ≡ map tree t.expressions)
+        × (map (λ e. e.groups) s.expressions ≡ map (λ e. e.groups) t.expressions) }
 {
     reads_as_one();
 }

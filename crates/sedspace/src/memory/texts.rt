@@ -25,6 +25,7 @@ impl MemoryTexts {
         ensures failed { text_bytes self.new.held.items number ≡ take place (text_bytes self.old.held.items number) }
         ensures others { (j : ℕ) → j ≢ number
             → text_bytes self.new.held.items j ≡ text_bytes self.old.held.items j }
+        ensures count { length self.new.held.items ≡ length self.old.held.items }
     {
         self.held[number].truncate(place);
     }

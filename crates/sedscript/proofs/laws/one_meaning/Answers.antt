@@ -1,4 +1,4 @@
-use Rattle.sedscript.proofs.Exclusive.{one_meaning as law}
+use Rattle.sedscript.proofs.OneMeaning.{one_meaning as law}
 use Rattle.sedscript.proofs.laws.one_meaning.Goals as goal
 
 pub returns : goal.returns
