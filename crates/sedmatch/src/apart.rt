@@ -26,7 +26,8 @@ fn are_apart(bytes: &[u8], first: &Fixed, second: &Fixed, place: usize) -> bool
 {
     let ahead = lanes_at(bytes, place + first.offset);
     let behind = lanes_at(bytes, place + second.offset);
-    first.few.marks(ahead) & second.few.marks(behind) == 0
+    let both = first.few.zeros(ahead) | second.few.zeros(behind);
+    both.simd_eq(u8x32::splat(0)).to_bitmask() == 0
 }
 
 /// A place such that from `from` up to it the two stand together nowhere, as far as whole vectors tell.
