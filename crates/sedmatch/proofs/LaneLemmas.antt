@@ -1,5 +1,5 @@
 -- What the lanes of a vector tell.
-use Rattle.std.proofs.Common.{◌≡◌, ◌⊎◌, ◌+◌, ◌-◌, ◌<◌, ◌≤◌, ℕ, false, List, length, map, cond, eqb, ap, sym, subst, ◌∙◌, ⊎_elim, inl, inr, refl, Bool, true, ltb, get_or, bit_or, replicate, arith}
+use Rattle.std.proofs.Common.{◌≡◌, ◌⊎◌, ◌+◌, ◌-◌, ◌<◌, ◌≤◌, ℕ, false, List, length, map, cond, eqb, ap, sym, subst, ◌∙◌, ⊎_elim, inl, inr, refl, Bool, true, ltb, get_or, bit_or, replicate, max, arith}
 use Rattle.std.specs.Int.Bits.{bit_xor}
 use Rattle.std.specs.Prelude.{slice_index}
 use Rattle.std.specs.Int.{bit_at}
@@ -7,7 +7,7 @@ use Rattle.std.specs.Simd.Lanes.{mask_l, sel_l, zip2}
 use Rattle.std.proofs.lemmas.Bool.{eq-eqb, ltb-true, ltb-false, cases_lt}
 use Rattle.std.proofs.lemmas.List.{get_or-map}
 use Rattle.std.proofs.lemmas.Nat.Bits.{bit_at_xor, bit_at-zero, bit_at-lt, same_from_bits}
-use Rattle.std.proofs.lemmas.Option.{get_or_from_slice_get}
+use Rattle.std.proofs.lemmas.Option.{get_or_from_slice_get, slice_get_within}
 use Rattle.std.proofs.lemmas.Simd.{bit_mask_l, length-zip2, get_or-zip2, length-replicate, get_or-replicate, length-sel_l, get_or-sel_l}
 use Rattle.sedmatch.specs.Few.{HasFew, HasZeros}
 use Rattle.sedmatch.specs.Rare.{ApartIn}
@@ -77,5 +77,12 @@ module _ (w v u : List ℕ) (p : ℕ) (f g : Fixed) (a b : List ℕ) where
       no_lane (zip2 bit_or a b) k (omega (arith, long, lt)) none (combined bit_or a b k zeros.0 these.0 lt ∙ ap (λ x. bit_or x (slice_index b k)) first ∙ ap (λ x. bit_or 0 x) second)
 
 -- and so on
-pub more_apart : (f g : Fixed) (w : List ℕ) (p q : ℕ) → ApartIn f g w p q → ApartIn f g w q (q + 32) → ApartIn f g w p (q + 32)
-more_apart f g w p q before after h low high = ⊎_elim (λ (early : h < q). before h low early) (λ (late : q ≤ h). after h late high) (cases_lt h q)
+pub then_apart : (f g : Fixed) (w : List ℕ) (p q r : ℕ) → ApartIn f g w p q → ApartIn f g w q r → ApartIn f g w p r
+then_apart f g w p q r before after h low high = ⊎_elim (λ (early : h < q). before h low early) (λ (late : q ≤ h). after h late high) (cases_lt h q)
+
+-- one of them stands behind no place of so short a text
+pub far_apart : (f g : Fixed) (w : List ℕ) (p q : ℕ) → length w ≤ max f.offset g.offset → ApartIn f g w p q
+far_apart f g w p q far h low high one two =
+    let first = slice_get_within w (h + f.offset) one.0 one.1 in
+    let second = slice_get_within w (h + g.offset) two.0 two.1 in
+    absurd (omega (arith, far, first, second))
