@@ -1,5 +1,5 @@
 -- Private to this crate: up to three bytes, one of which is sought.
-use Rattle.std.specs.Prelude.{◌≡◌, ◌⊎◌, ℕ, ◌<◌, ◌≤◌, ◌↔◌, List, slice_get, Option, Some, None}
+use Rattle.std.specs.Prelude.{◌≡◌, ◌⊎◌, ℕ, ◌<◌, ◌≤◌, ◌↔◌, List, length, slice_get, slice_index, Option, Some, None}
 use Rattle.sedmatch.specs.Skip.{CanBegin, EitherHas}
 use Rattle.sedmatch.specs.declared.skip.Begins.{Begins}
 use Rattle.sedmatch.specs.declared.skip.Either.{Either}
@@ -11,6 +11,10 @@ abbrev pub HasFew : Few → ℕ → Type 0
 HasFew (One a) c = c ≡ a
 HasFew (Two a b) c = (c ≡ a) ⊎ (c ≡ b)
 HasFew (Three a b d) c = (c ≡ a) ⊎ ((c ≡ b) ⊎ (c ≡ d))
+
+-- of 32 lanes those are 0 in which such a byte stands
+abbrev pub HasZeros : (ℕ → Type 0) → List ℕ → List ℕ → Type 0
+HasZeros P lanes zeros = (length zeros ≡ 32) × ((k : ℕ) → k < 32 → P (slice_index lanes k) → slice_index zeros k ≡ 0)
 
 -- one of the few stands at the place
 abbrev pub FewAt : Few → List ℕ → ℕ → Type 0

@@ -26,7 +26,28 @@ fn are_apart(bytes: &[u8], first: &Fixed, second: &Fixed, place: usize) -> bool
 {
     let ahead = lanes_at(bytes, place + first.offset);
     let behind = lanes_at(bytes, place + second.offset);
-    first.few.marks(ahead) & second.few.marks(behind) == 0
+    let both = first.few.zeros(ahead) | second.few.zeros(behind);
+    both.simd_eq(u8x32::splat(0)).to_bitmask() == 0
+}
+
+/// A place such that from `place` up to it the two stand together nowhere, by the last vector of the text.
+fn last_apart(bytes: &[u8], first: &Fixed, second: &Fixed, reach: usize, place: usize) -> usize
+    requires place { place ≤ length bytes.now }
+    requires short { length bytes.now ≤ 2 ^ 30 }
+    requires first { first.now.offset + 32 ≤ reach }
+    requires second { second.now.offset + 32 ≤ reach }
+    ensures after { place ≤ result }
+    ensures within { result ≤ length bytes.now }
+    ensures apart { ApartIn first.now second.now bytes.now place result }
+{
+    if reach > bytes.len() {
+        return place;
+    }
+    let last = bytes.len() - reach;
+    if place <= last || last + LANES <= place || !are_apart(bytes, first, second, last) {
+        return place;
+    }
+    last + LANES
 }
 
 /// A place such that from `from` up to it the two stand together nowhere, as far as whole vectors tell.
@@ -37,10 +58,14 @@ pub fn apart_to(bytes: &[u8], first: &Fixed, second: &Fixed, from: usize) -> usi
     ensures within { result ≤ length bytes.now }
     ensures apart { ApartIn first.now second.now bytes.now from result }
 {
-    let reach = first.offset.max(second.offset).saturating_add(LANES);
+    let farther = first.offset.max(second.offset);
+    if farther >= bytes.len() {
+        return bytes.len();
+    }
+    let reach = farther + LANES;
     let mut place = from;
     while reach <= bytes.len() - place && are_apart(bytes, first, second, place) {
         place += LANES;
     }
-    place
+    last_apart(bytes, first, second, reach, place)
 }

@@ -1,8 +1,8 @@
 //! Up to three bytes, one of which is sought.
-ghost use Rattle.std.specs.Prelude.{◌≡◌, ℕ, ◌<◌, ◌↔◌, ◌⊎◌, IfSome, IsTrue, slice_index};
-ghost use Rattle.std.specs.Int.{bit_at};
+ghost use Rattle.std.specs.Prelude.{◌≡◌, ℕ, ◌<◌, ◌↔◌, ◌⊎◌, IfSome, IsTrue};
 ghost use Rattle.sedmatch.specs.Spans.{IsIn};
-ghost use Rattle.sedmatch.specs.Few.{FewOf, AreMembers, Gathered, HasFew, FirstFew};
+ghost use Rattle.sedmatch.specs.Few.{FewOf, AreMembers, Gathered, HasFew, HasZeros, FirstFew};
+ghost use Rattle.sedmatch.specs.declared.few.Few.TheVariants.{Two, Three};
 
 use crate::skip::{Begins, Either};
 use memchr::{memchr, memchr2, memchr3};
@@ -43,27 +43,41 @@ impl Few {
         }
     }
 
-    /// A bit for each lane in which one of them stands.
+    /// Lanes of which those are 0 in which one of them stands.
     #[inline(always)]
-    pub fn marks(&self, lanes: u8x32) -> u64
-        ensures { (k : ℕ) → k < 32 → HasFew self.now (slice_index lanes k) → bit_at result k ≡ 1 }
+    pub fn zeros(&self, lanes: u8x32) -> u8x32
+        ensures { HasZeros (HasFew self.now) lanes result }
     {
         match self {
-            Few::One(first) => byte_marks(*first, lanes),
-            Few::Two(first, second) => byte_marks(*first, lanes) | byte_marks(*second, lanes),
-            Few::Three(first, second, third) => {
-                byte_marks(*first, lanes) | byte_marks(*second, lanes) | byte_marks(*third, lanes)
-            }
+            Few::One(first) => byte_zeros(*first, lanes),
+            Few::Two(first, second) => two_zeros(*first, *second, lanes),
+            Few::Three(first, second, third) => three_zeros(*first, *second, *third, lanes),
         }
     }
 }
 
-/// A bit for each lane in which the byte stands.
+/// Lanes of which those are 0 in which the byte stands.
 #[inline(always)]
-fn byte_marks(byte: u8, lanes: u8x32) -> u64
-    ensures { (k : ℕ) → k < 32 → slice_index lanes k ≡ byte → bit_at result k ≡ 1 }
+fn byte_zeros(byte: u8, lanes: u8x32) -> u8x32
+    ensures { HasZeros (λ c. c ≡ byte) lanes result }
 {
-    lanes.simd_eq(u8x32::splat(byte)).to_bitmask()
+    lanes ^ u8x32::splat(byte)
+}
+
+/// The same for two bytes.
+#[inline(always)]
+fn two_zeros(first: u8, second: u8, lanes: u8x32) -> u8x32
+    ensures { HasZeros (HasFew (Two first second)) lanes result }
+{
+    byte_zeros(first, lanes).simd_min(byte_zeros(second, lanes))
+}
+
+/// The same for three bytes.
+#[inline(always)]
+fn three_zeros(first: u8, second: u8, third: u8, lanes: u8x32) -> u8x32
+    ensures { HasZeros (HasFew (Three first second third)) lanes result }
+{
+    byte_zeros(first, lanes).simd_min(two_zeros(second, third, lanes))
 }
 
 /// The bytes gathered so far and one more, where they are still few.

@@ -9,8 +9,8 @@
 //! A [`TableMatcher`] keeps what such a search finds out of an expression, and looks it up in the next one: at most
 //! places that is one cell of a table in place of all nodes. Where a match begins and ends then takes steps in
 //! proportion to the text, whatever the answer: 128 times nodes times places at most. What an expression tells of all its
-//! matches is found out once, when such a matcher is made: a literal that they hold, the bytes with which they begin, and
-//! whether they are seen at the first look.
+//! matches is found out once, when such a matcher is made: a literal that they hold, the rarest bytes at fixed distances
+//! behind their beginning, and whether they are seen at the first look.
 #![tactic(auto)]
 
 mod ahead;

@@ -18,7 +18,7 @@ use sedre::{ByteSet, Expr, Steps};
 /// How many bytes a table tells in the time of one look ahead.
 const FAR: usize = 24;
 
-/// How many looks ahead are made at once where two bytes are known to stand before each of them.
+/// How many looks ahead more are made where two bytes are known to stand at each such place.
 const SPARE: usize = 4;
 
 /// How many bytes behind its beginning a match is followed.
@@ -173,7 +173,12 @@ impl Rare {
 
     /// Whether one look ahead more than these is paid for by the time that was saved where so many bytes were passed.
     fn is_worth(&self, passed: usize, looks: usize) -> bool {
-        let spare = if self.held.is_some() { SPARE } else { 0 };
+        // At the place where a search begins a literal was mostly found before, which a table tells in less time.
+        let spare = if passed > 0 && self.held.is_some() {
+            SPARE
+        } else {
+            0
+        };
         looks < passed / FAR + spare
     }
 }
