@@ -21,6 +21,9 @@ const FAR: usize = 24;
 /// How many looks ahead more are made where two bytes are known to stand at each such place.
 const SPARE: usize = 4;
 
+/// How often bytes stand in a thousand that are sought one by one in less time than by vectors.
+const RARE: usize = 21;
+
 /// How many bytes behind its beginning a match is followed.
 const MAX_OFFSET: usize = 32;
 
@@ -104,6 +107,8 @@ pub struct Rare {
     pub sought: Fixed,
     /// The next rarest, which are held against what stands there.
     pub held: Option<Fixed>,
+    /// Whether those sought are so frequent that vectors pass them over in less time.
+    pub often: bool,
 }
 
 impl Rare {
@@ -132,6 +137,9 @@ impl Rare {
         ensures grows { steps.old ≤ steps.new }
         ensures cost { steps.new + 2 * from ≤ steps.old + 2 * result }
     {
+        if !self.often {
+            return from;
+        }
         match &self.held {
             None => from,
             Some(held) => text.pass_apart(&self.sought, held, from, steps),
@@ -205,16 +213,19 @@ fn with_fixed(rare: Option<Rare>, more: Fixed) -> Rare
         None => Rare {
             sought: more,
             held: None,
+            often: false,
         },
         Some(rare) => if more.weight() < rare.sought.weight() {
             Rare {
                 sought: more,
                 held: Some(rare.sought),
+                often: more.weight() > RARE,
             }
         } else {
             Rare {
                 sought: rare.sought,
                 held: Some(rarer(rare.held, more)),
+                often: rare.sought.weight() > RARE,
             }
         },
     }
@@ -267,6 +278,7 @@ fn rare_first(begins: &Begins) -> Option<Rare>
         Some(few) => Some(Rare {
             sought: Fixed { offset: 0, few },
             held: None,
+            often: false,
         }),
     }
 }
