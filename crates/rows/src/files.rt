@@ -1,21 +1,32 @@
 //! The files of a row: what those hold that the script reads, and the names of all.
 
+ghost use Rattle.std.specs.Prelude.{None};
+
 use crate::options::name_and_value;
 use crate::report::Report;
 use sedspace::{MemoryTexts, Texts};
 use std::alloc::Global;
 
-/// Texts of which a read gives no more than so many bytes, at least one.
+/// Texts of which a read gives no more than so many bytes, at least one, and of which one read may fail: it gives nothing,
+/// and those after it give again what there is.
 #[derive(Drop)]
 pub(crate) struct PiecedTexts<T: Texts> {
     pub held: T,
     pub most: usize,
+    /// How many reads are good before the one that fails; the greatest number where none fails.
+    pub good: usize,
 }
 
 impl<T: Texts> Texts for PiecedTexts<T> {
-    ghost text = { λ t. T.text t.held };
+    // It doesn't tell its bytes, since a read may fail.
+    ghost text = { λ t k. None };
 
     fn read_at(&mut self, number: usize, offset: u64, buf: &mut [u8]) -> usize {
+        if self.good == 0 {
+            self.good = usize::MAX;
+            return 0;
+        }
+        self.good -= 1;
         let room = buf.len().min(self.most.max(1));
         self.held.read_at(number, offset, &mut buf[..room])
     }

@@ -5,6 +5,7 @@
 //! what the row says. The status is 0 where no row failed.
 #![tactic(auto)]
 
+mod by_tables;
 mod calls;
 mod cycles;
 mod decoder;

@@ -2,10 +2,12 @@
 //!
 //! A row: the kind, `basic` or `extended`; the expression; the text; where the search begins; the spans of the whole
 //! match and of each group, as `(0,2)(1,2)`, `(?,?)` of a group without a match; or `none`. Options: `most=9` and
-//! `least=9` steps. `find_span` and `is_match` have to tell the same as `find`.
+//! `least=9` steps. `find_span` and `is_match` have to tell the same as `find`, and all three by tables as well: of 64
+//! states, of two, which are emptied again and again, and of none.
 
 ghost use Rattle.std.specs.Prelude.{◌≡◌, ◌≤◌, length};
 
+use crate::by_tables::compare_tables;
 use crate::expressions::kind_named;
 use crate::options::Options;
 use crate::report::{NO_MEMORY, Report};
@@ -57,6 +59,7 @@ fn compare(
     requires from { from ≤ length text.now }
     requires text { length text.now ≤ scratch.old.text }
     requires nodes { length expr.now.nodes ≤ scratch.old.nodes }
+    requires few { length expr.now.nodes ≤ 65536 }
 {
     let (found, steps) = found_in(expr, text, from, scratch);
     let span = span_in(expr, text, from, scratch);
@@ -66,10 +69,11 @@ fn compare(
     }
     compare_steps(steps, row.options(5), report);
     compare_spans(alloc, &found, expr.groups(), row.field(4), report);
+    compare_tables(alloc, expr, text, from, scratch, row, report);
 }
 
 /// Whether the three calls tell the same.
-fn is_same(found: &Option<Found>, span: Option<(usize, usize)>, is_one: bool) -> bool {
+pub(crate) fn is_same(found: &Option<Found>, span: Option<(usize, usize)>, is_one: bool) -> bool {
     match (found, span) {
         (Some(found), Some((start, end))) => { is_one && start == found.start && end == found.end }
         (None, None) => !is_one,
@@ -87,7 +91,7 @@ fn compare_steps(steps: u128, options: Options<'_>, report: &mut Report) {
 }
 
 /// Whether the spans are the wanted ones.
-fn compare_spans(
+pub(crate) fn compare_spans(
     alloc: Global,
     found: &Option<Found>,
     groups: usize,

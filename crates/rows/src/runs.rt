@@ -9,6 +9,7 @@
 //!   gets, each of them; each kind in the order in which the script first names them
 //! * `fails=2`: the second read of the input fails; `read=1`: a read gives one byte; `room=3`: a sink takes three bytes
 //!   and then fails; `refuses=1`: the first write to this sink fails; `cuts`: the input cut at each two places besides
+//! * `lost=2`: the second read of a file that the script reads fails, all these reads being of one byte
 //!
 //! Each row runs with the input whole and in reads of 1, 2, 3 and 5 bytes, with writes and pieces of files that are read
 //! of any length and of one byte, and with 1, 2, 7 and 65,536 bytes read ahead. Where a read fails, the reads are as the
@@ -35,7 +36,7 @@ use std::alloc::Global;
 /// What a row looks like.
 pub(crate) const SHAPE: Shape<'static> = Shape {
     fields: "* * *",
-    options: "-n -E cuts F* r:* w:* space=# queue=# look=# turns=# nodes=# output=# fails=# read=# room=# refuses=#",
+    options: "-n -E cuts F* r:* w:* space=# queue=# look=# turns=# nodes=# output=# fails=# read=# room=# refuses=# lost=#",
 };
 
 /// The most bytes of a read, of a write and of a piece of a file that is read, and ahead.
@@ -61,7 +62,9 @@ pub(crate) fn run(alloc: Global, row: &Row, report: &mut Report) {
     if row.options(3).has(b"cuts") {
         run_cut(alloc, row, report);
     }
-    run_engine(alloc, row, report);
+    if !row.options(3).has(b"lost") {
+        run_engine(alloc, row, report);
+    }
 }
 
 /// Runs it in reads of at most so many bytes.
@@ -90,6 +93,9 @@ fn is_asked(options: Options<'_>, pieces: Pieces) -> bool {
     let is_far = pieces.look == 65536;
     if options.has(b"fails") {
         return is_whole && is_far;
+    }
+    if options.has(b"lost") && pieces.write != 1 {
+        return false;
     }
     (is_whole || !options.has(b"read")) && (is_far || !options.has(b"look"))
 }
@@ -183,6 +189,10 @@ fn run_script(
     let mut texts = PiecedTexts {
         held,
         most: pieces.write,
+        good: row
+            .options(3)
+            .number_or(b"lost", usize::MAX)
+            .saturating_sub(1),
     };
     match outputs_of(alloc, row, &script, pieces.write) {
         Some(mut outputs) => {

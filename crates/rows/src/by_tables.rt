@@ -1,0 +1,107 @@
+//! The searches of a row once more, by a matcher that keeps tables.
+
+ghost use Rattle.std.specs.Prelude.{◌≡◌, ◌≤◌, length};
+
+use crate::matches::{compare_spans, is_same};
+use crate::report::{NO_MEMORY, Report};
+use crate::table::Row;
+use sedmatch::{Found, Scratch, TableMatcher, Text};
+use sedre::{Expr, Steps};
+use std::alloc::Global;
+
+/// Whether matchers with full tables, with tables that are emptied again and again, and with none tell what the row says.
+pub(crate) fn compare_tables(
+    alloc: Global,
+    expr: &Expr,
+    text: &[u8],
+    from: usize,
+    scratch: &mut Scratch,
+    row: &Row,
+    report: &mut Report,
+)
+    requires from { from ≤ length text.now }
+    requires text { length text.now ≤ scratch.old.text }
+    requires nodes { length expr.now.nodes ≤ scratch.old.nodes }
+    requires few { length expr.now.nodes ≤ 65536 }
+{
+    compare_table(alloc, expr, 64, text, from, scratch, row, report);
+    compare_table(alloc, expr, 2, text, from, scratch, row, report);
+    compare_table(alloc, expr, 0, text, from, scratch, row, report);
+}
+
+/// Whether a matcher with tables of so many states tells what the row says.
+fn compare_table(
+    alloc: Global,
+    expr: &Expr,
+    states: usize,
+    text: &[u8],
+    from: usize,
+    scratch: &mut Scratch,
+    row: &Row,
+    report: &mut Report,
+)
+    requires states { states ≤ 64 }
+    requires from { from ≤ length text.now }
+    requires text { length text.now ≤ scratch.old.text }
+    requires nodes { length expr.now.nodes ≤ scratch.old.nodes }
+    requires few { length expr.now.nodes ≤ 65536 }
+    ensures { scratch.new ≡ scratch.old }
+{
+    let Ok(mut matcher) = TableMatcher::with_states(alloc, expr, states) else {
+        return report.tell(NO_MEMORY);
+    };
+    let span = span_by(&mut matcher, text, from, scratch);
+    let is_one = is_by(&mut matcher, text, from, scratch);
+    // with the states that the calls before left
+    let found = found_by(&mut matcher, text, from, scratch);
+    if !is_same(&found, span, is_one) {
+        report.tell_number("find, find_span and is_match don't agree, states", states as u128);
+    }
+    compare_spans(alloc, &found, expr.groups(), row.field(4), report);
+}
+
+/// What the matcher's `find` answers.
+fn found_by(
+    matcher: &mut TableMatcher,
+    text: &[u8],
+    from: usize,
+    scratch: &mut Scratch,
+) -> Option<Found>
+    requires from { from ≤ length text.now }
+    requires text { length text.now ≤ scratch.old.text }
+    requires nodes { length matcher.old.nodes ≤ scratch.old.nodes }
+    ensures same { matcher.new ≡ matcher.old }
+    ensures scratch { scratch.new ≡ scratch.old }
+{
+    let mut steps = Steps::new();
+    matcher.find(&Text::new(text), from, scratch, &mut steps)
+}
+
+/// What its `find_span` answers.
+fn span_by(
+    matcher: &mut TableMatcher,
+    text: &[u8],
+    from: usize,
+    scratch: &mut Scratch,
+) -> Option<(usize, usize)>
+    requires from { from ≤ length text.now }
+    requires text { length text.now ≤ scratch.old.text }
+    requires nodes { length matcher.old.nodes ≤ scratch.old.nodes }
+    ensures same { matcher.new ≡ matcher.old }
+    ensures scratch { scratch.new ≡ scratch.old }
+{
+    let mut steps = Steps::new();
+    matcher.find_span(&Text::new(text), from, scratch, &mut steps)
+}
+
+/// What its `is_match` answers.
+fn is_by(matcher: &mut TableMatcher, text: &[u8], from: usize, scratch: &mut Scratch) -> bool
+    requires from { from ≤ length text.now }
+    requires text { length text.now ≤ scratch.old.text }
+    requires nodes { length matcher.old.nodes ≤ scratch.old.nodes }
+    ensures same { matcher.new ≡ matcher.old }
+    ensures scratch { scratch.new ≡ scratch.old }
+{
+    let mut steps = Steps::new();
+    matcher.is_match(&Text::new(text), from, scratch, &mut steps)
+}
