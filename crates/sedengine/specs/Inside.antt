@@ -8,7 +8,7 @@ use Rattle.sedscript.specs.Script.{Program}
 use Rattle.sedengine.specs.State.{Entry, text, file, Task, begin, rebegin, do_at, print_pattern, flush}
 use Rattle.sedengine.specs.Move.{text_of}
 use Rattle.sedengine.specs.Run.{Run}
-use Rattle.sedengine.specs.Fitting.{Seek}
+use Rattle.sedengine.specs.Fitting.{RoomToSeek, Seek}
 use Rattle.sedengine.specs.declared.place.Place.{Place}
 use Rattle.sedengine.specs.declared.place.Place.TheVariants as p
 use Rattle.sedengine.specs.declared.machine.Machine.TheInside.{Inside}
@@ -97,4 +97,5 @@ pub record IsRun (a : Inside) : Type 0 where
   pub scratch_text : 0 < length a.script.expressions → a.scratch.text ≡ a.limits.space
   pub scratch_nodes : a.scratch.nodes ≡ a.limits.nodes
   pub matchers : Seek a.script.expressions a.limits.nodes a.matchers.items
+  pub occurrences : RoomToSeek a.script.substitutions a.script.expressions a.limits.space a.occurrences
   pub nodes : a.script.max_nodes ≤ a.limits.nodes

@@ -23,10 +23,10 @@ mod tasks;
 
 use crate::ends::{Ended, Held, Progress};
 use crate::limits::Limits;
-use crate::matchers::matchers_of;
+use crate::matchers::{matchers_of, room_to_seek};
 use crate::meter::Sinks;
 use crate::place::Place;
-use sedmatch::{Scratch, TableMatcher};
+use sedmatch::{Occurrences, Scratch, TableMatcher};
 use sedscript::Script;
 use sedspace::{ByteSource, Lines, Queue, Space, Texts};
 use std::alloc::{AllocError, Global};
@@ -42,6 +42,8 @@ pub(crate) struct Machine {
     build: Space,
     queue: Queue,
     scratch: Scratch,
+    // How the searches of a substitution go on that seeks more than one occurrence.
+    occurrences: Occurrences,
     // For each regular expression of the script, what seeks it.
     matchers: Vec<TableMatcher>,
     // For each command, whether its range is active.
@@ -134,6 +136,7 @@ impl Machine {
         let ranges = idle_ranges(alloc, script.len())?;
         let scratch = search_room(alloc, &script, &limits)?;
         let matchers = matchers_of(alloc, &script, limits.nodes())?;
+        let occurrences = room_to_seek(alloc, &script, &matchers, limits.nodes(), limits.space())?;
         let Store {
             pattern,
             hold,
@@ -148,6 +151,7 @@ impl Machine {
             build,
             queue,
             scratch,
+            occurrences,
             matchers,
             ranges,
             used: None,

@@ -1,8 +1,10 @@
 //! What seeks the expressions of a script.
-ghost use Rattle.std.specs.Prelude.{◌≤◌, IfOk};
-ghost use Rattle.sedengine.specs.Fitting.{Seek};
+ghost use Rattle.std.specs.Prelude.{◌≡◌, ◌≤◌, ◌^◌, ℕ, false, IfOk, Some, length, slice_get};
+ghost use Rattle.sedre.specs.Arena.{Written};
+ghost use Rattle.sedscript.specs.declared.substitution.Substitution.{Substitution};
+ghost use Rattle.sedengine.specs.Fitting.{AllFit, RoomToSeek, Seek, seeks_more};
 
-use sedmatch::TableMatcher;
+use sedmatch::{Occurrences, TableMatcher};
 use sedscript::Script;
 use std::alloc::{AllocError, Global};
 
@@ -22,4 +24,52 @@ pub(crate) fn matchers_of(
         matchers.push(TableMatcher::new(alloc, script.expr(k))?)?;
     }
     Ok(matchers)
+}
+
+/// The most nodes of the expressions that the matchers seek, at least one.
+fn most_nodes(matchers: &[TableMatcher], limit: usize) -> usize
+    requires fit { AllFit limit matchers.now }
+    requires few { limit ≤ 65536 }
+    ensures some { 1 ≤ result }
+    ensures few { result ≤ 65536 }
+    ensures most { (i : ℕ) (e : Written) → slice_get matchers.now i ≡ Some e → length e.nodes ≤ result }
+{
+    let mut most = 1;
+    for matcher in matchers {
+        most = most.max(matcher.nodes());
+    }
+    most
+}
+
+/// Whether a substitution of the script seeks more than one occurrence.
+fn seeks_more_than_one(script: &Script) -> bool
+    ensures { result ≡ false → (k : ℕ) (s : Substitution) → slice_get script.now.substitutions k ≡ Some s →
+        seeks_more s ≡ false }
+{
+    for k in 0..script.substitutions() {
+        let substitution = script.substitution(k);
+        if substitution.global || substitution.number > 1 {
+            return true;
+        }
+    }
+    false
+}
+
+/// What seeks more than one occurrence in texts of at most `text` bytes, with little room where no substitution of the
+/// script does.
+pub(crate) fn room_to_seek(
+    alloc: Global,
+    script: &Script,
+    matchers: &Vec<TableMatcher>,
+    limit: usize,
+    text: usize,
+) -> Result<Occurrences, AllocError>
+    requires text { text ≤ 2 ^ 30 }
+    requires fit { AllFit limit matchers.now.items }
+    requires few { limit ≤ 65536 }
+    ensures { IfOk result (RoomToSeek script.now.substitutions matchers.now.items text) }
+{
+    let most = most_nodes(matchers, limit);
+    let longest = if seeks_more_than_one(script) { text } else { 0 };
+    Occurrences::new(alloc, longest, most)
 }

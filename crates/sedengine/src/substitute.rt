@@ -1,16 +1,16 @@
 //! The command `s` (XCU sed, "Editing Commands in sed"): which occurrences it replaces, and the text that it makes.
-ghost use Rattle.std.specs.Prelude.{◌≡◌, ℕ, ◌+◌, ◌<◌, ◌≤◌, List, [], ◌∷◌, length, true, Some, None, IfSome};
-ghost use Rattle.sedre.specs.Arena.{tree};
-ghost use Rattle.sedmatch.specs.Matching.{found};
+ghost use Rattle.std.specs.Prelude.{◌≡◌, ℕ, ◌+◌, ◌*◌, ◌^◌, ◌<◌, ◌≤◌, List, [], ◌∷◌, length, true, Some, None, IfSome, IfNone, IsTrue, slice_get};
+ghost use Rattle.sedre.specs.Arena.{Written, tree};
+ghost use Rattle.sedmatch.specs.Occurrences.{RoomFor, Serves, owed, owed_after};
 ghost use Rattle.sedmatch.specs.Parts.{part_of, span_of};
 ghost use Rattle.sedscript.specs.Replacement.{GroupsWithin, pieces_in};
 ghost use Rattle.sedengine.specs.Substitute.{chosen, next_occurrence, occurrences, put_for, replaced_from};
-ghost use Rattle.sedengine.specs.Fitting.{AllFit};
+ghost use Rattle.sedengine.specs.Fitting.{AllFit, KeepsRoom, seeks_more};
 ghost use Rattle.sedengine.specs.Run.{match_at, search_for, search_in};
 ghost use Rattle.sedengine.specs.Replacing.{Appends, EndsIn, GroupsIn, GroupsOf, LiesBehind, Replaces, Skips};
 ghost use Rattle.sedengine.specs.Replacing.{has_group, pending, with_groups};
 
-use sedmatch::{Scratch, TableMatcher, Text};
+use sedmatch::{Occurrences, Scratch, TableMatcher, Text};
 use sedre::Steps;
 use sedscript::{Part, Substitution};
 use sedspace::{Full, Space};
@@ -20,19 +20,28 @@ type Groups = [Option<(usize, usize)>; 10];
 
 /// The substitution with the expression of number `e`: puts into `build` the text in which the occurrences that it
 /// chooses are replaced. Says whether there are any.
+///
+/// All its searches together take steps in proportion to the text. Groups are decided within each occurrence, and counted
+/// apart.
 pub(crate) fn substitute_by(
     substitution: &Substitution,
     matchers: &mut Vec<TableMatcher>,
     e: usize,
     text: &[u8],
     build: &mut Space,
+    occurrences: &mut Occurrences,
     scratch: &mut Scratch,
+    steps: &mut Steps,
 ) -> Result<bool, Full>
     requires expression { e < length matchers.old.items }
     requires text { length text.now ≤ scratch.old.text }
     requires short { length text.now ≤ build.old.limit }
     requires fit { AllFit scratch.old.nodes matchers.old.items }
     requires number { 1 ≤ substitution.now.number }
+    requires more { IsTrue (seeks_more substitution.now) → (x : Written) → slice_get matchers.old.items e ≡ Some x →
+        RoomFor (length text.now) (length x.nodes) occurrences.old }
+    requires room { (x : Written) → slice_get matchers.old.items e ≡ Some x →
+        steps.old + 512 * length x.nodes * (length text.now + 1) ≤ 2 ^ 100 }
     ensures replaces { Replaces text.now substitution.now.replacement
         (chosen substitution.now.number substitution.now.global
         (occurrences (search_in matchers.old.items e text.now) (length text.now)))
@@ -40,9 +49,13 @@ pub(crate) fn substitute_by(
     ensures limit { build.new.limit ≡ build.old.limit }
     ensures same { matchers.new.items ≡ matchers.old.items }
     ensures scratch { scratch.new ≡ scratch.old }
+    ensures kept { KeepsRoom occurrences.old occurrences.new }
+    ensures grows { steps.old ≤ steps.new }
+    ensures cost { (x : Written) → slice_get matchers.old.items e ≡ Some x →
+        steps.new ≤ steps.old + 512 * length x.nodes * (length text.now + 1) }
 {
     let matcher = &mut matchers[e];
-    substitute(substitution, matcher, text, build, scratch)
+    substitute(substitution, matcher, text, build, occurrences, scratch, steps)
 }
 
 /// The same with what seeks the expression.
@@ -51,12 +64,17 @@ fn substitute(
     matcher: &mut TableMatcher,
     text: &[u8],
     build: &mut Space,
+    occurrences: &mut Occurrences,
     scratch: &mut Scratch,
+    steps: &mut Steps,
 ) -> Result<bool, Full>
     requires text { length text.now ≤ scratch.old.text }
     requires short { length text.now ≤ build.old.limit }
     requires nodes { length matcher.old.nodes ≤ scratch.old.nodes }
     requires number { 1 ≤ substitution.now.number }
+    requires more { IsTrue (seeks_more substitution.now) →
+        RoomFor (length text.now) (length matcher.old.nodes) occurrences.old }
+    requires room { steps.old + 512 * length matcher.old.nodes * (length text.now + 1) ≤ 2 ^ 100 }
     ensures replaces { Replaces text.now substitution.now.replacement
         (chosen substitution.now.number substitution.now.global
         (occurrences (search_for (Some matcher.old) text.now) (length text.now)))
@@ -64,13 +82,28 @@ fn substitute(
     ensures limit { build.new.limit ≡ build.old.limit }
     ensures same { matcher.new ≡ matcher.old }
     ensures scratch { scratch.new ≡ scratch.old }
+    ensures kept { KeepsRoom occurrences.old occurrences.new }
+    ensures grows { steps.old ≤ steps.new }
+    ensures cost { steps.new ≤ steps.old + 512 * length matcher.old.nodes * (length text.now + 1) }
 {
-    let Some(last) = skip(matcher, text, substitution.number - 1, scratch) else {
+    let seen = Text::new(text);
+    occurrences.begin();
+    let skipped = substitution.number - 1;
+    let Some(last) = skip(matcher, &seen, skipped, occurrences, scratch, steps) else {
         return Ok(false);
     };
     let wanted = needs_groups(substitution.replacement.parts());
     let mut groups = [None; 10];
-    let Some(first) = next_occurrence(matcher, text, last, wanted, &mut groups, scratch) else {
+    let Some(first) = next_occurrence(
+        matcher,
+        &seen,
+        last,
+        wanted,
+        &mut groups,
+        occurrences,
+        scratch,
+        steps,
+    ) else {
         return Ok(false);
     };
     build.clear();
@@ -81,7 +114,9 @@ fn substitute(
         first,
         &mut groups,
         build,
+        occurrences,
         scratch,
+        steps,
     )?;
     Ok(true)
 }
@@ -89,19 +124,42 @@ fn substitute(
 /// Where the last of the first `count` occurrences ended, for no occurrence None. None alone where there are fewer.
 fn skip(
     matcher: &mut TableMatcher,
-    text: &[u8],
+    text: &Text,
     count: u64,
+    occurrences: &mut Occurrences,
     scratch: &mut Scratch,
+    steps: &mut Steps,
 ) -> Option<Option<usize>>
     requires text { length text.now ≤ scratch.old.text }
     requires nodes { length matcher.old.nodes ≤ scratch.old.nodes }
+    requires more { 0 < count → RoomFor (length text.now) (length matcher.old.nodes) occurrences.old }
+    requires serves { Serves matcher.old text.now None occurrences.old }
+    requires owed { owed (length matcher.old.nodes) (length text.now) None occurrences.old
+        ≡ 512 * length matcher.old.nodes * (length text.now + 1) }
+    requires room { steps.old + 512 * length matcher.old.nodes * (length text.now + 1) ≤ 2 ^ 100 }
     ensures skips { Skips matcher.old text.now count result }
     ensures same { matcher.new ≡ matcher.old }
     ensures scratch { scratch.new ≡ scratch.old }
+    ensures kept { KeepsRoom occurrences.old occurrences.new }
+    ensures serves { IfSome result (λ last. Serves matcher.old text.now last occurrences.new) }
+    ensures grows { steps.old ≤ steps.new }
+    ensures cost { let m = length matcher.old.nodes in let n = length text.now in
+        IfSome result (λ last. steps.new + owed m n last occurrences.new ≤ steps.old + 512 * m * (n + 1)) }
+    ensures cost_of_none { IfNone result (steps.new ≤ steps.old + 512 * length matcher.old.nodes * (length text.now + 1)) }
 {
     let mut last = None;
     'occurrences: for _ in 0..count {
-        let (_, end) = next_occurrence(matcher, text, last, false, &mut [None; 10], scratch)?;
+        let groups = &mut [None; 10];
+        let (_, end) = next_occurrence(
+            matcher,
+            text,
+            last,
+            false,
+            groups,
+            occurrences,
+            scratch,
+            steps,
+        )?;
         last = Some(end);
     }
     Some(last)
@@ -123,15 +181,20 @@ fn needs_groups(parts: &[Part]) -> bool
 /// wanted.
 fn next_occurrence(
     matcher: &mut TableMatcher,
-    text: &[u8],
+    text: &Text,
     last: Option<usize>,
     wanted: bool,
     groups: &mut Groups,
+    occurrences: &mut Occurrences,
     scratch: &mut Scratch,
+    steps: &mut Steps,
 ) -> Option<(usize, usize)>
     requires last { EndsIn (length text.now) last }
     requires text { length text.now ≤ scratch.old.text }
     requires nodes { length matcher.old.nodes ≤ scratch.old.nodes }
+    requires more { IfSome last (λ _. RoomFor (length text.now) (length matcher.old.nodes) occurrences.old) }
+    requires serves { Serves matcher.old text.now last occurrences.old }
+    requires room { steps.old ≤ 2 ^ 100 }
     ensures next { match_at matcher.old text.now result
         ≡ next_occurrence (search_for (Some matcher.old) text.now) (length text.now) last }
     ensures lies { IfSome result (LiesBehind (length text.now) last) }
@@ -139,49 +202,19 @@ fn next_occurrence(
     ensures groups_in { GroupsIn (length text.now) groups.old → GroupsIn (length text.now) groups.new }
     ensures same { matcher.new ≡ matcher.old }
     ensures scratch { scratch.new ≡ scratch.old }
+    ensures kept { KeepsRoom occurrences.old occurrences.new }
+    ensures serves { IfSome result (λ f. Serves matcher.old text.now (Some f.1) occurrences.new) }
+    ensures grows { steps.old ≤ steps.new }
+    ensures cost { let m = length matcher.old.nodes in let n = length text.now in
+        steps.new + owed_after m n result occurrences.new ≤ steps.old + owed m n last occurrences.old }
 {
-    let Some(place) = last else {
-        return search(matcher, text, 0, wanted, groups, scratch);
-    };
-    let span = search(matcher, text, place, wanted, groups, scratch)?;
-    if place < span.1 {
-        return Some(span);
+    let span = matcher.next_occurrence(text, last, occurrences, scratch, steps)?;
+    if wanted {
+        // Groups are decided within the span alone, and counted apart.
+        let told = matcher.groups_of(text, span.0, span.1, scratch, &mut Steps::new());
+        *groups = told;
     }
-    if place < text.len() {
-        search(matcher, text, place + 1, wanted, groups, scratch)
-    } else {
-        None
-    }
-}
-
-/// The match sought from a place on. Its groups are told where they are wanted.
-fn search(
-    matcher: &mut TableMatcher,
-    text: &[u8],
-    from: usize,
-    wanted: bool,
-    groups: &mut Groups,
-    scratch: &mut Scratch,
-) -> Option<(usize, usize)>
-    requires from { from ≤ length text.now }
-    requires text { length text.now ≤ scratch.old.text }
-    requires nodes { length matcher.old.nodes ≤ scratch.old.nodes }
-    ensures found { result ≡ found (tree matcher.old) text.now from }
-    ensures lies { IfSome result (λ span. (from ≤ span.0) × (span.0 ≤ span.1) × (span.1 ≤ length text.now)) }
-    ensures groups { GroupsOf matcher.old text.now wanted result groups.new }
-    ensures groups_in { GroupsIn (length text.now) groups.old → GroupsIn (length text.now) groups.new }
-    ensures same { matcher.new ≡ matcher.old }
-    ensures scratch { scratch.new ≡ scratch.old }
-{
-    let bytes = Text::new(text);
-    let mut steps = Steps::new();
-    if !wanted {
-        return matcher.find_span(&bytes, from, scratch, &mut steps);
-    }
-    let found = matcher.find(&bytes, from, scratch, &mut steps)?;
-    let told = found.groups;
-    *groups = told;
-    Some((found.start, found.end))
+    Some(span)
 }
 
 /// Appends the text with the first occurrence and, with the flag `g`, all behind it replaced.
@@ -192,29 +225,51 @@ fn replace(
     first: (usize, usize),
     groups: &mut Groups,
     build: &mut Space,
+    occurrences: &mut Occurrences,
     scratch: &mut Scratch,
+    steps: &mut Steps,
 ) -> Result<(), Full>
     requires text { length text.now ≤ scratch.old.text }
     requires nodes { length matcher.old.nodes ≤ scratch.old.nodes }
     requires lies { LiesBehind (length text.now) None first }
     requires groups { GroupsOf matcher.old text.now (has_group substitution.now.replacement) (Some first) groups.old }
     requires groups_in { GroupsIn (length text.now) groups.old }
+    requires more { IsTrue substitution.now.global →
+        RoomFor (length text.now) (length matcher.old.nodes) occurrences.old }
+    requires serves { Serves matcher.old text.now (Some first.1) occurrences.old }
+    requires owed { let m = length matcher.old.nodes in let n = length text.now in
+        steps.old + owed m n (Some first.1) occurrences.old ≤ 2 ^ 100 }
     ensures appends { Appends build.old build.new
         (replaced_from text.now substitution.now.replacement 0
         (pending matcher.old text.now substitution.now.global (Some first))) result }
     ensures same { matcher.new ≡ matcher.old }
     ensures scratch { scratch.new ≡ scratch.old }
+    ensures kept { KeepsRoom occurrences.old occurrences.new }
+    ensures grows { steps.old ≤ steps.new }
+    ensures cost { let m = length matcher.old.nodes in let n = length text.now in
+        steps.new ≤ steps.old + owed m n (Some first.1) occurrences.old }
 {
     let parts = substitution.replacement.parts();
     let wanted = needs_groups(parts);
+    let seen = Text::new(text);
     let mut copied = 0;
     let mut occurrence = Some(first);
     'occurrences: while let Some(span) = occurrence {
         build.append(&text[copied..span.0])?;
         put(parts, span, groups, text, build)?;
         copied = span.1;
+        let behind = Some(copied);
         occurrence = if substitution.global {
-            next_occurrence(matcher, text, Some(copied), wanted, groups, scratch)
+            next_occurrence(
+                matcher,
+                &seen,
+                behind,
+                wanted,
+                groups,
+                occurrences,
+                scratch,
+                steps,
+            )
         } else {
             None
         };

@@ -95,6 +95,13 @@ impl Script {
         self.named.exprs.len()
     }
 
+    /// How many substitutions there are.
+    pub fn substitutions(&self) -> usize
+        ensures { result ≡ length self.now.substitutions }
+    {
+        self.named.substitutions.len()
+    }
+
     /// The text of a number, counted from 0, without its last newline.
     pub fn text(&self, k: usize) -> &[u8]
         requires { k < length self.now.texts }

@@ -1,6 +1,6 @@
 //! The commands `s`, `t` and `y`: substitutions, what `t` sees of them, and tables (XCU sed, "Editing Commands in
 //! sed").
-ghost use Rattle.std.specs.Prelude.{◌≡◌, ◌<◌, ◌≤◌, [], ◌∷◌, Some, Err, OnErr, ℕ, List, false, true, length, map, slice_get, if◌then◌else◌};
+ghost use Rattle.std.specs.Prelude.{◌≡◌, ◌+◌, ◌*◌, ◌^◌, ◌<◌, ◌≤◌, IsTrue, [], ◌∷◌, Some, Err, OnErr, ℕ, List, false, true, length, map, slice_get, if◌then◌else◌};
 ghost use Rattle.sedscript.specs.declared.substitution.Substitution.{Substitution};
 ghost use Rattle.sedengine.specs.State.{do_at};
 ghost use Rattle.sedengine.specs.Substitute.{chosen, occurrences};
@@ -8,7 +8,9 @@ ghost use Rattle.sedengine.specs.Move.{chosen_in, in_table, line_to, line_to_fil
 ghost use Rattle.sedengine.specs.Ends.{comes};
 ghost use Rattle.sedengine.specs.Meters.{Sent};
 ghost use Rattle.sedengine.specs.Calls.{NoSinkFailed, Puts, Delivers};
-ghost use Rattle.sedengine.specs.Fitting.{AllFit};
+ghost use Rattle.sedre.specs.Arena.{Written};
+ghost use Rattle.sedmatch.specs.Occurrences.{RoomFor};
+ghost use Rattle.sedengine.specs.Fitting.{AllFit, KeepsRoom, seeks_more};
 ghost use Rattle.sedengine.specs.Run.{at_lines, search_in, setting};
 ghost use Rattle.sedengine.specs.Steps.{KeepsRun, Performs, weight};
 ghost use Rattle.sedengine.specs.Substituting.{Makes, ReplacesIn, same_but_replaced};
@@ -18,7 +20,8 @@ use crate::ends::Ended;
 use crate::meter::Sinks;
 use crate::place::Place;
 use crate::substitute::substitute_by;
-use sedmatch::{Scratch, TableMatcher};
+use sedmatch::{Occurrences, Scratch, TableMatcher};
+use sedre::Steps;
 use sedscript::Script;
 use sedspace::{Full, Space};
 
@@ -31,13 +34,20 @@ fn replace_in(
     e: usize,
     pattern: &mut Space,
     build: &mut Space,
+    occurrences: &mut Occurrences,
     scratch: &mut Scratch,
+    steps: &mut Steps,
 ) -> Result<bool, Full>
     requires number { k < length script.now.substitutions }
     requires expression { e < length matchers.old.items }
     requires text { length pattern.old.bytes ≤ scratch.old.text }
     requires fit { AllFit scratch.old.nodes matchers.old.items }
     requires limits { pattern.old.limit ≡ build.old.limit }
+    requires more { (t : Substitution) → slice_get script.now.substitutions k ≡ Some t → IsTrue (seeks_more t) →
+        (x : Written) → slice_get matchers.old.items e ≡ Some x →
+        RoomFor scratch.old.text (length x.nodes) occurrences.old }
+    requires room { (x : Written) → slice_get matchers.old.items e ≡ Some x →
+        steps.old + 512 * length x.nodes * (length pattern.old.bytes + 1) ≤ 2 ^ 100 }
     ensures replaces { (t : Substitution) → slice_get script.now.substitutions k ≡ Some t →
         ReplacesIn t (chosen t.number t.global
         (occurrences (search_in matchers.old.items e pattern.old.bytes) (length pattern.old.bytes)))
@@ -48,9 +58,21 @@ fn replace_in(
     ensures build { build.new.limit ≡ build.old.limit }
     ensures same { matchers.new.items ≡ matchers.old.items }
     ensures scratch { scratch.new ≡ scratch.old }
+    ensures kept { KeepsRoom occurrences.old occurrences.new }
+    ensures cost { (x : Written) → slice_get matchers.old.items e ≡ Some x →
+        steps.new ≤ steps.old + 512 * length x.nodes * (length pattern.old.bytes + 1) }
 {
     let substitution = script.substitution(k);
-    let replaced = substitute_by(substitution, matchers, e, pattern.bytes(), build, scratch)?;
+    let replaced = substitute_by(
+        substitution,
+        matchers,
+        e,
+        pattern.bytes(),
+        build,
+        occurrences,
+        scratch,
+        steps,
+    )?;
     if replaced {
         // What a space holds is within its limit.
         let _ = build.len();
@@ -134,7 +156,9 @@ impl Machine {
             e,
             &mut self.pattern,
             &mut self.build,
+            &mut self.occurrences,
             &mut self.scratch,
+            &mut Steps::new(),
         ) {
             Ok(true) => {
                 self.replaced = true;
