@@ -114,7 +114,7 @@ impl Scratch {
 }
 
 /// Marks for so many nodes.
-fn new_sets(alloc: Global, nodes: usize) -> Result<Sets, AllocError>
+pub fn new_sets(alloc: Global, nodes: usize) -> Result<Sets, AllocError>
     ensures { IfOk result (λ s. FitsNodes nodes s) }
 {
     Ok(Sets {
