@@ -29,6 +29,7 @@ pub mod SearchLemmas
 pub mod OpenLemmas
 pub mod MeetLemmas
 pub mod BlockLemmas
+pub mod OccurrenceLemmas
 pub mod WordLemmas
 pub mod TableLemmas
 pub mod QuickLemmas

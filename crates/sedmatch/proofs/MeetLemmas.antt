@@ -14,7 +14,7 @@ use Rattle.sedmatch.specs.Spans.{Spans, Found, NotFound, Copies, no_copy, one_mo
 use Rattle.sedmatch.specs.declared.passes.Starts.{Starts}
 use Rattle.sedmatch.specs.Local.{takes}
 use Rattle.sedmatch.specs.Reach.{At, BeginsWith, IsStart, one_start, Enters, at_root, with_whole, after_left, again, OpenAt, OpenFrom, SomeSpan, TellBegun, Longest, LongestBelow}
-use Rattle.sedmatch.specs.Meet.{MeetsBelow, GoesOn, GoesOnFrom, BeginsAt, KeptStarts, MarkTells, HasKept, IsKept, met_to}
+use Rattle.sedmatch.specs.Meet.{MeetsBelow, GoesOn, GoesOnFrom, BeginsAt, KeptStarts, MarkTells, HasKept, IsKept, met_to, end_to}
 use Rattle.sedmatch.specs.Search.{starts_to}
 use Rattle.std.proofs.lemmas.List.{length-reverse}
 use Rattle.sedmatch.proofs.SpanLemmas.{Copies-append, Copies-forward, Spans-forward, Spans-within}
@@ -414,3 +414,19 @@ best_all nodes w r start place (Some j) root over old = (
       (λ (ge : k ≤ place). old.1 k (omega arith) s)
       (cases_lt place k),
 )
+
+-- a match from a place on that isn't the null string there ends behind it
+pub lies_behind : (at n : ℕ) (r : Option (ℕ × ℕ)) → IfSome r (λ f. (at ≤ f.0) × (f.0 ≤ f.1) × (f.1 ≤ n)) → IfSome r (λ f. at ≤ f.0 → f.0 ≤ f.1 → at < f.1) →
+    IfSome r (λ f. (at ≤ f.0) × (at < f.1) × (f.0 ≤ f.1) × (f.1 ≤ n))
+lies_behind at n None lies behind = lies
+lies_behind at n (Some f) lies behind = (lies.0, behind lies.0 lies.1, lies.1, lies.2)
+
+-- what is told of the null string at a place
+pub null_reaches : (at : ℕ) (P : ℕ → Type 0) (r : Option (ℕ × ℕ)) → r ≡ Some (at, at) → IfSome r (λ f. P f.1) → P at
+null_reaches at P r is tells = subst (λ v. IfSome v (λ f. P f.1)) is tells
+
+pub twice_cost : (m n at end p0 p1 p2 s0 s1 s2 : ℕ) (r : Option (ℕ × ℕ)) → r ≡ Some (at, at) → s1 + 25 * m * at + p1 ≤ s0 + 27 * m + 25 * m * end_to n r + p0 →
+    s2 + 25 * m * (at + 1) + p2 ≤ s1 + 27 * m + 25 * m * end + p1 → s2 + 25 * m * at + p2 ≤ s0 + 54 * m + 25 * m * end + p0
+twice_cost m n at end p0 p1 p2 s0 s1 s2 r is first second =
+    let here : s1 + 25 * m * at + p1 ≤ s0 + 27 * m + 25 * m * at + p0 = subst (λ v. s1 + 25 * m * at + p1 ≤ s0 + 27 * m + 25 * m * end_to n v + p0) is first in
+    omega (arith, here)

@@ -44,6 +44,9 @@ owed_met m n q o = 79 * m * (n + 1 - q) + blocks_cost m o.behind
 abbrev pub owed_apart : ℕ → ℕ → ℕ → ℕ
 owed_apart m n spent = if nat_lt (128 * m * (n + 1)) spent then 128 * m * (n + 1) else 512 * m * (n + 1) - spent
 
+abbrev pub owed_together : ℕ → ℕ → ℕ → Occurrences → ℕ
+owed_together m n q o = if o.met then owed_met m n q o else 128 * m * (n + 1)
+
 abbrev pub owed_behind : ℕ → ℕ → ℕ → Occurrences → ℕ
 owed_behind m n q o = if o.met then owed_met m n q o else owed_apart m n o.spent
 
