@@ -27,6 +27,9 @@ pub mod ReachLemmas
 pub mod PassLemmas
 pub mod SearchLemmas
 pub mod OpenLemmas
+pub mod MeetLemmas
+pub mod BlockLemmas
+pub mod OccurrenceLemmas
 pub mod WordLemmas
 pub mod TableLemmas
 pub mod QuickLemmas

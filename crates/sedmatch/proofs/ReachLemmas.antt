@@ -50,7 +50,7 @@ BeginsWith-part Begin c h = h
 BeginsWith-part End c h = h
 
 -- a byte that is taken is there, and in the list
-takes_some : (byte : Option ℕ) (members : List Bool) → IsTrue (takes byte members) → (b : ℕ) × (byte ≡ Some b) × IsTrue (slice_index_or members b false)
+pub takes_some : (byte : Option ℕ) (members : List Bool) → IsTrue (takes byte members) → (b : ℕ) × (byte ≡ Some b) × IsTrue (slice_index_or members b false)
 takes_some None members h = absurd (true≢false (sym h))
 takes_some (Some b) members h = (b, refl, h)
 

@@ -106,10 +106,10 @@ module _ (nodes : List Node) (w : List ℕ) (r : ℕ) (root : r + 1 ≡ length n
   abbrev all_of : Tree
   all_of = tree_at nodes (length nodes - 1)
 
-  to_tree : (i k : ℕ) → At nodes w r i k → Spans all_of w i k
+  pub to_tree : (i k : ℕ) → At nodes w r i k → Spans all_of w i k
   to_tree i k at = let last : r ≡ length nodes - 1 = omega arith in subst (λ x. At nodes w x i k) last at
 
-  from_tree : (i k : ℕ) → Spans all_of w i k → At nodes w r i k
+  pub from_tree : (i k : ℕ) → Spans all_of w i k → At nodes w r i k
   from_tree i k s = let last : length nodes - 1 ≡ r = omega arith in subst (λ x. At nodes w x i k) last s
 
   pub LastEnd-hit : (first len n : ℕ) → len ≡ length w → n ≤ len → SomeSpan nodes w r (record { first = first; last = len }) n → LastEnd all_of w first (n + 1) (Some n)

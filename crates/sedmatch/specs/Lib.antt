@@ -23,4 +23,6 @@ pub mod Few
 pub mod Rare
 pub mod Search
 pub mod Cuts
+pub mod Meet
+pub mod Occurrences
 pub mod Work

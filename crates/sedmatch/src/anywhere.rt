@@ -86,7 +86,7 @@ pub fn leftmost_by(
     requires back { IsTable (seen true expr.now).nodes root back.old }
     requires back_sweeps { IsTrue back.old.sweeps }
     requires fits { FitsNodes (length expr.now.nodes) sets.old }
-    requires room { steps.old ≤ 2 ^ 100 }
+    requires room { steps.old ≤ 2 ^ 101 }
     ensures every { IsTable expr.now.nodes root every.new }
     ensures every_sweeps { IsTrue every.new.sweeps }
     ensures single { IsTable expr.now.nodes root single.new }
@@ -143,7 +143,7 @@ fn anywhere_by(
     requires back { IsTable (seen true expr.now).nodes root back.old }
     requires back_sweeps { IsTrue back.old.sweeps }
     requires fits { FitsNodes (length expr.now.nodes) sets.old }
-    requires room { steps.old ≤ 2 ^ 101 }
+    requires room { steps.old ≤ 2 ^ 102 }
     ensures every { IsTable expr.now.nodes root every.new }
     ensures every_sweeps { IsTrue every.new.sweeps }
     ensures single { IsTable expr.now.nodes root single.new }
@@ -194,7 +194,7 @@ fn span_from(
     requires back { IsTable (seen true expr.now).nodes root back.old }
     requires back_sweeps { IsTrue back.old.sweeps }
     requires fits { FitsNodes (length expr.now.nodes) sets.old }
-    requires room { steps.old ≤ 2 ^ 102 }
+    requires room { steps.old ≤ 2 ^ 103 }
     ensures every { IsTable expr.now.nodes root every.new }
     ensures every_sweeps { IsTrue every.new.sweeps }
     ensures single { IsTable expr.now.nodes root single.new }

@@ -96,7 +96,7 @@ pub fn find_span(
     requires from { from ≤ length text.now }
     requires text_fits { length text.now ≤ scratch.old.text }
     requires expr_fits { length expr.now.nodes ≤ scratch.old.nodes }
-    requires room { steps.old ≤ 2 ^ 100 }
+    requires room { steps.old ≤ 2 ^ 101 }
     ensures scratch { scratch.new ≡ scratch.old }
     ensures found { IfSome result (λ f. IsFound (tree expr.now) text.now from f.0 f.1) }
     ensures none { IfNone result (NotFound (tree expr.now) text.now from) }

@@ -342,8 +342,8 @@ const STATES: usize = 64;
 /// too. Where an expression is used once, [`crate::find`] and its like are the better choice: they need no table.
 #[derive(Drop)]
 pub struct TableMatcher {
-    expr: Expr,
-    root: usize,
+    pub(crate) expr: Expr,
+    pub(crate) root: usize,
     begins: Begins,
     needed: Option<Needed>,
     few: Option<Rare>,
@@ -465,7 +465,7 @@ impl TableMatcher {
         requires from { from ≤ length text.now }
         requires text_fits { length text.now ≤ scratch.old.text }
         requires expr_fits { length self.old.nodes ≤ scratch.old.nodes }
-        requires room { steps.old ≤ 2 ^ 100 }
+        requires room { steps.old ≤ 2 ^ 101 }
         ensures same { self.new ≡ self.old }
         ensures scratch { scratch.new ≡ scratch.old }
         ensures found { IfSome result (λ f. IsFound (tree self.old) text.now from f.0 f.1) }

@@ -111,10 +111,18 @@ impl Scratch {
             max_nodes,
         })
     }
+
+    /// For proofs: how long a text and how large an expression can be.
+    pub(crate) fn bounds(&self)
+        ensures text { self.now.text ≤ 2 ^ 30 }
+        ensures nodes { self.now.nodes ≤ 65536 }
+    {
+        let _most = self.max_text;
+    }
 }
 
 /// Marks for so many nodes.
-fn new_sets(alloc: Global, nodes: usize) -> Result<Sets, AllocError>
+pub fn new_sets(alloc: Global, nodes: usize) -> Result<Sets, AllocError>
     ensures { IfOk result (λ s. FitsNodes nodes s) }
 {
     Ok(Sets {

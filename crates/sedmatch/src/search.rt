@@ -489,7 +489,7 @@ pub fn leftmost(
     requires short { length text.now ≤ 2 ^ 30 }
     requires from { from ≤ length text.now }
     requires fits { FitsNodes (length expr.now.nodes) sets.old }
-    requires room { steps.old ≤ 2 ^ 100 }
+    requires room { steps.old ≤ 2 ^ 101 }
     ensures marks { SameMarks sets.old sets.new }
     ensures found { IfSome result (λ f. IsFound (tree expr.now) text.now from f.0 f.1) }
     ensures none { IfNone result (NotFound (tree expr.now) text.now from) }

@@ -1,0 +1,71 @@
+-- What the searches for all occurrences in one text cost together.
+use Rattle.std.proofs.Common.{◌≡◌, ℕ, zero, suc, ◌+◌, ◌-◌, ◌*◌, ◌^◌, ◌<◌, ◌≤◌, Bool, true, false, List, length, Option, Some, None, IsTrue, IfSome, refl, sym, ap, ◌∙◌, subst, ⊎_elim, arith, mul-le-mul_left}
+use Rattle.std.specs.Prelude.{if◌then◌else◌}
+use Rattle.sedmatch.specs.declared.occurrences.Occurrences.{Occurrences}
+use Rattle.sedmatch.specs.Meet.{blocks_cost, end_to}
+use Rattle.sedmatch.specs.Occurrences.{owed_met, owed_apart, owed_together, owed_behind, owed_after}
+
+-- what is owed after an answer, where c is what the blocks may cost
+abbrev pub owed_end : ℕ → ℕ → ℕ → Option (ℕ × ℕ) → ℕ
+owed_end m n c None = 0
+owed_end m n c (Some f) = 79 * m * (n + 1 - f.1) + c
+
+-- nodes times places are few
+pub few_places : (m n : ℕ) → m ≤ 65536 → n ≤ 2 ^ 30 → m * (n + 1) ≤ 2 ^ 47
+few_places m n nodes places =
+    let up : n + 1 ≤ 2 ^ 31 = omega arith in
+    let one : m * (n + 1) ≤ m * (2 ^ 31) = mul-le-mul_left m up in
+    omega arith
+
+pub search_room : (m n s t : ℕ) → m ≤ 65536 → n ≤ 2 ^ 30 → s ≤ 2 ^ 100 → t ≤ s + 128 * m * (n + 1) → t ≤ 2 ^ 101
+search_room m n s t nodes places low cost =
+    let few = few_places m n nodes places in
+    omega arith
+
+-- the pass from the end, and what is owed after it
+pub met_paid : (m n at low s t : ℕ) → low ≤ n → t ≤ s + 25 * m * (n + 1) → t + (79 * m * (n + 1 - at) + 24 * m * low) ≤ s + 128 * m * (n + 1)
+met_paid m n at low s t inside cost =
+    let few : n + 1 - at ≤ n + 1 = omega arith in
+    let all = mul-le-mul_left (79 * m) few in
+    let less : low ≤ n + 1 = omega arith in
+    let blocks = mul-le-mul_left (24 * m) less in
+    omega (arith, all, blocks)
+
+pub owed_not_met : (m n q : ℕ) (o : Occurrences) → o.met ≡ false → owed_together m n q o ≡ 128 * m * (n + 1)
+owed_not_met m n q o is = ap (λ b. if b then owed_met m n q o else 128 * m * (n + 1)) is
+
+pub owed_is_met : (m n q : ℕ) (o : Occurrences) → IsTrue o.met → owed_together m n q o ≡ owed_met m n q o
+owed_is_met m n q o is = ap (λ b. if b then owed_met m n q o else 128 * m * (n + 1)) is
+
+pub behind_is_met : (m n q : ℕ) (o : Occurrences) → IsTrue o.met → owed_behind m n q o ≡ owed_met m n q o
+behind_is_met m n q o is = ap (λ b. if b then owed_met m n q o else owed_apart m n o.spent) is
+
+-- a search that finds none
+none_paid : (m at k b c s t : ℕ) → t + 25 * m * at + c ≤ s + 54 * m + 25 * m * (at + k) + b → t ≤ s + (79 * m * (k + 1) + b)
+none_paid m at k b c s t cost = omega (arith, cost)
+
+-- and one that finds a match that ends behind the place
+some_paid : (m at k d b c s t : ℕ) → t + 25 * m * at + c ≤ s + 54 * m + 25 * m * (at + (k + 1)) + b → t + (79 * m * d + c) ≤ s + (79 * m * (d + k + 1) + b)
+some_paid m at k d b c s t cost = omega (arith, cost)
+
+pub search_paid : (m n at b c s t : ℕ) (r : Option (ℕ × ℕ)) → at ≤ n → IfSome r (λ f. (at ≤ f.0) × (at < f.1) × (f.0 ≤ f.1) × (f.1 ≤ n)) →
+    t + 25 * m * at + c ≤ s + 54 * m + 25 * m * end_to n r + b → t + owed_end m n c r ≤ s + (79 * m * (n + 1 - at) + b)
+search_paid m n at b c s t None inside lies cost =
+    let k = n - at in
+    let e : at + k ≡ n = omega arith in
+    let f : k + 1 ≡ n + 1 - at = omega arith in
+    let paid : t ≤ s + (79 * m * (n + 1 - at) + b) =
+        subst (λ v. t ≤ s + (79 * m * v + b)) f (none_paid m at k b c s t (subst (λ v. t + 25 * m * at + c ≤ s + 54 * m + 25 * m * v + b) (sym e) cost)) in
+    omega (arith, paid)
+search_paid m n at b c s t (Some g) inside lies cost =
+    let lt = lies.1 in
+    let le = lies.3 in
+    let k = g.1 - at - 1 in
+    let d = n + 1 - g.1 in
+    let e : at + (k + 1) ≡ g.1 = omega arith in
+    let f : d + k + 1 ≡ n + 1 - at = omega arith in
+    subst (λ v. t + (79 * m * d + c) ≤ s + (79 * m * v + b)) f (some_paid m at k d b c s t (subst (λ v. t + 25 * m * at + c ≤ s + 54 * m + 25 * m * v + b) (sym e) cost))
+
+pub after_is_met : (m n : ℕ) (r : Option (ℕ × ℕ)) (o : Occurrences) → IsTrue o.met → owed_after m n r o ≡ owed_end m n (blocks_cost m o.behind) r
+after_is_met m n None o is = refl
+after_is_met m n (Some f) o is = behind_is_met m n f.1 o is

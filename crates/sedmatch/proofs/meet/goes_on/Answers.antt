@@ -1,0 +1,30 @@
+use Rattle.std.proofs.Common.{◌≡◌, ◌+◌, ◌-◌, ◌<◌, ◌≤◌, length, reverse, true, true≢false, sym, arith}
+use Rattle.std.proofs.lemmas.List.{length-reverse}
+use Rattle.sedre.specs.Mirror.{seen}
+use Rattle.sedmatch.specs.Words.{row_of}
+use Rattle.sedmatch.specs.Reach.{Enters, TellBegun}
+use Rattle.sedmatch.specs.Search.{starts_to}
+use Rattle.sedmatch.specs.Meet.{low_of}
+use Rattle.sedmatch.proofs.BlockLemmas.{same_told}
+use Rattle.sedmatch.proofs.MeetLemmas.{goes_met, goes_end}
+use Rattle.sedmatch.proofs.meet.goes_on.Goals as goal
+
+pub returns-then-place-len-clause-goes : goal.returns-then-place-len-clause-goes
+returns-then-place-len-clause-goes c = (
+  λ h. absurd (true≢false (sym h)),
+  λ h. absurd (goes_end c.args.expr.now.nodes c.args.text.now c.args.root c.args.start c.args.place (omega (arith, c.requires.start, c.requires.place)) (omega arith) h),
+)
+
+pub returns-clause-goes : goal.returns-clause-goes
+returns-clause-goes c =
+    let e = c.args.expr.now in
+    let w = c.args.text.now in
+    let root = c.args.root in
+    let q = c.len-2.result - c.args.place - 1 in
+    let behind = c.bring.new.behind in
+    let sum : c.args.place + 1 + q ≡ length w = omega arith in
+    let row = c.bring.ensures.all.block q c.bring.ensures.low c.bring.ensures.high (omega (arith, length-reverse w)) in
+    let told : TellBegun (seen true e).nodes (reverse w) root (starts_to 0 (length (reverse w))) q c.load.new.marks =
+        same_told (root + 1) (row_of behind.rows (q - low_of behind)) c.load.new.marks (λ x. Enters (seen true e).nodes (reverse w) root (starts_to 0 (length (reverse w))) x q) c.load.ensures.same row.1 in
+    goes_met e w root c.args.start c.args.place q c.byte-next.result c.args.sets.now.entered c.load.new.marks c.meets.result
+    c.nodes-count.ensures.arena (omega (arith, c.requires.root)) c.requires.start sum c.byte-next.ensures.byte c.requires.begun told c.meets.ensures.meets

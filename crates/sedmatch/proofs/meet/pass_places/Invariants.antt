@@ -1,0 +1,21 @@
+use Rattle.std.proofs.Common.{ℕ, ◌≡◌, ◌+◌, ◌*◌, ◌<◌, ◌≤◌, length}
+use Rattle.sedmatch.specs.Fits.{SameMarks}
+use Rattle.sedmatch.specs.Words.{row_of}
+use Rattle.sedmatch.specs.Reach.{TellEntered}
+use Rattle.sedmatch.specs.Search.{starts_to}
+use Rattle.sedmatch.specs.Meet.{RowsTell, MarkTells}
+use Rattle.sedmatch.proofs.meet.pass_places.Given as goal
+
+abbrev pub invariant-loop-place : goal.invariant-loop-place
+invariant-loop-place l = record {
+  marks : SameMarks l.initial.sets l.sets;
+  rows_len : length l.rows ≡ length l.initial.rows;
+  rows_lens : (q : ℕ) → q < length l.initial.rows → length (row_of l.rows q) ≡ length (row_of l.initial.rows q);
+  begins_len : length l.begins ≡ length l.initial.begins;
+  rows : RowsTell l.nodes.nodes l.bytes l.root l.from l.place l.rows;
+  begins : (q : ℕ) → l.from ≤ q → q < l.place → MarkTells l.nodes.nodes l.bytes l.root l.begins q;
+  others : (q : ℕ) → MarkTells l.nodes.nodes l.bytes l.root l.initial.begins q → MarkTells l.nodes.nodes l.bytes l.root l.begins q;
+  entered : TellEntered l.nodes.nodes l.bytes l.root (starts_to 0 (length l.bytes)) l.place l.sets.entered;
+  grows : l.initial.steps ≤ l.steps;
+  cost : l.steps + 22 * length l.nodes.nodes * l.from ≤ l.initial.steps + 22 * length l.nodes.nodes * l.place;
+}

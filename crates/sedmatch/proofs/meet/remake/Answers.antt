@@ -1,0 +1,22 @@
+use Rattle.std.proofs.Common.{ℕ, ◌≡◌, ◌+◌, ◌*◌, ◌<◌, ◌≤◌, length, sym, subst, arith}
+use Rattle.sedmatch.specs.Words.{row_of}
+use Rattle.sedmatch.specs.Reach.{TellEntered}
+use Rattle.sedmatch.specs.Search.{starts_to}
+use Rattle.sedmatch.specs.Meet.{low_of}
+use Rattle.sedmatch.proofs.BlockLemmas.{sets_kept, low_is, edges_same}
+use Rattle.sedmatch.proofs.meet.remake.Goals as goal
+
+pub returns-clause-kept : goal.returns-clause-kept
+returns-clause-kept c text nodes has = c.make_block.ensures.kept text nodes (sets_kept c.args.behind.now c.load.new.marks c.load.ensures.len text nodes has)
+
+pub returns-clause-all : goal.returns-clause-all
+returns-clause-all c =
+    let old = c.args.behind.now in
+    let new = c.make_block.new.behind in
+    let low : low_of new ≡ old.width * c.args.block = low_is new old.width c.args.block c.make_block.ensures.width c.make_block.ensures.block in
+    record {
+      begins = λ q le. c.make_block.ensures.others q (c.requires.all.begins q le);
+      edges = edges_same c.args.nodes.now.nodes c.args.bytes.now c.args.root old new c.make_block.ensures.width c.make_block.ensures.edges c.requires.all.edges;
+      block = c.make_block.ensures.rows;
+      inside = omega (arith, low, c.requires.inside);
+    }

@@ -1,0 +1,26 @@
+use Rattle.std.proofs.Common.{◌≡◌, ◌+◌, ◌*◌, ◌≤◌, length, sym, subst, arith}
+use Rattle.sedmatch.specs.declared.occurrences.Occurrences.{Occurrences}
+use Rattle.sedmatch.specs.Meet.{HasBehind, blocks_cost, end_to}
+use Rattle.sedmatch.specs.Occurrences.{owed_after, owed_together, owed_met}
+use Rattle.sedmatch.proofs.OccurrenceLemmas.{search_paid, after_is_met}
+use Rattle.sedmatch.proofs.quick.TableMatcher.next_together.Goals as goal
+
+pub next_behind-requires-clause-behind_fits : goal.next_behind-requires-clause-behind_fits
+next_behind-requires-clause-behind_fits c =
+    subst (λ v. HasBehind (length c.args.text.now) (length v.nodes) c.see_met.new.occurrences.behind) (sym c.self.view_is)
+    (c.see_met.ensures.kept (length c.args.text.now) (length c.args.self.now.nodes) c.requires.room_fits)
+
+pub returns-clause-room_kept : goal.returns-clause-room_kept
+returns-clause-room_kept c text nodes has = c.next_behind.ensures.kept text nodes (c.see_met.ensures.kept text nodes has)
+
+pub returns-clause-cost : goal.returns-clause-cost
+returns-clause-cost c =
+    let m = length c.self.inside.expr.nodes in
+    let n = length c.args.text.now in
+    let met = c.see_met.new.occurrences in
+    let new : Occurrences = record { behind = c.next_behind.new.behind; spent = met.spent; met = met.met } in
+    let paid = search_paid m n c.args.at (blocks_cost m met.behind) (blocks_cost m new.behind) c.see_met.new.steps c.next_behind.new.steps c.next_behind.result c.requires.at c.next_behind.ensures.lies c.next_behind.ensures.cost in
+    let before = c.see_met.ensures.cost in
+    let both : c.next_behind.new.steps + owed_after m n c.next_behind.result new ≤ c.args.steps.now + owed_together m n c.args.at c.args.occurrences.now =
+        subst (λ v. c.next_behind.new.steps + v ≤ c.args.steps.now + owed_together m n c.args.at c.args.occurrences.now) (sym (after_is_met m n c.next_behind.result new c.see_met.ensures.met)) (omega (arith, paid, before)) in
+    subst (λ e. c.next_behind.new.steps + owed_after (length e.nodes) n c.next_behind.result new ≤ c.args.steps.now + owed_together (length e.nodes) n c.args.at c.args.occurrences.now) c.self.view_is both

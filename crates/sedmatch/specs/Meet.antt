@@ -1,0 +1,111 @@
+-- Private to the proofs: no contract of a public item cites what stands here.
+-- Where a pass forwards and a pass from the text's end meet, and what is kept of the latter.
+use Rattle.std.specs.Prelude.{◌≡◌, ◌↔◌, ℕ, ◌+◌, ◌-◌, ◌*◌, ◌<◌, ◌≤◌, Bool, true, false, List, length, reverse, slice_get, slice_index_or, Option, Some, None, IsTrue}
+use Rattle.sedre.specs.Tree.{Tree}
+use Rattle.sedre.specs.Arena.{Written}
+use Rattle.sedre.specs.Mirror.{seen}
+use Rattle.sedre.specs.declared.types.Node.{Node}
+use Rattle.sedre.specs.declared.types.Node.TheVariants.{Set}
+use Rattle.sedmatch.specs.declared.passes.Starts.{Starts}
+use Rattle.sedmatch.specs.declared.meet.Behind.{Behind}
+use Rattle.sedmatch.specs.Fits.{FitsNodes}
+use Rattle.sedmatch.specs.Local.{takes}
+use Rattle.sedmatch.specs.Words.{row_of}
+use Rattle.sedmatch.specs.Reach.{At, IsStart, TellBegun, TellEntered, SomeSpan}
+use Rattle.sedmatch.specs.Search.{starts_to}
+use Rattle.sedmatch.specs.Spans.{Spans}
+
+-- a node below n that takes the byte that comes is marked in both lists
+abbrev pub MeetsBelow : List Node → ℕ → List Bool → List Bool → Option ℕ → Type 0
+MeetsBelow nodes n front behind next =
+    (c : ℕ) × (set : List Bool) × (c < n) × (slice_get nodes c ≡ Some (Set set)) × IsTrue (slice_index_or front c false) × IsTrue (slice_index_or behind c false) × IsTrue (takes next set)
+
+-- a match of the node r from one of the starts up to the place ends after the place
+abbrev pub GoesOn : List Node → List ℕ → ℕ → Starts → ℕ → Type 0
+GoesOn nodes w r s place = (i : ℕ) × (k : ℕ) × IsStart s i × (i ≤ place) × (place < k) × At nodes w r i k
+
+-- a match of the node r from the start ends after the place
+abbrev pub GoesOnFrom : List Node → List ℕ → ℕ → ℕ → ℕ → Type 0
+GoesOnFrom nodes w r start place = (k : ℕ) × (place < k) × At nodes w r start k
+
+-- a match of the node r begins at the place
+abbrev pub BeginsAt : List Node → List ℕ → ℕ → ℕ → Type 0
+BeginsAt nodes w r i = (k : ℕ) × At nodes w r i k
+
+-- the row tells which nodes up to r can begin at the place, in a match from any start
+abbrev pub RowTells : List Node → List ℕ → ℕ → ℕ → List Bool → Type 0
+RowTells nodes w r q row = (r < length row) × TellBegun nodes w r (starts_to 0 (length w)) q row
+
+-- the rows tell it of the places from one up to another
+abbrev pub RowsTell : List Node → List ℕ → ℕ → ℕ → ℕ → List (List Bool) → Type 0
+RowsTell nodes w r from to rows = (q : ℕ) → from ≤ q → q < to → RowTells nodes w r q (row_of rows (q - from))
+
+-- the edges of the first n blocks tell which nodes could begin one byte before the first place
+abbrev pub EdgesTell : List Node → List ℕ → ℕ → ℕ → ℕ → List (List Bool) → Type 0
+EdgesTell nodes w r width n edges = (b : ℕ) → b < n → (r < length (row_of edges b)) × TellEntered nodes w r (starts_to 0 (length w)) (width * b) (row_of edges b)
+
+-- the mark of the place tells whether a match of the node r ends there
+abbrev pub MarkTells : List Node → List ℕ → ℕ → List Bool → ℕ → Type 0
+MarkTells nodes w r marks q = IsTrue (slice_index_or marks q false) ↔ SomeSpan nodes w r (starts_to 0 (length w)) q
+
+-- the first place of the block whose rows are kept
+abbrev pub low_of : Behind → ℕ
+low_of b = b.width * b.block
+
+-- the rows that are kept tell of the places of the block
+abbrev pub BlockTells : List Node → List ℕ → ℕ → Behind → Type 0
+BlockTells nodes w r b = (q : ℕ) → low_of b ≤ q → q < low_of b + b.width → q ≤ length w → RowTells nodes w r q (row_of b.rows (q - low_of b))
+
+-- what is kept of a pass over the whole text, each place a start
+pub record HasKept (nodes : List Node) (w : List ℕ) (r : ℕ) (b : Behind) : Type 0 where
+  pub begins : (q : ℕ) → q ≤ length w → MarkTells nodes w r b.begins q
+  pub edges : (n : ℕ) → b.width * n ≤ length w → (r < length (row_of b.edges n)) × TellEntered nodes w r (starts_to 0 (length w)) (b.width * n) (row_of b.edges n)
+  pub block : BlockTells nodes w r b
+  pub inside : low_of b ≤ length w
+
+-- the same of the mirrored expression in the text read from its end
+abbrev pub IsKept : Written → List ℕ → ℕ → Behind → Type 0
+IsKept e w r b = HasKept (seen true e).nodes (reverse w) r b
+
+
+-- in a text of n bytes, the block has the place, counted from the beginning, or lies behind it
+abbrev pub Reaches : ℕ → ℕ → Behind → Type 0
+Reaches n place b = n ≤ place + low_of b + b.width
+
+-- there is room for texts of so many bytes and expressions of so many nodes
+pub record HasBehind (text nodes : ℕ) (b : Behind) : Type 0 where
+  pub places : text < length b.begins
+  pub blocks : text < b.width * length b.edges
+  pub some : 0 < b.width
+  pub narrow : b.width ≤ 65536
+  pub rows_there : b.width ≤ length b.rows
+  pub edges_fit : (q : ℕ) → q < length b.edges → nodes ≤ length (row_of b.edges q)
+  pub rows_fit : (q : ℕ) → q < length b.rows → nodes ≤ length (row_of b.rows q)
+  pub fits : FitsNodes nodes b.sets
+
+-- there is as much room as before
+abbrev pub KeepsBehind : Behind → Behind → Type 0
+KeepsBehind old new = (text nodes : ℕ) → HasBehind text nodes old → HasBehind text nodes new
+
+-- the end of the match, or the start where there is none
+abbrev pub met_to : ℕ → Option ℕ → ℕ
+met_to start None = start
+met_to start (Some end) = end
+
+-- the marks tell of each place, counted from the text's end, whether a match begins there
+abbrev pub KeptStarts : Tree → List ℕ → List Bool → Type 0
+KeptStarts e w marks = (i : ℕ) → i ≤ length w → IsTrue (slice_index_or marks (length w - i) false) ↔ ((k : ℕ) × Spans e w i k)
+
+-- the place found, or the text's end
+abbrev pub begin_to : ℕ → Option ℕ → ℕ
+begin_to n None = n
+begin_to n (Some place) = place
+
+-- the end of the match found, or the text's end
+abbrev pub end_to : ℕ → Option (ℕ × ℕ) → ℕ
+end_to n None = n
+end_to n (Some f) = f.1
+
+-- what the blocks before the one whose rows are kept cost at most, for m nodes
+abbrev pub blocks_cost : ℕ → Behind → ℕ
+blocks_cost m b = 24 * m * low_of b

@@ -1,0 +1,60 @@
+-- All occurrences in one text, one after another (XCU sed, "s/BRE/replacement/flags").
+use Rattle.std.specs.Prelude.{◌≡◌, ℕ, ◌+◌, ◌-◌, ◌*◌, ◌≤◌, Bool, true, false, ◌&&◌, List, length, Option, Some, None, IsTrue, nat_eq, nat_lt, if◌then◌else◌}
+use Rattle.sedre.specs.Arena.{Written}
+use Rattle.sedmatch.specs.declared.occurrences.Occurrences.{Occurrences}
+use Rattle.sedmatch.specs.Meet.{HasBehind, IsKept, Reaches, blocks_cost}
+
+-- the match of the null string at a place is passed over for another one
+abbrev pub unless_null_at : ℕ → Option (ℕ × ℕ) → Option (ℕ × ℕ) → Option (ℕ × ℕ)
+unless_null_at q None other = None
+unless_null_at q (Some m) other = if nat_eq m.0 q && nat_eq m.1 q then other else Some m
+
+-- The next occurrence in a text of n bytes, behind one that ended at a place, where there was one; `search` tells the
+-- match sought from a place. Occurrences don't overlap, and a match of the null string directly behind one is none
+-- (this project's own): then the search goes on one byte further, as long as that is no place behind the end.
+abbrev pub next_span : (ℕ → Option (ℕ × ℕ)) → ℕ → Option ℕ → Option (ℕ × ℕ)
+next_span search n None = search 0
+next_span search n (Some q) = unless_null_at q (search q) (if nat_lt q n then search (q + 1) else None)
+
+-- the place, if there is one, is in a text of n bytes, or its end
+abbrev pub EndsWithin : ℕ → Option ℕ → Type 0
+EndsWithin n None = Unit {0}
+EndsWithin n (Some q) = q ≤ n
+
+-- the span, if there is one, ends behind the place, if there is one, and begins there or later
+abbrev pub LiesBehind : Option ℕ → Option (ℕ × ℕ) → Type 0
+LiesBehind last None = Unit {0}
+LiesBehind None (Some f) = Unit {0}
+LiesBehind (Some q) (Some f) = (q ≤ f.0) × (q + 1 ≤ f.1)
+
+-- there is room for texts of so many bytes and expressions of so many nodes
+abbrev pub RoomFor : ℕ → ℕ → Occurrences → Type 0
+RoomFor text nodes o = HasBehind text nodes o.behind
+
+-- what is kept is of this text and expression, and serves to search behind an occurrence that ended at the place, if there is one
+abbrev pub Serves : Written → List ℕ → Option ℕ → Occurrences → Type 0
+Serves e w None o = (o.met ≡ false) × (o.spent ≡ 0)
+Serves e w (Some q) o = IsTrue o.met → IsKept e w (length e.nodes - 1) o.behind × Reaches (length w) q o.behind
+
+-- The steps that the searches may still take behind an occurrence that ended at the place q, with m nodes in a text of n bytes:
+-- after the pass from the end; before it, when it is due; and when it isn't yet.
+abbrev pub owed_met : ℕ → ℕ → ℕ → Occurrences → ℕ
+owed_met m n q o = 79 * m * (n + 1 - q) + blocks_cost m o.behind
+
+abbrev pub owed_apart : ℕ → ℕ → ℕ → ℕ
+owed_apart m n spent = if nat_lt (128 * m * (n + 1)) spent then 128 * m * (n + 1) else 512 * m * (n + 1) - spent
+
+abbrev pub owed_together : ℕ → ℕ → ℕ → Occurrences → ℕ
+owed_together m n q o = if o.met then owed_met m n q o else 128 * m * (n + 1)
+
+abbrev pub owed_behind : ℕ → ℕ → ℕ → Occurrences → ℕ
+owed_behind m n q o = if o.met then owed_met m n q o else owed_apart m n o.spent
+
+abbrev pub owed : ℕ → ℕ → Option ℕ → Occurrences → ℕ
+owed m n None o = owed_behind m n 0 o
+owed m n (Some q) o = owed_behind m n q o
+
+-- the same after an answer: nothing where there is no occurrence
+abbrev pub owed_after : ℕ → ℕ → Option (ℕ × ℕ) → Occurrences → ℕ
+owed_after m n None o = 0
+owed_after m n (Some f) o = owed m n (Some f.1) o

@@ -1,0 +1,576 @@
+//! The longest match from one start, by a pass that goes no further than that match does.
+//!
+//! A pass from the text's end tells for each place which nodes begin there in the mirrored expression: after them the
+//! match goes on to its end. So a pass forwards can stop where none of the nodes that begin there is one of those.
+//!
+//! What the pass from the end tells is kept for one block of places alone, and of the others with which marks it came
+//! to them. A block is made again when the first of its places is asked for; places are asked for from the text's
+//! beginning to its end, so that each block is made twice in all.
+ghost use Rattle.std.specs.Prelude.{◌≡◌, ℕ, Bool, List, [], ◌+◌, ◌-◌, ◌*◌, ◌^◌, ◌<◌, ◌≤◌, ◌↔◌, length, IsTrue, IfSome, IfNone, IfOk, true, false, reverse, slice_index_or, Option, Some, if◌then◌else◌};
+ghost use Rattle.sedre.specs.Arena.{tree};
+ghost use Rattle.sedre.specs.Mirror.{seen};
+ghost use Rattle.sedmatch.specs.Fits.{FitsNodes, SameMarks};
+ghost use Rattle.sedmatch.specs.Local.{takes_next};
+ghost use Rattle.sedmatch.specs.Words.{row_of};
+ghost use Rattle.sedmatch.specs.Reach.{Longest, TellBegun, TellEntered, one_start};
+ghost use Rattle.sedmatch.specs.Meet.{MeetsBelow, GoesOnFrom, RowsTell, EdgesTell, MarkTells, BlockTells, HasKept, IsKept, Reaches, HasBehind, KeepsBehind, low_of, met_to, begin_to, end_to, blocks_cost};
+ghost use Rattle.sedmatch.specs.Occurrences.{next_span, unless_null_at};
+ghost use Rattle.sedmatch.specs.Search.{starts_to};
+ghost use Rattle.sedmatch.specs.Cuts.{LeastFrom};
+ghost use Rattle.sedmatch.specs.Matching.{found};
+ghost use Rattle.sedmatch.specs.Spans.{Found as IsFound, NotFound};
+
+use crate::counted::{Bytes, Marks, Rows, Text};
+use crate::passes::{Starts, advance, takes_byte};
+use crate::scratch::{Sets, new_sets};
+use crate::search::advance_from;
+use sedre::{Expr, Node, Nodes, Steps};
+use std::alloc::{AllocError, Global};
+
+/// What is kept of a pass from the text's end.
+#[derive(Drop)]
+pub struct Behind {
+    /// For each place, counted from the text's end, whether a match begins there.
+    pub begins: Marks,
+    /// For each block of places the marks with which the pass came to the first of them.
+    pub edges: Rows,
+    /// For each place of one block which nodes begin there in the mirrored expression.
+    pub rows: Rows,
+    /// The marks of the pass. One forwards has its own.
+    pub sets: Sets,
+    /// How many places a block has.
+    pub width: usize,
+    /// The number of the block whose rows are kept.
+    pub block: usize,
+}
+
+/// The least number whose square is greater than `most`, or a little less where that is large.
+fn root_of(most: usize) -> usize
+    requires { most ≤ 2 ^ 30 }
+    ensures some { 0 < result }
+    ensures few { result ≤ 65536 }
+    ensures enough { most < 65536 * result }
+{
+    for width in 1..32768 {
+        if most < width * width {
+            return width;
+        }
+    }
+    32768
+}
+
+/// Room for texts of at most so many bytes and expressions of at most so many nodes.
+pub fn new_behind(alloc: Global, max_text: usize, max_nodes: usize) -> Result<Behind, AllocError>
+    requires text { max_text ≤ 2 ^ 30 }
+    requires nodes { max_nodes ≤ 65536 }
+    ensures { IfOk result (λ b. HasBehind max_text max_nodes b) }
+{
+    let width = root_of(max_text);
+    Ok(Behind {
+        begins: Marks::new(alloc, max_text + 1)?,
+        edges: Rows::new(alloc, max_text / width + 1, max_nodes)?,
+        rows: Rows::new(alloc, width, max_nodes)?,
+        sets: new_sets(alloc, max_nodes)?,
+        width,
+        block: 0,
+    })
+}
+
+/// The place behind the last one of a block, in a text of so many bytes.
+fn block_end(from: usize, width: usize, len: usize) -> usize
+    requires inside { from ≤ len }
+    requires short { len ≤ 2 ^ 30 }
+    requires narrow { width ≤ 65536 }
+    ensures after { from ≤ result }
+    ensures within { result ≤ len + 1 }
+    ensures few { result ≤ from + width }
+    ensures all { from + width ≤ len → result ≡ from + width }
+    ensures rest { len < from + width → result ≡ len + 1 }
+{
+    if from + width <= len {
+        from + width
+    } else {
+        len + 1
+    }
+}
+
+/// The pass over some places of a text, each of which is a start: keeps which nodes begin there, and whether a match
+/// ends there.
+fn pass_places(
+    nodes: &Nodes,
+    bytes: &Bytes,
+    root: usize,
+    from: usize,
+    to: usize,
+    rows: &mut Rows,
+    begins: &mut Marks,
+    sets: &mut Sets,
+    steps: &mut Steps,
+)
+    requires root { root + 1 ≡ length nodes.now.nodes }
+    requires few { length nodes.now.nodes ≤ 65536 }
+    requires short { length bytes.now ≤ 2 ^ 30 }
+    requires order { from ≤ to }
+    requires inside { to ≤ length bytes.now + 1 }
+    requires fits { FitsNodes (length nodes.now.nodes) sets.old }
+    requires entered { TellEntered nodes.now.nodes bytes.now root (starts_to 0 (length bytes.now)) from sets.old.entered }
+    requires rows_there { to ≤ from + length rows.old }
+    requires rows_fit { (q : ℕ) → q < length rows.old → root + 1 ≤ length (row_of rows.old q) }
+    requires begins_there { length bytes.now < length begins.old }
+    requires room { steps.old < 2 ^ 116 }
+    ensures marks { SameMarks sets.old sets.new }
+    ensures rows_len { length rows.new ≡ length rows.old }
+    ensures rows_lens { (q : ℕ) → q < length rows.old → length (row_of rows.new q) ≡ length (row_of rows.old q) }
+    ensures begins_len { length begins.new ≡ length begins.old }
+    ensures rows { RowsTell nodes.now.nodes bytes.now root from to rows.new }
+    ensures begins { (q : ℕ) → from ≤ q → q < to → MarkTells nodes.now.nodes bytes.now root begins.new q }
+    ensures others { (q : ℕ) → MarkTells nodes.now.nodes bytes.now root begins.old q → MarkTells nodes.now.nodes bytes.now root begins.new q }
+    ensures entered { TellEntered nodes.now.nodes bytes.now root (starts_to 0 (length bytes.now)) to sets.new.entered }
+    ensures grows { steps.old ≤ steps.new }
+    ensures cost { let m = length nodes.now.nodes in steps.new + 22 * m * from ≤ steps.old + 22 * m * to }
+{
+    let _count = nodes.nodes();
+    let starts = Starts {
+        first: 0,
+        last: bytes.len(),
+    };
+    for place in from..to {
+        let here = advance(nodes, root, bytes, starts, place, sets, steps);
+        begins.set(place, here.matched, steps);
+        rows.store(place - from, &sets.entered, root + 1, steps);
+    }
+}
+
+/// Makes the rows of a block, to whose first place the marks have come.
+fn make_block(
+    nodes: &Nodes,
+    bytes: &Bytes,
+    root: usize,
+    block: usize,
+    behind: &mut Behind,
+    steps: &mut Steps,
+)
+    requires root { root + 1 ≡ length nodes.now.nodes }
+    requires few { length nodes.now.nodes ≤ 65536 }
+    requires short { length bytes.now ≤ 2 ^ 30 }
+    requires fits { HasBehind (length bytes.now) (length nodes.now.nodes) behind.old }
+    requires inside { behind.old.width * block ≤ length bytes.now }
+    requires entered { TellEntered nodes.now.nodes bytes.now root (starts_to 0 (length bytes.now)) (behind.old.width * block) behind.old.sets.entered }
+    requires room { steps.old < 2 ^ 116 }
+    ensures kept { KeepsBehind behind.old behind.new }
+    ensures width { behind.new.width ≡ behind.old.width }
+    ensures block { behind.new.block ≡ block }
+    ensures edges { behind.new.edges ≡ behind.old.edges }
+    ensures rows { BlockTells nodes.now.nodes bytes.now root behind.new }
+    ensures begins { (q : ℕ) → low_of behind.new ≤ q → q < low_of behind.new + behind.new.width → q ≤ length bytes.now → MarkTells nodes.now.nodes bytes.now root behind.new.begins q }
+    ensures others { (q : ℕ) → MarkTells nodes.now.nodes bytes.now root behind.old.begins q → MarkTells nodes.now.nodes bytes.now root behind.new.begins q }
+    ensures entered { low_of behind.new + behind.new.width ≤ length bytes.now →
+        TellEntered nodes.now.nodes bytes.now root (starts_to 0 (length bytes.now)) (low_of behind.new + behind.new.width) behind.new.sets.entered }
+    ensures grows { steps.old ≤ steps.new }
+    ensures cost { steps.new ≤ steps.old + 22 * length nodes.now.nodes * behind.new.width }
+    ensures rest_cost { let m = length nodes.now.nodes in
+        steps.new + 22 * m * low_of behind.new ≤ steps.old + 22 * m * (length bytes.now + 1) }
+{
+    let from = behind.width * block;
+    let to = block_end(from, behind.width, bytes.len());
+    pass_places(
+        nodes,
+        bytes,
+        root,
+        from,
+        to,
+        &mut behind.rows,
+        &mut behind.begins,
+        &mut behind.sets,
+        steps,
+    );
+    behind.block = block;
+}
+
+/// The same of the next block of a pass over the whole text: keeps too with which marks the pass came to it.
+fn keep_block(
+    nodes: &Nodes,
+    bytes: &Bytes,
+    root: usize,
+    block: usize,
+    behind: &mut Behind,
+    steps: &mut Steps,
+)
+    requires root { root + 1 ≡ length nodes.now.nodes }
+    requires few { length nodes.now.nodes ≤ 65536 }
+    requires short { length bytes.now ≤ 2 ^ 30 }
+    requires fits { HasBehind (length bytes.now) (length nodes.now.nodes) behind.old }
+    requires inside { behind.old.width * block ≤ length bytes.now }
+    requires entered { TellEntered nodes.now.nodes bytes.now root (starts_to 0 (length bytes.now)) (behind.old.width * block) behind.old.sets.entered }
+    requires edges { EdgesTell nodes.now.nodes bytes.now root behind.old.width block behind.old.edges }
+    requires begins { (q : ℕ) → q < behind.old.width * block → MarkTells nodes.now.nodes bytes.now root behind.old.begins q }
+    requires room { steps.old < 2 ^ 115 }
+    ensures kept { KeepsBehind behind.old behind.new }
+    ensures width { behind.new.width ≡ behind.old.width }
+    ensures block { behind.new.block ≡ block }
+    ensures edges { EdgesTell nodes.now.nodes bytes.now root behind.new.width (block + 1) behind.new.edges }
+    ensures rows { BlockTells nodes.now.nodes bytes.now root behind.new }
+    ensures begins { (q : ℕ) → q < low_of behind.new + behind.new.width → q ≤ length bytes.now → MarkTells nodes.now.nodes bytes.now root behind.new.begins q }
+    ensures entered { low_of behind.new + behind.new.width ≤ length bytes.now →
+        TellEntered nodes.now.nodes bytes.now root (starts_to 0 (length bytes.now)) (low_of behind.new + behind.new.width) behind.new.sets.entered }
+    ensures grows { steps.old ≤ steps.new }
+    ensures cost { let m = length nodes.now.nodes in steps.new ≤ steps.old + m + 22 * m * behind.new.width }
+    ensures rest_cost { let m = length nodes.now.nodes in
+        steps.new + 22 * m * low_of behind.new ≤ steps.old + m + 22 * m * (length bytes.now + 1) }
+{
+    behind
+        .edges
+        .store(block, &behind.sets.entered, root + 1, steps);
+    make_block(nodes, bytes, root, block, behind, steps);
+}
+
+/// The pass over the whole text from its beginning: it ends with the rows of the last block.
+fn keep_blocks(
+    nodes: &Nodes,
+    bytes: &Bytes,
+    root: usize,
+    behind: &mut Behind,
+    steps: &mut Steps,
+)
+    requires root { root + 1 ≡ length nodes.now.nodes }
+    requires few { length nodes.now.nodes ≤ 65536 }
+    requires short { length bytes.now ≤ 2 ^ 30 }
+    requires fits { HasBehind (length bytes.now) (length nodes.now.nodes) behind.old }
+    requires room { steps.old < 2 ^ 113 }
+    ensures kept { KeepsBehind behind.old behind.new }
+    ensures all { HasKept nodes.now.nodes bytes.now root behind.new }
+    ensures last { length bytes.now < low_of behind.new + behind.new.width }
+    ensures grows { steps.old ≤ steps.new }
+    ensures cost { let m = length nodes.now.nodes in steps.new ≤ steps.old + 25 * m * (length bytes.now + 1) }
+{
+    let _count = nodes.nodes();
+    behind.sets.entered.clear(root + 1, steps);
+    let last = bytes.len() / behind.width;
+    for block in 0..last {
+        keep_block(nodes, bytes, root, block, behind, steps);
+    }
+    keep_block(nodes, bytes, root, last, behind, steps);
+}
+
+/// The pass from the text's end over the mirrored expression.
+pub fn keep_behind(expr: &Expr, text: &Text, root: usize, behind: &mut Behind, steps: &mut Steps)
+    requires root { root + 1 ≡ length expr.now.nodes }
+    requires few { length expr.now.nodes ≤ 65536 }
+    requires short { length text.now ≤ 2 ^ 30 }
+    requires fits { HasBehind (length text.now) (length expr.now.nodes) behind.old }
+    requires room { steps.old < 2 ^ 113 }
+    ensures kept { KeepsBehind behind.old behind.new }
+    ensures all { IsKept expr.now text.now root behind.new }
+    ensures reaches { length text.now < low_of behind.new + behind.new.width }
+    ensures inside { low_of behind.new ≤ length text.now }
+    ensures grows { steps.old ≤ steps.new }
+    ensures cost { let m = length expr.now.nodes in steps.new ≤ steps.old + 25 * m * (length text.now + 1) }
+{
+    let nodes = Nodes::mirrored(expr);
+    let bytes = text.backwards();
+    keep_blocks(&nodes, &bytes, root, behind, steps);
+}
+
+/// Makes the rows of a block again, from the marks with which the pass came to it.
+fn remake(
+    nodes: &Nodes,
+    bytes: &Bytes,
+    root: usize,
+    block: usize,
+    behind: &mut Behind,
+    steps: &mut Steps,
+)
+    requires root { root + 1 ≡ length nodes.now.nodes }
+    requires few { length nodes.now.nodes ≤ 65536 }
+    requires short { length bytes.now ≤ 2 ^ 30 }
+    requires fits { HasBehind (length bytes.now) (length nodes.now.nodes) behind.old }
+    requires all { HasKept nodes.now.nodes bytes.now root behind.old }
+    requires inside { behind.old.width * block ≤ length bytes.now }
+    requires room { steps.old < 2 ^ 115 }
+    ensures kept { KeepsBehind behind.old behind.new }
+    ensures width { behind.new.width ≡ behind.old.width }
+    ensures block { behind.new.block ≡ block }
+    ensures all { HasKept nodes.now.nodes bytes.now root behind.new }
+    ensures grows { steps.old ≤ steps.new }
+    ensures cost { let m = length nodes.now.nodes in steps.new ≤ steps.old + m + 22 * m * behind.new.width }
+{
+    behind
+        .edges
+        .load(block, &mut behind.sets.entered, root + 1, steps);
+    make_block(nodes, bytes, root, block, behind, steps);
+}
+
+/// Sees that the rows are kept of the block that has the place, counted from the text's end.
+fn bring(
+    expr: &Expr,
+    text: &Text,
+    root: usize,
+    place: usize,
+    behind: &mut Behind,
+    steps: &mut Steps,
+)
+    requires root { root + 1 ≡ length expr.now.nodes }
+    requires few { length expr.now.nodes ≤ 65536 }
+    requires short { length text.now ≤ 2 ^ 30 }
+    requires fits { HasBehind (length text.now) (length expr.now.nodes) behind.old }
+    requires all { IsKept expr.now text.now root behind.old }
+    requires inside { place ≤ length text.now }
+    requires before { place < low_of behind.old + behind.old.width }
+    requires room { steps.old < 2 ^ 115 }
+    ensures kept { KeepsBehind behind.old behind.new }
+    ensures all { IsKept expr.now text.now root behind.new }
+    ensures low { low_of behind.new ≤ place }
+    ensures high { place < low_of behind.new + behind.new.width }
+    ensures grows { steps.old ≤ steps.new }
+    ensures cost { let m = length expr.now.nodes in
+        steps.new + blocks_cost m behind.new ≤ steps.old + blocks_cost m behind.old }
+{
+    if behind.width * behind.block <= place {
+        return;
+    }
+    let nodes = Nodes::mirrored(expr);
+    let bytes = text.backwards();
+    let block = place / behind.width;
+    remake(&nodes, &bytes, root, block, behind, steps);
+}
+
+/// Whether the node takes the byte, if there is one.
+fn takes(node: &Node, byte: Option<u8>) -> bool
+    ensures { result ≡ takes_next byte node.now }
+{
+    match node {
+        Node::Set(set) => takes_byte(set, byte),
+        _ => false,
+    }
+}
+
+/// Whether a node up to `root` that takes the byte is marked in both lists.
+fn meets(
+    expr: &Expr,
+    root: usize,
+    front: &Marks,
+    behind: &Marks,
+    next: Option<u8>,
+    steps: &mut Steps,
+) -> bool
+    requires root { root < length expr.now.nodes }
+    requires few { length expr.now.nodes ≤ 65536 }
+    requires front_fits { root < length front.now }
+    requires behind_fits { root < length behind.now }
+    requires room { steps.old < 2 ^ 118 }
+    ensures meets { IsTrue result ↔ MeetsBelow expr.now.nodes (root + 1) front.now behind.now next }
+    ensures grows { steps.old ≤ steps.new }
+    ensures cost { steps.new ≤ steps.old + 3 * (root + 1) }
+{
+    let _count = expr.nodes();
+    for x in 0..root + 1 {
+        if front.get(x, steps) && behind.get(x, steps) {
+            let node = expr.look(expr.id(x), steps);
+            if takes(&node, next) {
+                return true;
+            }
+        }
+    }
+    false
+}
+
+/// Whether a match from the start that the marks are of ends after the place.
+fn goes_on(
+    expr: &Expr,
+    root: usize,
+    text: &Text,
+    start: usize,
+    place: usize,
+    behind: &mut Behind,
+    sets: &mut Sets,
+    steps: &mut Steps,
+) -> bool
+    requires root { root + 1 ≡ length expr.now.nodes }
+    requires few { length expr.now.nodes ≤ 65536 }
+    requires short { length text.now ≤ 2 ^ 30 }
+    requires start { start ≤ place }
+    requires place { place ≤ length text.now }
+    requires fits { FitsNodes (length expr.now.nodes) sets.old }
+    requires behind_fits { HasBehind (length text.now) (length expr.now.nodes) behind.old }
+    requires all { IsKept expr.now text.now root behind.old }
+    requires reaches { Reaches (length text.now) place behind.old }
+    requires begun { TellBegun expr.now.nodes text.now root (one_start start) place sets.old.entered }
+    requires room { steps.old < 2 ^ 114 }
+    ensures marks { SameMarks sets.old sets.new }
+    ensures entered { sets.new.entered ≡ sets.old.entered }
+    ensures kept { KeepsBehind behind.old behind.new }
+    ensures all { IsKept expr.now text.now root behind.new }
+    ensures reaches { Reaches (length text.now) place behind.new }
+    ensures goes { IsTrue result ↔ GoesOnFrom expr.now.nodes text.now root start place }
+    ensures grows { steps.old ≤ steps.new }
+    ensures cost { let m = length expr.now.nodes in
+        steps.new + blocks_cost m behind.new ≤ steps.old + blocks_cost m behind.old + 4 * m + 1 }
+{
+    let _count = expr.nodes();
+    if place >= text.len() {
+        return false;
+    }
+    let back = text.len() - place - 1;
+    bring(expr, text, root, back, behind, steps);
+    let row = back - behind.width * behind.block;
+    behind.rows.load(row, &mut sets.ended, root + 1, steps);
+    let next = text.byte(place, steps);
+    meets(expr, root, &sets.entered, &sets.ended, Some(next), steps)
+}
+
+/// The end of the longest match that begins at `start`. The pass ends where that match does.
+fn longest_met(
+    expr: &Expr,
+    root: usize,
+    text: &Text,
+    start: usize,
+    behind: &mut Behind,
+    sets: &mut Sets,
+    steps: &mut Steps,
+) -> Option<usize>
+    requires root { root + 1 ≡ length expr.now.nodes }
+    requires few { length expr.now.nodes ≤ 65536 }
+    requires short { length text.now ≤ 2 ^ 30 }
+    requires start { start ≤ length text.now }
+    requires fits { FitsNodes (length expr.now.nodes) sets.old }
+    requires behind_fits { HasBehind (length text.now) (length expr.now.nodes) behind.old }
+    requires all { IsKept expr.now text.now root behind.old }
+    requires reaches { Reaches (length text.now) start behind.old }
+    requires room { steps.old < 2 ^ 113 }
+    ensures marks { SameMarks sets.old sets.new }
+    ensures kept { KeepsBehind behind.old behind.new }
+    ensures all { IsKept expr.now text.now root behind.new }
+    ensures reaches { Reaches (length text.now) (met_to start result) behind.new }
+    ensures longest { Longest (tree expr.now) text.now start result }
+    ensures lies { IfSome result (λ end. (start ≤ end) × (end ≤ length text.now)) }
+    ensures grows { steps.old ≤ steps.new }
+    ensures cost { let m = length expr.now.nodes in
+        steps.new + 25 * m * start + blocks_cost m behind.new
+            ≤ steps.old + m + 25 * m * (met_to start result + 1) + blocks_cost m behind.old }
+{
+    let _count = expr.nodes();
+    sets.entered.clear(root + 1, steps);
+    let mut best = None;
+    for place in start..text.len() + 1 {
+        let here = advance_from(expr, root, text, start, place, sets, steps);
+        if here.matched {
+            best = Some(place);
+        }
+        if !goes_on(expr, root, text, start, place, behind, sets, steps) {
+            return best;
+        }
+    }
+    best
+}
+
+/// The first place from `from` on at which a match begins.
+fn next_begin(text: &Text, begins: &Marks, from: usize, steps: &mut Steps) -> Option<usize>
+    requires short { length text.now ≤ 2 ^ 30 }
+    requires from { from ≤ length text.now }
+    requires begins { length text.now < length begins.now }
+    requires room { steps.old < 2 ^ 118 }
+    ensures first { LeastFrom (λ i. IsTrue (slice_index_or begins.now (length text.now - i) false)) from (length text.now + 1) result }
+    ensures grows { steps.old ≤ steps.new }
+    ensures cost { steps.new + from ≤ steps.old + begin_to (length text.now) result + 1 }
+{
+    let len = text.len();
+    for place in from..len + 1 {
+        if begins.get(len - place, steps) {
+            return Some(place);
+        }
+    }
+    None
+}
+
+/// Whether a span is the null string at the place.
+pub fn is_null_at(span: Option<(usize, usize)>, at: usize) -> bool
+    ensures passed { (other : Option (ℕ × ℕ)) → unless_null_at at span other ≡ if result then other else span }
+    ensures null { IsTrue result → span ≡ Some (at, at) }
+    ensures behind { result ≡ false → IfSome span (λ f. at ≤ f.0 → f.0 ≤ f.1 → at < f.1) }
+{
+    match span {
+        None => false,
+        Some((start, end)) => start == at && end == at,
+    }
+}
+
+/// The leftmost-longest span that begins at `from` or later, by what is kept of the pass from the text's end.
+/// It costs steps for the bytes up to its end alone, besides those for the blocks that it comes to.
+fn next_met(
+    expr: &Expr,
+    root: usize,
+    text: &Text,
+    from: usize,
+    behind: &mut Behind,
+    sets: &mut Sets,
+    steps: &mut Steps,
+) -> Option<(usize, usize)>
+    requires root { root + 1 ≡ length expr.now.nodes }
+    requires few { length expr.now.nodes ≤ 65536 }
+    requires short { length text.now ≤ 2 ^ 30 }
+    requires from { from ≤ length text.now }
+    requires fits { FitsNodes (length expr.now.nodes) sets.old }
+    requires behind_fits { HasBehind (length text.now) (length expr.now.nodes) behind.old }
+    requires all { IsKept expr.now text.now root behind.old }
+    requires reaches { Reaches (length text.now) from behind.old }
+    requires room { steps.old < 2 ^ 112 }
+    ensures marks { SameMarks sets.old sets.new }
+    ensures kept { KeepsBehind behind.old behind.new }
+    ensures all { IsKept expr.now text.now root behind.new }
+    ensures reaches { IfSome result (λ f. Reaches (length text.now) f.1 behind.new) }
+    ensures next { result ≡ found (tree expr.now) text.now from }
+    ensures lies { IfSome result (λ f. (from ≤ f.0) × (f.0 ≤ f.1) × (f.1 ≤ length text.now)) }
+    ensures grows { steps.old ≤ steps.new }
+    ensures cost { let m = length expr.now.nodes in
+        steps.new + 25 * m * from + blocks_cost m behind.new
+            ≤ steps.old + 27 * m + 25 * m * end_to (length text.now) result + blocks_cost m behind.old }
+{
+    let _count = expr.nodes();
+    let Some(start) = next_begin(text, &behind.begins, from, steps) else {
+        return None;
+    };
+    match longest_met(expr, root, text, start, behind, sets, steps) {
+        None => unreachable!(),
+        Some(end) => Some((start, end)),
+    }
+}
+
+/// The next occurrence behind one that ended at `at`: the null string at `at` is none.
+pub fn next_behind(
+    expr: &Expr,
+    root: usize,
+    text: &Text,
+    at: usize,
+    behind: &mut Behind,
+    sets: &mut Sets,
+    steps: &mut Steps,
+) -> Option<(usize, usize)>
+    requires root { root + 1 ≡ length expr.now.nodes }
+    requires few { length expr.now.nodes ≤ 65536 }
+    requires short { length text.now ≤ 2 ^ 30 }
+    requires at { at ≤ length text.now }
+    requires fits { FitsNodes (length expr.now.nodes) sets.old }
+    requires behind_fits { HasBehind (length text.now) (length expr.now.nodes) behind.old }
+    requires all { IsKept expr.now text.now root behind.old }
+    requires reaches { Reaches (length text.now) at behind.old }
+    requires room { steps.old < 2 ^ 110 }
+    ensures marks { SameMarks sets.old sets.new }
+    ensures kept { KeepsBehind behind.old behind.new }
+    ensures served { IfSome result (λ f. IsKept expr.now text.now root behind.new × Reaches (length text.now) f.1 behind.new) }
+    ensures next { result ≡ next_span (found (tree expr.now) text.now) (length text.now) (Some at) }
+    ensures lies { IfSome result (λ f. (at ≤ f.0) × (at < f.1) × (f.0 ≤ f.1) × (f.1 ≤ length text.now)) }
+    ensures grows { steps.old ≤ steps.new }
+    ensures cost { let m = length expr.now.nodes in
+        steps.new + 25 * m * at + blocks_cost m behind.new
+            ≤ steps.old + 54 * m + 25 * m * end_to (length text.now) result + blocks_cost m behind.old }
+{
+    let _count = expr.nodes();
+    let first = next_met(expr, root, text, at, behind, sets, steps);
+    if !is_null_at(first, at) {
+        return first;
+    }
+    if at >= text.len() {
+        return None;
+    }
+    next_met(expr, root, text, at + 1, behind, sets, steps)
+}

@@ -1,0 +1,290 @@
+//! All occurrences in one text, one after another.
+ghost use Rattle.std.specs.Prelude.{◌≡◌, ℕ, List, false, ◌+◌, ◌*◌, ◌^◌, ◌<◌, ◌≤◌, length, None, Some, IfOk, IfSome, IsTrue};
+ghost use Rattle.sedre.specs.Arena.{Written, tree};
+ghost use Rattle.sedmatch.specs.Matching.{found, report};
+ghost use Rattle.sedmatch.specs.Meet.{HasBehind, IsKept, KeepsBehind, Reaches};
+ghost use Rattle.sedmatch.specs.Occurrences.{EndsWithin, LiesBehind, RoomFor, Serves, next_span, owed, owed_after, owed_apart, owed_met, owed_together};
+ghost use Rattle.sedmatch.specs.Parts.{SpanIn, span_of};
+ghost use Rattle.sedmatch.specs.Spans.{Spans};
+
+use crate::counted::Text;
+use crate::groups::report;
+use crate::meet::{Behind, is_null_at, keep_behind, new_behind, next_behind};
+use crate::quick::TableMatcher;
+use crate::scratch::Scratch;
+use sedre::{Expr, Steps};
+use std::alloc::{AllocError, Global};
+
+/// How the searches for all occurrences in one text go on.
+///
+/// A search may look far past the match that it finds, so that one after another they could cost steps in the square of
+/// the text's length. So the steps that they take are counted. Once there are more than 128 for each node and place,
+/// one pass from the text's end is made, after which a search looks no further than to its own match's end. Most texts
+/// never come to that. All searches in one text together take at most 512 steps for each node and place, whatever the
+/// expression and the text.
+///
+/// All room is taken in [`Occurrences::new`]: a bit for each byte of the longest text, and twice the root of its length
+/// many rows of a bit for each node.
+#[derive(Drop)]
+pub struct Occurrences {
+    behind: Behind,
+    /// How many steps the searches in this text took, as long as no pass from its end was made.
+    spent: u128,
+    /// Whether a pass from the text's end was made.
+    met: bool,
+}
+
+/// How many steps the searches may take before a pass from the text's end is made.
+fn allowance(nodes: usize, len: usize) -> u128
+    requires nodes { nodes ≤ 65536 }
+    requires len { len ≤ 2 ^ 30 }
+    ensures value { result ≡ 128 * nodes * (len + 1) }
+    ensures small { result ≤ 2 ^ 60 }
+{
+    128 * nodes as u128 * (len as u128 + 1)
+}
+
+impl Occurrences {
+    /// Room for texts of at most `max_text` bytes and expressions of at most `max_nodes` nodes.
+    /// Memory is wanting only where a request was refused.
+    pub fn new(
+        alloc: Global,
+        max_text: usize,
+        max_nodes: usize,
+    ) -> Result<Occurrences, AllocError>
+        requires text { max_text ≤ 2 ^ 30 }
+        requires some_node { 1 ≤ max_nodes }
+        requires nodes { max_nodes ≤ 65536 }
+        ensures { IfOk result (λ o. RoomFor max_text max_nodes o) }
+    {
+        Ok(Occurrences {
+            behind: new_behind(alloc, max_text, max_nodes)?,
+            spent: 0,
+            met: false,
+        })
+    }
+
+    /// Begins anew, for another text.
+    pub fn begin(&mut self)
+        ensures room { (text nodes : ℕ) → RoomFor text nodes self.old → RoomFor text nodes self.new }
+        ensures serves { (e : Written) (w : List ℕ) → Serves e w None self.new }
+        ensures owed { (m n : ℕ) → owed m n None self.new ≡ 512 * m * (n + 1) }
+    {
+        self.spent = 0;
+        self.met = false;
+    }
+}
+
+/// Makes the pass from the text's end, if it wasn't made.
+fn see_met(
+    expr: &Expr,
+    root: usize,
+    text: &Text,
+    at: usize,
+    occurrences: &mut Occurrences,
+    steps: &mut Steps,
+)
+    requires root { root + 1 ≡ length expr.now.nodes }
+    requires few { length expr.now.nodes ≤ 65536 }
+    requires short { length text.now ≤ 2 ^ 30 }
+    requires at { at ≤ length text.now }
+    requires fits { HasBehind (length text.now) (length expr.now.nodes) occurrences.old.behind }
+    requires serves { IsTrue occurrences.old.met → IsKept expr.now text.now root occurrences.old.behind × Reaches (length text.now) at occurrences.old.behind }
+    requires room { steps.old ≤ 2 ^ 100 }
+    ensures kept { KeepsBehind occurrences.old.behind occurrences.new.behind }
+    ensures met { IsTrue occurrences.new.met }
+    ensures all { IsKept expr.now text.now root occurrences.new.behind }
+    ensures reaches { Reaches (length text.now) at occurrences.new.behind }
+    ensures grows { steps.old ≤ steps.new }
+    ensures small { steps.new < 2 ^ 108 }
+    ensures cost { let m = length expr.now.nodes in let n = length text.now in
+        steps.new + owed_met m n at occurrences.new ≤ steps.old + owed_together m n at occurrences.old }
+{
+    if occurrences.met {
+        return;
+    }
+    keep_behind(expr, text, root, &mut occurrences.behind, steps);
+    occurrences.met = true;
+}
+
+impl TableMatcher {
+    /// The next occurrence by one search after another.
+    fn next_apart(
+        &mut self,
+        text: &Text,
+        last: Option<usize>,
+        scratch: &mut Scratch,
+        steps: &mut Steps,
+    ) -> Option<(usize, usize)>
+        requires last { EndsWithin (length text.now) last }
+        requires text_fits { length text.now ≤ scratch.old.text }
+        requires expr_fits { length self.old.nodes ≤ scratch.old.nodes }
+        requires room { steps.old ≤ 2 ^ 100 }
+        ensures same { self.new ≡ self.old }
+        ensures scratch { scratch.new ≡ scratch.old }
+        ensures next { result ≡ next_span (found (tree self.old) text.now) (length text.now) last }
+        ensures lies { IfSome result (λ f. (f.0 ≤ f.1) × (f.1 ≤ length text.now)) }
+        ensures behind { LiesBehind last result }
+        ensures grows { steps.old ≤ steps.new }
+        ensures cost { steps.new ≤ steps.old + 256 * length self.old.nodes * (length text.now + 1) }
+    {
+        scratch.bounds();
+        let Some(at) = last else {
+            return self.find_span(text, 0, scratch, steps);
+        };
+        let first = self.find_span(text, at, scratch, steps);
+        if !is_null_at(first, at) {
+            return first;
+        }
+        if at >= text.len() {
+            return None;
+        }
+        self.find_span(text, at + 1, scratch, steps)
+    }
+
+    /// The same, and counts what it took.
+    fn next_counted(
+        &mut self,
+        text: &Text,
+        last: Option<usize>,
+        occurrences: &mut Occurrences,
+        scratch: &mut Scratch,
+        steps: &mut Steps,
+    ) -> Option<(usize, usize)>
+        requires last { EndsWithin (length text.now) last }
+        requires text_fits { length text.now ≤ scratch.old.text }
+        requires expr_fits { length self.old.nodes ≤ scratch.old.nodes }
+        requires met { occurrences.old.met ≡ false }
+        requires spent { occurrences.old.spent ≤ 128 * length self.old.nodes * (length text.now + 1) }
+        requires room { steps.old ≤ 2 ^ 100 }
+        ensures same { self.new ≡ self.old }
+        ensures scratch { scratch.new ≡ scratch.old }
+        ensures met { occurrences.new.met ≡ false }
+        ensures kept { occurrences.new.behind ≡ occurrences.old.behind }
+        ensures next { result ≡ next_span (found (tree self.old) text.now) (length text.now) last }
+        ensures lies { IfSome result (λ f. (f.0 ≤ f.1) × (f.1 ≤ length text.now)) }
+        ensures behind { LiesBehind last result }
+        ensures grows { steps.old ≤ steps.new }
+        ensures cost { let m = length self.old.nodes in let n = length text.now in
+            steps.new + owed_apart m n occurrences.new.spent ≤ steps.old + owed_apart m n occurrences.old.spent }
+    {
+        scratch.bounds();
+        let _most = allowance(self.nodes(), text.len());
+        let before = steps.count();
+        let next = self.next_apart(text, last, scratch, steps);
+        occurrences.spent += steps.count() - before;
+        next
+    }
+
+    /// The next occurrence by a pass from the text's end.
+    fn next_together(
+        &mut self,
+        text: &Text,
+        at: usize,
+        occurrences: &mut Occurrences,
+        scratch: &mut Scratch,
+        steps: &mut Steps,
+    ) -> Option<(usize, usize)>
+        requires at { at ≤ length text.now }
+        requires text_fits { length text.now ≤ scratch.old.text }
+        requires expr_fits { length self.old.nodes ≤ scratch.old.nodes }
+        requires room_fits { RoomFor (length text.now) (length self.old.nodes) occurrences.old }
+        requires serves { Serves self.old text.now (Some at) occurrences.old }
+        requires room { steps.old ≤ 2 ^ 100 }
+        ensures same { self.new ≡ self.old }
+        ensures scratch { scratch.new ≡ scratch.old }
+        ensures room_kept { (text nodes : ℕ) → RoomFor text nodes occurrences.old → RoomFor text nodes occurrences.new }
+        ensures next { result ≡ next_span (found (tree self.old) text.now) (length text.now) (Some at) }
+        ensures lies { IfSome result (λ f. (f.0 ≤ f.1) × (f.1 ≤ length text.now)) }
+        ensures behind { LiesBehind (Some at) result }
+        ensures serves { IfSome result (λ f. Serves self.old text.now (Some f.1) occurrences.new) }
+        ensures grows { steps.old ≤ steps.new }
+        ensures cost { let m = length self.old.nodes in let n = length text.now in
+            steps.new + owed_after m n result occurrences.new ≤ steps.old + owed_together m n at occurrences.old }
+    {
+        scratch.bounds();
+        see_met(&self.expr, self.root, text, at, occurrences, steps);
+        next_behind(
+            &self.expr,
+            self.root,
+            text,
+            at,
+            &mut occurrences.behind,
+            &mut scratch.sets,
+            steps,
+        )
+    }
+
+    /// The next occurrence in the text behind the one that ended at `last`, where there was one: the leftmost-longest
+    /// match from there on, or one byte further where that is the null string at `last`.
+    ///
+    /// All calls for one text, from [`Occurrences::begin`] on, take at most 512 steps for each node and place together.
+    pub fn next_occurrence(
+        &mut self,
+        text: &Text,
+        last: Option<usize>,
+        occurrences: &mut Occurrences,
+        scratch: &mut Scratch,
+        steps: &mut Steps,
+    ) -> Option<(usize, usize)>
+        requires last { EndsWithin (length text.now) last }
+        requires text_fits { length text.now ≤ scratch.old.text }
+        requires expr_fits { length self.old.nodes ≤ scratch.old.nodes }
+        requires room_fits { RoomFor scratch.old.text scratch.old.nodes occurrences.old }
+        requires serves { Serves self.old text.now last occurrences.old }
+        requires room { steps.old ≤ 2 ^ 100 }
+        ensures same { self.new ≡ self.old }
+        ensures scratch { scratch.new ≡ scratch.old }
+        ensures room_kept { RoomFor scratch.old.text scratch.old.nodes occurrences.new }
+        ensures next { result ≡ next_span (found (tree self.old) text.now) (length text.now) last }
+        ensures lies { IfSome result (λ f. (f.0 ≤ f.1) × (f.1 ≤ length text.now)) }
+        ensures behind { LiesBehind last result }
+        ensures serves { IfSome result (λ f. Serves self.old text.now (Some f.1) occurrences.new) }
+        ensures grows { steps.old ≤ steps.new }
+        ensures cost { let m = length self.old.nodes in let n = length text.now in
+            steps.new + owed_after m n result occurrences.new ≤ steps.old + owed m n last occurrences.old }
+    {
+        scratch.bounds();
+        if let Some(at) = last {
+            if occurrences.met || allowance(self.nodes(), text.len()) < occurrences.spent {
+                return self.next_together(text, at, occurrences, scratch, steps);
+            }
+        }
+        self.next_counted(text, last, occurrences, scratch, steps)
+    }
+
+    /// What each group reports of a match that begins and ends at these places. Entry 0 is the whole match.
+    pub fn groups_of(
+        &self,
+        text: &Text,
+        start: usize,
+        end: usize,
+        scratch: &mut Scratch,
+        steps: &mut Steps,
+    ) -> [Option<(usize, usize)>; 10]
+        requires order { start ≤ end }
+        requires inside { end ≤ length text.now }
+        requires spans { Spans (tree self.now) text.now start end }
+        requires text_fits { length text.now ≤ scratch.old.text }
+        requires expr_fits { length self.now.nodes ≤ scratch.old.nodes }
+        requires room { steps.old ≤ 2 ^ 100 }
+        ensures scratch { scratch.new ≡ scratch.old }
+        ensures groups { result ≡ report (tree self.now) text.now start end }
+        ensures lies { (k : ℕ) → SpanIn (length text.now) (span_of result k) }
+        ensures grows { steps.old ≤ steps.new }
+        ensures none_cost { self.now.groups ≡ 0 → steps.new ≡ steps.old }
+        ensures cost { let m = length self.now.nodes in let n = length text.now in
+            steps.new ≤ steps.old + 51 * m * m * (n + 1) * (n + 1) }
+    {
+        report(
+            &self.expr,
+            text,
+            start,
+            end,
+            &mut scratch.plan,
+            &mut scratch.sets,
+            &mut scratch.notes,
+            steps,
+        )
+    }
+}
