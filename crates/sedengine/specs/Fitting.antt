@@ -25,7 +25,3 @@ abbrev pub RoomToSeek : List Substitution → List Written → ℕ → Occurrenc
 RoomToSeek ss es text o =
     (k : ℕ) (s : Substitution) → slice_get ss k ≡ Some s → IsTrue (seeks_more s) →
     (i : ℕ) (e : Written) → slice_get es i ≡ Some e → RoomFor text (length e.nodes) o
-
--- there is as much room as before
-abbrev pub KeepsRoom : Occurrences → Occurrences → Type 0
-KeepsRoom old new = (text nodes : ℕ) → RoomFor text nodes old → RoomFor text nodes new

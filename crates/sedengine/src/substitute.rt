@@ -1,11 +1,11 @@
 //! The command `s` (XCU sed, "Editing Commands in sed"): which occurrences it replaces, and the text that it makes.
 ghost use Rattle.std.specs.Prelude.{◌≡◌, ℕ, ◌+◌, ◌*◌, ◌^◌, ◌<◌, ◌≤◌, List, [], ◌∷◌, length, true, Some, None, IfSome, IfNone, IsTrue, slice_get};
 ghost use Rattle.sedre.specs.Arena.{Written, tree};
-ghost use Rattle.sedmatch.specs.Occurrences.{RoomFor, Serves, owed, owed_after};
+ghost use Rattle.sedmatch.specs.Occurrences.{KeepsRoom, RoomFor, Serves, owed, owed_after};
 ghost use Rattle.sedmatch.specs.Parts.{part_of, span_of};
 ghost use Rattle.sedscript.specs.Replacement.{GroupsWithin, pieces_in};
 ghost use Rattle.sedengine.specs.Substitute.{chosen, next_occurrence, occurrences, put_for, replaced_from};
-ghost use Rattle.sedengine.specs.Fitting.{AllFit, KeepsRoom, seeks_more};
+ghost use Rattle.sedengine.specs.Fitting.{AllFit, seeks_more};
 ghost use Rattle.sedengine.specs.Run.{match_at, search_for, search_in};
 ghost use Rattle.sedengine.specs.Replacing.{Appends, EndsIn, GroupsIn, GroupsOf, LiesBehind, Replaces, Skips};
 ghost use Rattle.sedengine.specs.Replacing.{has_group, pending, with_groups};

@@ -31,6 +31,10 @@ LiesBehind (Some q) (Some f) = (q ≤ f.0) × (q + 1 ≤ f.1)
 abbrev pub RoomFor : ℕ → ℕ → Occurrences → Type 0
 RoomFor text nodes o = HasBehind text nodes o.behind
 
+-- there is as much room as before
+abbrev pub KeepsRoom : Occurrences → Occurrences → Type 0
+KeepsRoom old new = (text nodes : ℕ) → RoomFor text nodes old → RoomFor text nodes new
+
 -- what is kept is of this text and expression, and serves to search behind an occurrence that ended at the place, if there is one
 abbrev pub Serves : Written → List ℕ → Option ℕ → Occurrences → Type 0
 Serves e w None o = (o.met ≡ false) × (o.spent ≡ 0)

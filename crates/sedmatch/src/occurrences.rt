@@ -3,7 +3,7 @@ ghost use Rattle.std.specs.Prelude.{◌≡◌, ℕ, List, false, ◌+◌, ◌*�
 ghost use Rattle.sedre.specs.Arena.{Written, tree};
 ghost use Rattle.sedmatch.specs.Matching.{found, report};
 ghost use Rattle.sedmatch.specs.Meet.{HasBehind, IsKept, KeepsBehind, Reaches};
-ghost use Rattle.sedmatch.specs.Occurrences.{EndsWithin, LiesBehind, RoomFor, Serves, next_span, owed, owed_after, owed_apart, owed_met, owed_together};
+ghost use Rattle.sedmatch.specs.Occurrences.{EndsWithin, KeepsRoom, LiesBehind, RoomFor, Serves, next_span, owed, owed_after, owed_apart, owed_met, owed_together};
 ghost use Rattle.sedmatch.specs.Parts.{SpanIn, span_of};
 ghost use Rattle.sedmatch.specs.Spans.{Spans};
 
@@ -66,7 +66,7 @@ impl Occurrences {
 
     /// Begins anew, for another text.
     pub fn begin(&mut self)
-        ensures room { (text nodes : ℕ) → RoomFor text nodes self.old → RoomFor text nodes self.new }
+        ensures room { KeepsRoom self.old self.new }
         ensures serves { (e : Written) (w : List ℕ) → Serves e w None self.new }
         ensures owed { (m n : ℕ) → owed m n None self.new ≡ 512 * m * (n + 1) }
     {
@@ -123,6 +123,7 @@ impl TableMatcher {
         ensures same { self.new ≡ self.old }
         ensures scratch { scratch.new ≡ scratch.old }
         ensures next { result ≡ next_span (found (tree self.old) text.now) (length text.now) last }
+        ensures spans { IfSome result (λ f. Spans (tree self.old) text.now f.0 f.1) }
         ensures lies { IfSome result (λ f. (f.0 ≤ f.1) × (f.1 ≤ length text.now)) }
         ensures behind { LiesBehind last result }
         ensures grows { steps.old ≤ steps.new }
@@ -162,6 +163,7 @@ impl TableMatcher {
         ensures met { occurrences.new.met ≡ false }
         ensures kept { occurrences.new.behind ≡ occurrences.old.behind }
         ensures next { result ≡ next_span (found (tree self.old) text.now) (length text.now) last }
+        ensures spans { IfSome result (λ f. Spans (tree self.old) text.now f.0 f.1) }
         ensures lies { IfSome result (λ f. (f.0 ≤ f.1) × (f.1 ≤ length text.now)) }
         ensures behind { LiesBehind last result }
         ensures grows { steps.old ≤ steps.new }
@@ -193,8 +195,9 @@ impl TableMatcher {
         requires room { steps.old ≤ 2 ^ 100 }
         ensures same { self.new ≡ self.old }
         ensures scratch { scratch.new ≡ scratch.old }
-        ensures room_kept { (text nodes : ℕ) → RoomFor text nodes occurrences.old → RoomFor text nodes occurrences.new }
+        ensures room_kept { KeepsRoom occurrences.old occurrences.new }
         ensures next { result ≡ next_span (found (tree self.old) text.now) (length text.now) (Some at) }
+        ensures spans { IfSome result (λ f. Spans (tree self.old) text.now f.0 f.1) }
         ensures lies { IfSome result (λ f. (f.0 ≤ f.1) × (f.1 ≤ length text.now)) }
         ensures behind { LiesBehind (Some at) result }
         ensures serves { IfSome result (λ f. Serves self.old text.now (Some f.1) occurrences.new) }
@@ -230,13 +233,14 @@ impl TableMatcher {
         requires last { EndsWithin (length text.now) last }
         requires text_fits { length text.now ≤ scratch.old.text }
         requires expr_fits { length self.old.nodes ≤ scratch.old.nodes }
-        requires room_fits { RoomFor scratch.old.text scratch.old.nodes occurrences.old }
+        requires room_fits { IfSome last (λ _. RoomFor (length text.now) (length self.old.nodes) occurrences.old) }
         requires serves { Serves self.old text.now last occurrences.old }
         requires room { steps.old ≤ 2 ^ 100 }
         ensures same { self.new ≡ self.old }
         ensures scratch { scratch.new ≡ scratch.old }
-        ensures room_kept { RoomFor scratch.old.text scratch.old.nodes occurrences.new }
+        ensures room_kept { KeepsRoom occurrences.old occurrences.new }
         ensures next { result ≡ next_span (found (tree self.old) text.now) (length text.now) last }
+        ensures spans { IfSome result (λ f. Spans (tree self.old) text.now f.0 f.1) }
         ensures lies { IfSome result (λ f. (f.0 ≤ f.1) × (f.1 ≤ length text.now)) }
         ensures behind { LiesBehind last result }
         ensures serves { IfSome result (λ f. Serves self.old text.now (Some f.1) occurrences.new) }
