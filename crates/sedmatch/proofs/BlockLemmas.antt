@@ -1,14 +1,14 @@
 -- What a pass over a text keeps, block by block.
-use Rattle.std.proofs.Common.{◌≡◌, ◌≢◌, ℕ, zero, suc, ◌+◌, ◌-◌, ◌*◌, ◌/◌, ◌<◌, ◌≤◌, ◌↔◌, ◌⊎◌, Bool, false, List, [], length, IsTrue, refl, sym, ap, ◌∙◌, subst, inl, inr, ⊎_elim, arith, mul-le-mul_left}
+use Rattle.std.proofs.Common.{◌≡◌, ℕ, ◌+◌, ◌-◌, ◌*◌, ◌/◌, ◌<◌, ◌≤◌, ◌↔◌, Bool, false, List, length, IsTrue, refl, sym, ap, ◌∙◌, subst, ⊎_elim, arith, mul-le-mul_left}
 use Rattle.std.specs.Prelude.{slice_index_or, slice_set}
-use Rattle.std.proofs.Math.Nat.{lt-mul-div-succ, lt_of_mul-lt-mul_left, div-lt_iff_lt-mul, mul-div-le, lt-div-mul-add, le-div_iff_mul-le}
+use Rattle.std.proofs.Math.Nat.{lt-mul-div-succ, lt_of_mul-lt-mul_left, mul-div-le}
 use Rattle.std.proofs.lemmas.Bool.{cases_lt, cases_eq}
 use Rattle.std.proofs.lemmas.List.{get_or-set_same, get_or-set_other}
 use Rattle.sedre.specs.declared.types.Node.{Node}
 use Rattle.sedmatch.specs.Words.{AgreeBelow, row_of}
 use Rattle.sedmatch.specs.Reach.{Marked, Below, Enters, Entered, TellBegun, TellEntered, SomeSpan}
 use Rattle.sedmatch.specs.Search.{starts_to}
-use Rattle.sedmatch.specs.Meet.{RowTells, RowsTell, EdgesTell, MarkTells, BlockTells, HasKept, HasBehind, KeepsBehind, low_of}
+use Rattle.sedmatch.specs.Meet.{RowTells, RowsTell, EdgesTell, MarkTells, HasBehind, KeepsBehind, low_of}
 use Rattle.sedmatch.specs.declared.meet.Behind.{Behind}
 use Rattle.sedmatch.specs.declared.scratch.Sets.{Sets}
 use Rattle.sedmatch.specs.Fits.{FitsNodes, SameMarks}

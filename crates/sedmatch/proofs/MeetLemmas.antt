@@ -1,20 +1,19 @@
 -- Where a pass forwards and a pass from the text's end meet, a match goes on; where they do not, none does.
-use Rattle.std.proofs.Common.{◌≡◌, ℕ, zero, suc, ◌+◌, ◌-◌, ◌<◌, ◌≤◌, ◌⊎◌, ◌↔◌, Bool, true, false, List, [], length, reverse, Option, Some, None, IfSome, IsTrue, true≢false, mul-le-mul_left, ◌*◌, refl, sym, ap, ◌∙◌, subst, inl, inr, ⊎_elim, arith}
+use Rattle.std.proofs.Common.{◌≡◌, ℕ, zero, suc, ◌+◌, ◌-◌, ◌<◌, ◌≤◌, ◌↔◌, Bool, true, false, List, length, reverse, Option, Some, None, IfSome, IsTrue, true≢false, mul-le-mul_left, ◌*◌, refl, sym, ap, ◌∙◌, subst, inl, inr, ⊎_elim, arith}
 use Rattle.std.specs.Prelude.{slice_get, slice_index_or}
 use Rattle.std.proofs.lemmas.Bool.{cases_lt}
 use Rattle.sedre.specs.Arena.{Written, IsArena, IsPart, tree, tree_at}
 use Rattle.sedre.specs.Mirror.{mirror_node, seen}
 use Rattle.sedre.proofs.MirrorLemmas.{seen-arena, seen-node}
 use Rattle.sedre.specs.declared.types.Node.{Node}
-use Rattle.sedre.specs.declared.types.NodeId.{NodeId}
 use Rattle.sedre.specs.declared.types.Node.TheVariants.{Empty, Set, Begin, End, Seq, Alt, Group, Star, Opt}
 use Rattle.sedre.specs.Tree.{Tree}
 use Rattle.sedmatch.specs.Cuts.{LeastFrom}
-use Rattle.sedmatch.specs.Spans.{Spans, Found, NotFound, Copies, no_copy, one_more}
+use Rattle.sedmatch.specs.Spans.{Found, NotFound, Copies, no_copy, one_more}
 use Rattle.sedmatch.specs.declared.passes.Starts.{Starts}
 use Rattle.sedmatch.specs.Local.{takes}
-use Rattle.sedmatch.specs.Reach.{At, BeginsWith, IsStart, one_start, Enters, at_root, with_whole, after_left, again, OpenAt, OpenFrom, SomeSpan, TellBegun, Longest, LongestBelow}
-use Rattle.sedmatch.specs.Meet.{MeetsBelow, GoesOn, GoesOnFrom, BeginsAt, KeptStarts, MarkTells, HasKept, IsKept, met_to, end_to}
+use Rattle.sedmatch.specs.Reach.{At, BeginsWith, IsStart, one_start, Enters, at_root, with_whole, after_left, again, OpenAt, SomeSpan, TellBegun, Longest, LongestBelow}
+use Rattle.sedmatch.specs.Meet.{MeetsBelow, GoesOn, GoesOnFrom, BeginsAt, KeptStarts, MarkTells, met_to, end_to}
 use Rattle.sedmatch.specs.Search.{starts_to}
 use Rattle.std.proofs.lemmas.List.{length-reverse}
 use Rattle.sedmatch.proofs.SpanLemmas.{Copies-append, Copies-forward, Spans-forward, Spans-within}
@@ -174,11 +173,17 @@ module _ (e back : Written) (w bytes : List ℕ) (r : ℕ) (s t : Starts) (is_ba
       let behind : At e.nodes w c.index q k = (At-mirror e back w bytes c.index q k d b is_back is_bytes sum end).1 last.1.2 in
       (k, b, end, omega arith, close_at e.nodes w y (Seq a c) arena is p k (q, subst (λ v. At e.nodes w v p q) (sym begins) at, behind), last.1.1))
       from
-  widen_first y x (Alt a c) is begins p q d sum at from =
-      (q, d, sum, omega arith, close_at e.nodes w y (Alt a c) arena is p q (⊎_elim
-      (λ (l : a.index ≡ x). inl (subst (λ v. At e.nodes w v p q) (sym l) at))
-      (λ (m : c.index ≡ x). inr (subst (λ v. At e.nodes w v p q) (sym m) at))
-      begins), from)
+  widen_first y x (Alt a c) is begins p q d sum at from = (
+    q,
+    d,
+    sum,
+    omega arith,
+    close_at e.nodes w y (Alt a c) arena is p q (⊎_elim
+        (λ (l : a.index ≡ x). inl (subst (λ v. At e.nodes w v p q) (sym l) at))
+        (λ (m : c.index ≡ x). inr (subst (λ v. At e.nodes w v p q) (sym m) at))
+        begins),
+    from,
+  )
   widen_first y x (Group g a) is begins p q d sum at from =
       (q, d, sum, omega arith, close_at e.nodes w y (Group g a) arena is p q (subst (λ v. At e.nodes w v p q) (sym begins) at), from)
   widen_first y x (Star a first) is begins p q d sum at from =
@@ -187,11 +192,17 @@ module _ (e back : Written) (w bytes : List ℕ) (r : ℕ) (s t : Starts) (is_ba
       let k = length w - b in
       let end : k + b ≡ length w = omega arith in
       let copies = open_at e.nodes w y (Star a first) arena is q k ((At-mirror e back w bytes y q k d b is_back is_bytes sum end).1 from.2) in
-      let forward = Spans-forward (tree_at e.nodes x) w p q at in
-      (k, b, end, omega arith, close_at e.nodes w y (Star a first) arena is p k (⊎_elim
-      (λ (lt : p < q). one_more p q lt (subst (λ v. At e.nodes w v p q) (sym begins) at) copies)
-      (λ (ge : q ≤ p). let same : q ≡ p = omega arith in subst (λ v. Copies (At e.nodes w a.index) k v) same copies)
-      (cases_lt p q)), from.1)
+      let forward = Spans-forward (tree_at e.nodes x) w p q at in (
+        k,
+        b,
+        end,
+        omega arith,
+        close_at e.nodes w y (Star a first) arena is p k (⊎_elim
+            (λ (lt : p < q). one_more p q lt (subst (λ v. At e.nodes w v p q) (sym begins) at) copies)
+            (λ (ge : q ≤ p). let same : q ≡ p = omega arith in subst (λ v. Copies (At e.nodes w a.index) k v) same copies)
+            (cases_lt p q)),
+        from.1,
+      )
   widen_first y x (Opt a first) is begins p q d sum at from =
       (q, d, sum, omega arith, close_at e.nodes w y (Opt a first) arena is p q (inr (subst (λ v. At e.nodes w v p q) (sym begins) at)), from)
 
@@ -238,9 +249,9 @@ module _ (e back : Written) (w bytes : List ℕ) (r : ℕ) (s t : Starts) (is_ba
       let tail = (At-mirror e back w bytes y q k d b is_back is_bytes sum end).1 from.2 in
       let rest = open_at e.nodes w y (Star a first) arena is q k tail in
       let from_p : Copies (At e.nodes w a.index) k p = ⊎_elim
-          (λ (lt : p < q). one_more p q lt (subst (λ v. At e.nodes w v p q) (sym inner) at) rest)
-          (λ (ge : q ≤ p). let same : q ≡ p = omega arith in subst (λ v. Copies (At e.nodes w a.index) k v) same rest)
-          (cases_lt p q) in
+      (λ (lt : p < q). one_more p q lt (subst (λ v. At e.nodes w v p q) (sym inner) at) rest)
+      (λ (ge : q ≤ p). let same : q ≡ p = omega arith in subst (λ v. Copies (At e.nodes w a.index) k v) same rest)
+      (cases_lt p q) in
       let head = open_at e.nodes w y (Star a first) arena is i p copied in
       let whole = close_at e.nodes w y (Star a first) arena is i k (Copies-join (At e.nodes w a.index) k p i head from_p) in
       let all = meets y i enters k b end whole from.1 in
@@ -358,7 +369,7 @@ starts_kept e w r marks arena root kept i low =
     let sum : i + d ≡ length w = omega arith in
     let k = kept d (omega (arith, long)) in
     let b = begins_here e (seen true e) w (reverse w) r (one_start i) (starts_to 0 (length (reverse w))) refl refl arena (omega arith)
-        (λ h k b st at end. (omega arith, omega (arith, long))) i d sum (omega arith, omega arith) in (
+    (λ h k b st at end. (omega arith, omega (arith, long))) i d sum (omega arith, omega arith) in (
       λ h. let g = b.0 (k.0 h) in (g.0, to_tree e.nodes w r root i g.0 g.1),
       λ h. k.1 (b.1 (h.0, from_tree e.nodes w r root i h.0 h.1)),
     )
@@ -404,9 +415,9 @@ pub best_all : (nodes : List Node) (w : List ℕ) (r start place : ℕ) (best : 
     LongestBelow (tree_at nodes (length nodes - 1)) w start (place + 1) best → Longest (tree_at nodes (length nodes - 1)) w start best
 best_all nodes w r start place None root over old =
     λ k s. ⊎_elim
-        (λ (lt : place < k). over (k, lt, from_tree nodes w r root start k s))
-        (λ (ge : k ≤ place). old k (omega arith) s)
-        (cases_lt place k)
+    (λ (lt : place < k). over (k, lt, from_tree nodes w r root start k s))
+    (λ (ge : k ≤ place). old k (omega arith) s)
+    (cases_lt place k)
 best_all nodes w r start place (Some j) root over old = (
   old.0,
   λ k s. ⊎_elim

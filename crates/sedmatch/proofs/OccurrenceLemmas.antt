@@ -1,5 +1,5 @@
 -- What the searches for all occurrences in one text cost together.
-use Rattle.std.proofs.Common.{◌≡◌, ℕ, zero, suc, ◌+◌, ◌-◌, ◌*◌, ◌^◌, ◌<◌, ◌≤◌, Bool, true, false, List, length, Option, Some, None, IsTrue, IfSome, refl, sym, ap, ◌∙◌, subst, ⊎_elim, arith, mul-le-mul_left}
+use Rattle.std.proofs.Common.{◌≡◌, ℕ, ◌+◌, ◌-◌, ◌*◌, ◌^◌, ◌<◌, ◌≤◌, false, Option, Some, None, IsTrue, IfSome, refl, sym, ap, subst, arith, mul-le-mul_left}
 use Rattle.std.specs.Prelude.{if◌then◌else◌}
 use Rattle.sedmatch.specs.declared.occurrences.Occurrences.{Occurrences}
 use Rattle.sedmatch.specs.Meet.{blocks_cost, end_to}
@@ -55,7 +55,7 @@ search_paid m n at b c s t None inside lies cost =
     let e : at + k ≡ n = omega arith in
     let f : k + 1 ≡ n + 1 - at = omega arith in
     let paid : t ≤ s + (79 * m * (n + 1 - at) + b) =
-        subst (λ v. t ≤ s + (79 * m * v + b)) f (none_paid m at k b c s t (subst (λ v. t + 25 * m * at + c ≤ s + 54 * m + 25 * m * v + b) (sym e) cost)) in
+    subst (λ v. t ≤ s + (79 * m * v + b)) f (none_paid m at k b c s t (subst (λ v. t + 25 * m * at + c ≤ s + 54 * m + 25 * m * v + b) (sym e) cost)) in
     omega (arith, paid)
 search_paid m n at b c s t (Some g) inside lies cost =
     let lt = lies.1 in

@@ -67,7 +67,6 @@ pub record HasKept (nodes : List Node) (w : List ℕ) (r : ℕ) (b : Behind) : T
 abbrev pub IsKept : Written → List ℕ → ℕ → Behind → Type 0
 IsKept e w r b = HasKept (seen true e).nodes (reverse w) r b
 
-
 -- in a text of n bytes, the block has the place, counted from the beginning, or lies behind it
 abbrev pub Reaches : ℕ → ℕ → Behind → Type 0
 Reaches n place b = n ≤ place + low_of b + b.width

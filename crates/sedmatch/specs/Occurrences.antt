@@ -1,5 +1,5 @@
 -- All occurrences in one text, one after another (XCU sed, "s/BRE/replacement/flags").
-use Rattle.std.specs.Prelude.{◌≡◌, ℕ, ◌+◌, ◌-◌, ◌*◌, ◌≤◌, Bool, true, false, ◌&&◌, List, length, Option, Some, None, IsTrue, nat_eq, nat_lt, if◌then◌else◌}
+use Rattle.std.specs.Prelude.{◌≡◌, ℕ, ◌+◌, ◌-◌, ◌*◌, ◌≤◌, false, ◌&&◌, List, length, Option, Some, None, IsTrue, nat_eq, nat_lt, if◌then◌else◌}
 use Rattle.sedre.specs.Arena.{Written}
 use Rattle.sedmatch.specs.declared.occurrences.Occurrences.{Occurrences}
 use Rattle.sedmatch.specs.Meet.{HasBehind, IsKept, Reaches, blocks_cost}

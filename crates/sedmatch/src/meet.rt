@@ -225,13 +225,7 @@ fn keep_block(
 }
 
 /// The pass over the whole text from its beginning: it ends with the rows of the last block.
-fn keep_blocks(
-    nodes: &Nodes,
-    bytes: &Bytes,
-    root: usize,
-    behind: &mut Behind,
-    steps: &mut Steps,
-)
+fn keep_blocks(nodes: &Nodes, bytes: &Bytes, root: usize, behind: &mut Behind, steps: &mut Steps)
     requires root { root + 1 ≡ length nodes.now.nodes }
     requires few { length nodes.now.nodes ≤ 65536 }
     requires short { length bytes.now ≤ 2 ^ 30 }
@@ -446,7 +440,7 @@ fn longest_met(
     ensures grows { steps.old ≤ steps.new }
     ensures cost { let m = length expr.now.nodes in
         steps.new + 25 * m * start + blocks_cost m behind.new
-            ≤ steps.old + m + 25 * m * (met_to start result + 1) + blocks_cost m behind.old }
+        ≤ steps.old + m + 25 * m * (met_to start result + 1) + blocks_cost m behind.old }
 {
     let _count = expr.nodes();
     sets.entered.clear(root + 1, steps);
@@ -523,7 +517,7 @@ fn next_met(
     ensures grows { steps.old ≤ steps.new }
     ensures cost { let m = length expr.now.nodes in
         steps.new + 25 * m * from + blocks_cost m behind.new
-            ≤ steps.old + 27 * m + 25 * m * end_to (length text.now) result + blocks_cost m behind.old }
+        ≤ steps.old + 27 * m + 25 * m * end_to (length text.now) result + blocks_cost m behind.old }
 {
     let _count = expr.nodes();
     let Some(start) = next_begin(text, &behind.begins, from, steps) else {
@@ -562,7 +556,7 @@ pub fn next_behind(
     ensures grows { steps.old ≤ steps.new }
     ensures cost { let m = length expr.now.nodes in
         steps.new + 25 * m * at + blocks_cost m behind.new
-            ≤ steps.old + 54 * m + 25 * m * end_to (length text.now) result + blocks_cost m behind.old }
+        ≤ steps.old + 54 * m + 25 * m * end_to (length text.now) result + blocks_cost m behind.old }
 {
     let _count = expr.nodes();
     let first = next_met(expr, root, text, at, behind, sets, steps);

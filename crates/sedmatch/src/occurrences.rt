@@ -47,11 +47,7 @@ fn allowance(nodes: usize, len: usize) -> u128
 impl Occurrences {
     /// Room for texts of at most `max_text` bytes and expressions of at most `max_nodes` nodes.
     /// Memory is wanting only where a request was refused.
-    pub fn new(
-        alloc: Global,
-        max_text: usize,
-        max_nodes: usize,
-    ) -> Result<Occurrences, AllocError>
+    pub fn new(alloc: Global, max_text: usize, max_nodes: usize) -> Result<Occurrences, AllocError>
         requires text { max_text ≤ 2 ^ 30 }
         requires some_node { 1 ≤ max_nodes }
         requires nodes { max_nodes ≤ 65536 }

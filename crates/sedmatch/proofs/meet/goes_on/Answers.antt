@@ -1,4 +1,4 @@
-use Rattle.std.proofs.Common.{◌≡◌, ◌+◌, ◌-◌, ◌<◌, ◌≤◌, length, reverse, true, true≢false, sym, arith}
+use Rattle.std.proofs.Common.{◌≡◌, ◌+◌, ◌-◌, length, reverse, true, true≢false, sym, arith}
 use Rattle.std.proofs.lemmas.List.{length-reverse}
 use Rattle.sedre.specs.Mirror.{seen}
 use Rattle.sedmatch.specs.Words.{row_of}
@@ -25,6 +25,6 @@ returns-clause-goes c =
     let sum : c.args.place + 1 + q ≡ length w = omega arith in
     let row = c.bring.ensures.all.block q c.bring.ensures.low c.bring.ensures.high (omega (arith, length-reverse w)) in
     let told : TellBegun (seen true e).nodes (reverse w) root (starts_to 0 (length (reverse w))) q c.load.new.marks =
-        same_told (root + 1) (row_of behind.rows (q - low_of behind)) c.load.new.marks (λ x. Enters (seen true e).nodes (reverse w) root (starts_to 0 (length (reverse w))) x q) c.load.ensures.same row.1 in
+    same_told (root + 1) (row_of behind.rows (q - low_of behind)) c.load.new.marks (λ x. Enters (seen true e).nodes (reverse w) root (starts_to 0 (length (reverse w))) x q) c.load.ensures.same row.1 in
     goes_met e w root c.args.start c.args.place q c.byte-next.result c.args.sets.now.entered c.load.new.marks c.meets.result
     c.nodes-count.ensures.arena (omega (arith, c.requires.root)) c.requires.start sum c.byte-next.ensures.byte c.requires.begun told c.meets.ensures.meets

@@ -1,4 +1,4 @@
-use Rattle.std.proofs.Common.{ℕ, ◌≡◌, ◌+◌, ◌*◌, ◌/◌, ◌<◌, ◌≤◌, ◌∙◌, length, sym, subst, ap, arith}
+use Rattle.std.proofs.Common.{◌≡◌, ◌+◌, ◌*◌, ◌/◌, ◌<◌, ◌≤◌, ◌∙◌, length, sym, subst, ap, arith}
 use Rattle.std.proofs.Math.Nat.{mul-div-le, le-div_iff_mul-le, lt-mul-div-succ}
 use Rattle.sedmatch.specs.Reach.{TellEntered}
 use Rattle.sedmatch.specs.Search.{starts_to}
@@ -17,8 +17,8 @@ loop-block-preserved c =
     let width : new.width ≡ c.args.behind.now.width = c.keep_block.ensures.width ∙ inv.width in
     let up : low_of new + new.width ≡ new.width * (block + 1) = next_low new block c.keep_block.ensures.block in
     let high : new.width * (block + 1) ≤ length w =
-        subst (λ v. v * (block + 1) ≤ length w) (sym width)
-        (next_inside c.args.behind.now.width block (length w) (subst (λ v. block < v / c.args.behind.now.width) c.len.ensures (omega arith))) in
+    subst (λ v. v * (block + 1) ≤ length w) (sym width)
+    (next_inside c.args.behind.now.width block (length w) (subst (λ v. block < v / c.args.behind.now.width) c.len.ensures (omega arith))) in
     record {
       has = c.keep_block.ensures.kept (length w) (length nodes) inv.has;
       kept = λ t n h. c.keep_block.ensures.kept t n (inv.kept t n h);

@@ -1,4 +1,4 @@
-use Rattle.std.proofs.Common.{◌≡◌, ◌+◌, ◌-◌, ◌*◌, ◌≤◌, ◌∙◌, IfSome, Some, length, refl, subst, sym, arith, rules, true≢false}
+use Rattle.std.proofs.Common.{◌≡◌, ◌+◌, ◌≤◌, ◌∙◌, IfSome, length, refl, subst, sym, arith, rules, true≢false}
 use Rattle.sedre.specs.Arena.{tree}
 use Rattle.sedmatch.specs.Reach.{one_start, Entered, LongestBelow, Marked, Below}
 use Rattle.sedmatch.specs.Meet.{met_to, GoesOnFrom, blocks_cost}
@@ -32,9 +32,9 @@ returns-then-not-goes_on-clause-longest c =
     let place = c.loop-place.place in
     let start = c.args.start in
     let best : LongestBelow (tree c.args.expr.now) w start (place + 1) c.if-here.best = (elim c.if-here.branch [
-      then-here b ↦ subst (LongestBelow (tree c.args.expr.now) w start (place + 1)) (sym b.best-is)
+      | then-here b ↦ subst (LongestBelow (tree c.args.expr.now) w start (place + 1)) (sym b.best-is)
           (best_hit nodes w c.args.root start place c.advance_from-here.result.matched c.requires.root c.advance_from-here.ensures.spans b.if-here.true)
-    | else-here b ↦ subst (LongestBelow (tree c.args.expr.now) w start (place + 1)) (sym b.best-is)
+      | else-here b ↦ subst (LongestBelow (tree c.args.expr.now) w start (place + 1)) (sym b.best-is)
           (best_miss nodes w c.args.root start place c.advance_from-here.result.matched c.loop-place.best c.requires.root c.advance_from-here.ensures.spans b.if-here.false c.loop-place.invariant.longest)
     ]) in
     best_all nodes w c.args.root start place c.if-here.best c.requires.root (λ h. true≢false (sym (c.goes_on.ensures.goes.1 h) ∙ c.if-not-goes_on.true)) best
@@ -45,12 +45,12 @@ returns-then-not-goes_on-clause-reaches c =
     let place = c.loop-place.place in
     let order : start ≤ place = omega (arith, c.loop-place.auto.place) in
     let end : place ≤ met_to start c.if-here.best = (elim c.if-here.branch [
-      then-here w ↦ subst (λ b. place ≤ met_to start b) (sym w.best-is) (omega arith)
-    | else-here w ↦
-        let same : place ≡ start = met_reached c.args.expr.now.nodes c.args.text.now c.args.root start place c.advance_from-here.result.matched order c.loop-place.invariant.ahead
-            (λ h. true≢false (sym (c.goes_on.ensures.goes.1 h) ∙ c.if-not-goes_on.true)) c.advance_from-here.ensures.spans w.if-here.false in
-        let from = met_from start (length c.args.text.now) c.loop-place.best c.loop-place.invariant.lies in
-        subst (λ b. place ≤ met_to start b) (sym w.best-is) (omega arith)
+      | then-here w ↦ subst (λ b. place ≤ met_to start b) (sym w.best-is) (omega arith)
+      | else-here w ↦
+          let same : place ≡ start = met_reached c.args.expr.now.nodes c.args.text.now c.args.root start place c.advance_from-here.result.matched order c.loop-place.invariant.ahead
+          (λ h. true≢false (sym (c.goes_on.ensures.goes.1 h) ∙ c.if-not-goes_on.true)) c.advance_from-here.ensures.spans w.if-here.false in
+          let from = met_from start (length c.args.text.now) c.loop-place.best c.loop-place.invariant.lies in
+          subst (λ b. place ≤ met_to start b) (sym w.best-is) (omega arith)
     ]) in
     omega (arith, c.goes_on.ensures.reaches)
 
@@ -61,12 +61,12 @@ returns-then-not-goes_on-clause-cost c =
     let m = length c.args.expr.now.nodes in
     let order : start ≤ place = omega (arith, c.loop-place.auto.place) in
     let end : place ≤ met_to start c.if-here.best = (elim c.if-here.branch [
-      then-here w ↦ subst (λ b. place ≤ met_to start b) (sym w.best-is) (omega arith)
-    | else-here w ↦
-        let same : place ≡ start = met_reached c.args.expr.now.nodes c.args.text.now c.args.root start place c.advance_from-here.result.matched order c.loop-place.invariant.ahead
-            (λ h. true≢false (sym (c.goes_on.ensures.goes.1 h) ∙ c.if-not-goes_on.true)) c.advance_from-here.ensures.spans w.if-here.false in
-        let from = met_from start (length c.args.text.now) c.loop-place.best c.loop-place.invariant.lies in
-        subst (λ b. place ≤ met_to start b) (sym w.best-is) (omega arith)
+      | then-here w ↦ subst (λ b. place ≤ met_to start b) (sym w.best-is) (omega arith)
+      | else-here w ↦
+          let same : place ≡ start = met_reached c.args.expr.now.nodes c.args.text.now c.args.root start place c.advance_from-here.result.matched order c.loop-place.invariant.ahead
+          (λ h. true≢false (sym (c.goes_on.ensures.goes.1 h) ∙ c.if-not-goes_on.true)) c.advance_from-here.ensures.spans w.if-here.false in
+          let from = met_from start (length c.args.text.now) c.loop-place.best c.loop-place.invariant.lies in
+          subst (λ b. place ≤ met_to start b) (sym w.best-is) (omega arith)
     ]) in
     met_cost m start place (met_to start c.if-here.best) (blocks_cost m c.goes_on.new.behind) (blocks_cost m c.args.behind.now) c.args.steps.now c.goes_on.new.steps (omega arith) end
 
@@ -89,14 +89,14 @@ loop-place-preserved c =
       entered = subst (λ v. Marked v (Below (root + 1)) (λ x. Entered nodes w root (one_start start) x (place + 1))) (sym c.goes_on.ensures.entered)
           (next_entered nodes w root (one_start start) c.nodes-count.ensures.arena c.advance_from-here.new.sets.entered place c.advance_from-here.ensures.entered);
       longest = elim c.if-here.branch [
-        then-here b ↦ subst (LongestBelow (tree c.args.expr.now) w start (place + 1)) (sym b.best-is)
+        | then-here b ↦ subst (LongestBelow (tree c.args.expr.now) w start (place + 1)) (sym b.best-is)
             (best_hit nodes w c.args.root start place c.advance_from-here.result.matched c.requires.root c.advance_from-here.ensures.spans b.if-here.true)
-      | else-here b ↦ subst (LongestBelow (tree c.args.expr.now) w start (place + 1)) (sym b.best-is)
+        | else-here b ↦ subst (LongestBelow (tree c.args.expr.now) w start (place + 1)) (sym b.best-is)
             (best_miss nodes w c.args.root start place c.advance_from-here.result.matched c.loop-place.best c.requires.root c.advance_from-here.ensures.spans b.if-here.false inv.longest)
       ];
       lies = elim c.if-here.branch [
-        then-here b ↦ subst (λ v. IfSome v (λ end. (start ≤ end) × (end ≤ length w))) (sym b.best-is) (omega arith, omega arith)
-      | else-here b ↦ subst (λ v. IfSome v (λ end. (start ≤ end) × (end ≤ length w))) (sym b.best-is) inv.lies
+        | then-here b ↦ subst (λ v. IfSome v (λ end. (start ≤ end) × (end ≤ length w))) (sym b.best-is) (omega arith, omega arith)
+        | else-here b ↦ subst (λ v. IfSome v (λ end. (start ≤ end) × (end ≤ length w))) (sym b.best-is) inv.lies
       ];
       ahead = λ q low is. let same : place ≡ q = omega arith in subst (GoesOnFrom nodes w root start) same (c.goes_on.ensures.goes.0 c.if-not-goes_on.false);
     }

@@ -1,5 +1,4 @@
-use Rattle.std.proofs.Common.{◌≡◌, ◌+◌, ◌*◌, ◌/◌, ◌<◌, ◌≤◌, ◌∙◌, length, false, arith, ap}
-use Rattle.sedmatch.specs.Meet.{HasBehind}
+use Rattle.std.proofs.Common.{◌+◌, ◌∙◌, length, false, ap}
 use Rattle.std.proofs.lemmas.List.{length-replicate}
 use Rattle.sedmatch.proofs.BlockLemmas.{behind_made}
 use Rattle.sedmatch.proofs.meet.new_behind.Goals as goal

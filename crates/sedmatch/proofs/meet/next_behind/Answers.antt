@@ -1,4 +1,4 @@
-use Rattle.std.proofs.Common.{◌+◌, ◌≤◌, length, arith}
+use Rattle.std.proofs.Common.{length, arith}
 use Rattle.sedmatch.specs.Meet.{Reaches, blocks_cost, end_to}
 use Rattle.sedmatch.proofs.MeetLemmas.{lies_behind, null_reaches, twice_cost}
 use Rattle.sedmatch.proofs.meet.next_behind.Goals as goal

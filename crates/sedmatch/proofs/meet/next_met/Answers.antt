@@ -1,4 +1,4 @@
-use Rattle.std.proofs.Common.{◌+◌, ◌≤◌, length, sym, arith}
+use Rattle.std.proofs.Common.{length, sym, arith}
 use Rattle.sedre.specs.Arena.{tree}
 use Rattle.sedmatch.specs.Meet.{KeptStarts, blocks_cost}
 use Rattle.sedmatch.proofs.MatchingLemmas.{found-iff, not_found-iff}

@@ -1,5 +1,4 @@
-use Rattle.std.proofs.Common.{◌≡◌, ◌+◌, ◌-◌, ◌*◌, ◌<◌, ◌≤◌, ◌↔◌, ◌∙◌, IsTrue, length, ℕ, subst, arith, length-set}
-use Rattle.std.specs.Prelude.{slice_index_or}
+use Rattle.std.proofs.Common.{◌≡◌, ◌+◌, ◌-◌, ◌<◌, ◌≤◌, ◌↔◌, ◌∙◌, IsTrue, length, subst, arith, length-set}
 use Rattle.sedmatch.specs.Words.{row_of}
 use Rattle.sedmatch.specs.Search.{starts_to}
 use Rattle.sedmatch.specs.Reach.{TellBegun, SomeSpan}
@@ -18,12 +17,12 @@ loop-place-preserved c =
     let low : from ≤ place = omega arith in
     let there : place - from < length c.loop-place.rows = omega (arith, inv.rows_len, c.requires.rows_there) in
     let wide : root + 1 ≤ length (row_of c.store.new.self (place - from)) =
-        omega (arith, c.store.ensures.lens (place - from) there, inv.rows_lens (place - from) (omega arith), c.requires.rows_fit (place - from) (omega arith)) in
+    omega (arith, c.store.ensures.lens (place - from) there, inv.rows_lens (place - from) (omega arith), c.requires.rows_fit (place - from) (omega arith)) in
     let inside : place < length c.loop-place.begins = omega arith in
     let told : TellBegun nodes w root (starts_to 0 (length w)) place c.advance-here.new.sets.entered =
-        subst (λ v. TellBegun nodes w root (starts_to 0 v) place c.advance-here.new.sets.entered) c.len.ensures c.advance-here.ensures.entered in
+    subst (λ v. TellBegun nodes w root (starts_to 0 v) place c.advance-here.new.sets.entered) c.len.ensures c.advance-here.ensures.entered in
     let tells : IsTrue c.advance-here.result.matched ↔ SomeSpan nodes w root (starts_to 0 (length w)) place =
-        subst (λ v. IsTrue c.advance-here.result.matched ↔ SomeSpan nodes w root (starts_to 0 v) place) c.len.ensures c.advance-here.ensures.spans in
+    subst (λ v. IsTrue c.advance-here.result.matched ↔ SomeSpan nodes w root (starts_to 0 v) place) c.len.ensures c.advance-here.ensures.spans in
     let kept : length c.set.new.self ≡ length c.loop-place.begins = rw c.set.ensures.marks (simp length-set) in
     record {
       marks = (omega arith, omega arith, omega arith);

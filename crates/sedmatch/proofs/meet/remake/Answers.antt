@@ -1,7 +1,4 @@
-use Rattle.std.proofs.Common.{ℕ, ◌≡◌, ◌+◌, ◌*◌, ◌<◌, ◌≤◌, length, sym, subst, arith}
-use Rattle.sedmatch.specs.Words.{row_of}
-use Rattle.sedmatch.specs.Reach.{TellEntered}
-use Rattle.sedmatch.specs.Search.{starts_to}
+use Rattle.std.proofs.Common.{◌≡◌, ◌*◌, arith}
 use Rattle.sedmatch.specs.Meet.{low_of}
 use Rattle.sedmatch.proofs.BlockLemmas.{sets_kept, low_is, edges_same}
 use Rattle.sedmatch.proofs.meet.remake.Goals as goal

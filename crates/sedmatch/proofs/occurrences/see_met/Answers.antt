@@ -1,4 +1,4 @@
-use Rattle.std.proofs.Common.{◌+◌, ◌*◌, ◌≤◌, length, sym, subst, true}
+use Rattle.std.proofs.Common.{◌+◌, ◌≤◌, length, sym, subst, true}
 use Rattle.sedmatch.specs.Meet.{low_of}
 use Rattle.sedmatch.specs.Occurrences.{owed_met}
 use Rattle.sedmatch.proofs.OccurrenceLemmas.{met_paid, owed_not_met}

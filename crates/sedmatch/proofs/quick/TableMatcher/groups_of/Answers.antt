@@ -1,4 +1,4 @@
-use Rattle.std.proofs.Common.{◌≡◌, ◌≤◌, ◌^◌, length, subst, ap, arith}
+use Rattle.std.proofs.Common.{◌≤◌, ◌^◌, length, subst, ap, arith}
 use Rattle.sedmatch.specs.Caps.{IsReport}
 use Rattle.sedre.specs.Arena.{tree}
 use Rattle.sedmatch.proofs.GroupLemmas.{report_room}
@@ -13,7 +13,7 @@ report-requires-clause-room c =
     report_room (length c.self.inside.expr.nodes) (length c.args.text.now) c.args.steps.now c.args.steps.now few short c.requires.room (omega arith)
 
 pub returns-clause-groups : goal.returns-clause-groups
-returns-clause-groups c = 
+returns-clause-groups c =
     (report-iff (tree c.args.self.now) c.args.text.now c.args.start c.args.end c.report.result c.requires.spans).1
     (subst (λ e. IsReport (tree e) c.args.text.now c.args.start c.args.end c.report.result) c.self.view_is c.report.ensures.report)
 

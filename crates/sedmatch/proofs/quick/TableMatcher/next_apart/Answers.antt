@@ -1,4 +1,4 @@
-use Rattle.std.proofs.Common.{◌≤◌, length, arith}
+use Rattle.std.proofs.Common.{length, arith}
 use Rattle.sedmatch.proofs.OccurrenceLemmas.{search_room}
 use Rattle.sedmatch.proofs.quick.TableMatcher.next_apart.Goals as goal
 

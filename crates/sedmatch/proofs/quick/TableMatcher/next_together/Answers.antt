@@ -1,7 +1,7 @@
-use Rattle.std.proofs.Common.{◌≡◌, ◌+◌, ◌*◌, ◌≤◌, length, sym, subst, arith}
+use Rattle.std.proofs.Common.{◌+◌, ◌≤◌, length, sym, subst, arith}
 use Rattle.sedmatch.specs.declared.occurrences.Occurrences.{Occurrences}
-use Rattle.sedmatch.specs.Meet.{HasBehind, blocks_cost, end_to}
-use Rattle.sedmatch.specs.Occurrences.{owed_after, owed_together, owed_met}
+use Rattle.sedmatch.specs.Meet.{HasBehind, blocks_cost}
+use Rattle.sedmatch.specs.Occurrences.{owed_after, owed_together}
 use Rattle.sedmatch.proofs.OccurrenceLemmas.{search_paid, after_is_met}
 use Rattle.sedmatch.proofs.quick.TableMatcher.next_together.Goals as goal
 
@@ -22,5 +22,5 @@ returns-clause-cost c =
     let paid = search_paid m n c.args.at (blocks_cost m met.behind) (blocks_cost m new.behind) c.see_met.new.steps c.next_behind.new.steps c.next_behind.result c.requires.at c.next_behind.ensures.lies c.next_behind.ensures.cost in
     let before = c.see_met.ensures.cost in
     let both : c.next_behind.new.steps + owed_after m n c.next_behind.result new ≤ c.args.steps.now + owed_together m n c.args.at c.args.occurrences.now =
-        subst (λ v. c.next_behind.new.steps + v ≤ c.args.steps.now + owed_together m n c.args.at c.args.occurrences.now) (sym (after_is_met m n c.next_behind.result new c.see_met.ensures.met)) (omega (arith, paid, before)) in
+    subst (λ v. c.next_behind.new.steps + v ≤ c.args.steps.now + owed_together m n c.args.at c.args.occurrences.now) (sym (after_is_met m n c.next_behind.result new c.see_met.ensures.met)) (omega (arith, paid, before)) in
     subst (λ e. c.next_behind.new.steps + owed_after (length e.nodes) n c.next_behind.result new ≤ c.args.steps.now + owed_together (length e.nodes) n c.args.at c.args.occurrences.now) c.self.view_is both
