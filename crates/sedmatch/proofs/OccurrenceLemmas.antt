@@ -1,9 +1,14 @@
 -- What the searches for all occurrences in one text cost together.
-use Rattle.std.proofs.Common.{◌≡◌, ℕ, ◌+◌, ◌-◌, ◌*◌, ◌^◌, ◌<◌, ◌≤◌, false, Option, Some, None, IsTrue, IfSome, refl, sym, ap, subst, arith, mul-le-mul_left}
-use Rattle.std.specs.Prelude.{if◌then◌else◌}
+use Rattle.std.proofs.Common.{Bool, true, List, length, ◌≡◌, ℕ, ◌+◌, ◌-◌, ◌*◌, ◌^◌, ◌<◌, ◌≤◌, false, Option, Some, None, IsTrue, IfSome, refl, sym, ap, subst, arith, mul-le-mul_left}
+use Rattle.std.specs.Prelude.{◌&&◌, nat_eq, nat_lt, if◌then◌else◌}
+use Rattle.std.proofs.lemmas.Bool.Decides.{nat_tests}
+use Rattle.sedre.specs.Tree.{Tree}
+use Rattle.sedmatch.specs.Spans.{Spans}
+use Rattle.sedmatch.specs.Matching.{found}
+use Rattle.sedmatch.proofs.MatchingLemmas.{found-iff}
 use Rattle.sedmatch.specs.declared.occurrences.Occurrences.{Occurrences}
 use Rattle.sedmatch.specs.Meet.{blocks_cost, end_to}
-use Rattle.sedmatch.specs.Occurrences.{owed_met, owed_apart, owed_together, owed_behind, owed_after}
+use Rattle.sedmatch.specs.Occurrences.{EndsWithin, next_span, unless_null_at, owed_met, owed_apart, owed_together, owed_behind, owed_after}
 
 -- what is owed after an answer, where c is what the blocks may cost
 abbrev pub owed_end : ℕ → ℕ → ℕ → Option (ℕ × ℕ) → ℕ
@@ -69,3 +74,31 @@ search_paid m n at b c s t (Some g) inside lies cost =
 pub after_is_met : (m n : ℕ) (r : Option (ℕ × ℕ)) (o : Occurrences) → IsTrue o.met → owed_after m n r o ≡ owed_end m n (blocks_cost m o.behind) r
 after_is_met m n None o is = refl
 after_is_met m n (Some f) o is = behind_is_met m n f.1 o is
+
+-- the next occurrence is a match
+unless_spans : (e : Tree) (w : List ℕ) (q : ℕ) (r other : Option (ℕ × ℕ)) (f : ℕ × ℕ) → q ≤ length w → found e w q ≡ r →
+    (other ≡ Some f → Spans e w f.0 f.1) → unless_null_at q r other ≡ Some f → Spans e w f.0 f.1
+unless_spans e w q None other f inside is rest next = let none : None ≡ Some f = next in cc
+unless_spans e w q (Some g) other f inside is rest next = here (nat_eq g.0 q && nat_eq g.1 q) next
+  where
+    here : (b : Bool) → (if b then other else Some g) ≡ Some f → Spans e w f.0 f.1
+    here true next = rest next
+    here false next =
+        let same : g ≡ f = cc in
+        subst (λ (v : ℕ × ℕ). Spans e w v.0 v.1) same ((found-iff e w q g.0 g.1 inside).0 is).spans
+
+pub next_spans : (e : Tree) (w : List ℕ) (last : Option ℕ) (f : ℕ × ℕ) → EndsWithin (length w) last →
+    next_span (found e w) (length w) last ≡ Some f → Spans e w f.0 f.1
+next_spans e w None f inside next =
+    let low : 0 ≤ length w = omega arith in
+    ((found-iff e w 0 f.0 f.1 low).0 next).spans
+next_spans e w (Some q) f inside next = unless_spans e w q (found e w q) _ f inside refl (on (nat_lt q (length w)) (λ yes. grind (arith, nat_tests))) next
+  where
+    on : (b : Bool) → (b ≡ true → q + 1 ≤ length w) → (if b then found e w (q + 1) else None) ≡ Some f → Spans e w f.0 f.1
+    on true fits is = ((found-iff e w (q + 1) f.0 f.1 (fits refl)).0 is).spans
+    on false fits is = let none : None ≡ Some f = is in cc
+
+pub if_spans : (e : Tree) (w : List ℕ) (last : Option ℕ) (r : Option (ℕ × ℕ)) → EndsWithin (length w) last →
+    r ≡ next_span (found e w) (length w) last → IfSome r (λ f. Spans e w f.0 f.1)
+if_spans e w last None inside is = tt
+if_spans e w last (Some f) inside is = next_spans e w last f inside (sym is)

@@ -119,7 +119,6 @@ impl TableMatcher {
         ensures same { self.new ≡ self.old }
         ensures scratch { scratch.new ≡ scratch.old }
         ensures next { result ≡ next_span (found (tree self.old) text.now) (length text.now) last }
-        ensures spans { IfSome result (λ f. Spans (tree self.old) text.now f.0 f.1) }
         ensures lies { IfSome result (λ f. (f.0 ≤ f.1) × (f.1 ≤ length text.now)) }
         ensures behind { LiesBehind last result }
         ensures grows { steps.old ≤ steps.new }
@@ -159,7 +158,6 @@ impl TableMatcher {
         ensures met { occurrences.new.met ≡ false }
         ensures kept { occurrences.new.behind ≡ occurrences.old.behind }
         ensures next { result ≡ next_span (found (tree self.old) text.now) (length text.now) last }
-        ensures spans { IfSome result (λ f. Spans (tree self.old) text.now f.0 f.1) }
         ensures lies { IfSome result (λ f. (f.0 ≤ f.1) × (f.1 ≤ length text.now)) }
         ensures behind { LiesBehind last result }
         ensures grows { steps.old ≤ steps.new }
@@ -193,7 +191,6 @@ impl TableMatcher {
         ensures scratch { scratch.new ≡ scratch.old }
         ensures room_kept { KeepsRoom occurrences.old occurrences.new }
         ensures next { result ≡ next_span (found (tree self.old) text.now) (length text.now) (Some at) }
-        ensures spans { IfSome result (λ f. Spans (tree self.old) text.now f.0 f.1) }
         ensures lies { IfSome result (λ f. (f.0 ≤ f.1) × (f.1 ≤ length text.now)) }
         ensures behind { LiesBehind (Some at) result }
         ensures serves { IfSome result (λ f. Serves self.old text.now (Some f.1) occurrences.new) }
