@@ -7,6 +7,7 @@ use Rattle.std.proofs.Math.Seq.{drop-nil}
 use Rattle.std.proofs.lemmas.Bool.Decides.{nat_tests}
 use Rattle.sedre.specs.Arena.{Written, tree}
 use Rattle.sedmatch.specs.Matching.{found}
+use Rattle.sedmatch.specs.Occurrences.{next_span, unless_null_at}
 use Rattle.sedmatch.proofs.MatchingLemmas.{found-iff, Found-within}
 use Rattle.sedmatch.proofs.SpanLemmas.{Spans-forward, Spans-within}
 use Rattle.sedengine.specs.Substitute.{Match, unless_empty_at, next_occurrence, then_behind, occurrences_from}
@@ -164,3 +165,25 @@ skips_one e w last k span fits behind is =
 pub ends_in : (n : ℕ) (last : Option ℕ) (span : ℕ × ℕ) → LiesBehind n last span → span.1 ≤ n
 ends_in n None span lies = lies.1
 ends_in n (Some q) span lies = lies.3
+
+-- the next occurrence, told by its span
+next_unless : (e : Written) (w : List ℕ) (q : ℕ) (r other : Option (ℕ × ℕ)) →
+    match_at e w (unless_null_at q r other) ≡ unless_empty_at q (match_at e w r) (match_at e w other)
+next_unless e w q None other = refl
+next_unless e w q (Some f) other = by (nat_eq f.0 q && nat_eq f.1 q)
+  where
+    by : (b : Bool) → match_at e w (if b then other else Some f) ≡ (if b then match_at e w other else match_at e w (Some f))
+    by true = refl
+    by false = refl
+
+pub next_as : (e : Written) (w : List ℕ) (last : Option ℕ) →
+    match_at e w (next_span (found (tree e) w) (length w) last) ≡ next_occurrence (search_for (Some e) w) (length w) last
+next_as e w None = refl
+next_as e w (Some q) =
+    next_unless e w q (found (tree e) w q) (if nat_lt q (length w) then found (tree e) w (q + 1) else None)
+    ∙ ap (unless_empty_at q (match_at e w (found (tree e) w q))) (at (nat_lt q (length w)))
+  where
+    at : (b : Bool) → match_at e w (if b then found (tree e) w (q + 1) else None)
+        ≡ (if b then match_at e w (found (tree e) w (q + 1)) else None)
+    at true = refl
+    at false = refl

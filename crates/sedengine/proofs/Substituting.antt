@@ -4,6 +4,8 @@ use Rattle.std.specs.Prelude.{option_and_then, slice_get}
 use Rattle.std.specs.Option.{option_or}
 use Rattle.sedre.specs.Arena.{Written}
 use Rattle.sedmatch.specs.Room.{Room}
+use Rattle.sedmatch.specs.Occurrences.{KeepsRoom}
+use Rattle.sedmatch.specs.declared.occurrences.Occurrences.{Occurrences}
 use Rattle.sedscript.specs.declared.substitution.Substitution.{Substitution}
 use Rattle.sedspace.specs.Spaces.{Contents}
 use Rattle.sedspace.specs.declared.errors.Full.{Full}
@@ -39,10 +41,10 @@ may_hold p.Quit bytes h = tt
 may_hold p.Ended bytes h = tt
 
 -- the fields of the engine after a substitution with the expression e
-pub replaced_is_run : (a : Inside) (pattern build : Contents) (scratch : Room) (matchers : Vec Written Global) (e : ℕ) (replaced : Bool) → IsRun a → comes (tasks_of a.place) ≡ true → e < length a.script.expressions →
-    pattern.limit ≡ a.pattern.limit → length pattern.bytes ≤ pattern.limit → build.limit ≡ a.build.limit → scratch ≡ a.scratch → matchers.items ≡ a.matchers.items →
-    IsRun (record a { pattern = pattern; build = build; scratch = scratch; matchers = matchers; used = Some e; replaced = replaced })
-replaced_is_run a pattern build scratch matchers e replaced i at within limit fits limit' same same' = record {
+pub replaced_is_run : (a : Inside) (pattern build : Contents) (scratch : Room) (seeking : Occurrences) (matchers : Vec Written Global) (e : ℕ) (replaced : Bool) → IsRun a → comes (tasks_of a.place) ≡ true → e < length a.script.expressions →
+    pattern.limit ≡ a.pattern.limit → length pattern.bytes ≤ pattern.limit → build.limit ≡ a.build.limit → scratch ≡ a.scratch → KeepsRoom a.seeking seeking → matchers.items ≡ a.matchers.items →
+    IsRun (record a { pattern = pattern; build = build; scratch = scratch; seeking = seeking; matchers = matchers; used = Some e; replaced = replaced })
+replaced_is_run a pattern build scratch seeking matchers e replaced i at within limit fits limit' same kept same' = record {
   number = i.number;
   turns = i.turns;
   pattern_limit = limit ∙ i.pattern_limit;
@@ -59,6 +61,7 @@ replaced_is_run a pattern build scratch matchers e replaced i at within limit fi
   scratch_text = λ some. ap (λ (r : Room). r.text) same ∙ i.scratch_text some;
   scratch_nodes = ap (λ (r : Room). r.nodes) same ∙ i.scratch_nodes;
   matchers = rw same' i.matchers;
+  seeking = λ k s is more j x at. kept a.limits.space (length x.nodes) (i.seeking k s is more j x at);
   nodes = i.nodes;
 }
 

@@ -97,5 +97,5 @@ pub record IsRun (a : Inside) : Type 0 where
   pub scratch_text : 0 < length a.script.expressions → a.scratch.text ≡ a.limits.space
   pub scratch_nodes : a.scratch.nodes ≡ a.limits.nodes
   pub matchers : Seek a.script.expressions a.limits.nodes a.matchers.items
-  pub occurrences : RoomToSeek a.script.substitutions a.script.expressions a.limits.space a.occurrences
+  pub seeking : RoomToSeek a.script.substitutions a.script.expressions a.limits.space a.seeking
   pub nodes : a.script.max_nodes ≤ a.limits.nodes

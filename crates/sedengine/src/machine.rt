@@ -43,7 +43,7 @@ pub(crate) struct Machine {
     queue: Queue,
     scratch: Scratch,
     // How the searches of a substitution go on that seeks more than one occurrence.
-    occurrences: Occurrences,
+    seeking: Occurrences,
     // For each regular expression of the script, what seeks it.
     matchers: Vec<TableMatcher>,
     // For each command, whether its range is active.
@@ -136,7 +136,7 @@ impl Machine {
         let ranges = idle_ranges(alloc, script.len())?;
         let scratch = search_room(alloc, &script, &limits)?;
         let matchers = matchers_of(alloc, &script, limits.nodes())?;
-        let occurrences = room_to_seek(alloc, &script, &matchers, limits.nodes(), limits.space())?;
+        let seeking = room_to_seek(alloc, &script, &matchers, &limits)?;
         let Store {
             pattern,
             hold,
@@ -151,7 +151,7 @@ impl Machine {
             build,
             queue,
             scratch,
-            occurrences,
+            seeking,
             matchers,
             ranges,
             used: None,

@@ -4,6 +4,7 @@ ghost use Rattle.sedre.specs.Arena.{Written};
 ghost use Rattle.sedscript.specs.declared.substitution.Substitution.{Substitution};
 ghost use Rattle.sedengine.specs.Fitting.{AllFit, RoomToSeek, Seek, seeks_more};
 
+use crate::limits::Limits;
 use sedmatch::{Occurrences, TableMatcher};
 use sedscript::Script;
 use std::alloc::{AllocError, Global};
@@ -36,7 +37,10 @@ fn most_nodes(matchers: &[TableMatcher], limit: usize) -> usize
 {
     let mut most = 1;
     for matcher in matchers {
-        most = most.max(matcher.nodes());
+        let nodes = matcher.nodes();
+        if most < nodes {
+            most = nodes;
+        }
     }
     most
 }
@@ -55,21 +59,23 @@ fn seeks_more_than_one(script: &Script) -> bool
     false
 }
 
-/// What seeks more than one occurrence in texts of at most `text` bytes, with little room where no substitution of the
+/// What seeks more than one occurrence in texts as long as a space may be, with little room where no substitution of the
 /// script does.
 pub(crate) fn room_to_seek(
     alloc: Global,
     script: &Script,
     matchers: &Vec<TableMatcher>,
-    limit: usize,
-    text: usize,
+    limits: &Limits,
 ) -> Result<Occurrences, AllocError>
-    requires text { text ≤ 2 ^ 30 }
-    requires fit { AllFit limit matchers.now.items }
-    requires few { limit ≤ 65536 }
-    ensures { IfOk result (RoomToSeek script.now.substitutions matchers.now.items text) }
+    requires seek { Seek script.now.expressions limits.now.nodes matchers.now.items }
+    ensures { IfOk result (RoomToSeek script.now.substitutions script.now.expressions limits.now.space) }
 {
-    let most = most_nodes(matchers, limit);
-    let longest = if seeks_more_than_one(script) { text } else { 0 };
+    let most = most_nodes(matchers, limits.nodes());
+    let space = limits.space();
+    let longest = if seeks_more_than_one(script) {
+        space
+    } else {
+        0
+    };
     Occurrences::new(alloc, longest, most)
 }

@@ -29,7 +29,7 @@ pub(crate) fn substitute_by(
     e: usize,
     text: &[u8],
     build: &mut Space,
-    occurrences: &mut Occurrences,
+    seeking: &mut Occurrences,
     scratch: &mut Scratch,
     steps: &mut Steps,
 ) -> Result<bool, Full>
@@ -39,7 +39,7 @@ pub(crate) fn substitute_by(
     requires fit { AllFit scratch.old.nodes matchers.old.items }
     requires number { 1 ≤ substitution.now.number }
     requires more { IsTrue (seeks_more substitution.now) → (x : Written) → slice_get matchers.old.items e ≡ Some x →
-        RoomFor (length text.now) (length x.nodes) occurrences.old }
+        RoomFor (length text.now) (length x.nodes) seeking.old }
     requires room { (x : Written) → slice_get matchers.old.items e ≡ Some x →
         steps.old + 512 * length x.nodes * (length text.now + 1) ≤ 2 ^ 100 }
     ensures replaces { Replaces text.now substitution.now.replacement
@@ -49,13 +49,13 @@ pub(crate) fn substitute_by(
     ensures limit { build.new.limit ≡ build.old.limit }
     ensures same { matchers.new.items ≡ matchers.old.items }
     ensures scratch { scratch.new ≡ scratch.old }
-    ensures kept { KeepsRoom occurrences.old occurrences.new }
+    ensures kept { KeepsRoom seeking.old seeking.new }
     ensures grows { steps.old ≤ steps.new }
     ensures cost { (x : Written) → slice_get matchers.old.items e ≡ Some x →
         steps.new ≤ steps.old + 512 * length x.nodes * (length text.now + 1) }
 {
     let matcher = &mut matchers[e];
-    substitute(substitution, matcher, text, build, occurrences, scratch, steps)
+    substitute(substitution, matcher, text, build, seeking, scratch, steps)
 }
 
 /// The same with what seeks the expression.
@@ -64,7 +64,7 @@ fn substitute(
     matcher: &mut TableMatcher,
     text: &[u8],
     build: &mut Space,
-    occurrences: &mut Occurrences,
+    seeking: &mut Occurrences,
     scratch: &mut Scratch,
     steps: &mut Steps,
 ) -> Result<bool, Full>
@@ -73,7 +73,7 @@ fn substitute(
     requires nodes { length matcher.old.nodes ≤ scratch.old.nodes }
     requires number { 1 ≤ substitution.now.number }
     requires more { IsTrue (seeks_more substitution.now) →
-        RoomFor (length text.now) (length matcher.old.nodes) occurrences.old }
+        RoomFor (length text.now) (length matcher.old.nodes) seeking.old }
     requires room { steps.old + 512 * length matcher.old.nodes * (length text.now + 1) ≤ 2 ^ 100 }
     ensures replaces { Replaces text.now substitution.now.replacement
         (chosen substitution.now.number substitution.now.global
@@ -82,25 +82,24 @@ fn substitute(
     ensures limit { build.new.limit ≡ build.old.limit }
     ensures same { matcher.new ≡ matcher.old }
     ensures scratch { scratch.new ≡ scratch.old }
-    ensures kept { KeepsRoom occurrences.old occurrences.new }
+    ensures kept { KeepsRoom seeking.old seeking.new }
     ensures grows { steps.old ≤ steps.new }
     ensures cost { steps.new ≤ steps.old + 512 * length matcher.old.nodes * (length text.now + 1) }
 {
-    let seen = Text::new(text);
-    occurrences.begin();
+    seeking.begin();
     let skipped = substitution.number - 1;
-    let Some(last) = skip(matcher, &seen, skipped, occurrences, scratch, steps) else {
+    let Some(last) = skip(matcher, text, skipped, seeking, scratch, steps) else {
         return Ok(false);
     };
     let wanted = needs_groups(substitution.replacement.parts());
     let mut groups = [None; 10];
     let Some(first) = next_occurrence(
         matcher,
-        &seen,
+        text,
         last,
         wanted,
         &mut groups,
-        occurrences,
+        seeking,
         scratch,
         steps,
     ) else {
@@ -114,7 +113,7 @@ fn substitute(
         first,
         &mut groups,
         build,
-        occurrences,
+        seeking,
         scratch,
         steps,
     )?;
@@ -124,27 +123,28 @@ fn substitute(
 /// Where the last of the first `count` occurrences ended, for no occurrence None. None alone where there are fewer.
 fn skip(
     matcher: &mut TableMatcher,
-    text: &Text,
+    text: &[u8],
     count: u64,
-    occurrences: &mut Occurrences,
+    seeking: &mut Occurrences,
     scratch: &mut Scratch,
     steps: &mut Steps,
 ) -> Option<Option<usize>>
     requires text { length text.now ≤ scratch.old.text }
     requires nodes { length matcher.old.nodes ≤ scratch.old.nodes }
-    requires more { 0 < count → RoomFor (length text.now) (length matcher.old.nodes) occurrences.old }
-    requires serves { Serves matcher.old text.now None occurrences.old }
-    requires owed { owed (length matcher.old.nodes) (length text.now) None occurrences.old
+    requires more { 0 < count → RoomFor (length text.now) (length matcher.old.nodes) seeking.old }
+    requires serves { Serves matcher.old text.now None seeking.old }
+    requires owed { owed (length matcher.old.nodes) (length text.now) None seeking.old
         ≡ 512 * length matcher.old.nodes * (length text.now + 1) }
     requires room { steps.old + 512 * length matcher.old.nodes * (length text.now + 1) ≤ 2 ^ 100 }
     ensures skips { Skips matcher.old text.now count result }
+    ensures none { count ≡ 0 → result ≡ Some None }
     ensures same { matcher.new ≡ matcher.old }
     ensures scratch { scratch.new ≡ scratch.old }
-    ensures kept { KeepsRoom occurrences.old occurrences.new }
-    ensures serves { IfSome result (λ last. Serves matcher.old text.now last occurrences.new) }
+    ensures kept { KeepsRoom seeking.old seeking.new }
+    ensures serves { IfSome result (λ last. Serves matcher.old text.now last seeking.new) }
     ensures grows { steps.old ≤ steps.new }
     ensures cost { let m = length matcher.old.nodes in let n = length text.now in
-        IfSome result (λ last. steps.new + owed m n last occurrences.new ≤ steps.old + 512 * m * (n + 1)) }
+        IfSome result (λ last. steps.new + owed m n last seeking.new ≤ steps.old + 512 * m * (n + 1)) }
     ensures cost_of_none { IfNone result (steps.new ≤ steps.old + 512 * length matcher.old.nodes * (length text.now + 1)) }
 {
     let mut last = None;
@@ -156,7 +156,7 @@ fn skip(
             last,
             false,
             groups,
-            occurrences,
+            seeking,
             scratch,
             steps,
         )?;
@@ -181,19 +181,19 @@ fn needs_groups(parts: &[Part]) -> bool
 /// wanted.
 fn next_occurrence(
     matcher: &mut TableMatcher,
-    text: &Text,
+    text: &[u8],
     last: Option<usize>,
     wanted: bool,
     groups: &mut Groups,
-    occurrences: &mut Occurrences,
+    seeking: &mut Occurrences,
     scratch: &mut Scratch,
     steps: &mut Steps,
 ) -> Option<(usize, usize)>
     requires last { EndsIn (length text.now) last }
     requires text { length text.now ≤ scratch.old.text }
     requires nodes { length matcher.old.nodes ≤ scratch.old.nodes }
-    requires more { IfSome last (λ _. RoomFor (length text.now) (length matcher.old.nodes) occurrences.old) }
-    requires serves { Serves matcher.old text.now last occurrences.old }
+    requires more { IfSome last (λ _. RoomFor (length text.now) (length matcher.old.nodes) seeking.old) }
+    requires serves { Serves matcher.old text.now last seeking.old }
     requires room { steps.old ≤ 2 ^ 100 }
     ensures next { match_at matcher.old text.now result
         ≡ next_occurrence (search_for (Some matcher.old) text.now) (length text.now) last }
@@ -202,16 +202,17 @@ fn next_occurrence(
     ensures groups_in { GroupsIn (length text.now) groups.old → GroupsIn (length text.now) groups.new }
     ensures same { matcher.new ≡ matcher.old }
     ensures scratch { scratch.new ≡ scratch.old }
-    ensures kept { KeepsRoom occurrences.old occurrences.new }
-    ensures serves { IfSome result (λ f. Serves matcher.old text.now (Some f.1) occurrences.new) }
+    ensures kept { KeepsRoom seeking.old seeking.new }
+    ensures serves { IfSome result (λ f. Serves matcher.old text.now (Some f.1) seeking.new) }
     ensures grows { steps.old ≤ steps.new }
     ensures cost { let m = length matcher.old.nodes in let n = length text.now in
-        steps.new + owed_after m n result occurrences.new ≤ steps.old + owed m n last occurrences.old }
+        steps.new + owed_after m n result seeking.new ≤ steps.old + owed m n last seeking.old }
 {
-    let span = matcher.next_occurrence(text, last, occurrences, scratch, steps)?;
+    let bytes = Text::new(text);
+    let span = matcher.next_occurrence(&bytes, last, seeking, scratch, steps)?;
     if wanted {
         // Groups are decided within the span alone, and counted apart.
-        let told = matcher.groups_of(text, span.0, span.1, scratch, &mut Steps::new());
+        let told = matcher.groups_of(&bytes, span.0, span.1, scratch, &mut Steps::new());
         *groups = told;
     }
     Some(span)
@@ -225,7 +226,7 @@ fn replace(
     first: (usize, usize),
     groups: &mut Groups,
     build: &mut Space,
-    occurrences: &mut Occurrences,
+    seeking: &mut Occurrences,
     scratch: &mut Scratch,
     steps: &mut Steps,
 ) -> Result<(), Full>
@@ -235,23 +236,22 @@ fn replace(
     requires groups { GroupsOf matcher.old text.now (has_group substitution.now.replacement) (Some first) groups.old }
     requires groups_in { GroupsIn (length text.now) groups.old }
     requires more { IsTrue substitution.now.global →
-        RoomFor (length text.now) (length matcher.old.nodes) occurrences.old }
-    requires serves { Serves matcher.old text.now (Some first.1) occurrences.old }
+        RoomFor (length text.now) (length matcher.old.nodes) seeking.old }
+    requires serves { Serves matcher.old text.now (Some first.1) seeking.old }
     requires owed { let m = length matcher.old.nodes in let n = length text.now in
-        steps.old + owed m n (Some first.1) occurrences.old ≤ 2 ^ 100 }
+        steps.old + owed m n (Some first.1) seeking.old ≤ 2 ^ 100 }
     ensures appends { Appends build.old build.new
         (replaced_from text.now substitution.now.replacement 0
         (pending matcher.old text.now substitution.now.global (Some first))) result }
     ensures same { matcher.new ≡ matcher.old }
     ensures scratch { scratch.new ≡ scratch.old }
-    ensures kept { KeepsRoom occurrences.old occurrences.new }
+    ensures kept { KeepsRoom seeking.old seeking.new }
     ensures grows { steps.old ≤ steps.new }
     ensures cost { let m = length matcher.old.nodes in let n = length text.now in
-        steps.new ≤ steps.old + owed m n (Some first.1) occurrences.old }
+        steps.new ≤ steps.old + owed m n (Some first.1) seeking.old }
 {
     let parts = substitution.replacement.parts();
     let wanted = needs_groups(parts);
-    let seen = Text::new(text);
     let mut copied = 0;
     let mut occurrence = Some(first);
     'occurrences: while let Some(span) = occurrence {
@@ -262,11 +262,11 @@ fn replace(
         occurrence = if substitution.global {
             next_occurrence(
                 matcher,
-                &seen,
+                text,
                 behind,
                 wanted,
                 groups,
-                occurrences,
+                seeking,
                 scratch,
                 steps,
             )

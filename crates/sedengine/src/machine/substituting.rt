@@ -34,7 +34,7 @@ fn replace_in(
     e: usize,
     pattern: &mut Space,
     build: &mut Space,
-    occurrences: &mut Occurrences,
+    seeking: &mut Occurrences,
     scratch: &mut Scratch,
     steps: &mut Steps,
 ) -> Result<bool, Full>
@@ -45,7 +45,7 @@ fn replace_in(
     requires limits { pattern.old.limit ≡ build.old.limit }
     requires more { (t : Substitution) → slice_get script.now.substitutions k ≡ Some t → IsTrue (seeks_more t) →
         (x : Written) → slice_get matchers.old.items e ≡ Some x →
-        RoomFor scratch.old.text (length x.nodes) occurrences.old }
+        RoomFor scratch.old.text (length x.nodes) seeking.old }
     requires room { (x : Written) → slice_get matchers.old.items e ≡ Some x →
         steps.old + 512 * length x.nodes * (length pattern.old.bytes + 1) ≤ 2 ^ 100 }
     ensures replaces { (t : Substitution) → slice_get script.now.substitutions k ≡ Some t →
@@ -58,7 +58,7 @@ fn replace_in(
     ensures build { build.new.limit ≡ build.old.limit }
     ensures same { matchers.new.items ≡ matchers.old.items }
     ensures scratch { scratch.new ≡ scratch.old }
-    ensures kept { KeepsRoom occurrences.old occurrences.new }
+    ensures kept { KeepsRoom seeking.old seeking.new }
     ensures cost { (x : Written) → slice_get matchers.old.items e ≡ Some x →
         steps.new ≤ steps.old + 512 * length x.nodes * (length pattern.old.bytes + 1) }
 {
@@ -69,7 +69,7 @@ fn replace_in(
         e,
         pattern.bytes(),
         build,
-        occurrences,
+        seeking,
         scratch,
         steps,
     )?;
@@ -148,6 +148,8 @@ impl Machine {
         ensures fits { length self.new.state.pattern ≤ self.new.limits.space }
         ensures same { self.new ≡ same_but_replaced self.old self.new.state }
     {
+        // A limit is known to be within its range from its call on.
+        let _ = (self.limits.nodes(), self.limits.space());
         self.used = Some(e);
         match replace_in(
             &self.script,
@@ -156,7 +158,7 @@ impl Machine {
             e,
             &mut self.pattern,
             &mut self.build,
-            &mut self.occurrences,
+            &mut self.seeking,
             &mut self.scratch,
             &mut Steps::new(),
         ) {

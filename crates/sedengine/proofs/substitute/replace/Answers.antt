@@ -1,4 +1,4 @@
-use Rattle.std.proofs.Common.{◌-◌, ◌∙◌, Bool, Err, ap, drop, length, refl, subst, take}
+use Rattle.std.proofs.Common.{arith, ◌-◌, ◌∙◌, Bool, Err, ap, drop, length, refl, subst, take}
 use Rattle.std.specs.Prelude.{slice_range}
 use Rattle.sedengine.specs.Replacing.{GroupsOf, has_group}
 use Rattle.sedengine.proofs.Due.{appended, due_behind, due_cut, due_full, due_next, due_rest}
@@ -49,6 +49,13 @@ occurrences-preserved-then-substitution c =
     record {
       matcher = next.ensures.same ∙ i.matcher;
       scratch = next.ensures.scratch ∙ i.scratch;
+      kept = λ text nodes has. next.ensures.kept text nodes (i.kept text nodes has);
+      serves = rw i.matcher at next.ensures.serves;
+      grows = omega (arith, i.grows, next.ensures.grows);
+      cost =
+          let paid = rw i.matcher at next.ensures.cost in
+          let before = rw c.in-Some.is at i.cost in
+          omega (arith, paid, before);
       limit = due.0;
       copied = lies.2;
       lies = lies_on (length w) span.1 next.result next.ensures.lies;
@@ -73,6 +80,10 @@ occurrences-preserved c =
     record {
       matcher = i.matcher;
       scratch = i.scratch;
+      kept = i.kept;
+      serves = tt;
+      grows = i.grows;
+      cost = (let before = i.cost in omega (arith, before));
       limit = due.0;
       copied = lies.2;
       lies = tt;
@@ -93,3 +104,8 @@ returns-clause-appends c =
     due_rest c.args.build.now l.build new _ c.args.matcher.now w s.replacement s.global l.copied l.occurrence
     c.append-2.result c.in_default.is (i.limit, i.made)
     (appended l.build new rest rest c.append-2.result refl a.ok a.full a.err)
+
+pub next_occurrence-occurrence-requires-clause-more : goal.next_occurrence-occurrence-requires-clause-more
+next_occurrence-occurrence-requires-clause-more c =
+    let i = c.occurrences.invariant in
+    rw i.matcher (i.kept _ _ (c.requires.more c.if-substitution.true))

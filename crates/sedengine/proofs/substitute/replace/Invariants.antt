@@ -1,5 +1,6 @@
 use Rattle.std.proofs.Common.{◌≡◌, ◌≤◌, ℕ, ◌+◌, ◌-◌, ◌++◌, Option, Some, None, length}
 use Rattle.std.specs.Prelude.{IfSome}
+use Rattle.sedmatch.specs.Occurrences.{KeepsRoom, Serves, owed, owed_after}
 use Rattle.sedengine.specs.Substitute.{replaced_from}
 use Rattle.sedengine.specs.Replacing.{GroupsIn, GroupsOf, has_group, pending}
 use Rattle.sedengine.proofs.substitute.replace.Given as goal
@@ -8,6 +9,11 @@ abbrev pub invariant-occurrences : goal.invariant-occurrences
 invariant-occurrences l = record {
   matcher : l.matcher ≡ l.fn.matcher;
   scratch : l.scratch ≡ l.fn.scratch;
+  kept : KeepsRoom l.fn.seeking l.seeking;
+  serves : IfSome l.occurrence (λ f. Serves l.fn.matcher l.text (Some f.1) l.seeking);
+  grows : l.fn.steps ≤ l.steps;
+  cost : l.steps + owed_after (length l.fn.matcher.nodes) (length l.text) l.occurrence l.seeking
+      ≤ l.fn.steps + owed (length l.fn.matcher.nodes) (length l.text) (Some l.fn.first.1) l.fn.seeking;
   limit : l.build.limit ≡ l.fn.build.limit;
   copied : l.copied ≤ length l.text;
   lies : IfSome l.occurrence (λ span. (l.copied ≤ span.0) × (span.0 ≤ span.1) × (span.1 ≤ length l.text));

@@ -1,4 +1,5 @@
-use Rattle.std.proofs.Common.{◌≡◌, ℕ, None, arith}
+use Rattle.std.proofs.Common.{◌≡◌, ℕ, None, length, arith}
+use Rattle.sedengine.proofs.Fitting.{room_if}
 use Rattle.sedengine.proofs.Occurrences.{ends_in, skips_none, skips_one}
 use Rattle.sedengine.proofs.substitute.skip.Goals as goal
 
@@ -16,7 +17,23 @@ occurrences-preserved c =
     record {
       matcher = cc;
       scratch = cc;
+      none = λ zero. absurd (omega (arith, zero));
+      kept = λ text nodes has. c.in_ok-end.ensures.kept text nodes (l.invariant.kept text nodes has);
+      serves = rw l.invariant.matcher at c.in_ok-end.ensures.serves;
+      grows = omega (arith, l.invariant.grows, c.in_ok-end.ensures.grows);
+      cost = (let paid = rw l.invariant.matcher at c.in_ok-end.ensures.cost in omega (arith, paid, l.invariant.cost));
       last = ends_in _ l.last span c.in_ok-end.ensures.lies;
       behind = skips_one c.args.matcher.now c.args.text.now l.last l.counter span l.invariant.last l.invariant.behind
           (rw l.invariant.matcher at c.in_ok-end.ensures.next);
     }
+
+pub next_occurrence-requires-clause-more : goal.next_occurrence-requires-clause-more
+next_occurrence-requires-clause-more c =
+    let l = c.occurrences in
+    let w = c.args.text.now in
+    rw l.invariant.matcher
+    (room_if (length w) (length c.args.matcher.now.nodes) l.last l.seeking (l.invariant.kept _ _ (c.requires.more (omega arith))))
+
+pub returns-in_err-end-clause-kept : goal.returns-in_err-end-clause-kept
+returns-in_err-end-clause-kept c = λ text nodes has.
+    c.in_err-end.ensures.kept text nodes (c.occurrences.invariant.kept text nodes has)

@@ -1,4 +1,5 @@
-use Rattle.std.proofs.Common.{◌≡◌, length, drop, None}
+use Rattle.std.proofs.Common.{◌≡◌, ◌+◌, ◌*◌, ◌≤◌, length, drop, None}
+use Rattle.sedmatch.specs.Occurrences.{KeepsRoom, Serves, owed}
 use Rattle.sedengine.specs.Replacing.{EndsIn, occurrences_behind}
 use Rattle.sedengine.proofs.substitute.skip.Given as goal
 
@@ -7,5 +8,11 @@ invariant-occurrences l = record {
   matcher : l.matcher ≡ l.fn.matcher;
   scratch : l.scratch ≡ l.fn.scratch;
   last : EndsIn (length l.text) l.last;
+  none : l.counter ≡ 0 → l.last ≡ None;
+  kept : KeepsRoom l.fn.seeking l.seeking;
+  serves : Serves l.fn.matcher l.text l.last l.seeking;
+  grows : l.fn.steps ≤ l.steps;
+  cost : l.steps + owed (length l.fn.matcher.nodes) (length l.text) l.last l.seeking
+      ≤ l.fn.steps + 512 * length l.fn.matcher.nodes * (length l.text + 1);
   behind : drop l.counter (occurrences_behind l.fn.matcher l.text None) ≡ occurrences_behind l.fn.matcher l.text l.last;
 }

@@ -1,4 +1,5 @@
-use Rattle.std.proofs.Common.{Some, None, arith}
+use Rattle.std.proofs.Common.{Some, None, length, arith}
+use Rattle.sedengine.proofs.Fitting.{more_of_all, more_of_later, room_later}
 use Rattle.sedengine.specs.Replacing.{pending}
 use Rattle.sedengine.proofs.Due.{chosen_is, replaces_full, replaces_made}
 use Rattle.sedengine.proofs.substitute.substitute.Goals as goal
@@ -31,3 +32,41 @@ returns-clause-replaces c =
     (rw c.in-Some.ensures.same at c.in-Some-next_occurrence.ensures.next) in
     replaces_made w s.replacement _ (pending e w s.global first) c.args.build.now c.clear.new.self c.replace.new.build
     same (omega arith) c.clear.ensures (rw (c.in-Some-next_occurrence.ensures.same, c.in-Some.ensures.same) at c.in_ok-replace.ensures.appends)
+
+pub skip-requires-clause-more : goal.skip-requires-clause-more
+skip-requires-clause-more c = λ some.
+    c.begin.ensures.room _ _ (c.requires.more (more_of_later c.args.substitution.now (omega (arith, some))))
+
+pub skip-requires-clause-serves : goal.skip-requires-clause-serves
+skip-requires-clause-serves c = c.begin.ensures.serves c.args.matcher.now c.args.text.now
+
+pub returns-in_default-clause-kept : goal.returns-in_default-clause-kept
+returns-in_default-clause-kept c = λ text nodes has.
+    c.in_default.ensures.kept text nodes (c.begin.ensures.room text nodes has)
+
+pub next_occurrence-requires-clause-more : goal.next_occurrence-requires-clause-more
+next_occurrence-requires-clause-more c =
+    rw c.in-Some.ensures.same
+    (room_later c.args.substitution.now (length c.args.text.now) (length c.args.matcher.now.nodes) c.in-Some.last c.skip.new.seeking
+    (λ first. let none = c.in-Some.ensures.none first in cc)
+    (λ more. c.in-Some.ensures.kept _ _ (c.begin.ensures.room _ _ (c.requires.more more))))
+
+pub returns-in_default-next_occurrence-clause-kept : goal.returns-in_default-next_occurrence-clause-kept
+returns-in_default-next_occurrence-clause-kept c = λ text nodes has.
+    c.in_default-next_occurrence.ensures.kept text nodes (c.in-Some.ensures.kept text nodes (c.begin.ensures.room text nodes has))
+
+pub replace-requires-clause-more : goal.replace-requires-clause-more
+replace-requires-clause-more c = λ all.
+    rw (c.in-Some-next_occurrence.ensures.same, c.in-Some.ensures.same)
+    (c.in-Some-next_occurrence.ensures.kept _ _ (c.in-Some.ensures.kept _ _ (c.begin.ensures.room _ _
+    (c.requires.more (more_of_all c.args.substitution.now all)))))
+
+pub returns-in_err-replace-clause-kept : goal.returns-in_err-replace-clause-kept
+returns-in_err-replace-clause-kept c = λ text nodes has.
+    c.in_err-replace.ensures.kept text nodes (c.in-Some-next_occurrence.ensures.kept text nodes
+    (c.in-Some.ensures.kept text nodes (c.begin.ensures.room text nodes has)))
+
+pub returns-clause-kept : goal.returns-clause-kept
+returns-clause-kept c = λ text nodes has.
+    c.in_ok-replace.ensures.kept text nodes (c.in-Some-next_occurrence.ensures.kept text nodes
+    (c.in-Some.ensures.kept text nodes (c.begin.ensures.room text nodes has)))

@@ -1,15 +1,50 @@
-use Rattle.std.proofs.Common.{◌∙◌, ap, true}
+use Rattle.std.proofs.Common.{◌≡◌, ◌<◌, ◌∙◌, List, Some, length, ap, sym, subst, true, arith}
+use Rattle.std.specs.Prelude.{slice_get}
+use Rattle.std.proofs.lemmas.Option.{get_or_from_slice_get, slice_get_within}
+use Rattle.sedre.specs.Arena.{Written}
+use Rattle.sedmatch.proofs.OccurrenceLemmas.{few_places}
 use Rattle.sedengine.specs.Ends.{comes}
 use Rattle.sedengine.specs.Run.{Run, at_lines}
-use Rattle.sedengine.proofs.Fitting.{sought, sought_at, sought_fit}
+use Rattle.sedengine.proofs.Fitting.{fits_at, sought, sought_at, sought_fit}
 use Rattle.sedengine.proofs.Substituting.{makes_full, makes_none, makes_some, replaced_is_run}
 use Rattle.sedengine.proofs.machine.Machine.replace_by.Goals as goal
 
 pub invariant_of-self : goal.invariant_of-self
 invariant_of-self c =
     let w = c.replace_in.ensures in
-    replaced_is_run c.self.inside c.replace_in.new.pattern c.replace_in.new.build c.replace_in.new.scratch c.replace_in.new.matchers c.args.e true c.self.invariant
-    (ap (λ (e : Run). comes e.state.tasks) c.self.view_is ∙ c.requires.at) (let same = ap (λ (e : Run). e.script) c.self.view_is in rw same c.requires.expression) w.pattern w.fits w.build w.scratch w.same
+    replaced_is_run c.self.inside c.replace_in.new.pattern c.replace_in.new.build c.replace_in.new.scratch c.replace_in.new.seeking c.replace_in.new.matchers c.args.e true c.self.invariant
+    (ap (λ (e : Run). comes e.state.tasks) c.self.view_is ∙ c.requires.at) (let same = ap (λ (e : Run). e.script) c.self.view_is in rw same c.requires.expression) w.pattern w.fits w.build w.scratch w.kept w.same
+
+pub invariant_of-self-in-Ok-false : goal.invariant_of-self-in-Ok-false
+invariant_of-self-in-Ok-false c =
+    let w = c.replace_in.ensures in
+    replaced_is_run c.self.inside c.replace_in.new.pattern c.replace_in.new.build c.replace_in.new.scratch c.replace_in.new.seeking c.replace_in.new.matchers c.args.e c.self.inside.replaced c.self.invariant
+    (ap (λ (e : Run). comes e.state.tasks) c.self.view_is ∙ c.requires.at) (let same = ap (λ (e : Run). e.script) c.self.view_is in rw same c.requires.expression) w.pattern w.fits w.build w.scratch w.kept w.same
+
+pub invariant_of-self-in-Err : goal.invariant_of-self-in-Err
+invariant_of-self-in-Err c =
+    let w = c.replace_in.ensures in
+    replaced_is_run c.self.inside c.replace_in.new.pattern c.replace_in.new.build c.replace_in.new.scratch c.replace_in.new.seeking c.replace_in.new.matchers c.args.e c.self.inside.replaced c.self.invariant
+    (ap (λ (e : Run). comes e.state.tasks) c.self.view_is ∙ c.requires.at) (let same = ap (λ (e : Run). e.script) c.self.view_is in rw same c.requires.expression) w.pattern w.fits w.build w.scratch w.kept w.same
+
+pub replace_in-requires-clause-more : goal.replace_in-requires-clause-more
+replace_in-requires-clause-more c = λ t is more x at.
+    let a = c.self.inside in
+    let same = ap (λ (e : Run). e.script) c.self.view_is in
+    let inside : c.args.e < length a.script.expressions = rw same c.requires.expression in
+    let there = subst (λ (xs : List Written). slice_get xs c.args.e ≡ Some x)
+        (sought a.script.expressions a.limits.nodes a.matchers.items c.self.invariant.matchers) at in
+    rw (c.self.invariant.scratch_text (omega arith)) (c.self.invariant.seeking c.args.k t is more c.args.e x there)
+
+pub replace_in-requires-clause-room : goal.replace_in-requires-clause-room
+replace_in-requires-clause-room c = λ x at.
+    let a = c.self.inside in
+    let ms = a.matchers.items in
+    let fit = fits_at a.limits.nodes ms c.args.e x (slice_get_within ms c.args.e x at) (sym (get_or_from_slice_get ms c.args.e x x at))
+        (sought_fit a.script.expressions a.limits.nodes ms c.self.invariant.matchers) in
+    let few = few_places (length x.nodes) (length a.pattern.bytes) (omega (arith, fit, c.nodes.ensures.most, c.nodes.ensures.value))
+        (omega (arith, c.self.invariant.pattern, c.space.ensures.most, c.space.ensures.value)) in
+    omega (arith, few)
 
 pub returns-in-Err-clause-makes : goal.returns-in-Err-clause-makes
 returns-in-Err-clause-makes c = λ t is files ls.
