@@ -46,7 +46,7 @@ abbrev pub owed_met : ℕ → ℕ → ℕ → Occurrences → ℕ
 owed_met m n q o = 79 * m * (n + 1 - q) + blocks_cost m o.behind
 
 abbrev pub owed_apart : ℕ → ℕ → ℕ → ℕ
-owed_apart m n spent = if nat_lt (128 * m * (n + 1)) spent then 128 * m * (n + 1) else 512 * m * (n + 1) - spent
+owed_apart m n spent = if nat_lt (32 * m * (n + 1)) spent then 128 * m * (n + 1) else 416 * m * (n + 1) - spent
 
 abbrev pub owed_together : ℕ → ℕ → ℕ → Occurrences → ℕ
 owed_together m n q o = if o.met then owed_met m n q o else 128 * m * (n + 1)

@@ -18,9 +18,9 @@ use std::alloc::{AllocError, Global};
 /// How the searches for all occurrences in one text go on.
 ///
 /// A search may look far past the match that it finds, so that one after another they could cost steps in the square of
-/// the text's length. So the steps that they take are counted. Once there are more than 128 for each node and place,
+/// the text's length. So the steps that they take are counted. Once there are more than 32 for each node and place,
 /// one pass from the text's end is made, after which a search looks no further than to its own match's end. Most texts
-/// never come to that. All searches in one text together take at most 512 steps for each node and place, whatever the
+/// never come to that. All searches in one text together take at most 416 steps for each node and place, whatever the
 /// expression and the text.
 ///
 /// All room is taken in [`Occurrences::new`]: a bit for each byte of the longest text, and twice the root of its length
@@ -38,10 +38,10 @@ pub struct Occurrences {
 fn allowance(nodes: usize, len: usize) -> u128
     requires nodes { nodes ≤ 65536 }
     requires len { len ≤ 2 ^ 30 }
-    ensures value { result ≡ 128 * nodes * (len + 1) }
+    ensures value { result ≡ 32 * nodes * (len + 1) }
     ensures small { result ≤ 2 ^ 60 }
 {
-    128 * nodes as u128 * (len as u128 + 1)
+    32 * nodes as u128 * (len as u128 + 1)
 }
 
 impl Occurrences {
@@ -64,7 +64,7 @@ impl Occurrences {
     pub fn begin(&mut self)
         ensures room { KeepsRoom self.old self.new }
         ensures serves { (e : Written) (w : List ℕ) → Serves e w None self.new }
-        ensures owed { (m n : ℕ) → owed m n None self.new ≡ 512 * m * (n + 1) }
+        ensures owed { (m n : ℕ) → owed m n None self.new ≡ 416 * m * (n + 1) }
     {
         self.spent = 0;
         self.met = false;
@@ -151,7 +151,7 @@ impl TableMatcher {
         requires text_fits { length text.now ≤ scratch.old.text }
         requires expr_fits { length self.old.nodes ≤ scratch.old.nodes }
         requires met { occurrences.old.met ≡ false }
-        requires spent { occurrences.old.spent ≤ 128 * length self.old.nodes * (length text.now + 1) }
+        requires spent { occurrences.old.spent ≤ 32 * length self.old.nodes * (length text.now + 1) }
         requires room { steps.old ≤ 2 ^ 100 }
         ensures same { self.new ≡ self.old }
         ensures scratch { scratch.new ≡ scratch.old }
@@ -214,7 +214,7 @@ impl TableMatcher {
     /// The next occurrence in the text behind the one that ended at `last`, where there was one: the leftmost-longest
     /// match from there on, or one byte further where that is the null string at `last`.
     ///
-    /// All calls for one text, from [`Occurrences::begin`] on, take at most 512 steps for each node and place together.
+    /// All calls for one text, from [`Occurrences::begin`] on, take at most 416 steps for each node and place together.
     pub fn next_occurrence(
         &mut self,
         text: &Text,
