@@ -41,7 +41,7 @@ pub(crate) fn substitute_by(
     requires more { IsTrue (seeks_more substitution.now) → (x : Written) → slice_get matchers.old.items e ≡ Some x →
         RoomFor (length text.now) (length x.nodes) seeking.old }
     requires room { (x : Written) → slice_get matchers.old.items e ≡ Some x →
-        steps.old + 512 * length x.nodes * (length text.now + 1) ≤ 2 ^ 100 }
+        steps.old + 416 * length x.nodes * (length text.now + 1) ≤ 2 ^ 100 }
     ensures replaces { Replaces text.now substitution.now.replacement
         (chosen substitution.now.number substitution.now.global
         (occurrences (search_in matchers.old.items e text.now) (length text.now)))
@@ -52,7 +52,7 @@ pub(crate) fn substitute_by(
     ensures kept { KeepsRoom seeking.old seeking.new }
     ensures grows { steps.old ≤ steps.new }
     ensures cost { (x : Written) → slice_get matchers.old.items e ≡ Some x →
-        steps.new ≤ steps.old + 512 * length x.nodes * (length text.now + 1) }
+        steps.new ≤ steps.old + 416 * length x.nodes * (length text.now + 1) }
 {
     let matcher = &mut matchers[e];
     substitute(substitution, matcher, text, build, seeking, scratch, steps)
@@ -74,7 +74,7 @@ fn substitute(
     requires number { 1 ≤ substitution.now.number }
     requires more { IsTrue (seeks_more substitution.now) →
         RoomFor (length text.now) (length matcher.old.nodes) seeking.old }
-    requires room { steps.old + 512 * length matcher.old.nodes * (length text.now + 1) ≤ 2 ^ 100 }
+    requires room { steps.old + 416 * length matcher.old.nodes * (length text.now + 1) ≤ 2 ^ 100 }
     ensures replaces { Replaces text.now substitution.now.replacement
         (chosen substitution.now.number substitution.now.global
         (occurrences (search_for (Some matcher.old) text.now) (length text.now)))
@@ -84,7 +84,7 @@ fn substitute(
     ensures scratch { scratch.new ≡ scratch.old }
     ensures kept { KeepsRoom seeking.old seeking.new }
     ensures grows { steps.old ≤ steps.new }
-    ensures cost { steps.new ≤ steps.old + 512 * length matcher.old.nodes * (length text.now + 1) }
+    ensures cost { steps.new ≤ steps.old + 416 * length matcher.old.nodes * (length text.now + 1) }
 {
     seeking.begin();
     let skipped = substitution.number - 1;
@@ -134,8 +134,8 @@ fn skip(
     requires more { 0 < count → RoomFor (length text.now) (length matcher.old.nodes) seeking.old }
     requires serves { Serves matcher.old text.now None seeking.old }
     requires owed { owed (length matcher.old.nodes) (length text.now) None seeking.old
-        ≡ 512 * length matcher.old.nodes * (length text.now + 1) }
-    requires room { steps.old + 512 * length matcher.old.nodes * (length text.now + 1) ≤ 2 ^ 100 }
+        ≡ 416 * length matcher.old.nodes * (length text.now + 1) }
+    requires room { steps.old + 416 * length matcher.old.nodes * (length text.now + 1) ≤ 2 ^ 100 }
     ensures skips { Skips matcher.old text.now count result }
     ensures none { count ≡ 0 → result ≡ Some None }
     ensures same { matcher.new ≡ matcher.old }
@@ -144,8 +144,8 @@ fn skip(
     ensures serves { IfSome result (λ last. Serves matcher.old text.now last seeking.new) }
     ensures grows { steps.old ≤ steps.new }
     ensures cost { let m = length matcher.old.nodes in let n = length text.now in
-        IfSome result (λ last. steps.new + owed m n last seeking.new ≤ steps.old + 512 * m * (n + 1)) }
-    ensures cost_of_none { IfNone result (steps.new ≤ steps.old + 512 * length matcher.old.nodes * (length text.now + 1)) }
+        IfSome result (λ last. steps.new + owed m n last seeking.new ≤ steps.old + 416 * m * (n + 1)) }
+    ensures cost_of_none { IfNone result (steps.new ≤ steps.old + 416 * length matcher.old.nodes * (length text.now + 1)) }
 {
     let mut last = None;
     'occurrences: for _ in 0..count {

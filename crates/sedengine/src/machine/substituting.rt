@@ -47,7 +47,7 @@ fn replace_in(
         (x : Written) → slice_get matchers.old.items e ≡ Some x →
         RoomFor scratch.old.text (length x.nodes) seeking.old }
     requires room { (x : Written) → slice_get matchers.old.items e ≡ Some x →
-        steps.old + 512 * length x.nodes * (length pattern.old.bytes + 1) ≤ 2 ^ 100 }
+        steps.old + 416 * length x.nodes * (length pattern.old.bytes + 1) ≤ 2 ^ 100 }
     ensures replaces { (t : Substitution) → slice_get script.now.substitutions k ≡ Some t →
         ReplacesIn t (chosen t.number t.global
         (occurrences (search_in matchers.old.items e pattern.old.bytes) (length pattern.old.bytes)))
@@ -60,7 +60,7 @@ fn replace_in(
     ensures scratch { scratch.new ≡ scratch.old }
     ensures kept { KeepsRoom seeking.old seeking.new }
     ensures cost { (x : Written) → slice_get matchers.old.items e ≡ Some x →
-        steps.new ≤ steps.old + 512 * length x.nodes * (length pattern.old.bytes + 1) }
+        steps.new ≤ steps.old + 416 * length x.nodes * (length pattern.old.bytes + 1) }
 {
     let substitution = script.substitution(k);
     let replaced = substitute_by(

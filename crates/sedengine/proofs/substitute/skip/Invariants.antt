@@ -13,6 +13,6 @@ invariant-occurrences l = record {
   serves : Serves l.fn.matcher l.text l.last l.seeking;
   grows : l.fn.steps ≤ l.steps;
   cost : l.steps + owed (length l.fn.matcher.nodes) (length l.text) l.last l.seeking
-      ≤ l.fn.steps + 512 * length l.fn.matcher.nodes * (length l.text + 1);
+      ≤ l.fn.steps + 416 * length l.fn.matcher.nodes * (length l.text + 1);
   behind : drop l.counter (occurrences_behind l.fn.matcher l.text None) ≡ occurrences_behind l.fn.matcher l.text l.last;
 }
