@@ -1,7 +1,5 @@
 -- What a call does with a script's text over bytes in memory (this project's own).
 use Rattle.std.specs.Prelude.{◌≡◌, ◌≢◌, ◌<◌, ◌≤◌, ◌⊎◌, ◌||◌, ◌==◌, not, ℕ, Bool, true, false, List, [], length, Some, bit_and}
-use Rattle.sedre.specs.declared.types.Kind.{Kind}
-use Rattle.sedre.specs.declared.types.Kind.TheVariants.{Basic, Extended}
 use Rattle.sedscript.specs.Script.{Faulty, Means, Program}
 use Rattle.sedscript.specs.declared.types.ScriptFault.{ScriptFault}
 use Rattle.sedengine.specs.Limits.{AreLimits, Limits, limits_of}
@@ -12,6 +10,7 @@ use Rattle.sedengine.specs.Run.{setting_of}
 use Rattle.sedengine.specs.declared.ends.Ended.{Ended}
 use Rattle.sedengine.specs.declared.ends.Ended.TheVariants.{Done}
 use Rattle.sededit.specs.Editing.{GainsAll, GainsBeginning, start_over}
+use Rattle.sededit.specs.Program.{kind_with}
 use Rattle.csed.specs.declared.asked.Asked.{Asked}
 use Rattle.csed.specs.declared.asked.SedLimits.{SedLimits}
 use Rattle.csed.specs.declared.outcome.SedReport.{SedReport}
@@ -21,11 +20,6 @@ use Rattle.csed.specs.Reports.{cause_of, of_end, of_fault, of_files}
 abbrev pub has : ℕ → ℕ → Bool
 has flags flag = not (bit_and flags flag == 0)
 
--- the kind of a script's expressions: extended where that is asked for
-abbrev pub kind_for : Bool → Kind
-kind_for true = Extended
-kind_for false = Basic
-
 -- the limits that are told
 abbrev pub limits_told : SedLimits → Limits
 limits_told l = limits_of l.space l.queue l.look l.turns l.nodes
@@ -33,7 +27,7 @@ limits_told l = limits_of l.space l.queue l.look l.turns l.nodes
 -- what flags and limits ask for: flag 1 chooses extended expressions, as -E does, and flag 2 suppresses default output, as
 -- -n does (XCU sed, "Options")
 abbrev pub asked_by : ℕ → SedLimits → Asked
-asked_by flags l = record { kind = kind_for (has flags 1); quiet = has flags 2; limits = limits_told l }
+asked_by flags l = record { kind = kind_with (has flags 1); quiet = has flags 2; limits = limits_told l }
 
 -- no flag is set but the two, and each limit is in its range
 pub record MayAsk (flags : ℕ) (l : SedLimits) : Type 0 where

@@ -1,7 +1,8 @@
 //! What a caller asks for.
 ghost use Rattle.std.specs.Prelude.{◌≡◌, IfNone, IfSome};
-ghost use Rattle.csed.specs.Calls.{MayAsk, MayNotAsk, asked_by, kind_for};
+ghost use Rattle.csed.specs.Calls.{MayAsk, MayNotAsk, asked_by};
 
+use sededit::kind_with;
 use sedengine::Limits;
 use sedscript::Kind;
 
@@ -54,19 +55,8 @@ pub(crate) fn asked_by(flags: u32, limits: &SedLimits) -> Option<Asked>
         limits.nodes,
     )?;
     Some(Asked {
-        kind: kind_for(flags & SED_EXTENDED != 0),
+        kind: kind_with(flags & SED_EXTENDED != 0),
         quiet: flags & SED_QUIET != 0,
         limits: within,
     })
-}
-
-/// The kind of expressions.
-fn kind_for(extended: bool) -> Kind
-    ensures { result ≡ kind_for extended }
-{
-    if extended {
-        Kind::Extended
-    } else {
-        Kind::Basic
-    }
 }

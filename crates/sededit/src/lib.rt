@@ -28,4 +28,5 @@ pub use memory_names::MemoryNames;
 pub use memory_sinks::MemorySinks;
 pub use names::Names;
 pub use program::command;
+pub use reading::kind_with;
 pub use sinks::Sinks;

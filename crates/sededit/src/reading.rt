@@ -32,8 +32,8 @@ impl<'a> From<AllocError> for NoScript<'a> {
     }
 }
 
-/// The kind of a script's expressions, with -E or without it.
-fn expressions(extended: bool) -> Kind
+/// The kind of a script's expressions: extended ones with the option -E, basic ones without it (XCU sed, "Options").
+pub fn kind_with(extended: bool) -> Kind
     ensures { result ≡ kind_with extended }
 {
     if extended {
@@ -97,7 +97,7 @@ pub(crate) fn read_script<'a, I: Inputs>(
         return Err(NoScript::NotGiven);
     }
     let text = text_of(alloc, line.parts.as_slice(), inputs)?;
-    match script(alloc, text.as_slice(), expressions(line.extended), nodes) {
+    match script(alloc, text.as_slice(), kind_with(line.extended), nodes) {
         Ok(mut program) => {
             if line.quiet {
                 program.set_quiet();
