@@ -58,6 +58,7 @@ const NO_ADDRESSES: Addresses = Addresses {
 };
 
 /// The addresses that are kept in this way.
+#[inline]
 fn addresses_of(heads: &[Addresses], given: Given, head: u64) -> Addresses
     requires { IsGiven (length heads.now) given head }
     ensures { result ≡ addresses_of heads.now given head }
@@ -77,6 +78,7 @@ fn addresses_of(heads: &[Addresses], given: Given, head: u64) -> Addresses
 }
 
 /// The function that is kept in this way.
+#[inline]
 fn function_of(longs: &[Function], function: Brief, from: usize, to: usize) -> Function
     requires { IsBrief (length longs.now) function from }
     ensures { result ≡ function_of longs.now function from to }
@@ -219,6 +221,7 @@ impl Items {
     }
 
     /// The item of an index.
+    #[inline]
     pub fn get(&self, k: usize) -> Item
         requires { k < length self.now }
         ensures is { slice_get self.now k ≡ Some result }

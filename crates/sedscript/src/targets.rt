@@ -129,14 +129,15 @@ fn pass_back(
 }
 
 /// For each block the number of the command behind its end, none where it isn't closed.
-fn ends_of(alloc: Global, items: &Items) -> Result<Vec<Option<usize>>, AllocError>
+fn ends_of(alloc: Global, items: &Items, commands: usize) -> Result<Vec<Option<usize>>, AllocError>
+    requires { commands ≡ commands_in items.now }
     ensures { IfOk result (λ ends. ends.items ≡ ends_in 0 items.now) }
 {
     let mut blocks = blocks_in(items);
     let mut ends = Vec::new(alloc);
     ends.resize(blocks, None)?;
     let mut unopened = Vec::new(alloc);
-    let mut n = commands_in(items);
+    let mut n = commands;
     let mut k = items.len();
     'items: while k > 0 {
         k -= 1;
@@ -235,11 +236,12 @@ pub fn targets_of<'a>(
     ensures { IfOk result (λ t. TargetsAre text.now items.now t.labels t.ends.items t.commands) }
 {
     let labels = labels_of(alloc, text, items)?;
-    let ends = ends_of(alloc, items)?;
+    let commands = commands_in(items);
+    let ends = ends_of(alloc, items, commands)?;
     Ok(Targets {
         labels,
         ends,
-        commands: commands_in(items),
+        commands,
     })
 }
 
