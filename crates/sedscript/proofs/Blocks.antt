@@ -1,14 +1,13 @@
 -- The table of blocks.
-use Rattle.std.proofs.Common.{◌≡◌, ◌≢◌, ℕ, zero, suc, ◌+◌, ◌-◌, ◌<◌, ◌&&◌, ◌==◌, true, false, List, [], ◌∷◌, length, take, drop, get_or, Option, Some, None, refl, sym, ap, subst, ◌∙◌, arith, inl, inr, if◌then◌else◌, slice_get, drop-cons, drop_of_length-le, slice_set, length-set}
-use Rattle.std.proofs.lemmas.Option.{slice_get-get_or, slice_get_within, get_or_from_slice_get}
-use Rattle.std.proofs.lemmas.List.{take_more, get_or-set_same, get_or-set_other}
-use Rattle.sedscript.proofs.Labels.{commands_snoc}
+use Rattle.std.proofs.Common.{◌≡◌, ℕ, zero, suc, ◌+◌, ◌-◌, ◌<◌, ◌≤◌, ◌&&◌, ◌==◌, Bool, true, false, List, [], ◌∷◌, ◌++◌, length, take, drop, Option, Some, None, refl, sym, ap, ◌∙◌, arith, inl, inr, unwrap_or, if◌then◌else◌, slice_get, drop_of_length-le}
+use Rattle.std.proofs.lemmas.Option.{slice_get_within}
+use Rattle.sedscript.proofs.Labels.{take_item, drop_item, counted_in}
 use Rattle.std.proofs.lemmas.Bool.Decides.{eqb_tells}
 use Rattle.sedscript.specs.declared.items.Item.{Item}
 use Rattle.sedscript.specs.declared.items.Function.{Function}
 use Rattle.sedscript.specs.declared.items.Function.TheVariants.{Open, Close}
 use Rattle.sedscript.specs.Targets.{counted, commands_in, is_open, is_close, close_in, depth_behind, block_end, leaves}
-use Rattle.sedscript.specs.Tables.{unopened, unopened_by, tail, first, reversed, EndsFrom}
+use Rattle.sedscript.specs.Tables.{unopened, unopened_by, tail, first, reversed, opened, blocks_in, with_end, ends_in}
 
 tail_get : (us : List ℕ) (d : ℕ) → slice_get us (suc d) ≡ slice_get (tail us) d
 tail_get [] d = refl
@@ -37,53 +36,105 @@ pub close_first : (n : ℕ) (is : List Item) → close_in 0 n is ≡ first (unop
 close_first n is = close_is 0 n is ∙ first_get (unopened n is)
 
 -- the stack one item further back
-pub unopened_step : (items : List Item) (k n next : ℕ) (d : Item) → k < length items → n ≡ counted next (get_or items k d) →
-    unopened_by next (get_or items k d).function (unopened n (drop (k + 1) items)) ≡ unopened next (drop k items)
-unopened_step items k n next d h e =
-    let i : Item = get_or items k d in
-    let one : k + 1 ≡ suc k = omega arith in
-    ap (λ (m : ℕ). unopened_by next i.function (unopened m (drop (k + 1) items))) e
-    ∙ (ap (λ (z : ℕ). unopened_by next i.function (unopened (counted next i) (drop z items))) one
-    ∙ sym (ap (unopened next) (drop-cons items k d h)))
-
-get_set_same : (xs : List (Option ℕ)) (k : ℕ) (x : Option ℕ) → k < length xs → slice_get (slice_set xs k x) k ≡ Some x
-get_set_same xs k x h =
-    slice_get-get_or (slice_set xs k x) k None (omega (arith, h, length-set xs k x)) ∙ ap (λ (y : Option ℕ). Some y) (get_or-set_same xs k x None h)
-
-get_set_other : (xs : List (Option ℕ)) (j k : ℕ) (x : Option ℕ) → j < length xs → j ≢ k → slice_get (slice_set xs k x) j ≡ slice_get xs j
-get_set_other xs j k x h n =
-    slice_get-get_or (slice_set xs k x) j None (omega (arith, h, length-set xs k x))
-    ∙ (ap (λ (y : Option ℕ). Some y) (get_or-set_other xs k j x None n) ∙ sym (slice_get-get_or xs j None h))
-
--- the table one item further back
-pub ends_step : (items : List Item) (k n : ℕ) (d : Item) (ends : List (Option ℕ)) (end : Option ℕ) → k < length items → length ends ≡ length items → n ≡ commands_in (take (k + 1) items) →
-    EndsFrom items (k + 1) ends → (is_open (get_or items k d).function ≡ true → end ≡ first (unopened n (drop (k + 1) items))) → EndsFrom items k (slice_set ends k end)
-ends_step items k n d ends end h long e below new = λ j i from is opens.
-    elim (eqb_tells j k) [
-      | inl s ↦ subst (λ (z : ℕ). slice_get (slice_set ends k end) z ≡ Some (close_in 0 (commands_in (take (z + 1) items)) (drop (z + 1) items))) (sym s.1) (here i (ap (slice_get items) (sym s.1) ∙ is) opens)
-      | inr s ↦ get_set_other ends j k end (omega (arith, long, slice_get_within items j i is)) s.1 ∙ below j i (omega (arith, from, s.1)) is opens
-    ]
-  where
-    here : (i : Item) → slice_get items k ≡ Some i → is_open i.function ≡ true → slice_get (slice_set ends k end) k ≡ Some (close_in 0 (commands_in (take (k + 1) items)) (drop (k + 1) items))
-    here i is opens =
-        let same : get_or items k d ≡ i = get_or_from_slice_get items k i d is in
-        get_set_same ends k end (omega (arith, long, h))
-        ∙ ap (λ (y : Option ℕ). Some y) (new (ap (λ (y : Item). is_open y.function) same ∙ opens) ∙ (sym (close_first n (drop (k + 1) items)) ∙ ap (λ (m : ℕ). close_in 0 m (drop (k + 1) items)) e))
-
--- the table and the stack behind the last item
-pub ends_end : (items : List Item) (ends : List (Option ℕ)) → EndsFrom items (length items) ends
-ends_end items ends = λ k i from is opens. absurd (omega (arith, from, slice_get_within items k i is))
+pub unopened_step : (items : List Item) (k n next : ℕ) (i : Item) → slice_get items k ≡ Some i → n ≡ counted next i →
+    unopened_by next i.function (unopened n (drop (k + 1) items)) ≡ unopened next (drop k items)
+unopened_step items k n next i at e =
+    ap (λ (m : ℕ). unopened_by next i.function (unopened m (drop (k + 1) items))) e ∙ sym (ap (unopened next) (drop_item items k i at))
 
 pub none_behind : (items : List Item) (n : ℕ) → [] ≡ reversed (unopened n (drop (length items) items))
 none_behind items n = let e : drop (length items) items ≡ [] = drop_of_length-le items (omega arith) in rw e refl
 
+-- the table behind the last item
+pub ends_end : (items : List Item) (n : ℕ) (ends : List (Option ℕ)) → drop (length ends) ends ≡ ends_in n (drop (length items) items)
+ends_end items n ends =
+    let e : drop (length items) items ≡ [] = drop_of_length-le items (omega arith) in
+    rw e (drop_of_length-le ends (omega arith))
+
+-- the table one item further back
+pub ends_step : (items : List Item) (k n next : ℕ) (i : Item) (end : Option ℕ) (ends : List (Option ℕ)) → slice_get items k ≡ Some i → n ≡ counted next i →
+    ends ≡ ends_in n (drop (k + 1) items) → (is_open i.function ≡ true → end ≡ first (unopened n (drop (k + 1) items))) →
+    with_end i.function end ends ≡ ends_in next (drop k items)
+ends_step items k n next i end ends at e below new =
+    by_open (is_open i.function) new
+    ∙ (ap (λ (m : ℕ). with_end i.function (close_in 0 m (drop (k + 1) items)) (ends_in m (drop (k + 1) items))) e
+    ∙ sym (ap (ends_in next) (drop_item items k i at)))
+  where
+    by_open : (b : Bool) → (b ≡ true → end ≡ first (unopened n (drop (k + 1) items))) →
+        (if b then end ∷ ends else ends) ≡ (if b then close_in 0 n (drop (k + 1) items) ∷ ends_in n (drop (k + 1) items) else ends_in n (drop (k + 1) items))
+    by_open true h = ap (λ (o : Option ℕ). o ∷ ends) (h refl ∙ sym (close_first n (drop (k + 1) items))) ∙ ap (λ (os : List (Option ℕ)). close_in 0 n (drop (k + 1) items) ∷ os) below
+    by_open false h = below
+
+open_first : (f : Function) (n : ℕ) (is : List Item) → f ≡ Open →
+    slice_get (with_end f (close_in 0 (if leaves f then suc n else n) is) (ends_in (if leaves f then suc n else n) is)) 0 ≡ Some (close_in 0 (suc n) is)
+open_first f n is e = rw e refl
+
+skip_end : (b : Bool) (x : Option ℕ) (es : List (Option ℕ)) (m : ℕ) → slice_get (if b then x ∷ es else es) (if b then suc m else m) ≡ slice_get es m
+skip_end true x es m = refl
+skip_end false x es m = refl
+
 -- what the table says of an item that opens a block
-pub end_found : (items : List Item) (ends : List (Option ℕ)) (k : ℕ) (i : Item) (d : Option ℕ) → EndsFrom items 0 ends → length ends ≡ length items → slice_get items k ≡ Some i → i.function ≡ Open →
-    get_or ends k d ≡ block_end (take k items) (drop (k + 1) items)
-end_found items ends k i d are long is opens =
-    let h : k < length items = slice_get_within items k i is in
-    let same : get_or items k i ≡ i = get_or_from_slice_get items k i i is in
-    let more : commands_in (take (k + 1) items) ≡ suc (commands_in (take k items)) =
-    ap commands_in (take_more items k i h) ∙ (commands_snoc (take k items) (get_or items k i)
-    ∙ (ap (counted (commands_in (take k items))) same ∙ ap (λ (f : Function). if leaves f then suc (commands_in (take k items)) else commands_in (take k items)) opens)) in
-    get_or_from_slice_get ends k _ d (are k i (omega arith) is (ap is_open opens)) ∙ ap (λ (n : ℕ). close_in 0 n (drop (k + 1) items)) more
+end_behind : (items : List Item) (k n : ℕ) (i : Item) → slice_get items k ≡ Some i → i.function ≡ Open →
+    slice_get (ends_in n items) (blocks_in (take k items)) ≡ Some (close_in 0 (suc (n + commands_in (take k items))) (drop (suc k) items))
+end_behind [] k n i at opens = let h : ◌≡◌ {A = Option Item} None (Some i) = at in cc
+end_behind (j ∷ items) zero n i at opens =
+    let same : j ≡ i = cc in
+    let more : n ≡ n + 0 = omega arith in
+    open_first j.function n items (ap (λ (x : Item). x.function) same ∙ opens) ∙ ap (λ (m : ℕ). Some (close_in 0 (suc m) items)) more
+end_behind (j ∷ items) (suc k) n i at opens =
+    skip_end (is_open j.function) (close_in 0 (counted n j) items) (ends_in (counted n j) items) (blocks_in (take k items))
+    ∙ (end_behind items k (counted n j) i at opens ∙ ap (λ (m : ℕ). Some (close_in 0 (suc m) (drop (suc k) items))) (counted_in n j (take k items)))
+
+end_found : (items : List Item) (ends : List (Option ℕ)) (k : ℕ) (i : Item) → ends ≡ ends_in 0 items → slice_get items k ≡ Some i → i.function ≡ Open →
+    slice_get ends (blocks_in (take k items)) ≡ Some (block_end (take k items) (drop (k + 1) items))
+end_found items ends k i are at opens =
+    let one : suc k ≡ k + 1 = omega arith in
+    let none : 0 + commands_in (take k items) ≡ commands_in (take k items) = omega arith in
+    ap (λ (es : List (Option ℕ)). slice_get es (blocks_in (take k items))) are ∙ (end_behind items k 0 i at opens
+    ∙ (ap (λ (m : ℕ). Some (close_in 0 (suc m) (drop (suc k) items))) none
+    ∙ ap (λ (m : ℕ). Some (close_in 0 (suc (commands_in (take k items))) (drop m items))) one))
+
+pub end_within : (items : List Item) (ends : List (Option ℕ)) (k blocks : ℕ) (i : Item) → ends ≡ ends_in 0 items → slice_get items k ≡ Some i → i.function ≡ Open →
+    blocks ≡ blocks_in (take k items) → blocks < length ends
+end_within items ends k blocks i are at opens counted =
+    slice_get_within ends blocks (block_end (take k items) (drop (k + 1) items)) (ap (slice_get ends) counted ∙ end_found items ends k i are at opens)
+
+pub end_known : (items : List Item) (ends : List (Option ℕ)) (k blocks : ℕ) (i : Item) (end : Option ℕ) → ends ≡ ends_in 0 items → slice_get items k ≡ Some i → i.function ≡ Open →
+    blocks ≡ blocks_in (take k items) → slice_get ends blocks ≡ Some end → end ≡ block_end (take k items) (drop (k + 1) items)
+end_known items ends k blocks i end are at opens counted read =
+    let known : Some end ≡ Some (block_end (take k items) (drop (k + 1) items)) = sym read ∙ (ap (slice_get ends) counted ∙ end_found items ends k i are at opens) in
+    ap (λ (o : Option (Option ℕ)). unwrap_or o None) known
+
+-- how many blocks are opened up to an item
+blocks_snoc : (is : List Item) (i : Item) → blocks_in (is ++ i ∷ []) ≡ opened (blocks_in is) i.function
+blocks_snoc [] i = refl
+blocks_snoc (j ∷ is) i = by_open (is_open j.function) (is_open i.function) (blocks_in (is ++ i ∷ [])) (blocks_in is) (blocks_snoc is i)
+  where
+    by_open : (b c : Bool) (x n : ℕ) → x ≡ (if c then suc n else n) → (if b then suc x else x) ≡ (if c then suc (if b then suc n else n) else (if b then suc n else n))
+    by_open true true x n e = ap suc e
+    by_open true false x n e = ap suc e
+    by_open false true x n e = e
+    by_open false false x n e = e
+
+pub blocks_step : (items : List Item) (k n next : ℕ) (i : Item) → slice_get items k ≡ Some i → n ≡ blocks_in (take k items) → next ≡ opened n i.function →
+    next ≡ blocks_in (take (k + 1) items)
+blocks_step items k n next i at e f =
+    f ∙ (ap (λ (m : ℕ). opened m i.function) e ∙ (sym (blocks_snoc (take k items) i) ∙ ap blocks_in (sym (take_item items k i at))))
+
+-- and back
+pub blocks_back : (items : List Item) (k n next : ℕ) (i : Item) → slice_get items k ≡ Some i → n ≡ blocks_in (take (k + 1) items) → n ≡ opened next i.function →
+    next ≡ blocks_in (take k items)
+blocks_back items k n next i at e f =
+    by_open (is_open i.function) (sym f ∙ (e ∙ (ap blocks_in (take_item items k i at) ∙ blocks_snoc (take k items) i)))
+  where
+    by_open : (b : Bool) → (if b then suc next else next) ≡ (if b then suc (blocks_in (take k items)) else blocks_in (take k items)) → next ≡ blocks_in (take k items)
+    by_open true g = cc
+    by_open false g = g
+
+pub blocks_some : (items : List Item) (k n : ℕ) (i : Item) → slice_get items k ≡ Some i → n ≡ blocks_in (take (k + 1) items) → opened 0 i.function ≤ n
+blocks_some items k n i at e =
+    let f : n ≡ opened (blocks_in (take k items)) i.function = e ∙ (ap blocks_in (take_item items k i at) ∙ blocks_snoc (take k items) i) in
+    by_open (is_open i.function) f
+  where
+    by_open : (b : Bool) → n ≡ (if b then suc (blocks_in (take k items)) else blocks_in (take k items)) → (if b then 1 else 0) ≤ n
+    by_open true g = omega (arith, g)
+    by_open false g = omega arith

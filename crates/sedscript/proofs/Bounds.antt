@@ -675,19 +675,19 @@ means_in_range text kind m s h =
     }
 
 -- the parts that were made are in range
-pub means_named : (text : List ℕ) (kind : Kind) (m to : ℕ) (is : List Item) (es : List Written) (cs : List Command) (named : Named) (quiet : Bool) {js : List Item} → Judged text kind m is es to →
-    cs ≡ commands_of text is [] none_counted is → js ≡ is → IsNamed text js es named → quiet ≡ is_quiet text → InRange (program_of cs named quiet m)
-means_named text kind m to is es cs named quiet j c same n q =
+pub means_named : (text : List ℕ) (kind : Kind) (m to : ℕ) (is : List Item) (es : List Written) (cs : List Command) (named : Named) (quiet : Bool) → Judged text kind m is es to →
+    cs ≡ commands_of text is [] none_counted is → IsNamed text is es named → quiet ≡ is_quiet text → InRange (program_of cs named quiet m)
+means_named text kind m to is es cs named quiet j c n q =
     means_in_range text kind m (program_of cs named quiet m) (record {
       items = is;
       to = to;
       judged = subst (λ (es : List Written). Judged text kind m is es to) (sym n.exprs) j;
       commands = c;
-      texts = n.texts ∙ ap (texts_of text) same;
-      substitutions = n.substitutions ∙ ap (λ (is : List Item). substitutions_of text is is) same;
-      tables = n.tables ∙ ap (tables_of text) same;
-      rfiles = n.rfiles ∙ ap (files_in Read text) same;
-      wfiles = n.wfiles ∙ ap (files_in Write text) same;
+      texts = n.texts;
+      substitutions = n.substitutions;
+      tables = n.tables;
+      rfiles = n.rfiles;
+      wfiles = n.wfiles;
       quiet = q;
       nodes = refl;
     })

@@ -1,19 +1,19 @@
 -- The tables of files.
-use Rattle.std.proofs.Common.{◌≡◌, ℕ, ◌+◌, ◌<◌, Bool, true, false, cond, not, ◌||◌, List, [], ◌∷◌, ◌++◌, length, map, filter, filter_map, take, get_or, Option, Some, None, is_some, refl, sym, ap, subst, ◌∙◌, arith, if◌then◌else◌, Bor, Vec, Global}
+use Rattle.std.proofs.Common.{◌≡◌, ℕ, ◌+◌, Bool, true, false, cond, not, ◌||◌, List, [], ◌∷◌, ◌++◌, length, map, filter, filter_map, take, slice_get, Option, Some, None, is_some, refl, sym, ap, subst, ◌∙◌, arith, if◌then◌else◌, Bor, Vec, Global}
 use Rattle.std.specs.Str.{bytes_eq}
 use Rattle.std.specs.List.{position_from, cons_option}
 use Rattle.std.specs.BTreeMap.{BTreeMap, UpdatesBy}
 use Rattle.std.specs.Cmp.Lexicographic.{slice_cmp}
 use Rattle.std.specs.Option.{option_or}
 use Rattle.std.specs.Ordering.{nat_cmp}
-use Rattle.std.proofs.lemmas.List.{take_more, append-nil, map-append}
+use Rattle.std.proofs.lemmas.List.{append-nil, map-append}
 use Rattle.std.proofs.lemmas.List.Elements.{filter-append, filter_map-append}
 use Rattle.std.proofs.lemmas.Slice.Eq.{bytes_eq-Decides}
 use Rattle.sedscript.specs.declared.items.FileUse.{FileUse}
 use Rattle.sedscript.specs.declared.items.Item.{Item}
 use Rattle.sedscript.specs.Files.{name_in, file_at, distinct, files_in}
 use Rattle.sedscript.specs.Tables.{labelled, has, with_name, NumbersAre}
-use Rattle.sedscript.proofs.Labels.{label_added, none_of, option_or_if}
+use Rattle.sedscript.proofs.Labels.{take_item, label_added, none_of, option_or_if}
 
 abbrev Numbers : Type 0
 Numbers = BTreeMap (Bor (List ℕ)) ℕ
@@ -79,12 +79,12 @@ has_distinct x (y ∷ ys) h = by_same (λ h. has_distinct x ys h) (bytes_eq x y)
     by_same rest false e h = has_kept x y (distinct ys) e ∙ rest h
 
 -- the files of one item more
-pub files_step : (u : FileUse) (text : List ℕ) (items : List Item) (k : ℕ) (d : Item) → k < length items →
-    files_in u text (take (k + 1) items) ≡ with_name (files_in u text (take k items)) (file_at u text (name_in u (get_or items k d).function))
-files_step u text items k d h =
-    ap (files_in u text) (take_more items k d h)
-    ∙ (ap distinct (filter_map-append (λ (i : Item). file_at u text (name_in u i.function)) (take k items) (get_or items k d ∷ []))
-    ∙ distinct_more (filter_map (λ (i : Item). file_at u text (name_in u i.function)) (take k items)) (file_at u text (name_in u (get_or items k d).function)))
+pub files_step : (u : FileUse) (text : List ℕ) (items : List Item) (k : ℕ) (i : Item) → slice_get items k ≡ Some i →
+    files_in u text (take (k + 1) items) ≡ with_name (files_in u text (take k items)) (file_at u text (name_in u i.function))
+files_step u text items k i at =
+    ap (files_in u text) (take_item items k i at)
+    ∙ (ap distinct (filter_map-append (λ (i : Item). file_at u text (name_in u i.function)) (take k items) (i ∷ []))
+    ∙ distinct_more (filter_map (λ (i : Item). file_at u text (name_in u i.function)) (take k items)) (file_at u text (name_in u i.function)))
 
 -- numbers
 

@@ -1,5 +1,5 @@
 -- The table of labels.
-use Rattle.std.proofs.Common.{◌≡◌, ℕ, zero, suc, ◌+◌, ◌<◌, ◌≤◌, Bool, true, false, cond, List, [], ◌∷◌, ◌++◌, length, take, get_or, not, ◌==◌, Option, Some, None, is_some, refl, sym, ap, ◌∙◌, arith, inl, inr, length-take-le, if◌then◌else◌, slice_get, Bor}
+use Rattle.std.proofs.Common.{◌≡◌, ℕ, zero, suc, ◌+◌, ◌<◌, ◌≤◌, Bool, true, false, cond, List, [], ◌∷◌, ◌++◌, length, take, drop, not, drop-cons, ◌==◌, Option, Some, None, is_some, refl, sym, ap, ◌∙◌, arith, inl, inr, length-take-le, if◌then◌else◌, slice_get, Bor}
 use Rattle.std.specs.Str.{bytes_eq}
 use Rattle.std.specs.BTreeMap.{BTreeMap, UpdatesBy}
 use Rattle.std.specs.Cmp.Lexicographic.{slice_cmp}
@@ -7,6 +7,7 @@ use Rattle.std.specs.Option.{option_or}
 use Rattle.std.specs.Ordering.{nat_cmp}
 use Rattle.std.proofs.lemmas.Map.Text.{btree_map_updates_str}
 use Rattle.std.proofs.lemmas.List.{take_more}
+use Rattle.std.proofs.lemmas.Option.{slice_get_within, get_or_from_slice_get}
 use Rattle.std.proofs.lemmas.Bool.Decides.{eqb_tells, Decides-eqb}
 use Rattle.std.proofs.lemmas.Slice.Eq.{bytes_eq-Decides}
 use Rattle.sedscript.specs.declared.targets.FirstLabel.{FirstLabel}
@@ -33,10 +34,21 @@ commands_snoc (j ∷ is) i = by_leaf (leaves j.function) (leaves i.function) (co
     by_leaf false true x n e = e
     by_leaf false false x n e = e
 
-pub counted_step : (items : List Item) (k n next : ℕ) (d : Item) → k < length items → n ≡ commands_in (take k items) → next ≡ counted n (get_or items k d) →
+-- one item more
+pub take_item : (items : List Item) (k : ℕ) (i : Item) → slice_get items k ≡ Some i → take (k + 1) items ≡ take k items ++ i ∷ []
+take_item items k i at =
+    take_more items k i (slice_get_within items k i at) ∙ ap (λ (j : Item). take k items ++ j ∷ []) (get_or_from_slice_get items k i i at)
+
+pub drop_item : (items : List Item) (k : ℕ) (i : Item) → slice_get items k ≡ Some i → drop k items ≡ i ∷ drop (k + 1) items
+drop_item items k i at =
+    let one : suc k ≡ k + 1 = omega arith in
+    drop-cons items k i (slice_get_within items k i at)
+    ∙ (ap (λ (j : Item). j ∷ drop (suc k) items) (get_or_from_slice_get items k i i at) ∙ ap (λ (m : ℕ). i ∷ drop m items) one)
+
+pub counted_step : (items : List Item) (k n next : ℕ) (i : Item) → slice_get items k ≡ Some i → n ≡ commands_in (take k items) → next ≡ counted n i →
     next ≡ commands_in (take (k + 1) items)
-counted_step items k n next d h e f =
-    f ∙ (ap (λ (m : ℕ). counted m (get_or items k d)) e ∙ (sym (commands_snoc (take k items) (get_or items k d)) ∙ ap commands_in (sym (take_more items k d h))))
+counted_step items k n next i at e f =
+    f ∙ (ap (λ (m : ℕ). counted m i) e ∙ (sym (commands_snoc (take k items) i) ∙ ap commands_in (sym (take_item items k i at))))
 
 counted_same : (i : Item) (m n : ℕ) → counted m i ≡ counted n i → m ≡ n
 counted_same i m n e = by_leaf (leaves i.function) e
@@ -46,17 +58,16 @@ counted_same i m n e = by_leaf (leaves i.function) e
     by_leaf false f = f
 
 -- and back
-pub counted_back : (items : List Item) (k n next : ℕ) (d : Item) → k < length items → n ≡ commands_in (take (k + 1) items) → n ≡ counted next (get_or items k d) →
+pub counted_back : (items : List Item) (k n next : ℕ) (i : Item) → slice_get items k ≡ Some i → n ≡ commands_in (take (k + 1) items) → n ≡ counted next i →
     next ≡ commands_in (take k items)
-counted_back items k n next d h e f =
-    counted_same (get_or items k d) next (commands_in (take k items))
-    (sym f ∙ (e ∙ (ap commands_in (take_more items k d h) ∙ commands_snoc (take k items) (get_or items k d))))
+counted_back items k n next i at e f =
+    counted_same i next (commands_in (take k items)) (sym f ∙ (e ∙ (ap commands_in (take_item items k i at) ∙ commands_snoc (take k items) i)))
 
 -- an item that leaves a command is counted
-pub counted_some : (items : List Item) (k n : ℕ) (d : Item) → k < length items → n ≡ commands_in (take (k + 1) items) → leaves (get_or items k d).function ≡ true → 1 ≤ n
-counted_some items k n d h e l =
-    let f : n ≡ counted (commands_in (take k items)) (get_or items k d) = e ∙ (ap commands_in (take_more items k d h) ∙ commands_snoc (take k items) (get_or items k d)) in
-    let g : counted (commands_in (take k items)) (get_or items k d) ≡ suc (commands_in (take k items)) = rw l refl in
+pub counted_some : (items : List Item) (k n : ℕ) (i : Item) → slice_get items k ≡ Some i → n ≡ commands_in (take (k + 1) items) → leaves i.function ≡ true → 1 ≤ n
+counted_some items k n i at e l =
+    let f : n ≡ counted (commands_in (take k items)) i = e ∙ (ap commands_in (take_item items k i at) ∙ commands_snoc (take k items) i) in
+    let g : counted (commands_in (take k items)) i ≡ suc (commands_in (take k items)) = rw l refl in
     omega (arith, f, g)
 
 -- the commands before and behind
@@ -84,16 +95,16 @@ first_label_snoc text name k n a b (j ∷ is) i e f =
     (if is_label text name i.function then Some (record { item = a; number = b }) else None)
     (first_label_snoc text name (suc k) (counted n j) a b is i (e ∙ omega arith) (f ∙ sym (counted_in n j is)))
 
-pub labels_step : (text : List ℕ) (items : List Item) (k n : ℕ) (d : Item) (old new : Labels) → k < length items → n ≡ commands_in (take k items) → LabelsAre text (take k items) old →
-    ((name : List ℕ) → labelled new name ≡ option_or (labelled old name) (if is_label text name (get_or items k d).function then Some (record { item = k; number = n }) else None)) →
+pub labels_step : (text : List ℕ) (items : List Item) (k n : ℕ) (i : Item) (old new : Labels) → slice_get items k ≡ Some i → n ≡ commands_in (take k items) → LabelsAre text (take k items) old →
+    ((name : List ℕ) → labelled new name ≡ option_or (labelled old name) (if is_label text name i.function then Some (record { item = k; number = n }) else None)) →
     LabelsAre text (take (k + 1) items) new
-labels_step text items k n d old new h e are added = λ name.
-    let i : Item = get_or items k d in
+labels_step text items k n i old new at e are added = λ name.
+    let h : k < length items = slice_get_within items k i at in
     let last : Option FirstLabel = if is_label text name i.function then Some (record { item = k; number = n }) else None in
     let long : length (take k items) ≡ k = length-take-le k items (omega (arith, h)) in
     added name ∙ (ap (λ (o : Option FirstLabel). option_or o last) (are name)
     ∙ (sym (first_label_snoc text name 0 0 k n (take k items) i (sym long ∙ omega arith) (e ∙ omega arith))
-    ∙ ap (first_label text name 0 0) (sym (take_more items k d h))))
+    ∙ ap (first_label text name 0 0) (sym (take_item items k i at))))
 
 pub label_of_first : (text name : List ℕ) (k n : ℕ) (is : List Item) → label_in text name n is ≡ number (first_label text name k n is)
 label_of_first text name k n [] = refl

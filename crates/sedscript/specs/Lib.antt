@@ -17,5 +17,6 @@ pub mod Script
 pub mod Ranges
 pub mod Parts
 pub mod Answers
+pub mod Kept
 pub mod Tables
 pub mod ScriptText

@@ -1,7 +1,7 @@
 -- Private to the proofs: no contract of a public item cites what stands here.
 -- The tables by which labels, blocks and files are found without searching anew.
-use Rattle.std.specs.Prelude.{◌≡◌, ◌≤◌, ℕ, suc, ◌+◌, List, [], ◌∷◌, ◌++◌, length, Bool, true, false, not, ◌||◌, ◌==◌, Option}
-use Rattle.std.specs.Prelude.{Some, None, if◌then◌else◌, map, take, drop, slice_get}
+use Rattle.std.specs.Prelude.{◌≡◌, ◌≤◌, ℕ, suc, List, [], ◌∷◌, ◌++◌, Bool, false, not, ◌||◌, ◌==◌, Option}
+use Rattle.std.specs.Prelude.{Some, None, if◌then◌else◌, map}
 use Rattle.std.specs.Borrow.{Bor}
 use Rattle.std.specs.BTreeMap.{BTreeMap, get_by}
 use Rattle.std.specs.Cmp.Lexicographic.{slice_cmp}
@@ -67,11 +67,23 @@ abbrev pub first : List ℕ → Option ℕ
 first [] = None
 first (x ∷ xs) = Some x
 
--- the items that open a block from an index on have its end in the table
-abbrev pub EndsFrom : List Item → ℕ → List (Option ℕ) → Type 0
-EndsFrom items from ends = (k : ℕ) (i : Item) →
-    from ≤ k → slice_get items k ≡ Some i → is_open i.function ≡ true →
-    slice_get ends k ≡ Some (close_in 0 (commands_in (take (k + 1) items)) (drop (k + 1) items))
+-- how many blocks are opened with a function, with so many before it
+abbrev pub opened : ℕ → Function → ℕ
+opened n f = if is_open f then suc n else n
+
+-- how many blocks the items open
+abbrev pub blocks_in : List Item → ℕ
+blocks_in [] = 0
+blocks_in (i ∷ is) = opened (blocks_in is) i.function
+
+-- the ends of blocks, with the one before them that a function opens
+abbrev pub with_end : Function → Option ℕ → List (Option ℕ) → List (Option ℕ)
+with_end f end ends = if is_open f then end ∷ ends else ends
+
+-- the end of each block that the items open, in order, with so many commands before them
+abbrev pub ends_in : ℕ → List Item → List (Option ℕ)
+ends_in n [] = []
+ends_in n (i ∷ is) = with_end i.function (close_in 0 (counted n i) is) (ends_in (counted n i) is)
 
 -- whether a name is one of these
 abbrev pub has : List ℕ → List (List ℕ) → Bool
@@ -110,6 +122,5 @@ AtMost most n = (n.texts ≤ most) × (n.substitutions ≤ most) × (n.tables �
 pub record TargetsAre (text : List ℕ) (items : List Item) (labels : BTreeMap (Bor (List ℕ)) FirstLabel)
     (ends : List (Option ℕ)) (commands : ℕ) : Type 0 where
   pub labels_are : LabelsAre text items labels
-  pub ends_are : EndsFrom items 0 ends
-  pub length_is : length ends ≡ length items
+  pub ends_are : ends ≡ ends_in 0 items
   pub commands_are : commands ≡ commands_in items

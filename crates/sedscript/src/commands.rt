@@ -3,7 +3,7 @@
 ghost use Rattle.std.specs.Prelude.{◌≡◌, ◌<◌, ◌≤◌, ◌+◌, ◌-◌, ◌++◌, ℕ, List, [], Some, false, map, length, drop, take};
 ghost use Rattle.std.specs.Prelude.{slice_get, IfOk, OnOk};
 ghost use Rattle.sedscript.specs.Bytes.{part};
-ghost use Rattle.sedscript.specs.Tables.{TargetsAre, FilesAre, AtMost};
+ghost use Rattle.sedscript.specs.Tables.{TargetsAre, FilesAre, AtMost, blocks_in};
 ghost use Rattle.sedscript.specs.Script.{none_counted, counts_with, simple_action, text_action, branch_action, file_action, sink_of};
 ghost use Rattle.sedscript.specs.Script.{action_of, with_action};
 ghost use Rattle.sedscript.specs.Script.{commands_of, texts_of, substitution_of, substitutions_of, tables_of};
@@ -15,10 +15,11 @@ use crate::files::Files;
 use crate::items::{
     Addresses, BranchUse, Counts, FileUse, Flags, Function, Item, Simple, Strings, TextUse,
 };
+use crate::kept::Items;
 use crate::replacement::parts_of;
 use crate::strings::second_of;
 use crate::substitution::{Replacement, Substitution};
-use crate::targets::Targets;
+use crate::targets::{Targets, opened};
 use crate::transliteration::table_between;
 use crate::types::{Action, Command};
 use std::alloc::{AllocError, Global};
@@ -99,21 +100,23 @@ fn file_action(file_use: FileUse, number: usize) -> Action
 /// What the item of an index does, with what is counted before it. None where it leaves no command.
 fn action_of<'a>(
     text: &'a [u8],
-    items: &[Item],
+    items: &Items,
     targets: &Targets<'a>,
     files: &Files<'a>,
     k: usize,
+    before: usize,
     counts: Counts,
     item: Item,
 ) -> Option<Action>
     requires item { slice_get items.now k ≡ Some item }
+    requires opened { before ≡ blocks_in (take k items.now) }
     requires targets { TargetsAre text.now items.now targets.now.labels targets.now.ends.items targets.now.commands }
     requires files { FilesAre text.now items.now files.now }
     ensures { result ≡ action_of text.now items.now (take k items.now) counts (drop (k + 1) items.now) item.function }
 {
     match item.function {
         Function::Plain(simple) => Some(simple_action(simple)),
-        Function::Open => Some(Action::Block(targets.block_end(k).unwrap_or(0))),
+        Function::Open => Some(Action::Block(targets.block_end(before).unwrap_or(0))),
         Function::Branch(branch_use, from, to) => {
             if from == to {
                 Some(branch_action(branch_use, targets.commands))
@@ -159,7 +162,7 @@ fn add_command(
 pub fn commands_of<'a>(
     alloc: Global,
     text: &'a [u8],
-    items: &[Item],
+    items: &Items,
     targets: &Targets<'a>,
     files: &Files<'a>,
 ) -> Result<Vec<Command>, AllocError>
@@ -167,7 +170,8 @@ pub fn commands_of<'a>(
     requires files { FilesAre text.now items.now files.now }
     ensures { IfOk result (λ v. v.items ≡ commands_of text.now items.now [] none_counted items.now) }
 {
-    let mut commands = Vec::new(alloc);
+    let mut commands = Vec::with_capacity(alloc, targets.commands)?;
+    let mut blocks = 0;
     let mut counts = Counts {
         texts: 0,
         substitutions: 0,
@@ -175,12 +179,13 @@ pub fn commands_of<'a>(
     };
     let mut k = 0;
     'items: while k < items.len() {
-        let item = items[k];
+        let item = items.get(k);
         add_command(
             &mut commands,
             item,
-            action_of(text, items, targets, files, k, counts, item),
+            action_of(text, items, targets, files, k, blocks, counts, item),
         )?;
+        blocks = opened(blocks, item.function);
         counts = counts_with(counts, item.function);
         k += 1;
     }
@@ -208,13 +213,13 @@ fn unescaped(alloc: Global, bytes: &[u8]) -> Result<Vec<u8>, AllocError>
 }
 
 /// The texts of the items, in their order.
-pub fn texts_of(alloc: Global, text: &[u8], items: &[Item]) -> Result<Vec<Vec<u8>>, AllocError>
+pub fn texts_of(alloc: Global, text: &[u8], items: &Items) -> Result<Vec<Vec<u8>>, AllocError>
     ensures { IfOk result (λ v. map (λ t. t.items) v.items ≡ texts_of text.now items.now) }
 {
     let mut texts = Vec::new(alloc);
     let mut k = 0;
     'items: while k < items.len() {
-        if let Function::Text(_, from, to) = items[k].function {
+        if let Function::Text(_, from, to) = items.get(k).function {
             texts.push(unescaped(alloc, part(text, from, to))?)?;
         }
         k += 1;
@@ -260,7 +265,7 @@ fn substitution_of<'a>(
 pub fn substitutions_of<'a>(
     alloc: Global,
     text: &'a [u8],
-    items: &[Item],
+    items: &Items,
     files: &Files<'a>,
 ) -> Result<Vec<Substitution>, AllocError>
     requires { FilesAre text.now items.now files.now }
@@ -269,7 +274,7 @@ pub fn substitutions_of<'a>(
     let mut substitutions = Vec::new(alloc);
     let mut k = 0;
     'items: while k < items.len() {
-        if let Function::Substitute(strings, expression, flags) = items[k].function {
+        if let Function::Substitute(strings, expression, flags) = items.get(k).function {
             substitutions.push(substitution_of(alloc, text, files, strings, expression, flags)?)?;
         }
         k += 1;
@@ -278,13 +283,13 @@ pub fn substitutions_of<'a>(
 }
 
 /// The tables of the items, in their order.
-pub fn tables_of(alloc: Global, text: &[u8], items: &[Item]) -> Result<Vec<Vec<u8>>, AllocError>
+pub fn tables_of(alloc: Global, text: &[u8], items: &Items) -> Result<Vec<Vec<u8>>, AllocError>
     ensures { IfOk result (λ v. map (λ t. t.items) v.items ≡ tables_of text.now items.now) }
 {
     let mut tables = Vec::new(alloc);
     let mut k = 0;
     'items: while k < items.len() {
-        if let Function::Transliterate(strings) = items[k].function {
+        if let Function::Transliterate(strings) = items.get(k).function {
             tables.push(table_between(alloc, text, strings)?)?;
         }
         k += 1;

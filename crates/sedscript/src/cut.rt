@@ -3,20 +3,17 @@
 ghost use Rattle.std.specs.Prelude.{◌≡◌, ◌≤◌, ◌⊎◌, [], IfOk, IfErr};
 ghost use Rattle.sedscript.specs.Script.{Cut, IsEnd, Faulty};
 
-use crate::items::{Here, Item, Source};
+use crate::items::{Here, Source};
+use crate::kept::Items;
 use crate::reading::item_at;
 use crate::types::{NO_MEMORY, ScriptFault};
 use sedre::Expr;
 
 /// Cuts a text into its items and regular expressions up to its end, and answers where the last item ends.
-pub fn cut(
-    source: &Source,
-    items: &mut Vec<Item>,
-    exprs: &mut Vec<Expr>,
-) -> Result<usize, ScriptFault>
-    requires empty { (items.old.items ≡ []) × (exprs.old.items ≡ []) }
+pub fn cut(source: &Source, items: &mut Items, exprs: &mut Vec<Expr>) -> Result<usize, ScriptFault>
+    requires empty { (items.old ≡ []) × (exprs.old.items ≡ []) }
     ensures cut { IfOk result (λ to.
-        Cut source.now.text.now source.now.kind source.now.max_nodes 0 0 items.new.items exprs.new.items to
+        Cut source.now.text.now source.now.kind source.now.max_nodes 0 0 items.new exprs.new.items to
         × IsEnd source.now.text.now to) }
     ensures fault { IfErr result (λ f.
         Faulty source.now.text.now source.now.kind source.now.max_nodes f ⊎ (f ≡ NO_MEMORY)) }

@@ -1,6 +1,6 @@
 //! Regular expressions in a script.
 
-ghost use Rattle.std.specs.Prelude.{◌≡◌, ◌≢◌, ◌≤◌, ◌<◌, ◌+◌, ◌⊎◌, ℕ, Ok, Some, length, IfOk, IfErr, OnOk};
+ghost use Rattle.std.specs.Prelude.{◌≡◌, ◌≢◌, ◌≤◌, ◌<◌, ◌+◌, ◌++◌, ◌∷◌, [], ◌⊎◌, ℕ, Ok, Some, length, IfOk, IfErr, OnOk};
 ghost use Rattle.sedre.specs.declared.types.Reason.{Reason as ExprReason};
 ghost use Rattle.sedre.specs.declared.types.TheConstants.{NO_MEMORY as NO_EXPR_MEMORY};
 ghost use Rattle.sedre.specs.Arena.{tree};
@@ -12,6 +12,7 @@ ghost use Rattle.sedscript.specs.Answers.{as_groups, ComesFrom, is_no_memory, fa
 use crate::items::Source;
 use crate::types::{ExprFault, NO_MEMORY, Reason, ScriptFault};
 use sedre::{Expr, read_folded};
+use std::alloc::{AllocError, Global};
 
 fn is_no_memory(reason: sedre::Reason) -> bool
     ensures { result ≡ is_no_memory reason }
@@ -75,6 +76,14 @@ fn expression_between(
     }
 }
 
+/// Adds a copy of an expression: what its reading reserved beyond it goes back.
+fn add_copy(alloc: Global, exprs: &mut Vec<Expr>, expr: &Expr) -> Result<(), AllocError>
+    ensures { OnOk result (exprs.new.items ≡ exprs.old.items ++ expr.now ∷ []) }
+{
+    exprs.push(expr.copy(alloc)?)?;
+    Ok(())
+}
+
 /// Reads the expression that stands between two places, where case counts or is folded, and adds it. Answers the number
 /// of its groups.
 pub fn expression_at(
@@ -95,10 +104,10 @@ pub fn expression_at(
     match expression_between(source, delimiter, folded, from, to) {
         Ok(expr) => {
             let groups = expr.groups();
-            if exprs.push(expr).is_err() {
-                return Err(NO_MEMORY);
+            match add_copy(source.alloc, exprs, &expr) {
+                Err(_) => Err(NO_MEMORY),
+                Ok(_) => Ok(groups),
             }
-            Ok(groups)
         }
         Err(fault) => Err(fault_of(from, fault)),
     }

@@ -6,7 +6,8 @@ ghost use Rattle.sedscript.specs.Tables.{labelled, with_name, first_number, Numb
 ghost use Rattle.sedscript.specs.declared.items.Item.{Item};
 
 use crate::bytes::part;
-use crate::items::{FileUse, Function, Item};
+use crate::items::{FileUse, Function};
+use crate::kept::Items;
 use std::alloc::{AllocError, Global};
 use std::collections::BTreeMap;
 
@@ -134,7 +135,7 @@ fn numbered<'a>(
     alloc: Global,
     text: &'a [u8],
     file_use: FileUse,
-    items: &[Item],
+    items: &Items,
 ) -> Result<NumberedFiles<'a>, AllocError>
     ensures { IfOk result (λ files. AreNumbered file_use text.now items.now files) }
 {
@@ -142,7 +143,7 @@ fn numbered<'a>(
     let mut numbers = BTreeMap::new(alloc);
     let mut k = 0;
     'items: while k < items.len() {
-        let found = name_in(file_use, items[k].function);
+        let found = name_in(file_use, items.get(k).function);
         add_file(alloc, text, file_use, &mut names, &mut numbers, found)?;
         k += 1;
     }
@@ -150,7 +151,7 @@ fn numbered<'a>(
 }
 
 /// The files that the items name.
-pub fn files_of<'a>(alloc: Global, text: &'a [u8], items: &[Item]) -> Result<Files<'a>, AllocError>
+pub fn files_of<'a>(alloc: Global, text: &'a [u8], items: &Items) -> Result<Files<'a>, AllocError>
     ensures { IfOk result (λ files. FilesAre text.now items.now files) }
 {
     let read = numbered(alloc, text, FileUse::Read, items)?;

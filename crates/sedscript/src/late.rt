@@ -2,11 +2,12 @@
 
 ghost use Rattle.std.specs.Prelude.{◌≡◌, ◌<◌, ◌≤◌, ◌+◌, Some, length, drop, take, slice_get};
 ghost use Rattle.sedscript.specs.Targets.{fault_if, late_at, late, depth_behind};
-ghost use Rattle.sedscript.specs.Tables.{TargetsAre};
+ghost use Rattle.sedscript.specs.Tables.{TargetsAre, blocks_in};
 
 use crate::bytes::part;
 use crate::items::{Function, Item};
-use crate::targets::{Targets, is_close, is_open};
+use crate::kept::Items;
+use crate::targets::{Targets, is_close, is_open, opened};
 use crate::types::{Reason, ScriptFault};
 
 /// The fault at a place, if something is wrong.
@@ -16,23 +17,25 @@ pub fn fault_if(wrong: bool, reason: Reason, place: usize) -> Option<ScriptFault
     wrong.then_some(ScriptFault { place, reason })
 }
 
-/// What is wrong with the item of an index, before which so many blocks are open.
+/// What is wrong with the item of an index, before which so many blocks were opened, and so many are open.
 fn late_at<'a>(
     text: &'a [u8],
-    items: &[Item],
+    items: &Items,
     targets: &Targets<'a>,
     k: usize,
+    before: usize,
     depth: usize,
     item: Item,
 ) -> Option<ScriptFault>
     requires item { slice_get items.now k ≡ Some item }
+    requires opened { before ≡ blocks_in (take k items.now) }
     requires targets { TargetsAre text.now items.now targets.now.labels targets.now.ends.items targets.now.commands }
     ensures { result ≡
         late_at text.now items.now (take k items.now) depth (drop (k + 1) items.now) item.place item.function }
 {
     match item.function {
         Function::Open => fault_if(
-            targets.block_end(k).is_none(),
+            targets.block_end(before).is_none(),
             Reason::OpenBlock,
             item.place,
         ),
@@ -75,18 +78,20 @@ fn depth_behind(depth: usize, function: Function) -> usize
 }
 
 /// The fault of labels and blocks with the least place, if there is one.
-pub fn late<'a>(text: &'a [u8], items: &[Item], targets: &Targets<'a>) -> Option<ScriptFault>
+pub fn late<'a>(text: &'a [u8], items: &Items, targets: &Targets<'a>) -> Option<ScriptFault>
     requires targets { TargetsAre text.now items.now targets.now.labels targets.now.ends.items targets.now.commands }
     ensures { result ≡ late text.now items.now }
 {
+    let mut blocks = 0;
     let mut depth: usize = 0;
     let mut k = 0;
     'items: while k < items.len() {
-        let item = items[k];
-        let fault = late_at(text, items, targets, k, depth, item);
+        let item = items.get(k);
+        let fault = late_at(text, items, targets, k, blocks, depth, item);
         if fault.is_some() {
             return fault;
         }
+        blocks = opened(blocks, item.function);
         depth = depth_behind(depth, item.function);
         k += 1;
     }

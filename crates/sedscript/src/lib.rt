@@ -11,6 +11,7 @@ mod files;
 mod flags;
 mod functions;
 mod items;
+mod kept;
 mod late;
 pub mod laws;
 mod letters;

@@ -10,7 +10,8 @@ ghost use Rattle.sedscript.specs.declared.types.ScriptFault.{ScriptFault};
 use crate::commands::{commands_of, is_quiet, substitutions_of, tables_of, texts_of};
 use crate::cut::cut;
 use crate::files::{Files, files_of};
-use crate::items::{Item, Source};
+use crate::items::Source;
+use crate::kept::Items;
 use crate::late::late;
 use crate::script::{Named, Script};
 use crate::targets::{Targets, targets_of};
@@ -22,14 +23,14 @@ use std::alloc::{AllocError, Global};
 /// Cuts a text into its items and judges its labels and blocks.
 fn judge<'a>(
     source: &Source<'a>,
-    items: &mut Vec<Item>,
+    items: &mut Items,
     exprs: &mut Vec<Expr>,
 ) -> Result<Targets<'a>, ScriptFault>
-    requires empty { (items.old.items ≡ []) × (exprs.old.items ≡ []) }
+    requires empty { (items.old ≡ []) × (exprs.old.items ≡ []) }
     ensures judged { OnOk result
-        (IsJudged source.now.text.now source.now.kind source.now.max_nodes items.new.items exprs.new.items) }
+        (IsJudged source.now.text.now source.now.kind source.now.max_nodes items.new exprs.new.items) }
     ensures targets { IfOk result (λ t.
-        TargetsAre source.now.text.now items.new.items t.labels t.ends.items t.commands) }
+        TargetsAre source.now.text.now items.new t.labels t.ends.items t.commands) }
     ensures fault { IfErr result (λ f.
         Faulty source.now.text.now source.now.kind source.now.max_nodes f ⊎ (f ≡ NO_MEMORY)) }
 {
@@ -49,7 +50,7 @@ fn judge<'a>(
 fn named_of<'a>(
     alloc: Global,
     text: &'a [u8],
-    items: &[Item],
+    items: &Items,
     exprs: Vec<Expr>,
     files: Files<'a>,
 ) -> Result<Named, AllocError>
@@ -88,7 +89,7 @@ pub fn read(alloc: Global, text: &[u8], kind: Kind, max_nodes: usize) -> Result<
     ensures fault { IfErr result (λ f. Faulty text.now kind max_nodes f ⊎ (f ≡ NO_MEMORY)) }
 {
     reads_as_one();
-    let mut items = Vec::new(alloc);
+    let mut items = Items::new(alloc);
     let mut exprs = Vec::new(alloc);
     let source = Source {
         alloc,

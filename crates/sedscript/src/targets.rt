@@ -6,11 +6,13 @@ ghost use Rattle.std.specs.Option.{option_or};
 ghost use Rattle.sedscript.specs.Targets.{counted, commands_in, is_label, label_in, block_end};
 ghost use Rattle.sedscript.specs.declared.items.Item.{Item};
 ghost use Rattle.sedscript.specs.declared.items.Function.TheVariants.{Open};
-ghost use Rattle.sedscript.specs.Tables.{LabelsAre, EndsFrom, TargetsAre, unopened, unopened_by, reversed, first};
+ghost use Rattle.sedscript.specs.Tables.{LabelsAre, TargetsAre, ends_in, with_end, opened, blocks_in, unopened, unopened_by};
+ghost use Rattle.sedscript.specs.Tables.{reversed, first};
 ghost use Rattle.sedscript.specs.Tables.{number, is_earlier, labelled};
 
 use crate::bytes::part;
 use crate::items::{Function, Item};
+use crate::kept::Items;
 use std::alloc::{AllocError, Global};
 use std::collections::BTreeMap;
 
@@ -70,14 +72,35 @@ fn uncounted(n: usize, item: Item) -> usize
     if leaves(item.function) { n - 1 } else { n }
 }
 
-fn commands_in(items: &[Item]) -> usize
+fn commands_in(items: &Items) -> usize
     ensures is { result ≡ commands_in items.now }
     ensures few { result ≤ length items.now }
 {
     let mut n = 0;
     let mut k = 0;
     'items: while k < items.len() {
-        n = counted(n, items[k]);
+        n = counted(n, items.get(k));
+        k += 1;
+    }
+    n
+}
+
+/// How many blocks are opened with this function, with so many before it.
+pub fn opened(n: usize, function: Function) -> usize
+    requires { n < usize.MAX }
+    ensures is { result ≡ opened n function }
+    ensures few { result ≤ n + 1 }
+{
+    if is_open(function) { n + 1 } else { n }
+}
+
+fn blocks_in(items: &Items) -> usize
+    ensures { result ≡ blocks_in items.now }
+{
+    let mut n = 0;
+    let mut k = 0;
+    'items: while k < items.len() {
+        n = opened(n, items.get(k).function);
         k += 1;
     }
     n
@@ -105,22 +128,47 @@ fn pass_back(
     }
 }
 
-/// For each item that opens a block the number of the command behind its end, none where it isn't closed.
-fn ends_of(alloc: Global, items: &[Item]) -> Result<Vec<Option<usize>>, AllocError>
-    ensures ends { IfOk result (λ ends. EndsFrom items.now 0 ends.items) }
-    ensures length { IfOk result (λ ends. length ends.items ≡ length items.now) }
+/// For each block the number of the command behind its end, none where it isn't closed.
+fn ends_of(alloc: Global, items: &Items, commands: usize) -> Result<Vec<Option<usize>>, AllocError>
+    requires { commands ≡ commands_in items.now }
+    ensures { IfOk result (λ ends. ends.items ≡ ends_in 0 items.now) }
 {
+    let mut blocks = blocks_in(items);
     let mut ends = Vec::new(alloc);
-    ends.resize(items.len(), None)?;
+    ends.resize(blocks, None)?;
     let mut unopened = Vec::new(alloc);
-    let mut n = commands_in(items);
+    let mut n = commands;
     let mut k = items.len();
     'items: while k > 0 {
         k -= 1;
-        n = uncounted(n, items[k]);
-        ends[k] = pass_back(&mut unopened, n, items[k].function)?;
+        let item = items.get(k);
+        n = uncounted(n, item);
+        let end = pass_back(&mut unopened, n, item.function)?;
+        blocks = put_end(&mut ends, blocks, item.function, end);
     }
     Ok(ends)
+}
+
+/// Puts the end of the block that a function opens, if it opens one, where so many blocks were opened up to it. Answers
+/// how many were opened before it.
+fn put_end(
+    ends: &mut Vec<Option<usize>>,
+    blocks: usize,
+    function: Function,
+    end: Option<usize>,
+) -> usize
+    requires before { opened 0 function ≤ blocks }
+    requires few { blocks ≤ length ends.old.items }
+    ensures blocks { blocks ≡ opened result function }
+    ensures few { result ≤ length ends.new.items }
+    ensures ends { drop result ends.new.items ≡ with_end function end (drop blocks ends.old.items) }
+{
+    if is_open(function) {
+        ends[blocks - 1] = end;
+        blocks - 1
+    } else {
+        blocks
+    }
 }
 
 /// Adds the name of an item that is a label, where no earlier one has it.
@@ -152,7 +200,7 @@ fn add_label<'a>(
 fn labels_of<'a>(
     alloc: Global,
     text: &'a [u8],
-    items: &[Item],
+    items: &Items,
 ) -> Result<BTreeMap<&'a [u8], FirstLabel>, AllocError>
     ensures { IfOk result (λ labels. LabelsAre text.now items.now labels) }
 {
@@ -160,8 +208,9 @@ fn labels_of<'a>(
     let mut n = 0;
     let mut k = 0;
     'items: while k < items.len() {
-        add_label(&mut labels, text, items[k].function, k, n)?;
-        n = counted(n, items[k]);
+        let item = items.get(k);
+        add_label(&mut labels, text, item.function, k, n)?;
+        n = counted(n, item);
         k += 1;
     }
     Ok(labels)
@@ -172,7 +221,7 @@ fn labels_of<'a>(
 pub struct Targets<'a> {
     /// The first label of each name.
     pub labels: BTreeMap<&'a [u8], FirstLabel>,
-    /// For each item that opens a block the number of the command behind its end, none where it isn't closed.
+    /// For each block the number of the command behind its end, none where it isn't closed.
     pub ends: Vec<Option<usize>>,
     /// How many commands there are.
     pub commands: usize,
@@ -182,16 +231,17 @@ pub struct Targets<'a> {
 pub fn targets_of<'a>(
     alloc: Global,
     text: &'a [u8],
-    items: &[Item],
+    items: &Items,
 ) -> Result<Targets<'a>, AllocError>
     ensures { IfOk result (λ t. TargetsAre text.now items.now t.labels t.ends.items t.commands) }
 {
     let labels = labels_of(alloc, text, items)?;
-    let ends = ends_of(alloc, items)?;
+    let commands = commands_in(items);
+    let ends = ends_of(alloc, items, commands)?;
     Ok(Targets {
         labels,
         ends,
-        commands: commands_in(items),
+        commands,
     })
 }
 
@@ -242,15 +292,12 @@ impl<'a> Targets<'a> {
         is_earlier(k, self.first_label(name))
     }
 
-    /// The number of the command behind the end of the block that the item of an index opens, none where it isn't
+    /// The number of the command behind the end of the block before which so many were opened, none where it isn't
     /// closed.
-    pub fn block_end(&self, k: usize) -> Option<usize>
-        requires { k < length self.now.ends.items }
-        ensures { (text : List ℕ) (items : List Item) (i : Item) →
-            TargetsAre text items self.now.labels self.now.ends.items self.now.commands →
-            slice_get items k ≡ Some i → i.function ≡ Open →
-            result ≡ block_end (take k items) (drop (k + 1) items) }
+    pub fn block_end(&self, blocks: usize) -> Option<usize>
+        requires { blocks < length self.now.ends.items }
+        ensures { slice_get self.now.ends.items blocks ≡ Some result }
     {
-        self.ends[k]
+        self.ends[blocks]
     }
 }

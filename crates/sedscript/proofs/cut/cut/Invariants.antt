@@ -5,7 +5,7 @@ use Rattle.sedscript.proofs.cut.cut.Given as goal
 abbrev pub invariant-items : goal.invariant-items
 invariant-items l = record {
   within : l.at ≤ length l.source.text.now;
-  cut : Cut l.source.text.now l.source.kind l.source.max_nodes 0 0 l.items.items l.exprs.items l.at;
+  cut : Cut l.source.text.now l.source.kind l.source.max_nodes 0 0 l.items l.exprs.items l.at;
 }
 
 abbrev pub decreases-items : goal.decreases-items

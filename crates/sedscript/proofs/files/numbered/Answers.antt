@@ -8,7 +8,7 @@ pub items-preserved : goal.items-preserved
 items-preserved c =
     let before : List (List ℕ) = files_in c.args.file_use c.args.text.now (take c.items.k c.args.items.now) in
     let step : files_in c.args.file_use c.args.text.now (take (c.items.k + 1) c.args.items.now) ≡ with_name before (file_at c.args.file_use c.args.text.now c.name_in-found.result) =
-    files_step c.args.file_use c.args.text.now c.args.items.now c.items.k _ c.items-test.true
+    files_step c.args.file_use c.args.text.now c.args.items.now c.items.k c.get.result c.get.ensures.is
     ∙ ap (λ (o : Option (ℕ × ℕ)). with_name before (file_at c.args.file_use c.args.text.now o)) (sym c.name_in-found.ensures) in
     let both = c.in_ok-add_file.ensures.added before c.items.invariant.names c.items.invariant.numbers in
     record {

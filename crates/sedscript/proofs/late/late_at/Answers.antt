@@ -1,4 +1,5 @@
 use Rattle.std.proofs.Common.{drop, take, ◌+◌}
+use Rattle.sedscript.proofs.Blocks.{end_known, end_within}
 use Rattle.sedscript.proofs.LateFaults.{late_open, late_label}
 use Rattle.sedscript.proofs.late.late_at.Goals as goal
 
@@ -6,7 +7,11 @@ pub returns-in-Open : goal.returns-in-Open
 returns-in-Open c =
     late_open c.args.text.now c.args.items.now (take c.args.k c.args.items.now) (drop (c.args.k + 1) c.args.items.now) c.args.depth c.args.item.place c.args.item.function
     c.is_none.result c.block_end.result c.fault_if.result c.in-Open.is
-    (c.block_end.ensures c.args.text.now c.args.items.now c.args.item c.requires.targets c.requires.item c.in-Open.is) c.is_none.ensures c.fault_if.ensures
+    (end_known c.args.items.now c.args.targets.now.ends.items c.args.k c.args.before c.args.item c.block_end.result c.requires.targets.ends_are c.requires.item c.in-Open.is c.requires.opened c.block_end.ensures) c.is_none.ensures c.fault_if.ensures
+
+pub block_end-requires : goal.block_end-requires
+block_end-requires c =
+    end_within c.args.items.now c.args.targets.now.ends.items c.args.k c.args.before c.args.item c.requires.targets.ends_are c.requires.item c.in-Open.is c.requires.opened
 
 pub returns-in-Label : goal.returns-in-Label
 returns-in-Label c =

@@ -1,9 +1,8 @@
-use Rattle.std.proofs.Common.{inl, sym, ap, ◌∙◌}
-use Rattle.sedscript.specs.Targets.{late}
+use Rattle.std.proofs.Common.{inl, sym, ◌∙◌}
 use Rattle.sedscript.specs.Script.{afterwards}
 use Rattle.sedscript.proofs.reader.judge.Goals as goal
 
 pub returns-in-Some-clause-fault : goal.returns-in-Some-clause-fault
 returns-in-Some-clause-fault c =
-    inl (afterwards c.cut.new.items.items c.cut.new.exprs.items c.in-Ok.field-0 c.in-Ok.ensures.cut.0 c.in-Ok.ensures.cut.1
-    (ap (late c.args.source.now.text.now) (sym c.deref-in-Ok-targets_of.ensures.value) ∙ (sym c.late.ensures ∙ c.in-Some.is)))
+    inl (afterwards c.cut.new.items c.cut.new.exprs.items c.in-Ok.field-0 c.in-Ok.ensures.cut.0 c.in-Ok.ensures.cut.1
+    (sym c.late.ensures ∙ c.in-Some.is))

@@ -1,15 +1,12 @@
-use Rattle.std.proofs.Common.{◌∙◌, ap, List, []}
-use Rattle.sedscript.specs.declared.items.Item.{Item}
-use Rattle.sedscript.specs.Script.{commands_of, none_counted}
 use Rattle.sedscript.proofs.Bounds.{means_named}
 use Rattle.sedscript.proofs.Exclusive.{judged_no_fault}
 use Rattle.sedscript.proofs.reader.read.Goals as goal
 
 pub of-requires : goal.of-requires
 of-requires c =
-    means_named c.args.text.now c.args.kind c.args.max_nodes c.in-Ok.ensures.judged.to c.judge.new.items.items c.judge.new.exprs.items c.in-Ok-commands_of.commands.items c.in-Ok-named_of.named c.is_quiet.result
-    c.in-Ok.ensures.judged.judged (c.in-Ok-commands_of.ensures ∙ ap (λ (is : List Item). commands_of c.args.text.now is [] none_counted is) c.deref-in-Ok-files_of.ensures.value) c.deref-in-Ok-commands_of.ensures.value c.in-Ok-named_of.ensures c.is_quiet.ensures
+    means_named c.args.text.now c.args.kind c.args.max_nodes c.in-Ok.ensures.judged.to c.judge.new.items c.judge.new.exprs.items c.in-Ok-commands_of.commands.items c.in-Ok-named_of.named c.is_quiet.result
+    c.in-Ok.ensures.judged.judged c.in-Ok-commands_of.ensures c.in-Ok-named_of.ensures c.is_quiet.ensures
 
 pub returns-clause-no_fault : goal.returns-clause-no_fault
 returns-clause-no_fault c = λ f bad.
-    judged_no_fault c.args.text.now c.args.kind c.args.max_nodes c.judge.new.items.items c.judge.new.exprs.items c.in-Ok.ensures.judged.to f c.reads_as_one.ensures c.in-Ok.ensures.judged.judged bad
+    judged_no_fault c.args.text.now c.args.kind c.args.max_nodes c.judge.new.items c.judge.new.exprs.items c.in-Ok.ensures.judged.to f c.reads_as_one.ensures c.in-Ok.ensures.judged.judged bad

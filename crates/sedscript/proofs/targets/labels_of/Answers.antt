@@ -6,6 +6,6 @@ pub items-preserved : goal.items-preserved
 items-preserved c = record {
   within = omega arith;
   few = omega (arith, c.counted-n.ensures.few);
-  counted = counted_step c.args.items.now c.items.k c.items.n c.counted-n.result _ c.items-test.true c.items.invariant.counted c.counted-n.ensures.is;
-  labels = labels_step c.args.text.now c.args.items.now c.items.k c.items.n _ c.items.labels c.add_label.new.labels c.items-test.true c.items.invariant.counted c.items.invariant.labels c.in_ok-add_label.ensures;
+  counted = counted_step c.args.items.now c.items.k c.items.n c.counted-n.result c.get-item.result c.get-item.ensures.is c.items.invariant.counted c.counted-n.ensures.is;
+  labels = labels_step c.args.text.now c.args.items.now c.items.k c.items.n c.get-item.result c.items.labels c.add_label.new.labels c.get-item.ensures.is c.items.invariant.counted c.items.invariant.labels c.in_ok-add_label.ensures;
 }

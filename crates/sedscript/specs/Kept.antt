@@ -1,0 +1,62 @@
+-- Private to the proofs: no contract of a public item cites what stands here.
+-- How the items of a script are kept in little room.
+use Rattle.std.specs.Prelude.{◌≡◌, ◌<◌, ℕ, List, ◌++◌, map, false, Some, None, unwrap_or, slice_get}
+use Rattle.sedscript.specs.declared.types.Address.TheVariants as address
+use Rattle.sedscript.specs.declared.items.Addresses.{Addresses}
+use Rattle.sedscript.specs.declared.items.Item.{Item}
+use Rattle.sedscript.specs.declared.items.Function.{Function}
+use Rattle.sedscript.specs.declared.items.Function.TheVariants as f
+use Rattle.sedscript.specs.declared.kept.Kept.{Kept}
+use Rattle.sedscript.specs.declared.kept.Given.{Given}
+use Rattle.sedscript.specs.declared.kept.Given.TheVariants as g
+use Rattle.sedscript.specs.declared.kept.Brief.{Brief}
+use Rattle.sedscript.specs.declared.kept.Brief.TheVariants as b
+
+-- a list with more at its end
+abbrev pub Longer : {A : Type 0} → List A → List A → Type 0
+Longer {A} old new = (more : List A) × (new ≡ old ++ more)
+
+abbrev pub no_addresses : Addresses
+no_addresses = record { first = None; second = None; negate = false }
+
+-- the addresses that are kept with a number, where a list has those that need more room
+abbrev pub addresses_of : List Addresses → Given → ℕ → Addresses
+addresses_of heads g.Nothing n = no_addresses
+addresses_of heads g.Line n = record no_addresses { first = Some (address.Line n) }
+addresses_of heads g.Last n = record no_addresses { first = Some address.Last }
+addresses_of heads g.Listed n = unwrap_or (slice_get heads n) no_addresses
+
+-- the function that is kept with two places
+abbrev pub function_of : List Function → Brief → ℕ → ℕ → Function
+function_of longs (b.Plain s) from to = f.Plain s
+function_of longs b.Open from to = f.Open
+function_of longs b.Close from to = f.Close
+function_of longs b.Label from to = f.Label from to
+function_of longs (b.Branch u) from to = f.Branch u from to
+function_of longs (b.Text t) from to = f.Text t from to
+function_of longs (b.File u) from to = f.File u from to
+function_of longs b.Comment from to = f.Comment
+function_of longs b.Listed from to = unwrap_or (slice_get longs from) f.Comment
+
+abbrev pub item_of : List Addresses → List Function → Kept → Item
+item_of heads longs k = record {
+  addresses = addresses_of heads k.given k.head;
+  place = k.place;
+  function = function_of longs k.function k.from k.to;
+}
+
+abbrev pub items_of : List Addresses → List Function → List Kept → List Item
+items_of heads longs ks = map (item_of heads longs) ks
+
+-- a list of so many addresses has those that are listed
+abbrev pub IsGiven : ℕ → Given → ℕ → Type 0
+IsGiven count g.Listed n = n < count
+IsGiven count g n = Unit {0}
+
+abbrev pub IsBrief : ℕ → Brief → ℕ → Type 0
+IsBrief count b.Listed from = from < count
+IsBrief count b from = Unit {0}
+
+-- what is listed of an item stands in lists of these lengths
+abbrev pub IsKept : ℕ → ℕ → Kept → Type 0
+IsKept heads longs k = IsGiven heads k.given k.head × IsBrief longs k.function k.from
