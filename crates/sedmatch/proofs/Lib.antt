@@ -7,6 +7,7 @@ pub mod WorkLemmas
 pub mod TailLemmas
 pub mod AheadLemmas
 pub mod RunLemmas
+pub mod TimesLemmas
 pub mod CostLemmas
 pub mod SweepLemmas
 pub mod RegionLemmas

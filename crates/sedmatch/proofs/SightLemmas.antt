@@ -13,14 +13,16 @@ use Rattle.sedmatch.specs.declared.few.Few.{Few}
 use Rattle.sedmatch.specs.Reach.{At}
 use Rattle.sedmatch.specs.Skip.{CanBegin, NextStart}
 use Rattle.sedmatch.specs.declared.skip.Begins.TheVariants.{WithSet}
-use Rattle.sedmatch.specs.Runs.{AllRepeat, IsRun}
+use Rattle.sedmatch.specs.Times.{AllTimes, FirstTimes}
+use Rattle.sedmatch.specs.Runs.{Repeated, AllRepeat, IsRun}
 use Rattle.sedmatch.specs.Sight.{IsFirst, StartsWith, SightSpans, IsSight, CanStart, FirstWith, FirstStart, EndsAt}
 use Rattle.sedmatch.specs.declared.sight.First.{First}
 use Rattle.sedmatch.specs.declared.sight.First.TheVariants.{Among, Member}
 use Rattle.sedmatch.specs.declared.sight.Sight.{Sight}
-use Rattle.sedmatch.specs.declared.sight.Sight.TheVariants.{One, Run, Led}
+use Rattle.sedmatch.specs.declared.sight.Sight.TheVariants.{One, Run, Led, Times}
 use Rattle.sedmatch.proofs.ReachLemmas.{open_at, close_at}
 use Rattle.sedmatch.proofs.RunLemmas.{run_far}
+use Rattle.sedmatch.proofs.TimesLemmas.{repeated_within}
 use Rattle.sedmatch.proofs.SpanLemmas.{Copies-forward}
 
 -- what comes first, where its bytes are those of the set
@@ -68,6 +70,10 @@ module _ (nodes : List Node) (arena : IsArena nodes) (x last : ℕ) (whole : las
         from_node w i j (close_at nodes w x (Seq a b) arena is i j (i + 1, left, right))),
   )
 
+  -- so many bytes of a set
+  pub sight_times : (members : List Bool) (count : ℕ) → AllTimes nodes last members count → IsSight (tree_at nodes last) (Times members count)
+  sight_times members count times w bytes i j = times w bytes i j
+
 -- the byte that is sought
 pub first_few : (few : Few) (w : List ℕ) (p : ℕ) (r : Option ℕ) → FirstFew few w p r → FirstWith (Among few) w p r
 first_few few w p None none = none
@@ -86,6 +92,10 @@ pub start_led : (first : First) (members : List Bool) (w : List ℕ) (p : ℕ) (
 start_led first members w p None none = λ k low within starts. none k low starts
 start_led first members w p (Some k) here = (here.0, (let inside = slice_get_within w k here.1.0 here.1.1 in omega arith), here.1, here.2)
 
+pub start_times : (members : List Bool) (count : ℕ) (w : List ℕ) (p : ℕ) (r : Option ℕ) → FirstTimes members count w p r → FirstStart (Times members count) w p r
+start_times members count w p None none = none
+start_times members count w p (Some k) here = (here.0, (let inside = here.1 in omega arith), here.2, here.3)
+
 pub starts_inside : (first : First) (w : List ℕ) (i : ℕ) → StartsWith first w i → i < length w
 starts_inside first w i starts = slice_get_within w i starts.0 starts.1
 
@@ -99,17 +109,22 @@ end_run members w i k run = let far = run_far members w i k run in (far.1, far.0
 pub end_led : (first : First) (members : List Bool) (w : List ℕ) (i k : ℕ) → StartsWith first w i → IsRun members w (i + 1) k → EndsAt (Led first members) w i k
 end_led first members w i k starts run = let far = run_far members w (i + 1) k run in ((starts, far.1), far.0, λ j h. far.2 j h.1)
 
+pub end_times : (members : List Bool) (count : ℕ) (w : List ℕ) (i : ℕ) → i ≤ length w → CanStart (Times members count) w i → EndsAt (Times members count) w i (i + count)
+end_times members count w i within can = ((can, refl), repeated_within members w i (i + count) within can, λ k h. omega (arith, h.1))
+
 -- a match begins where it can
 spans_start : (sight : Sight) (w : List ℕ) (i j : ℕ) → SightSpans sight w i j → CanStart sight w i
 spans_start (One first) w i j s = s.0
 spans_start (Run members) w i j s = tt
 spans_start (Led first members) w i j s = s.0
+spans_start (Times members count) w i j s = subst (Repeated members w i) s.1 s.0
 
 -- and where it can, one does
 start_spans : (sight : Sight) (w : List ℕ) (i : ℕ) → CanStart sight w i → (j : ℕ) × SightSpans sight w i j
 start_spans (One first) w i can = (i + 1, (can, refl))
 start_spans (Run members) w i can = (i, no_copy)
 start_spans (Led first members) w i can = (i + 1, (can, no_copy))
+start_spans (Times members count) w i can = (i + count, (can, refl))
 
 module _ (e : Tree) (sight : Sight) (is : IsSight e sight) (w : List ℕ) (bytes : AreBytes w) (p : ℕ) where
   pub sight_found : (i j : ℕ) → FirstStart sight w p (Some i) → EndsAt sight w i j → Found e w p i j
@@ -135,6 +150,7 @@ module _ (e : Tree) (sight : Sight) (is : IsSight e sight) (w : List ℕ) (bytes
 ends_on : (sight : Sight) (w : List ℕ) (i j : ℕ) → SightSpans sight w i j → i ≤ j
 ends_on (One first) w i j s = omega (arith, s.1)
 ends_on (Run members) w i j s = Copies-forward (Spans (set members) w) j i s
+ends_on (Times members count) w i j s = omega (arith, s.1)
 ends_on (Led first members) w i j s = omega (arith, Copies-forward (Spans (set members) w) j (i + 1) s.1)
 
 -- the longest from a place ends there or behind it
@@ -147,3 +163,23 @@ sight_steps m n s0 s some less =
     let one : 1 ≤ m = omega arith in
     let all = mul-le-mul_left (n + 1) one in
     omega (arith, all)
+
+-- they are few beside those that squares allow
+pub sight_squares : (m n s0 s : ℕ) → 0 < m → s ≤ s0 + 2 * (n + 1) → s ≤ s0 + 64 * m * (n + 1) * (n + 1)
+sight_squares m n s0 s some less =
+    let one : 1 ≤ m = omega arith in
+    let all = mul-le-mul_left ((n + 1) * (n + 1)) one in
+    omega (arith, all)
+
+pub sight_miss : (m n s0 s : ℕ) → 0 < m → s ≤ s0 + 2 * (n + 1) → s ≤ s0 + 64 * m * m * (n + 1) * (n + 1)
+sight_miss m n s0 s some less =
+    let one : 1 ≤ m = omega arith in
+    let all = mul-le-mul_left ((n + 1) * (n + 1)) one in
+    let more = mul-le-mul_left (m * (n + 1) * (n + 1)) one in
+    omega (arith, all, more)
+
+pub sight_cost : (m n s0 s t : ℕ) → 0 < m → s ≤ s0 + 2 * (n + 1) → t + 48 * m * (n + 1) * (n + 1) ≤ s + 51 * m * m * (n + 1) * (n + 1) → t ≤ s0 + 64 * m * m * (n + 1) * (n + 1)
+sight_cost m n s0 s t some less rest =
+    let one : 1 ≤ m = omega arith in
+    let all = mul-le-mul_left ((n + 1) * (n + 1)) one in
+    omega (arith, all, rest)

@@ -36,6 +36,7 @@ mod sight;
 mod skip;
 mod states;
 mod tables;
+mod times;
 
 pub use counted::{Marks, Text};
 pub use laws::{found_law, groups_law, spans_law};
