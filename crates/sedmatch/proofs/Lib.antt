@@ -8,6 +8,7 @@ pub mod TailLemmas
 pub mod AheadLemmas
 pub mod RunLemmas
 pub mod TimesLemmas
+pub mod BetweenLemmas
 pub mod CostLemmas
 pub mod SweepLemmas
 pub mod RegionLemmas

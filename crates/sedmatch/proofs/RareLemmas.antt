@@ -87,13 +87,13 @@ GoOnAs nodes x offset y = (w : List ℕ) (i j : ℕ) → At nodes w x i j → At
 module _ (nodes : List Node) (x : ℕ) where
   module _ (offset y : ℕ) (on : GoOnAs nodes x offset y) where
     pub on_set : (s : List Bool) (z : ℕ) → LinksTo nodes y (OneOf s z) → GoOnAs nodes x (offset + 1) z
-    on_set s z link w i j at = subst (λ v. At nodes w z v j) (let e : i + offset + 1 ≡ i + (offset + 1) = omega arith in e) (link.1 w (i + offset) j (on w i j at)).1
+    on_set s z link w i j at = subst (λ v. At nodes w z v j) (let e : i + offset + 1 ≡ i + (offset + 1) = omega arith in e) ((link.1 w (i + offset) j).0 (on w i j at)).1
 
     pub have_set : (s : List Bool) (z : ℕ) → LinksTo nodes y (OneOf s z) → AllHave (tree_at nodes x) offset s
-    have_set s z link w i j at = (link.1 w (i + offset) j (on w i j at)).0
+    have_set s z link w i j at = ((link.1 w (i + offset) j).0 (on w i j at)).0
 
     pub have_last : (s : List Bool) → LinksTo nodes y (Last s) → AllHave (tree_at nodes x) offset s
-    have_last s link w i j at = (link w (i + offset) j (on w i j at)).0
+    have_last s link w i j at = ((link w (i + offset) j).0 (on w i j at)).0
 
 -- a text of bytes
 module _ (e : Tree) (w : List ℕ) (bytes : AreBytes w) (from p : ℕ) (r : Rare) (all : AllRare e (Some r)) (before : NoneIn e w from p) where

@@ -19,6 +19,7 @@ pub mod Needed
 pub mod Ahead
 pub mod Runs
 pub mod Times
+pub mod Between
 pub mod Sight
 pub mod Few
 pub mod Rare

@@ -81,7 +81,7 @@ fn three_zeros(first: u8, second: u8, third: u8, lanes: u8x32) -> u8x32
 }
 
 /// The bytes gathered so far and one more, where they are still few.
-fn with_byte(few: Option<Few>, byte: u8) -> Option<Few>
+pub fn with_byte(few: Option<Few>, byte: u8) -> Option<Few>
     ensures { IfSome result (λ f. (c : ℕ) → HasFew f c ↔ (Gathered few c ⊎ (c ≡ byte))) }
 {
     match few {

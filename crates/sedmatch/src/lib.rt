@@ -16,6 +16,7 @@
 mod ahead;
 mod anywhere;
 mod apart;
+mod between;
 mod classes;
 mod counted;
 mod cuts;

@@ -1,5 +1,5 @@
-//! Expressions whose matches are seen at the first look: a set, a run of its bytes, one byte and a run, or always as many
-//! bytes of a set.
+//! Expressions whose matches are seen at the first look: a set, a run of its bytes, one byte and a run, always as many
+//! bytes of a set, or two literals and what stands between.
 //!
 //! Where such a match begins is told by its bytes, and where the longest ends by those that follow, so that nothing
 //! has to be found out of the expression in a search.
@@ -13,6 +13,7 @@ ghost use Rattle.sedmatch.specs.Matching.{found, report};
 ghost use Rattle.sedmatch.specs.Parts.{SpanIn, span_of};
 ghost use Rattle.sedmatch.specs.Sight.{IsFirst, FirstWith, IsSight, IsSightOf, CanStart, FirstStart, EndsAt};
 
+use crate::between::{Between, between_of};
 use crate::counted::Text;
 use crate::few::{Few, members_of};
 use crate::groups::report;
@@ -34,7 +35,7 @@ pub enum First {
 }
 
 /// How the matches of an expression look.
-#[derive(Clone, Copy)]
+#[derive(Drop)]
 pub enum Sight {
     /// One byte.
     One(First),
@@ -44,6 +45,8 @@ pub enum Sight {
     Led(First, ByteSet),
     /// So many bytes of the set.
     Times(ByteSet, usize),
+    /// A literal, bytes of a set, and another literal.
+    Between(Between),
 }
 
 /// A member of a set, as it is sought.
@@ -84,12 +87,15 @@ fn run_sight(expr: &Expr, steps: &mut Steps) -> Option<Sight>
 /// How the matches of the expression look, if they are seen at the first look.
 pub fn sight_of(alloc: Global, expr: &Expr, steps: &mut Steps) -> Result<Option<Sight>, AllocError>
     requires few { length expr.now.nodes ≤ 65536 }
-    requires room { steps.old < 2 ^ 109 }
+    requires room { steps.old < 2 ^ 107 }
     ensures sight { IfOk result (IsSightOf (tree expr.now)) }
-    ensures cost { steps.new ≤ steps.old + 65542 }
+    ensures cost { steps.new ≤ steps.old + 327694 }
 {
     if let Some(sight) = run_sight(expr, steps) {
         return Ok(Some(sight));
+    }
+    if let Some(between) = between_of(alloc, expr, steps)? {
+        return Ok(Some(Sight::Between(between)));
     }
     match times_of(alloc, expr, steps)? {
         Some((set, count)) => Ok(Some(Sight::Times(set, count))),
@@ -119,13 +125,14 @@ pub fn sight_start(sight: &Sight, text: &Text, from: usize, steps: &mut Steps) -
     requires room { steps.old < 2 ^ 116 }
     ensures start { FirstStart sight.now text.now from result }
     ensures grows { steps.old ≤ steps.new }
-    ensures cost { steps.new + from ≤ steps.old + (length text.now + 1) }
+    ensures cost { steps.new ≤ steps.old + 25 * (length text.now + 1) }
 {
     match sight {
         Sight::One(first) => find_first(first, text, from, steps),
         Sight::Led(first, _) => find_first(first, text, from, steps),
         Sight::Run(_) => Some(from),
         Sight::Times(set, count) => find_times(set, *count, text, from, steps),
+        Sight::Between(between) => between.start(text, from, steps),
     }
 }
 
@@ -136,7 +143,7 @@ pub fn sight_matches(sight: &Sight, text: &Text, from: usize, steps: &mut Steps)
     requires room { steps.old < 2 ^ 116 }
     ensures matches { (e : Tree) → IsSight e sight.now → IsTrue result ↔ SomeFound e text.now from }
     ensures grows { steps.old ≤ steps.new }
-    ensures cost { steps.new ≤ steps.old + 2 * (length text.now + 1) }
+    ensures cost { steps.new ≤ steps.old + 50 * (length text.now + 1) }
 {
     text.are_bytes();
     sight_start(sight, text, from, steps).is_some()
@@ -150,13 +157,14 @@ fn sight_end(sight: &Sight, text: &Text, start: usize, steps: &mut Steps) -> usi
     requires room { steps.old < 2 ^ 117 }
     ensures end { EndsAt sight.now text.now start result }
     ensures grows { steps.old ≤ steps.new }
-    ensures cost { steps.new ≤ steps.old + length text.now }
+    ensures cost { steps.new ≤ steps.old + 25 * (length text.now + 1) }
 {
     match sight {
         Sight::One(_) => start + 1,
         Sight::Led(_, members) => run_end(members, text, start + 1, steps),
         Sight::Run(members) => run_end(members, text, start, steps),
         Sight::Times(_, count) => start + *count,
+        Sight::Between(between) => between.end(text, start, steps),
     }
 }
 
@@ -174,7 +182,7 @@ pub fn sight_span(
     ensures none { (e : Tree) → IsSight e sight.now → IfNone result (NotFound e text.now from) }
     ensures lies { IfSome result (λ f. (f.0 ≤ f.1) × (f.1 ≤ length text.now)) }
     ensures grows { steps.old ≤ steps.new }
-    ensures cost { steps.new ≤ steps.old + 2 * (length text.now + 1) }
+    ensures cost { steps.new ≤ steps.old + 50 * (length text.now + 1) }
 {
     text.are_bytes();
     match sight_start(sight, text, from, steps) {
@@ -207,8 +215,8 @@ pub fn sight_find(
     ensures grows { steps.old ≤ steps.new }
     ensures cost { let m = length expr.now.nodes in let n = length text.now in
         steps.new ≤ steps.old + 64 * m * m * (n + 1) * (n + 1) }
-    ensures linear_without_groups { expr.now.groups ≡ 0 → steps.new ≤ steps.old + 2 * (length text.now + 1) }
-    ensures cost_of_none { IfNone result (steps.new ≤ steps.old + 2 * (length text.now + 1)) }
+    ensures linear_without_groups { expr.now.groups ≡ 0 → steps.new ≤ steps.old + 50 * (length text.now + 1) }
+    ensures cost_of_none { IfNone result (steps.new ≤ steps.old + 50 * (length text.now + 1)) }
 {
     let _count = expr.nodes();
     let sets = &mut scratch.sets;

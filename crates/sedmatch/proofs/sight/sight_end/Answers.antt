@@ -31,3 +31,7 @@ returns-in-Times-clause-end c =
     let can = subst (λ s. CanStart s c.args.text.now c.args.start) c.in-Times.is c.requires.can in
     subst (λ s. EndsAt s c.args.text.now c.args.start (c.args.start + c.in-Times.count)) (sym c.in-Times.is)
     (end_times c.in-Times.field-0 c.in-Times.count c.args.text.now c.args.start c.requires.start can)
+
+pub returns-in-Between-clause-end : goal.returns-in-Between-clause-end
+returns-in-Between-clause-end c =
+    subst (λ s. EndsAt s c.args.text.now c.args.start c.end.result) (sym c.in-Between.is) c.end.ensures.end
