@@ -93,7 +93,7 @@ pub fn with_byte(few: Option<Few>, byte: u8) -> Option<Few>
 }
 
 /// The members of the sets, where there are one to three in all.
-fn few_in(sets: &Either) -> Option<Few>
+pub fn few_in(sets: &Either) -> Option<Few>
     ensures { IfSome result (AreMembers sets.now) }
 {
     let mut few = None;
