@@ -186,3 +186,7 @@ parted_place b w from start behind stop opens none i k low lt at = none i k low 
 pub parted_known : (b : Parted) (few : Few) (head tail these those : List ℕ) → head ≡ these → tail ≡ those → b ≡ record { head = head; outside = few; tail = tail } → b ≡ record { head = these; outside = few; tail = those }
 parted_known b few head tail these those first second is =
     subst (λ v. b ≡ record { head = these; outside = few; tail = v }) second (subst (λ v. b ≡ record { head = v; outside = few; tail = tail }) first is)
+
+-- no second literal
+pub parted_tailless : (b : Parted) (w : List ℕ) (from : ℕ) (ahead : List ℕ) → ahead ≡ b.tail → FirstLiteral w ahead from None → FirstParted b w from None
+parted_tailless b w from ahead same none i k low at = let on = at.1.0 in none k (omega (arith, on)) (subst (λ v. OccursAt w v k) (sym same) at.2)

@@ -67,4 +67,4 @@ FirstParted b w p (Some i) = (p ≤ i) × (i ≤ length w) × CanPart b w i × P
 
 -- the literals are short
 abbrev pub IsShort : List ℕ → List ℕ → Type 0
-IsShort head tail = length head + length tail ≤ 24
+IsShort head tail = length head + length tail ≤ 23

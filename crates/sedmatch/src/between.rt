@@ -3,7 +3,8 @@
 //!
 //! Both are sought by their own searches, the last one from the end, and the few bytes that can't stand between by a third:
 //! a match ends before the first of them.
-ghost use Rattle.std.specs.Prelude.{◌≡◌, ℕ, ◌+◌, ◌*◌, ◌^◌, ◌<◌, ◌≤◌, ◌-◌, length, IfOk, IfSome, IsTrue};
+ghost use Rattle.std.specs.Prelude.{◌≡◌, ℕ, ◌+◌, ◌*◌, ◌^◌, ◌<◌, ◌≤◌, ◌-◌, length, None, IfOk, IfSome, IsTrue};
+ghost use Rattle.sedmatch.specs.Needed.{FirstLiteral};
 ghost use Rattle.sedmatch.specs.Between.{AreOutside, GoesClear, ClearTo, LastTail, AllParted, CanPart, PartedEnd, FirstParted, IsShort};
 
 use crate::counted::Text;
@@ -16,7 +17,7 @@ use std::alloc::{AllocError, Global};
 use std::marker::Model;
 
 /// The most bytes of the two literals.
-const MAX_LITERALS: usize = 24;
+const MAX_LITERALS: usize = 23;
 
 /// A literal, bytes of a set, and another literal.
 #[derive(Drop)]
@@ -24,17 +25,20 @@ pub struct Between {
     head: Finder<'static>,
     // The bytes that aren't in the set.
     outside: Few,
+    // The second literal, from the beginning and from the end.
+    ahead: Finder<'static>,
     tail: FinderRev<'static>,
 }
 
 impl Model for Between {
+    ghost use Rattle.std.specs.Prelude.{◌≡◌};
     ghost use Rattle.sedmatch.specs.Between.{Parted, IsShort};
 
     ghost Value = { Parted };
 
     ghost view = { λ b. record { head = b.head; outside = b.outside; tail = b.tail } };
 
-    ghost invariant = { λ b. IsShort b.head b.tail };
+    ghost invariant = { λ b. IsShort b.head b.tail × (b.ahead ≡ b.tail) };
 }
 
 /// The bytes that aren't in the set, where they may be few.
@@ -98,6 +102,7 @@ fn new_between(alloc: Global, head: &[u8], outside: Few, tail: &[u8]) -> Result<
     Ok(Between {
         head: Finder::new(head).into_owned(alloc)?,
         outside,
+        ahead: Finder::new(tail).into_owned(alloc)?,
         tail: FinderRev::new(tail).into_owned(alloc)?,
     })
 }
@@ -172,7 +177,7 @@ fn last_tail(
     to: usize,
     steps: &mut Steps,
 ) -> Option<usize>
-    requires literal { length tail.now ≤ 24 }
+    requires literal { length tail.now ≤ 23 }
     requires short { length text.now ≤ 2 ^ 30 }
     requires from { from ≤ to }
     requires to { to ≤ length text.now }
@@ -200,7 +205,7 @@ fn first_parted(
     requires room { steps.old < 2 ^ 117 }
     ensures first { FirstParted (record { head = head.now; outside = outside.now; tail = tail.now }) text.now from result }
     ensures grows { steps.old ≤ steps.new }
-    ensures cost { steps.new + 25 * from ≤ steps.old + 25 * (length text.now + 1) }
+    ensures cost { steps.new + 24 * from ≤ steps.old + 24 * (length text.now + 1) }
 {
     let mut place = from;
     while let Some(start) = text.find_literal(head, place, steps) {
@@ -215,6 +220,48 @@ fn first_parted(
         place = stop + 1 - (behind - start);
     }
     None
+}
+
+/// Whether the second literal, where it is the longer one, tells that no match begins at `from` or later.
+fn lacks_tail(head: &Finder, ahead: &Finder, text: &Text, from: usize, steps: &mut Steps) -> bool
+    requires from { from ≤ length text.now }
+    requires room { steps.old < 2 ^ 118 }
+    ensures lacks { IsTrue result → FirstLiteral text.now ahead.now from None }
+    ensures grows { steps.old ≤ steps.new }
+    ensures cost { steps.new + from ≤ steps.old + length text.now }
+{
+    if ahead.needle().len() <= head.needle().len() {
+        return false;
+    }
+    match text.find_literal(ahead, from, steps) {
+        None => true,
+        Some(_) => false,
+    }
+}
+
+/// The first place from `from` on at which a match begins, told at once where the second literal tells that there is none.
+fn parted_start(
+    head: &Finder,
+    outside: &Few,
+    ahead: &Finder,
+    tail: &FinderRev,
+    text: &Text,
+    from: usize,
+    steps: &mut Steps,
+) -> Option<usize>
+    requires literals { IsShort head.now tail.now }
+    requires same { ahead.now ≡ tail.now }
+    requires short { length text.now ≤ 2 ^ 30 }
+    requires from { from ≤ length text.now }
+    requires room { steps.old < 2 ^ 116 }
+    ensures first { FirstParted (record { head = head.now; outside = outside.now; tail = tail.now }) text.now from result }
+    ensures grows { steps.old ≤ steps.new }
+    ensures cost { steps.new + 25 * from ≤ steps.old + 25 * (length text.now + 1) }
+{
+    if lacks_tail(head, ahead, text, from, steps) {
+        return None;
+    }
+    first_parted(head, outside, tail, text, from, steps)
 }
 
 /// Where the longest match ends that begins at `start`.
@@ -247,12 +294,20 @@ impl Between {
     pub fn start(&self, text: &Text, from: usize, steps: &mut Steps) -> Option<usize>
         requires short { length text.now ≤ 2 ^ 30 }
         requires from { from ≤ length text.now }
-        requires room { steps.old < 2 ^ 117 }
+        requires room { steps.old < 2 ^ 116 }
         ensures first { FirstParted self.now text.now from result }
         ensures grows { steps.old ≤ steps.new }
         ensures cost { steps.new + 25 * from ≤ steps.old + 25 * (length text.now + 1) }
     {
-        first_parted(&self.head, &self.outside, &self.tail, text, from, steps)
+        parted_start(
+            &self.head,
+            &self.outside,
+            &self.ahead,
+            &self.tail,
+            text,
+            from,
+            steps,
+        )
     }
 
     /// Where the longest match ends that begins at `start`.

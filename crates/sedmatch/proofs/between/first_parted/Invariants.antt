@@ -7,7 +7,7 @@ invariant-loop-start l = record {
   after : l.from ≤ l.place;
   within : l.place ≤ length l.text;
   grows : l.initial.steps ≤ l.steps;
-  cost : l.steps + 25 * l.from ≤ l.initial.steps + 25 * l.place;
+  cost : l.steps + 24 * l.from ≤ l.initial.steps + 24 * l.place;
   missed : PartedNowhere (record { head = l.head; outside = l.outside; tail = l.tail }) l.text l.from l.place;
 }
 
