@@ -7,6 +7,8 @@ pub mod WorkLemmas
 pub mod TailLemmas
 pub mod AheadLemmas
 pub mod RunLemmas
+pub mod TimesLemmas
+pub mod BetweenLemmas
 pub mod CostLemmas
 pub mod SweepLemmas
 pub mod RegionLemmas

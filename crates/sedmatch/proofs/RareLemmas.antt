@@ -1,10 +1,12 @@
 -- Few bytes of which one stands at a fixed distance behind the beginning of every match.
-use Rattle.std.proofs.Common.{◌≡◌, ℕ, ◌+◌, ◌-◌, ◌*◌, ◌<◌, ◌≤◌, ◌↔◌, Bool, List, length, Option, Some, None, ap, subst, ⊎_elim, arith, mul-le-mul_left}
-use Rattle.std.specs.Prelude.{IfSome}
+use Rattle.std.proofs.Common.{◌≡◌, ℕ, ◌+◌, ◌-◌, ◌*◌, ◌<◌, ◌≤◌, ◌↔◌, ◌⊎◌, Bool, List, length, Option, Some, None, sym, ap, subst, inl, inr, ⊎_elim, arith, mul-le-mul_left}
+use Rattle.std.specs.Prelude.{IfSome, slice_get}
 use Rattle.std.proofs.lemmas.Bool.{cases_lt}
 use Rattle.sedre.specs.Tree.{Tree}
-use Rattle.sedre.specs.Arena.{tree_at}
+use Rattle.sedre.specs.Arena.{IsArena, tree_at}
 use Rattle.sedre.specs.declared.types.Node.{Node}
+use Rattle.sedre.specs.declared.types.NodeId.{NodeId}
+use Rattle.sedre.specs.declared.types.Node.TheVariants.{Alt}
 use Rattle.sedmatch.specs.Ahead.{LeadsTo}
 use Rattle.sedmatch.specs.declared.ahead.Lead.{Lead}
 use Rattle.sedmatch.specs.declared.few.Few.{Few}
@@ -14,11 +16,12 @@ use Rattle.sedmatch.specs.declared.rare.Rare.{Rare}
 use Rattle.sedmatch.specs.Bytes.{looked_at}
 use Rattle.sedmatch.specs.Few.{HasFew, FewAt, FirstFew, AreBytes}
 use Rattle.sedmatch.specs.Needed.{LinksTo}
-use Rattle.sedmatch.specs.Rare.{StandsAt, HeldAt, RareAt, FirstFixed, FirstRare, RareNowhere, AllStand, AllHave, AllHeld, AllRare}
+use Rattle.sedmatch.specs.Rare.{StandsAt, HeldAt, RareAt, FirstFixed, FirstRare, RareNowhere, AllStand, AllHave, AllHeld, AllRare, AllSecond}
 use Rattle.sedmatch.specs.Reach.{At}
 use Rattle.sedmatch.specs.Search.{NoneIn, Sought}
 use Rattle.sedmatch.specs.Spans.{Spans, NotFound, IsIn}
 use Rattle.sedmatch.proofs.FewLemmas.{few_inside}
+use Rattle.sedmatch.proofs.ReachLemmas.{open_at}
 
 -- a place behind which one stands is in the text
 pub fixed_inside : (f : Fixed) (w : List ℕ) (i : ℕ) → StandsAt f w i → i + f.offset < length w
@@ -87,13 +90,13 @@ GoOnAs nodes x offset y = (w : List ℕ) (i j : ℕ) → At nodes w x i j → At
 module _ (nodes : List Node) (x : ℕ) where
   module _ (offset y : ℕ) (on : GoOnAs nodes x offset y) where
     pub on_set : (s : List Bool) (z : ℕ) → LinksTo nodes y (OneOf s z) → GoOnAs nodes x (offset + 1) z
-    on_set s z link w i j at = subst (λ v. At nodes w z v j) (let e : i + offset + 1 ≡ i + (offset + 1) = omega arith in e) (link.1 w (i + offset) j (on w i j at)).1
+    on_set s z link w i j at = subst (λ v. At nodes w z v j) (let e : i + offset + 1 ≡ i + (offset + 1) = omega arith in e) ((link.1 w (i + offset) j).0 (on w i j at)).1
 
     pub have_set : (s : List Bool) (z : ℕ) → LinksTo nodes y (OneOf s z) → AllHave (tree_at nodes x) offset s
-    have_set s z link w i j at = (link.1 w (i + offset) j (on w i j at)).0
+    have_set s z link w i j at = ((link.1 w (i + offset) j).0 (on w i j at)).0
 
     pub have_last : (s : List Bool) → LinksTo nodes y (Last s) → AllHave (tree_at nodes x) offset s
-    have_last s link w i j at = (link w (i + offset) j (on w i j at)).0
+    have_last s link w i j at = ((link w (i + offset) j).0 (on w i j at)).0
 
 -- a text of bytes
 module _ (e : Tree) (w : List ℕ) (bytes : AreBytes w) (from p : ℕ) (r : Rare) (all : AllRare e (Some r)) (before : NoneIn e w from p) where
@@ -171,3 +174,24 @@ rare_end m n from at s0 s s1 some low before skip =
     let most = mul-le-mul_left d some in
     let all : 8 * m * n ≡ 8 * m * (at + d) = ap (λ v. 8 * m * v) e in
     omega (arith, most, all)
+
+-- what stands second
+module _ (nodes : List Node) (x : ℕ) (s t : List Bool) (y : ℕ) (link : LinksTo nodes x (OneOf s y)) where
+  pub second_set : (z : ℕ) → LinksTo nodes y (OneOf t z) → AllSecond nodes x t
+  second_set z next w i j at = ((next.1 w (i + 1) j).0 ((link.1 w i j).0 at).1).0
+
+  pub second_last : LinksTo nodes y (Last t) → AllSecond nodes x t
+  second_last next w i j at = ((next w (i + 1) j).0 ((link.1 w i j).0 at).1).0
+
+-- of two alternatives
+pub second_alternatives : (nodes : List Node) → IsArena nodes → (x last : ℕ) (a b : NodeId) (y z : ℕ) (s t : List Bool) (few : Few) → last ≡ x → slice_get nodes x ≡ Some (Alt a b) → y ≡ a.index → z ≡ b.index →
+    AllSecond nodes y s → AllSecond nodes z t → ((c : ℕ) → c < 256 → HasFew few c ↔ (IsIn c s ⊎ IsIn c t)) → AllStand (tree_at nodes last) (record { offset = 1; few = few })
+second_alternatives nodes arena x last a b y z s t few whole is y_is z_is first second same w bytes i j spans =
+    ⊎_elim
+    (λ (h : At nodes w a.index i j).
+    let can = first w i j (subst (λ v. At nodes w v i j) (sym y_is) h) in
+    (can.0, can.1, (same can.0 (bytes (i + 1) can.0 can.1)).1 (inl can.2)))
+    (λ (h : At nodes w b.index i j).
+    let can = second w i j (subst (λ v. At nodes w v i j) (sym z_is) h) in
+    (can.0, can.1, (same can.0 (bytes (i + 1) can.0 can.1)).1 (inr can.2)))
+    (open_at nodes w x (Alt a b) arena is i j (subst (λ v. At nodes w v i j) whole spans))

@@ -13,14 +13,17 @@ use Rattle.sedmatch.specs.declared.few.Few.{Few}
 use Rattle.sedmatch.specs.Reach.{At}
 use Rattle.sedmatch.specs.Skip.{CanBegin, NextStart}
 use Rattle.sedmatch.specs.declared.skip.Begins.TheVariants.{WithSet}
-use Rattle.sedmatch.specs.Runs.{AllRepeat, IsRun}
+use Rattle.sedmatch.specs.Times.{AllTimes, FirstTimes}
+use Rattle.sedmatch.specs.Between.{Parted, AllParted, FirstParted}
+use Rattle.sedmatch.specs.Runs.{Repeated, AllRepeat, IsRun}
 use Rattle.sedmatch.specs.Sight.{IsFirst, StartsWith, SightSpans, IsSight, CanStart, FirstWith, FirstStart, EndsAt}
 use Rattle.sedmatch.specs.declared.sight.First.{First}
 use Rattle.sedmatch.specs.declared.sight.First.TheVariants.{Among, Member}
 use Rattle.sedmatch.specs.declared.sight.Sight.{Sight}
-use Rattle.sedmatch.specs.declared.sight.Sight.TheVariants.{One, Run, Led}
+use Rattle.sedmatch.specs.declared.sight.Sight.TheVariants.{One, Run, Led, Times, Between}
 use Rattle.sedmatch.proofs.ReachLemmas.{open_at, close_at}
 use Rattle.sedmatch.proofs.RunLemmas.{run_far}
+use Rattle.sedmatch.proofs.TimesLemmas.{repeated_within}
 use Rattle.sedmatch.proofs.SpanLemmas.{Copies-forward}
 
 -- what comes first, where its bytes are those of the set
@@ -44,7 +47,7 @@ module _ (nodes : List Node) (arena : IsArena nodes) (x last : ℕ) (whole : las
 
   -- a set
   pub sight_one : (members : List Bool) (first : First) → slice_get nodes x ≡ Some (Set members) → AreFirst first members → IsSight (tree_at nodes last) (One first)
-  sight_one members first is same w bytes i j =
+  sight_one members first is same w bytes i j within =
       let spans = set_spans members first same w bytes i j in (
         (λ s. spans.0 (open_at nodes w x (Set members) arena is i j (to_node w i j s))),
         (λ h. from_node w i j (close_at nodes w x (Set members) arena is i j (spans.1 h))),
@@ -52,12 +55,12 @@ module _ (nodes : List Node) (arena : IsArena nodes) (x last : ℕ) (whole : las
 
   -- a run
   pub sight_run : (members : List Bool) → AllRepeat nodes x members → IsSight (tree_at nodes last) (Run members)
-  sight_run members repeats w bytes i j = ((λ s. (repeats w i j).0 (to_node w i j s)), (λ h. from_node w i j ((repeats w i j).1 h)))
+  sight_run members repeats w bytes i j within = ((λ s. (repeats w i j).0 (to_node w i j s)), (λ h. from_node w i j ((repeats w i j).1 h)))
 
   -- a byte of a set, and a run
   pub sight_led : (a b : NodeId) (these : List Bool) (first : First) (y : ℕ) (members : List Bool) → slice_get nodes x ≡ Some (Seq a b) → slice_get nodes a.index ≡ Some (Set these) → y ≡ b.index →
       AreFirst first these → AllRepeat nodes y members → IsSight (tree_at nodes last) (Led first members)
-  sight_led a b these first y members is there y_is same repeats w bytes i j = (
+  sight_led a b these first y members is there y_is same repeats w bytes i j within = (
     (λ s.
         let f = open_at nodes w x (Seq a b) arena is i j (to_node w i j s) in
         let h = (set_spans these first same w bytes i f.0).0 (open_at nodes w a.index (Set these) arena there i f.0 f.1) in
@@ -67,6 +70,14 @@ module _ (nodes : List Node) (arena : IsArena nodes) (x last : ℕ) (whole : las
         let right : At nodes w b.index (i + 1) j = subst (λ v. At nodes w v (i + 1) j) y_is ((repeats w (i + 1) j).1 h.1) in
         from_node w i j (close_at nodes w x (Seq a b) arena is i j (i + 1, left, right))),
   )
+
+  -- so many bytes of a set
+  pub sight_times : (members : List Bool) (count : ℕ) → AllTimes nodes last members count → IsSight (tree_at nodes last) (Times members count)
+  sight_times members count times w bytes i j within = times w bytes i j
+
+  -- two literals, and others of the bytes between
+  pub sight_between : (b : Parted) → AllParted nodes last b → IsSight (tree_at nodes last) (Between b)
+  sight_between b parted = parted
 
 -- the byte that is sought
 pub first_few : (few : Few) (w : List ℕ) (p : ℕ) (r : Option ℕ) → FirstFew few w p r → FirstWith (Among few) w p r
@@ -86,6 +97,14 @@ pub start_led : (first : First) (members : List Bool) (w : List ℕ) (p : ℕ) (
 start_led first members w p None none = λ k low within starts. none k low starts
 start_led first members w p (Some k) here = (here.0, (let inside = slice_get_within w k here.1.0 here.1.1 in omega arith), here.1, here.2)
 
+pub start_times : (members : List Bool) (count : ℕ) (w : List ℕ) (p : ℕ) (r : Option ℕ) → FirstTimes members count w p r → FirstStart (Times members count) w p r
+start_times members count w p None none = none
+start_times members count w p (Some k) here = (here.0, (let inside = here.1 in omega arith), here.2, here.3)
+
+pub start_between : (b : Parted) (w : List ℕ) (p : ℕ) (r : Option ℕ) → FirstParted b w p r → FirstStart (Between b) w p r
+start_between b w p None none = λ k low within can. none k can.0 low can.1
+start_between b w p (Some k) here = (here.0, here.1, here.2, λ h low lt can. here.3 h can.0 low lt can.1)
+
 pub starts_inside : (first : First) (w : List ℕ) (i : ℕ) → StartsWith first w i → i < length w
 starts_inside first w i starts = slice_get_within w i starts.0 starts.1
 
@@ -99,51 +118,81 @@ end_run members w i k run = let far = run_far members w i k run in (far.1, far.0
 pub end_led : (first : First) (members : List Bool) (w : List ℕ) (i k : ℕ) → StartsWith first w i → IsRun members w (i + 1) k → EndsAt (Led first members) w i k
 end_led first members w i k starts run = let far = run_far members w (i + 1) k run in ((starts, far.1), far.0, λ j h. far.2 j h.1)
 
+pub end_times : (members : List Bool) (count : ℕ) (w : List ℕ) (i : ℕ) → i ≤ length w → CanStart (Times members count) w i → EndsAt (Times members count) w i (i + count)
+end_times members count w i within can = ((can, refl), repeated_within members w i (i + count) within can, λ k h. omega (arith, h.1))
+
 -- a match begins where it can
 spans_start : (sight : Sight) (w : List ℕ) (i j : ℕ) → SightSpans sight w i j → CanStart sight w i
 spans_start (One first) w i j s = s.0
 spans_start (Run members) w i j s = tt
 spans_start (Led first members) w i j s = s.0
+spans_start (Times members count) w i j s = subst (Repeated members w i) s.1 s.0
+spans_start (Between b) w i j s = (s.0, s.1)
 
 -- and where it can, one does
 start_spans : (sight : Sight) (w : List ℕ) (i : ℕ) → CanStart sight w i → (j : ℕ) × SightSpans sight w i j
 start_spans (One first) w i can = (i + 1, (can, refl))
 start_spans (Run members) w i can = (i, no_copy)
 start_spans (Led first members) w i can = (i + 1, (can, no_copy))
+start_spans (Times members count) w i can = (i + count, (can, refl))
+start_spans (Between b) w i can = (can.0 + length b.tail, (can.0, can.1, refl))
 
 module _ (e : Tree) (sight : Sight) (is : IsSight e sight) (w : List ℕ) (bytes : AreBytes w) (p : ℕ) where
   pub sight_found : (i j : ℕ) → FirstStart sight w p (Some i) → EndsAt sight w i j → Found e w p i j
   sight_found i j start end = record {
     after = start.0;
-    spans = (is w bytes i j).1 end.0;
-    longest = λ k s. end.2 k ((is w bytes i k).0 s);
-    leftmost = λ h k low lt s. start.3 h low lt (spans_start sight w h k ((is w bytes h k).0 s));
+    spans = (is w bytes i j start.1).1 end.0;
+    longest = λ k s. end.2 k ((is w bytes i k start.1).0 s);
+    leftmost = λ h k low lt s. start.3 h low lt (spans_start sight w h k ((is w bytes h k (let within = start.1 in omega arith)).0 s));
   }
 
   pub sight_some : (r : Option ℕ) → FirstStart sight w p r → IsTrue (is_some r) ↔ SomeFound e w p
   sight_some None none = (
     (λ h. absurd (true≢false (sym h))),
-    (λ some. absurd (none some.0 some.2 some.3 (spans_start sight w some.0 some.1 ((is w bytes some.0 some.1).0 some.4)))),
+    (λ some. absurd (none some.0 some.2 some.3 (spans_start sight w some.0 some.1 ((is w bytes some.0 some.1 some.3).0 some.4)))),
   )
   sight_some (Some i) start =
       let span = start_spans sight w i start.2 in
-      ((λ h. (i, span.0, start.0, start.1, (is w bytes i span.0).1 span.1)), (λ some. refl))
+      ((λ h. (i, span.0, start.0, start.1, (is w bytes i span.0 start.1).1 span.1)), (λ some. refl))
 
   pub sight_none : FirstStart sight w p None → NotFound e w p
-  sight_none none i k low within s = none i low within (spans_start sight w i k ((is w bytes i k).0 s))
+  sight_none none i k low within s = none i low within (spans_start sight w i k ((is w bytes i k within).0 s))
 
 ends_on : (sight : Sight) (w : List ℕ) (i j : ℕ) → SightSpans sight w i j → i ≤ j
 ends_on (One first) w i j s = omega (arith, s.1)
 ends_on (Run members) w i j s = Copies-forward (Spans (set members) w) j i s
+ends_on (Times members count) w i j s = omega (arith, s.1)
+ends_on (Between b) w i j s = let on = s.1.1.0 in omega (arith, s.2, on)
 ends_on (Led first members) w i j s = omega (arith, Copies-forward (Spans (set members) w) j (i + 1) s.1)
 
 -- the longest from a place ends there or behind it
 pub ends_after : (sight : Sight) (w : List ℕ) (i j : ℕ) → EndsAt sight w i j → i ≤ j
 ends_after sight w i j end = ends_on sight w i j end.0
 
--- the steps, of which there are two for each byte at most
-pub sight_steps : (m n s0 s : ℕ) → 0 < m → s ≤ s0 + 2 * (n + 1) → s ≤ s0 + 64 * m * (n + 1)
+-- the steps, of which there are few for each byte
+pub sight_steps : (m n s0 s : ℕ) → 0 < m → s ≤ s0 + 50 * (n + 1) → s ≤ s0 + 64 * m * (n + 1)
 sight_steps m n s0 s some less =
     let one : 1 ≤ m = omega arith in
     let all = mul-le-mul_left (n + 1) one in
     omega (arith, all)
+
+-- they are few beside those that squares allow
+pub sight_squares : (m n s0 s : ℕ) → 0 < m → s ≤ s0 + 50 * (n + 1) → s ≤ s0 + 64 * m * (n + 1) * (n + 1)
+sight_squares m n s0 s some less =
+    let one : 1 ≤ m = omega arith in
+    let all = mul-le-mul_left ((n + 1) * (n + 1)) one in
+    omega (arith, all)
+
+pub sight_miss : (m n s0 s : ℕ) → 0 < m → s ≤ s0 + 50 * (n + 1) → s ≤ s0 + 64 * m * m * (n + 1) * (n + 1)
+sight_miss m n s0 s some less =
+    let one : 1 ≤ m = omega arith in
+    let all = mul-le-mul_left ((n + 1) * (n + 1)) one in
+    let more = mul-le-mul_left (m * (n + 1) * (n + 1)) one in
+    omega (arith, all, more)
+
+pub sight_cost : (m n s0 s t : ℕ) → 0 < m → s ≤ s0 + 50 * (n + 1) → t + 48 * m * (n + 1) * (n + 1) ≤ s + 51 * m * m * (n + 1) * (n + 1) → t ≤ s0 + 64 * m * m * (n + 1) * (n + 1)
+sight_cost m n s0 s t some less rest =
+    let one : 1 ≤ m = omega arith in
+    let all = mul-le-mul_left ((n + 1) * (n + 1)) one in
+    let more = mul-le-mul_left (m * (n + 1) * (n + 1)) one in
+    omega (arith, all, more, rest)

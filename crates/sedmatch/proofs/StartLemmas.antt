@@ -1,6 +1,6 @@
 -- Whether a match begins at the first place at which one can.
 use Rattle.std.proofs.Common.{◌≡◌, ℕ, ◌+◌, ◌*◌, ◌<◌, ◌≤◌, ◌↔◌, Bool, true, List, length, Option, Some, None, IsTrue, refl, subst, arith, mul-le-mul_left}
-use Rattle.std.specs.Prelude.{IfSome, IfNone}
+use Rattle.std.specs.Prelude.{IfNone}
 use Rattle.sedre.specs.Tree.{Tree}
 use Rattle.sedre.specs.declared.types.Node.{Node}
 use Rattle.sedmatch.specs.declared.linear.FirstEnd.{FirstEnd}
@@ -41,10 +41,6 @@ some_linear m n s0 s1 s2 some sought less =
     let one : 1 ≤ m = omega arith in
     let places = mul-le-mul_left n one in
     omega (arith, places)
-
-pub sight_known : (e : Tree) (o : Option Sight) → IfSome o (λ s. IsSight e s) → IsSightOf e o
-sight_known e None is = tt
-sight_known e (Some s) is = is
 
 pub sight_is : (e : Tree) (o : Option Sight) (s : Sight) → o ≡ Some s → IsSightOf e o → IsSight e s
 sight_is e o s same is = subst (IsSightOf e) same is

@@ -18,6 +18,8 @@ pub mod Skip
 pub mod Needed
 pub mod Ahead
 pub mod Runs
+pub mod Times
+pub mod Between
 pub mod Sight
 pub mod Few
 pub mod Rare

@@ -1,9 +1,9 @@
 -- Private to this crate: literals that the spans of an expression hold.
-use Rattle.std.specs.Prelude.{◌≡◌, ℕ, ◌+◌, ◌-◌, ◌<◌, ◌≤◌, Bool, List, length, Option, Some, None, IsTrue}
+use Rattle.std.specs.Prelude.{◌≡◌, ℕ, ◌+◌, ◌-◌, ◌<◌, ◌≤◌, ◌↔◌, Bool, List, length, Option, Some, None, IsTrue}
 use Rattle.memchr.specs.Find.{OccursAt}
 use Rattle.sedre.specs.Tree.{Tree}
 use Rattle.sedre.specs.declared.types.Node.{Node}
-use Rattle.sedmatch.specs.Spans.{Spans, NotFound}
+use Rattle.sedmatch.specs.Spans.{Spans, NotFound, IsIn}
 use Rattle.sedmatch.specs.Reach.{At}
 use Rattle.sedmatch.specs.Search.{NoneIn}
 use Rattle.sedmatch.specs.Skip.{CanBegin}
@@ -15,27 +15,36 @@ use Rattle.sedmatch.specs.declared.needed.Needed.{Needed}
 
 -- the spans of the node x are of one byte of the set
 abbrev pub IsOfSet : List Node → ℕ → List Bool → Type 0
-IsOfSet nodes x s = (w : List ℕ) (i j : ℕ) → At nodes w x i j → CanBegin (WithSet s) w i × (j ≡ i + 1)
+IsOfSet nodes x s = (w : List ℕ) (i j : ℕ) → At nodes w x i j ↔ (CanBegin (WithSet s) w i × (j ≡ i + 1))
 
--- how the spans of the node x begin
+-- the spans of the node x are those that begin so
 abbrev pub LinksTo : List Node → ℕ → Link → Type 0
-LinksTo nodes x (OneOf s y) = (y < x) × ((w : List ℕ) (i j : ℕ) → At nodes w x i j → CanBegin (WithSet s) w i × At nodes w y (i + 1) j)
+LinksTo nodes x (OneOf s y) = (y < x) × ((w : List ℕ) (i j : ℕ) → At nodes w x i j ↔ (CanBegin (WithSet s) w i × At nodes w y (i + 1) j))
 LinksTo nodes x (Last s) = IsOfSet nodes x s
-LinksTo nodes x (Inner y) = (y < x) × ((w : List ℕ) (i j : ℕ) → At nodes w x i j → At nodes w y i j)
+LinksTo nodes x (Inner y) = (y < x) × ((w : List ℕ) (i j : ℕ) → At nodes w x i j ↔ At nodes w y i j)
 LinksTo nodes x Other = Unit {0}
 
--- the node y, if there is one, is spanned from i to j
+-- the node y is spanned from i to j, or nothing is left where there is none
 abbrev pub GoesOnAs : List Node → List ℕ → ℕ → ℕ → Option ℕ → Type 0
-GoesOnAs nodes w i j None = Unit {0}
+GoesOnAs nodes w i j None = i ≡ j
 GoesOnAs nodes w i j (Some y) = At nodes w y i j
 
--- the spans of the node x begin with the bytes, behind which they go on as those of the node y
+-- the spans of the node x are those that begin with the bytes, and go on behind them as those of the node y
 abbrev pub BeginsAs : List Node → ℕ → List ℕ → ℕ → Type 0
-BeginsAs nodes x bytes y = (w : List ℕ) (i j : ℕ) → i ≤ length w → At nodes w x i j → OccursAt w bytes i × At nodes w y (i + length bytes) j
+BeginsAs nodes x bytes y = (w : List ℕ) (i j : ℕ) → i ≤ length w → At nodes w x i j ↔ (OccursAt w bytes i × At nodes w y (i + length bytes) j)
 
--- the spans of the node x begin with the literal, behind which they go on as the spans of the rest
+-- the spans of the node x are those that begin with the literal, and go on behind it as the spans of the rest
 abbrev pub IsLiteral : List Node → ℕ → Literal → Type 0
-IsLiteral nodes x l = (w : List ℕ) (i j : ℕ) → i ≤ length w → At nodes w x i j → OccursAt w l.bytes.items i × GoesOnAs nodes w (i + length l.bytes.items) j l.rest
+IsLiteral nodes x l = (w : List ℕ) (i j : ℕ) → i ≤ length w → At nodes w x i j ↔ (OccursAt w l.bytes.items i × GoesOnAs nodes w (i + length l.bytes.items) j l.rest)
+
+-- the byte is the only one of the set
+abbrev pub IsSole : List Bool → ℕ → Type 0
+IsSole s byte = ((c : ℕ) → IsIn c s → c ≡ byte) × IsIn byte s
+
+-- the last place from p on at which the literal stands and ends by q, if there is one
+abbrev pub LastLiteral : List ℕ → List ℕ → ℕ → ℕ → Option ℕ → Type 0
+LastLiteral w literal p q None = (k : ℕ) → p ≤ k → k + length literal ≤ q → OccursAt w literal k → ⊥
+LastLiteral w literal p q (Some k) = (p ≤ k) × (k + length literal ≤ q) × OccursAt w literal k × ((h : ℕ) → k < h → h + length literal ≤ q → OccursAt w literal h → ⊥)
 
 -- the rest, if there is one, is the node or stands before it
 abbrev pub IsUpTo : ℕ → Option ℕ → Type 0

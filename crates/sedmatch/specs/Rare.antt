@@ -1,7 +1,9 @@
 -- Private to this crate: few bytes of which one stands at a fixed distance behind the beginning of every match.
 use Rattle.std.specs.Prelude.{ℕ, ◌+◌, ◌<◌, ◌≤◌, Bool, List, Option, Some, None}
 use Rattle.sedre.specs.Tree.{Tree}
+use Rattle.sedre.specs.declared.types.Node.{Node}
 use Rattle.sedmatch.specs.Spans.{Spans}
+use Rattle.sedmatch.specs.Reach.{At}
 use Rattle.sedmatch.specs.Few.{FewAt, AreBytes}
 use Rattle.sedmatch.specs.Skip.{CanBegin}
 use Rattle.sedmatch.specs.declared.skip.Begins.TheVariants.{WithSet}
@@ -56,3 +58,7 @@ AllHave e offset s = (w : List ℕ) (i j : ℕ) → Spans e w i j → CanBegin (
 abbrev pub AllRare : Tree → Option Rare → Type 0
 AllRare e None = Unit {0}
 AllRare e (Some r) = AllStand e r.sought × AllHeld e r.held
+
+-- a byte of the set stands second in each span of the node x
+abbrev pub AllSecond : List Node → ℕ → List Bool → Type 0
+AllSecond nodes x s = (w : List ℕ) (i j : ℕ) → At nodes w x i j → CanBegin (WithSet s) w (i + 1)

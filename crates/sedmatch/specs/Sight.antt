@@ -4,11 +4,13 @@ use Rattle.std.specs.Prelude.{◌≡◌, ℕ, ◌+◌, ◌<◌, ◌≤◌, ◌�
 use Rattle.sedre.specs.Tree.{Tree}
 use Rattle.sedmatch.specs.Spans.{Spans, IsIn}
 use Rattle.sedmatch.specs.Runs.{Repeated}
+use Rattle.sedmatch.specs.Times.{HasTimes}
+use Rattle.sedmatch.specs.Between.{PartedSpans, CanPart}
 use Rattle.sedmatch.specs.Few.{HasFew, AreBytes}
 use Rattle.sedmatch.specs.declared.sight.First.{First}
 use Rattle.sedmatch.specs.declared.sight.First.TheVariants.{Among, Member}
 use Rattle.sedmatch.specs.declared.sight.Sight.{Sight}
-use Rattle.sedmatch.specs.declared.sight.Sight.TheVariants.{One, Run, Led}
+use Rattle.sedmatch.specs.declared.sight.Sight.TheVariants.{One, Run, Led, Times, Between}
 
 -- the byte can come first
 abbrev pub IsFirst : First → ℕ → Type 0
@@ -24,10 +26,12 @@ abbrev pub SightSpans : Sight → List ℕ → ℕ → ℕ → Type 0
 SightSpans (One first) w i j = StartsWith first w i × (j ≡ i + 1)
 SightSpans (Run members) w i j = Repeated members w i j
 SightSpans (Led first members) w i j = StartsWith first w i × Repeated members w (i + 1) j
+SightSpans (Times members count) w i j = HasTimes members count w i j
+SightSpans (Between b) w i j = PartedSpans b w i j
 
 -- the spans of the expression in a text of bytes are these
 abbrev pub IsSight : Tree → Sight → Type 0
-IsSight e sight = (w : List ℕ) → AreBytes w → (i j : ℕ) → Spans e w i j ↔ SightSpans sight w i j
+IsSight e sight = (w : List ℕ) → AreBytes w → (i j : ℕ) → i ≤ length w → Spans e w i j ↔ SightSpans sight w i j
 
 -- the same, where it is known
 abbrev pub IsSightOf : Tree → Option Sight → Type 0
@@ -39,6 +43,8 @@ abbrev pub CanStart : Sight → List ℕ → ℕ → Type 0
 CanStart (One first) w i = StartsWith first w i
 CanStart (Run members) w i = Unit {0}
 CanStart (Led first members) w i = StartsWith first w i
+CanStart (Times members count) w i = Repeated members w i (i + count)
+CanStart (Between b) w i = CanPart b w i
 
 -- the first place from p on at which the byte can come first
 abbrev pub FirstWith : First → List ℕ → ℕ → Option ℕ → Type 0

@@ -6,7 +6,7 @@ ghost use Rattle.std.specs.Int.{bit_at};
 ghost use Rattle.std.specs.Prelude.{reverse};
 ghost use Rattle.sedmatch.specs.Bytes.{FirstAt, looked_at, in_order};
 ghost use Rattle.sedmatch.specs.Few.{AreBytes, FirstFew};
-ghost use Rattle.sedmatch.specs.Needed.{FirstLiteral, passed_to};
+ghost use Rattle.sedmatch.specs.Needed.{FirstLiteral, LastLiteral, passed_to};
 ghost use Rattle.sedmatch.specs.Rare.{ApartIn};
 ghost use Rattle.sedmatch.specs.Words.{marks_of};
 
@@ -16,7 +16,7 @@ use crate::apart::apart_to;
 use crate::few::Few;
 use crate::rare::Fixed;
 use memchr::memchr;
-use memchr::memmem::Finder;
+use memchr::memmem::{Finder, FinderRev};
 pub use rows::Rows;
 use sedre::Steps;
 use std::alloc::{AllocError, Global};
@@ -124,6 +124,35 @@ impl<'a> Text<'a> {
             }
             Some(k) => {
                 steps.add(k + finder.needle().len());
+                Some(from + k)
+            }
+        }
+    }
+
+    /// The last place from `from` on at which the literal stands and ends by `to`.
+    /// Counts a look for each byte from `to` down to that place, or to `from` where there is none.
+    pub(crate) fn find_last(
+        &self,
+        finder: &FinderRev,
+        from: usize,
+        to: usize,
+        steps: &mut Steps,
+    ) -> Option<usize>
+        requires from { from ≤ to }
+        requires to { to ≤ length self.now }
+        requires room { steps.old < 2 ^ 119 }
+        ensures last { LastLiteral self.now finder.now from to result }
+        ensures grows { steps.old ≤ steps.new }
+        ensures cost { steps.new + from ≤ steps.old + to }
+    {
+        let part = &self.bytes[from..to];
+        match finder.rfind(part) {
+            None => {
+                steps.add(part.len());
+                None
+            }
+            Some(k) => {
+                steps.add(part.len() - k);
                 Some(from + k)
             }
         }

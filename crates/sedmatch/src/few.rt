@@ -81,7 +81,7 @@ fn three_zeros(first: u8, second: u8, third: u8, lanes: u8x32) -> u8x32
 }
 
 /// The bytes gathered so far and one more, where they are still few.
-fn with_byte(few: Option<Few>, byte: u8) -> Option<Few>
+pub fn with_byte(few: Option<Few>, byte: u8) -> Option<Few>
     ensures { IfSome result (λ f. (c : ℕ) → HasFew f c ↔ (Gathered few c ⊎ (c ≡ byte))) }
 {
     match few {
@@ -93,7 +93,7 @@ fn with_byte(few: Option<Few>, byte: u8) -> Option<Few>
 }
 
 /// The members of the sets, where there are one to three in all.
-fn few_in(sets: &Either) -> Option<Few>
+pub fn few_in(sets: &Either) -> Option<Few>
     ensures { IfSome result (AreMembers sets.now) }
 {
     let mut few = None;

@@ -20,6 +20,7 @@
 mod ahead;
 mod anywhere;
 mod apart;
+mod between;
 mod classes;
 mod counted;
 mod cuts;
@@ -42,6 +43,7 @@ mod sight;
 mod skip;
 mod states;
 mod tables;
+mod times;
 
 pub use counted::{Marks, Text};
 pub use laws::{found_law, groups_law, spans_law};

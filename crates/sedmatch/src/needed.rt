@@ -4,7 +4,7 @@
 ghost use Rattle.std.specs.Prelude.{◌≡◌, ℕ, ◌+◌, ◌*◌, ◌^◌, ◌<◌, ◌≤◌, ◌⊎◌, length, IfOk, IfSome};
 ghost use Rattle.sedre.specs.Arena.{tree};
 ghost use Rattle.sedre.specs.Tree.{Tree};
-ghost use Rattle.sedmatch.specs.Needed.{IsOfSet, LinksTo, IsLiteral, IsUpTo, AllHold, AllEndWith, IsNeeded, Narrowed};
+ghost use Rattle.sedmatch.specs.Needed.{IsOfSet, LinksTo, IsLiteral, IsSole, IsUpTo, AllHold, AllEndWith, IsNeeded, Narrowed};
 
 use crate::counted::Text;
 use memchr::memmem::Finder;
@@ -82,8 +82,18 @@ pub fn link_of(expr: &Expr, index: usize, steps: &mut Steps) -> Link
     }
 }
 
+/// The only byte of the set, if it has one alone.
+fn sole_of(set: &ByteSet) -> Option<u8>
+    ensures { IfSome result (IsSole set.now) }
+{
+    match set.sole() {
+        Some(byte) if set.has(byte) => Some(byte),
+        _ => None,
+    }
+}
+
 /// The literal with which the spans of the node begin.
-fn literal_from(
+pub fn literal_from(
     alloc: Global,
     expr: &Expr,
     from: usize,
@@ -103,14 +113,14 @@ fn literal_from(
     while bytes.len() < MAX_LITERAL {
         match link_of(expr, index, steps) {
             Link::OneOf(set, next) => {
-                let Some(byte) = set.sole() else {
+                let Some(byte) = sole_of(&set) else {
                     break;
                 };
                 bytes.push(byte)?;
                 index = next;
             }
             Link::Last(set) => {
-                let Some(byte) = set.sole() else {
+                let Some(byte) = sole_of(&set) else {
                     break;
                 };
                 bytes.push(byte)?;

@@ -25,7 +25,7 @@ use crate::needed::{Needed, find_needed, narrowed};
 use crate::rare::{Rare, first_place, rare_of};
 use crate::scratch::{Scratch, Sets};
 use crate::search::{better, longest_on};
-use crate::sight::{Sight, sight_matches, sight_of, sight_span};
+use crate::sight::{Sight, sight_find, sight_matches, sight_of, sight_span};
 use crate::skip::{Begins, how_begins};
 use crate::tables::{Next, Table, first_state, follow_past, go, new_table, stay};
 use sedre::{Expr, Nodes, Steps};
@@ -393,7 +393,7 @@ impl TableMatcher {
         let back = mirror_table_of(alloc, expr, root, &classes, states)?;
         let mut steps = Steps::new();
         let begins = how_begins(expr, &mut steps);
-        let sight = sight_of(expr, &mut steps);
+        let sight = sight_of(alloc, expr, &mut steps)?;
         let few = rare_of(expr, &begins, &mut steps);
         let needed = find_needed(alloc, expr, &mut steps)?;
         Ok(TableMatcher {
@@ -533,7 +533,10 @@ impl TableMatcher {
         ensures cost_of_none { let m = length self.old.nodes in let n = length text.now in
             IfNone result (steps.new ≤ steps.old + 64 * m * (n + 1)) }
     {
-        if self.sight.is_some() || self.root == 0 {
+        if let Some(sight) = &self.sight {
+            return sight_find(&self.expr, sight, text, from, scratch, steps);
+        }
+        if self.root == 0 {
             return find(&self.expr, text, from, scratch, steps);
         }
         find_by(

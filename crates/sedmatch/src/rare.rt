@@ -1,19 +1,21 @@
 //! Few bytes of which one stands at a fixed distance behind the beginning of every match: the rarest are sought, the
 //! next rarest are held against what stands there, and after them the nodes that come first in a match.
-ghost use Rattle.std.specs.Prelude.{◌≡◌, ℕ, ◌+◌, ◌*◌, ◌^◌, ◌<◌, ◌≤◌, ◌↔◌, Some, length, IfSome, IsTrue};
+ghost use Rattle.std.specs.Prelude.{◌≡◌, ℕ, ◌+◌, ◌*◌, ◌^◌, ◌<◌, ◌≤◌, ◌↔◌, ◌⊎◌, Some, length, IfSome, IsTrue};
 ghost use Rattle.sedre.specs.Arena.{tree, tree_at};
 ghost use Rattle.sedre.specs.Tree.{Tree};
 ghost use Rattle.sedmatch.specs.Bytes.{looked_at};
-ghost use Rattle.sedmatch.specs.Rare.{StandsAt, HeldAt, FirstFixed, FirstRare, RareNowhere, AllStand, AllHave, AllHeld, AllRare};
+ghost use Rattle.sedmatch.specs.Rare.{StandsAt, HeldAt, FirstFixed, FirstRare, RareNowhere, AllStand, AllHave, AllHeld, AllRare, AllSecond};
+ghost use Rattle.sedmatch.specs.Few.{HasFew};
+ghost use Rattle.sedmatch.specs.Spans.{IsIn};
 ghost use Rattle.sedmatch.specs.Skip.{AllBegin};
 ghost use Rattle.sedmatch.specs.Search.{Sought, sought_to};
 
 use crate::ahead::{Lead, look_ahead};
 use crate::counted::Text;
-use crate::few::{Few, few_of, members_of};
+use crate::few::{Few, few_in, few_of, members_of};
 use crate::needed::{Link, link_of};
-use crate::skip::{Begins, next_start};
-use sedre::{ByteSet, Expr, Steps};
+use crate::skip::{Begins, Either, next_start};
+use sedre::{ByteSet, Expr, Node, Steps};
 
 /// How many bytes a table tells in the time of one look ahead.
 const FAR: usize = 24;
@@ -283,6 +285,72 @@ fn rare_first(begins: &Begins) -> Option<Rare>
     }
 }
 
+/// The set of which a byte stands second in every span of the node, if there is one.
+fn second_set(expr: &Expr, index: usize, steps: &mut Steps) -> Option<ByteSet>
+    requires inside { index < length expr.now.nodes }
+    requires room { steps.old < 2 ^ 117 }
+    ensures second { IfSome result (λ s. AllSecond expr.now.nodes index s) }
+    ensures grows { steps.old ≤ steps.new }
+    ensures cost { steps.new ≤ steps.old + 4 }
+{
+    let _count = expr.nodes();
+    match link_of(expr, index, steps) {
+        Link::OneOf(_, next) => match link_of(expr, next, steps) {
+            Link::OneOf(set, _) => Some(set),
+            Link::Last(set) => Some(set),
+            _ => None,
+        },
+        _ => None,
+    }
+}
+
+/// The bytes that stand second in every match, where there are two alternatives and these bytes are few.
+fn second_of_two(expr: &Expr, steps: &mut Steps) -> Option<Fixed>
+    requires few { length expr.now.nodes ≤ 65536 }
+    requires room { steps.old < 2 ^ 116 }
+    ensures second { AllHeld (tree expr.now) result }
+    ensures grows { steps.old ≤ steps.new }
+    ensures cost { steps.new ≤ steps.old + 9 }
+{
+    let _count = expr.nodes();
+    let root = expr.root().index();
+    match expr.look(expr.id(root), steps) {
+        Node::Alt(a, b) => {
+            let first = second_set(expr, a.index(), steps)?;
+            let second = second_set(expr, b.index(), steps)?;
+            let few = few_of_two(first, second)?;
+            Some(Fixed { offset: 1, few })
+        }
+        _ => None,
+    }
+}
+
+/// The members of two sets, where they are few.
+fn few_of_two(first: ByteSet, second: ByteSet) -> Option<Few>
+    ensures { IfSome result (λ f. (c : ℕ) → c < 256 → HasFew f c ↔ (IsIn c first ⊎ IsIn c second)) }
+{
+    few_in(&Either {
+        first,
+        second,
+        third: first,
+        fourth: second,
+    })
+}
+
+/// The same with what is held too.
+fn with_held(rare: Option<Rare>, held: Option<Fixed>) -> Option<Rare>
+    ensures { (e : Tree) → AllRare e rare → AllHeld e held → AllRare e result }
+{
+    match rare {
+        None => None,
+        Some(rare) => Some(Rare {
+            sought: rare.sought,
+            held,
+            often: held.is_some() && rare.sought.weight() > RARE,
+        }),
+    }
+}
+
 /// The rarest bytes that stand behind the beginning of every match, where they are few.
 pub fn rare_of(expr: &Expr, begins: &Begins, steps: &mut Steps) -> Option<Rare>
     requires few { length expr.now.nodes ≤ 65536 }
@@ -290,12 +358,15 @@ pub fn rare_of(expr: &Expr, begins: &Begins, steps: &mut Steps) -> Option<Rare>
     requires room { steps.old < 2 ^ 110 }
     ensures rare { AllRare (tree expr.now) result }
     ensures grows { steps.old ≤ steps.new }
-    ensures cost { steps.new ≤ steps.old + 131074 }
+    ensures cost { steps.new ≤ steps.old + 131083 }
 {
     let root = expr.root().index();
     match rare_from(expr, root, steps) {
         Some(rare) => Some(rare),
-        None => rare_first(begins),
+        None => {
+            let held = second_of_two(expr, steps);
+            with_held(rare_first(begins), held)
+        }
     }
 }
 

@@ -1,18 +1,29 @@
-//! Expressions whose matches are seen at the first look: a set, a run of its bytes, or one byte and a run.
+//! Expressions whose matches are seen at the first look: a set, a run of its bytes, one byte and a run, always as many
+//! bytes of a set, or two literals and what stands between.
 //!
-//! Where such a match begins is told by one byte, and where the longest ends by the bytes that follow, so that nothing
+//! Where such a match begins is told by its bytes, and where the longest ends by those that follow, so that nothing
 //! has to be found out of the expression in a search.
-ghost use Rattle.std.specs.Prelude.{◌≡◌, ℕ, ◌+◌, ◌*◌, ◌^◌, ◌<◌, ◌≤◌, ◌↔◌, length, IfSome, IfNone, IsTrue};
+ghost use Rattle.std.specs.Prelude.{◌≡◌, ℕ, ◌+◌, ◌*◌, ◌^◌, ◌<◌, ◌≤◌, ◌↔◌, length, IfOk, IfSome, IfNone, IsTrue};
 ghost use Rattle.sedre.specs.Arena.{tree};
 ghost use Rattle.sedre.specs.Tree.{Tree};
 ghost use Rattle.sedmatch.specs.Spans.{Found as IsFound, NotFound, SomeFound, IsIn};
-ghost use Rattle.sedmatch.specs.Sight.{IsFirst, FirstWith, IsSight, CanStart, FirstStart, EndsAt};
+ghost use Rattle.sedmatch.specs.Answer.{span_found};
+ghost use Rattle.sedmatch.specs.Caps.{IsReport};
+ghost use Rattle.sedmatch.specs.Matching.{found, report};
+ghost use Rattle.sedmatch.specs.Parts.{SpanIn, span_of};
+ghost use Rattle.sedmatch.specs.Sight.{IsFirst, FirstWith, IsSight, IsSightOf, CanStart, FirstStart, EndsAt};
 
+use crate::between::{Between, between_of};
 use crate::counted::Text;
 use crate::few::{Few, members_of};
+use crate::groups::report;
+use crate::matcher::Found;
 use crate::runs::{run_end, star_set};
+use crate::scratch::Scratch;
 use crate::skip::find_member;
+use crate::times::{find_times, times_of};
 use sedre::{ByteSet, Expr, Node, Steps};
+use std::alloc::{AllocError, Global};
 
 /// The byte that comes first in a match.
 #[derive(Clone, Copy)]
@@ -24,7 +35,7 @@ pub enum First {
 }
 
 /// How the matches of an expression look.
-#[derive(Clone, Copy)]
+#[derive(Drop)]
 pub enum Sight {
     /// One byte.
     One(First),
@@ -32,6 +43,10 @@ pub enum Sight {
     Run(ByteSet),
     /// One byte, and bytes of the set, any number of them.
     Led(First, ByteSet),
+    /// So many bytes of the set.
+    Times(ByteSet, usize),
+    /// A literal, bytes of a set, and another literal.
+    Between(Between),
 }
 
 /// A member of a set, as it is sought.
@@ -44,8 +59,8 @@ fn first_of(set: &ByteSet) -> First
     }
 }
 
-/// How the matches of the expression look, if they are seen at the first look.
-pub fn sight_of(expr: &Expr, steps: &mut Steps) -> Option<Sight>
+/// How the matches of the expression look, if they are of one byte, a run or both.
+fn run_sight(expr: &Expr, steps: &mut Steps) -> Option<Sight>
     requires few { length expr.now.nodes ≤ 65536 }
     requires room { steps.old < 2 ^ 110 }
     ensures sight { IfSome result (λ s. IsSight (tree expr.now) s) }
@@ -66,6 +81,25 @@ pub fn sight_of(expr: &Expr, steps: &mut Steps) -> Option<Sight>
             Some(members) => Some(Sight::Run(members)),
             None => None,
         },
+    }
+}
+
+/// How the matches of the expression look, if they are seen at the first look.
+pub fn sight_of(alloc: Global, expr: &Expr, steps: &mut Steps) -> Result<Option<Sight>, AllocError>
+    requires few { length expr.now.nodes ≤ 65536 }
+    requires room { steps.old < 2 ^ 107 }
+    ensures sight { IfOk result (IsSightOf (tree expr.now)) }
+    ensures cost { steps.new ≤ steps.old + 327694 }
+{
+    if let Some(sight) = run_sight(expr, steps) {
+        return Ok(Some(sight));
+    }
+    if let Some(between) = between_of(alloc, expr, steps)? {
+        return Ok(Some(Sight::Between(between)));
+    }
+    match times_of(alloc, expr, steps)? {
+        Some((set, count)) => Ok(Some(Sight::Times(set, count))),
+        None => Ok(None),
     }
 }
 
@@ -91,12 +125,14 @@ pub fn sight_start(sight: &Sight, text: &Text, from: usize, steps: &mut Steps) -
     requires room { steps.old < 2 ^ 116 }
     ensures start { FirstStart sight.now text.now from result }
     ensures grows { steps.old ≤ steps.new }
-    ensures cost { steps.new + from ≤ steps.old + (length text.now + 1) }
+    ensures cost { steps.new ≤ steps.old + 25 * (length text.now + 1) }
 {
     match sight {
         Sight::One(first) => find_first(first, text, from, steps),
         Sight::Led(first, _) => find_first(first, text, from, steps),
         Sight::Run(_) => Some(from),
+        Sight::Times(set, count) => find_times(set, *count, text, from, steps),
+        Sight::Between(between) => between.start(text, from, steps),
     }
 }
 
@@ -107,7 +143,7 @@ pub fn sight_matches(sight: &Sight, text: &Text, from: usize, steps: &mut Steps)
     requires room { steps.old < 2 ^ 116 }
     ensures matches { (e : Tree) → IsSight e sight.now → IsTrue result ↔ SomeFound e text.now from }
     ensures grows { steps.old ≤ steps.new }
-    ensures cost { steps.new ≤ steps.old + 2 * (length text.now + 1) }
+    ensures cost { steps.new ≤ steps.old + 50 * (length text.now + 1) }
 {
     text.are_bytes();
     sight_start(sight, text, from, steps).is_some()
@@ -121,16 +157,18 @@ fn sight_end(sight: &Sight, text: &Text, start: usize, steps: &mut Steps) -> usi
     requires room { steps.old < 2 ^ 117 }
     ensures end { EndsAt sight.now text.now start result }
     ensures grows { steps.old ≤ steps.new }
-    ensures cost { steps.new ≤ steps.old + length text.now }
+    ensures cost { steps.new ≤ steps.old + 25 * (length text.now + 1) }
 {
     match sight {
         Sight::One(_) => start + 1,
         Sight::Led(_, members) => run_end(members, text, start + 1, steps),
         Sight::Run(members) => run_end(members, text, start, steps),
+        Sight::Times(_, count) => start + *count,
+        Sight::Between(between) => between.end(text, start, steps),
     }
 }
 
-/// The leftmost-longest match that begins at `from` or later.
+/// Where the leftmost-longest match that begins at `from` or later begins and ends.
 pub fn sight_span(
     sight: &Sight,
     text: &Text,
@@ -144,11 +182,54 @@ pub fn sight_span(
     ensures none { (e : Tree) → IsSight e sight.now → IfNone result (NotFound e text.now from) }
     ensures lies { IfSome result (λ f. (f.0 ≤ f.1) × (f.1 ≤ length text.now)) }
     ensures grows { steps.old ≤ steps.new }
-    ensures cost { steps.new ≤ steps.old + 2 * (length text.now + 1) }
+    ensures cost { steps.new ≤ steps.old + 50 * (length text.now + 1) }
 {
     text.are_bytes();
     match sight_start(sight, text, from, steps) {
         None => None,
         Some(start) => Some((start, sight_end(sight, text, start, steps))),
     }
+}
+
+/// The leftmost-longest match that begins at `from` or later, with its groups.
+pub fn sight_find(
+    expr: &Expr,
+    sight: &Sight,
+    text: &Text,
+    from: usize,
+    scratch: &mut Scratch,
+    steps: &mut Steps,
+) -> Option<Found>
+    requires sight { IsSight (tree expr.now) sight.now }
+    requires from { from ≤ length text.now }
+    requires text_fits { length text.now ≤ scratch.old.text }
+    requires expr_fits { length expr.now.nodes ≤ scratch.old.nodes }
+    requires room { steps.old ≤ 2 ^ 100 }
+    ensures scratch { scratch.new ≡ scratch.old }
+    ensures found { IfSome result (λ f. IsFound (tree expr.now) text.now from f.start f.end) }
+    ensures groups { IfSome result (λ f. IsReport (tree expr.now) text.now f.start f.end f.groups) }
+    ensures none { IfNone result (NotFound (tree expr.now) text.now from) }
+    ensures computed { span_found result ≡ found (tree expr.now) text.now from }
+    ensures reported { IfSome result (λ f. f.groups ≡ report (tree expr.now) text.now f.start f.end) }
+    ensures lies { IfSome result (λ f. (k : ℕ) → SpanIn (length text.now) (span_of f.groups k)) }
+    ensures grows { steps.old ≤ steps.new }
+    ensures cost { let m = length expr.now.nodes in let n = length text.now in
+        steps.new ≤ steps.old + 64 * m * m * (n + 1) * (n + 1) }
+    ensures linear_without_groups { expr.now.groups ≡ 0 → steps.new ≤ steps.old + 50 * (length text.now + 1) }
+    ensures cost_of_none { IfNone result (steps.new ≤ steps.old + 50 * (length text.now + 1)) }
+{
+    let _count = expr.nodes();
+    let sets = &mut scratch.sets;
+    let (start, end) = sight_span(sight, text, from, steps)?;
+    let groups = report(
+        expr,
+        text,
+        start,
+        end,
+        &mut scratch.plan,
+        sets,
+        &mut scratch.notes,
+        steps,
+    );
+    Some(Found { start, end, groups })
 }

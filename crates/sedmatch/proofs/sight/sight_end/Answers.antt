@@ -1,6 +1,6 @@
-use Rattle.std.proofs.Common.{sym, subst}
+use Rattle.std.proofs.Common.{◌+◌, sym, subst, arith}
 use Rattle.sedmatch.specs.Sight.{CanStart, EndsAt}
-use Rattle.sedmatch.proofs.SightLemmas.{end_run, end_led}
+use Rattle.sedmatch.proofs.SightLemmas.{end_one, end_run, end_led, end_times}
 use Rattle.sedmatch.proofs.sight.sight_end.Goals as goal
 
 pub returns-in-Led-clause-end : goal.returns-in-Led-clause-end
@@ -13,3 +13,25 @@ pub returns-in-Run-clause-end : goal.returns-in-Run-clause-end
 returns-in-Run-clause-end c =
     subst (λ s. EndsAt s c.args.text.now c.args.start c.run_end-in-Run.result) (sym c.in-Run.is)
     (end_run c.in-Run.members c.args.text.now c.args.start c.run_end-in-Run.result c.run_end-in-Run.ensures.run)
+
+pub returns-in-One-clause-end : goal.returns-in-One-clause-end
+returns-in-One-clause-end c =
+    let can = subst (λ s. CanStart s c.args.text.now c.args.start) c.in-One.is c.requires.can in
+    subst (λ s. EndsAt s c.args.text.now c.args.start (c.args.start + 1)) (sym c.in-One.is)
+    (end_one c.in-One.field-0 c.args.text.now c.args.start can)
+
+pub overflow_add-result-in-Times : goal.overflow_add-result-in-Times
+overflow_add-result-in-Times c =
+    let can = subst (λ s. CanStart s c.args.text.now c.args.start) c.in-Times.is c.requires.can in
+    let end = end_times c.in-Times.field-0 c.in-Times.count c.args.text.now c.args.start c.requires.start can in
+    omega (arith, end.1)
+
+pub returns-in-Times-clause-end : goal.returns-in-Times-clause-end
+returns-in-Times-clause-end c =
+    let can = subst (λ s. CanStart s c.args.text.now c.args.start) c.in-Times.is c.requires.can in
+    subst (λ s. EndsAt s c.args.text.now c.args.start (c.args.start + c.in-Times.count)) (sym c.in-Times.is)
+    (end_times c.in-Times.field-0 c.in-Times.count c.args.text.now c.args.start c.requires.start can)
+
+pub returns-in-Between-clause-end : goal.returns-in-Between-clause-end
+returns-in-Between-clause-end c =
+    subst (λ s. EndsAt s c.args.text.now c.args.start c.end.result) (sym c.in-Between.is) c.end.ensures.end

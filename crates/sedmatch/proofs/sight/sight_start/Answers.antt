@@ -1,6 +1,6 @@
 use Rattle.std.proofs.Common.{sym, subst}
 use Rattle.sedmatch.specs.Sight.{FirstStart}
-use Rattle.sedmatch.proofs.SightLemmas.{start_one, start_led}
+use Rattle.sedmatch.proofs.SightLemmas.{start_one, start_led, start_times, start_between}
 use Rattle.sedmatch.proofs.sight.sight_start.Goals as goal
 
 pub returns-in-One-clause-start : goal.returns-in-One-clause-start
@@ -12,3 +12,13 @@ pub returns-in-Led-clause-start : goal.returns-in-Led-clause-start
 returns-in-Led-clause-start c =
     subst (λ s. FirstStart s c.args.text.now c.args.from c.find_first-in-Led.result) (sym c.in-Led.is)
     (start_led c.in-Led.first c.in-Led.field-1 c.args.text.now c.args.from c.find_first-in-Led.result c.find_first-in-Led.ensures.first)
+
+pub returns-in-Times-clause-start : goal.returns-in-Times-clause-start
+returns-in-Times-clause-start c =
+    subst (λ s. FirstStart s c.args.text.now c.args.from c.find_times.result) (sym c.in-Times.is)
+    (start_times c.in-Times.set c.in-Times.count c.args.text.now c.args.from c.find_times.result c.find_times.ensures.first)
+
+pub returns-in-Between-clause-start : goal.returns-in-Between-clause-start
+returns-in-Between-clause-start c =
+    subst (λ s. FirstStart s c.args.text.now c.args.from c.start.result) (sym c.in-Between.is)
+    (start_between c.in-Between.between c.args.text.now c.args.from c.start.result c.start.ensures.first)

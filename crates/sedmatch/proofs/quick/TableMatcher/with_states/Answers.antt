@@ -1,18 +1,16 @@
 use Rattle.std.proofs.Common.{sym, subst, arith}
-use Rattle.sedre.specs.Arena.{tree}
 use Rattle.sedmatch.specs.Quick.{IsReady}
-use Rattle.sedmatch.proofs.StartLemmas.{sight_known}
 use Rattle.sedmatch.proofs.quick.TableMatcher.with_states.Goals as goal
 
 pub invariant_of-result : goal.invariant_of-result
 invariant_of-result c =
-    subst (λ e. IsReady e c.index-root.result c.how_begins-begins.result c.in_ok-needed.needed c.rare_of-few.result c.sight_of-sight.result c.in_ok-every.every c.in_ok-single.single c.in_ok-back.back) (sym c.in_ok-copy.ensures)
+    subst (λ e. IsReady e c.index-root.result c.how_begins-begins.result c.in_ok-needed.needed c.rare_of-few.result c.in_ok-sight.sight c.in_ok-every.every c.in_ok-single.single c.in_ok-back.back) (sym c.in_ok-copy.ensures)
     (record {
       whole = omega arith;
       begins_so = c.how_begins-begins.ensures.begins;
       needed_so = c.in_ok-needed.ensures.needed;
       begins_few = c.rare_of-few.ensures.rare;
-      sight_so = sight_known (tree c.args.expr.now) c.sight_of-sight.result c.sight_of-sight.ensures.sight;
+      sight_so = c.in_ok-sight.ensures.sight;
       every_table = c.in_ok-every.ensures.table;
       every_sweeps = c.in_ok-every.ensures.sweeps;
       single_table = c.in_ok-single.ensures.table;

@@ -3,7 +3,7 @@ use Rattle.std.specs.Prelude.{slice_get}
 use Rattle.sedre.specs.declared.types.Node.TheVariants.{Set, Seq}
 use Rattle.sedmatch.proofs.NeededLemmas.{seq_below}
 use Rattle.sedmatch.proofs.SightLemmas.{sight_one, sight_led}
-use Rattle.sedmatch.proofs.sight.sight_of.Goals as goal
+use Rattle.sedmatch.proofs.sight.run_sight.Goals as goal
 
 pub look-requires-in-Seq-clause-inside : goal.look-requires-in-Seq-clause-inside
 look-requires-in-Seq-clause-inside c =

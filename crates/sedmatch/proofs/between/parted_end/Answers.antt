@@ -1,0 +1,16 @@
+use Rattle.std.proofs.Common.{◌+◌, sym, subst}
+use Rattle.sedmatch.specs.Between.{PartedEnd}
+use Rattle.sedmatch.proofs.BetweenLemmas.{parted_last, parted_there}
+use Rattle.sedmatch.proofs.between.parted_end.Goals as goal
+
+pub unreachable-requires : goal.unreachable-requires
+unreachable-requires c =
+    parted_there (record { head = c.args.head.now; outside = c.args.outside.now; tail = c.args.tail.now }) c.args.text.now c.args.start c.place_behind-behind.result c.clear_end-stop.result c.place_behind-behind.ensures c.clear_end-stop.ensures.clear c.requires.can c.in-None.ensures.last
+
+pub returns-clause-end : goal.returns-clause-end
+returns-clause-end c =
+    subst (λ v. PartedEnd (record { head = c.args.head.now; outside = c.args.outside.now; tail = c.args.tail.now }) c.args.text.now c.args.start (c.in-Some.last + v)) (sym c.tail_len.ensures)
+    (parted_last (record { head = c.args.head.now; outside = c.args.outside.now; tail = c.args.tail.now }) c.args.text.now c.args.start c.place_behind-behind.result c.clear_end-stop.result c.place_behind-behind.ensures c.clear_end-stop.ensures.clear c.requires.can c.in-Some.last c.in-Some.ensures.last)
+
+pub place_behind-behind-requires-clause-stands : goal.place_behind-behind-requires-clause-stands
+place_behind-behind-requires-clause-stands c = c.requires.can.1.0.fits

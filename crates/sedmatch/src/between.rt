@@ -1,0 +1,324 @@
+//! A literal, bytes of a set that lacks few, and another literal, as in `GET .* HTTP`: a match begins at the first literal
+//! behind which the second stands, and ends with the last of the second.
+//!
+//! Both are sought by their own searches, the last one from the end, and the few bytes that can't stand between by a third:
+//! a match ends before the first of them.
+ghost use Rattle.std.specs.Prelude.{◌≡◌, ℕ, ◌+◌, ◌*◌, ◌^◌, ◌<◌, ◌≤◌, ◌-◌, length, None, IfOk, IfSome, IsTrue};
+ghost use Rattle.sedmatch.specs.Needed.{FirstLiteral};
+ghost use Rattle.sedmatch.specs.Between.{AreOutside, GoesClear, ClearTo, LastTail, AllParted, CanPart, PartedEnd, FirstParted, IsShort};
+
+use crate::counted::Text;
+use crate::few::{Few, with_byte};
+use crate::needed::{Literal, literal_from};
+use crate::runs::star_set;
+use memchr::memmem::{Finder, FinderRev};
+use sedre::{ByteSet, Expr, Node, Steps};
+use std::alloc::{AllocError, Global};
+use std::marker::Model;
+
+/// The most bytes of the two literals.
+const MAX_LITERALS: usize = 23;
+
+/// A literal, bytes of a set, and another literal.
+#[derive(Drop)]
+pub struct Between {
+    head: Finder<'static>,
+    // The bytes that aren't in the set.
+    outside: Few,
+    // The second literal, from the beginning and from the end.
+    ahead: Finder<'static>,
+    tail: FinderRev<'static>,
+}
+
+impl Model for Between {
+    ghost use Rattle.std.specs.Prelude.{◌≡◌};
+    ghost use Rattle.sedmatch.specs.Between.{Parted, IsShort};
+
+    ghost Value = { Parted };
+
+    ghost view = { λ b. record { head = b.head; outside = b.outside; tail = b.tail } };
+
+    ghost invariant = { λ b. IsShort b.head b.tail × (b.ahead ≡ b.tail) };
+}
+
+/// The bytes that aren't in the set, where they may be few.
+fn few_without(set: &ByteSet) -> Option<Few> {
+    let mut few = None;
+    for byte in 0..256usize {
+        if !set.has(byte as u8) {
+            few = Some(with_byte(few, byte as u8)?);
+        }
+    }
+    few
+}
+
+/// Whether just those bytes aren't in the set.
+fn are_outside(few: &Few, set: &ByteSet) -> bool
+    ensures { IsTrue result → AreOutside few.now set.now }
+{
+    for byte in 0..256usize {
+        if few.has(byte as u8) == set.has(byte as u8) {
+            return false;
+        }
+    }
+    true
+}
+
+/// The bytes that aren't in the set, where they are few.
+fn outside_of(set: &ByteSet) -> Option<Few>
+    ensures { IfSome result (λ f. AreOutside f set.now) }
+{
+    match few_without(set) {
+        Some(few) if are_outside(&few, set) => Some(few),
+        _ => None,
+    }
+}
+
+/// The bytes that don't stand where the spans of the node begin with any number of others, and the node that is spanned
+/// behind them.
+fn middle_of(expr: &Expr, index: usize, steps: &mut Steps) -> Option<(Few, usize)>
+    requires inside { index < length expr.now.nodes }
+    requires room { steps.old < 2 ^ 117 }
+    ensures goes { IfSome result (λ f. GoesClear expr.now.nodes index f.0 f.1) }
+    ensures grows { steps.old ≤ steps.new }
+    ensures cost { steps.new ≤ steps.old + 4 }
+{
+    let _count = expr.nodes();
+    match expr.look(expr.id(index), steps) {
+        Node::Seq(a, b) => {
+            let set = star_set(expr, a.index(), steps)?;
+            let few = outside_of(&set)?;
+            Some((few, b.index()))
+        }
+        _ => None,
+    }
+}
+
+/// The searches for what they have.
+fn new_between(alloc: Global, head: &[u8], outside: Few, tail: &[u8]) -> Result<Between, AllocError>
+    requires literals { IsShort head.now tail.now }
+    ensures { IfOk result (λ b. b ≡ record { head = head.now; outside = outside; tail = tail.now }) }
+{
+    Ok(Between {
+        head: Finder::new(head).into_owned(alloc)?,
+        outside,
+        ahead: Finder::new(tail).into_owned(alloc)?,
+        tail: FinderRev::new(tail).into_owned(alloc)?,
+    })
+}
+
+/// The literals with which the matches begin and end, where they have nothing between but bytes that aren't these few.
+pub fn between_of(
+    alloc: Global,
+    expr: &Expr,
+    steps: &mut Steps,
+) -> Result<Option<Between>, AllocError>
+    requires few { length expr.now.nodes ≤ 65536 }
+    requires room { steps.old < 2 ^ 108 }
+    ensures parted { IfOk result (λ r. IfSome r (λ b. AllParted expr.now.nodes (length expr.now.nodes - 1) b)) }
+    ensures grows { steps.old ≤ steps.new }
+    ensures cost { steps.new ≤ steps.old + 262152 }
+{
+    let _count = expr.nodes();
+    let root = expr.root().index();
+    let Literal { bytes: head, rest } = literal_from(alloc, expr, root, steps)?;
+    let Some(middle) = rest else {
+        return Ok(None);
+    };
+    let Some((outside, next)) = middle_of(expr, middle, steps) else {
+        return Ok(None);
+    };
+    let Literal {
+        bytes: tail,
+        rest: end,
+    } = literal_from(alloc, expr, next, steps)?;
+    if end.is_some() || head.len() > MAX_LITERALS || tail.len() > MAX_LITERALS - head.len() {
+        return Ok(None);
+    }
+    Ok(Some(new_between(alloc, &head, outside, &tail)?))
+}
+
+/// The place behind the literal that stands at `start`.
+fn place_behind(head: &Finder, text: &Text, start: usize) -> usize
+    requires short { length text.now ≤ 2 ^ 30 }
+    requires stands { start + length head.now ≤ length text.now }
+    ensures { result ≡ start + length head.now }
+{
+    let _count = text.len();
+    start + head.needle().len()
+}
+
+/// How long the literal is.
+fn tail_len(tail: &FinderRev) -> usize
+    ensures { result ≡ length tail.now }
+{
+    tail.needle().len()
+}
+
+/// The first place from `from` on at which one of the few stands, or the end of the text.
+fn clear_end(few: &Few, text: &Text, from: usize, steps: &mut Steps) -> usize
+    requires from { from ≤ length text.now }
+    requires room { steps.old < 2 ^ 118 }
+    ensures clear { ClearTo few.now text.now from result }
+    ensures grows { steps.old ≤ steps.new }
+    ensures cost { steps.new + from ≤ steps.old + (result + 1) }
+{
+    match text.find_few(few, from, steps) {
+        None => text.len(),
+        Some(place) => place,
+    }
+}
+
+/// The last place from `from` up to and with `to` at which the literal stands.
+fn last_tail(
+    tail: &FinderRev,
+    text: &Text,
+    from: usize,
+    to: usize,
+    steps: &mut Steps,
+) -> Option<usize>
+    requires literal { length tail.now ≤ 23 }
+    requires short { length text.now ≤ 2 ^ 30 }
+    requires from { from ≤ to }
+    requires to { to ≤ length text.now }
+    requires room { steps.old < 2 ^ 118 }
+    ensures last { LastTail tail.now text.now from to result }
+    ensures grows { steps.old ≤ steps.new }
+    ensures cost { steps.new + from ≤ steps.old + (to + length tail.now) }
+{
+    let end = text.len().min(to + tail_len(tail));
+    text.find_last(tail, from, end, steps)
+}
+
+/// The first place from `from` on at which a match begins.
+fn first_parted(
+    head: &Finder,
+    outside: &Few,
+    tail: &FinderRev,
+    text: &Text,
+    from: usize,
+    steps: &mut Steps,
+) -> Option<usize>
+    requires literals { IsShort head.now tail.now }
+    requires short { length text.now ≤ 2 ^ 30 }
+    requires from { from ≤ length text.now }
+    requires room { steps.old < 2 ^ 117 }
+    ensures first { FirstParted (record { head = head.now; outside = outside.now; tail = tail.now }) text.now from result }
+    ensures grows { steps.old ≤ steps.new }
+    ensures cost { steps.new + 24 * from ≤ steps.old + 24 * (length text.now + 1) }
+{
+    let mut place = from;
+    while let Some(start) = text.find_literal(head, place, steps) {
+        let behind = place_behind(head, text, start);
+        let stop = clear_end(outside, text, behind, steps);
+        if last_tail(tail, text, behind, stop, steps).is_some() {
+            return Some(start);
+        }
+        if stop >= text.len() {
+            return None;
+        }
+        place = stop + 1 - (behind - start);
+    }
+    None
+}
+
+/// Whether the second literal, where it is the longer one, tells that no match begins at `from` or later.
+fn lacks_tail(head: &Finder, ahead: &Finder, text: &Text, from: usize, steps: &mut Steps) -> bool
+    requires from { from ≤ length text.now }
+    requires room { steps.old < 2 ^ 118 }
+    ensures lacks { IsTrue result → FirstLiteral text.now ahead.now from None }
+    ensures grows { steps.old ≤ steps.new }
+    ensures cost { steps.new + from ≤ steps.old + length text.now }
+{
+    if ahead.needle().len() <= head.needle().len() {
+        return false;
+    }
+    match text.find_literal(ahead, from, steps) {
+        None => true,
+        Some(_) => false,
+    }
+}
+
+/// The first place from `from` on at which a match begins, told at once where the second literal tells that there is none.
+fn parted_start(
+    head: &Finder,
+    outside: &Few,
+    ahead: &Finder,
+    tail: &FinderRev,
+    text: &Text,
+    from: usize,
+    steps: &mut Steps,
+) -> Option<usize>
+    requires literals { IsShort head.now tail.now }
+    requires same { ahead.now ≡ tail.now }
+    requires short { length text.now ≤ 2 ^ 30 }
+    requires from { from ≤ length text.now }
+    requires room { steps.old < 2 ^ 116 }
+    ensures first { FirstParted (record { head = head.now; outside = outside.now; tail = tail.now }) text.now from result }
+    ensures grows { steps.old ≤ steps.new }
+    ensures cost { steps.new + 25 * from ≤ steps.old + 25 * (length text.now + 1) }
+{
+    if lacks_tail(head, ahead, text, from, steps) {
+        return None;
+    }
+    first_parted(head, outside, tail, text, from, steps)
+}
+
+/// Where the longest match ends that begins at `start`.
+fn parted_end(
+    head: &Finder,
+    outside: &Few,
+    tail: &FinderRev,
+    text: &Text,
+    start: usize,
+    steps: &mut Steps,
+) -> usize
+    requires literals { IsShort head.now tail.now }
+    requires short { length text.now ≤ 2 ^ 30 }
+    requires can { CanPart (record { head = head.now; outside = outside.now; tail = tail.now }) text.now start }
+    requires room { steps.old < 2 ^ 117 }
+    ensures end { PartedEnd (record { head = head.now; outside = outside.now; tail = tail.now }) text.now start result }
+    ensures grows { steps.old ≤ steps.new }
+    ensures cost { steps.new ≤ steps.old + 25 * (length text.now + 1) }
+{
+    let behind = place_behind(head, text, start);
+    let stop = clear_end(outside, text, behind, steps);
+    match last_tail(tail, text, behind, stop, steps) {
+        Some(last) => last + tail_len(tail),
+        None => unreachable!(),
+    }
+}
+
+impl Between {
+    /// The first place from `from` on at which a match begins.
+    pub fn start(&self, text: &Text, from: usize, steps: &mut Steps) -> Option<usize>
+        requires short { length text.now ≤ 2 ^ 30 }
+        requires from { from ≤ length text.now }
+        requires room { steps.old < 2 ^ 116 }
+        ensures first { FirstParted self.now text.now from result }
+        ensures grows { steps.old ≤ steps.new }
+        ensures cost { steps.new + 25 * from ≤ steps.old + 25 * (length text.now + 1) }
+    {
+        parted_start(
+            &self.head,
+            &self.outside,
+            &self.ahead,
+            &self.tail,
+            text,
+            from,
+            steps,
+        )
+    }
+
+    /// Where the longest match ends that begins at `start`.
+    pub fn end(&self, text: &Text, start: usize, steps: &mut Steps) -> usize
+        requires short { length text.now ≤ 2 ^ 30 }
+        requires can { CanPart self.now text.now start }
+        requires room { steps.old < 2 ^ 117 }
+        ensures end { PartedEnd self.now text.now start result }
+        ensures grows { steps.old ≤ steps.new }
+        ensures cost { steps.new ≤ steps.old + 25 * (length text.now + 1) }
+    {
+        parted_end(&self.head, &self.outside, &self.tail, text, start, steps)
+    }
+}
