@@ -55,7 +55,10 @@ fn compare_table(
     // with the states that the calls before left
     let found = found_by(&mut matcher, text, from, scratch);
     if !is_same(&found, span, is_one) {
-        report.tell_number("find, find_span and is_match don't agree, states", states as u128);
+        report.tell_number(
+            "find, find_span and is_match don't agree, states",
+            states as u128,
+        );
     }
     compare_spans(alloc, &found, expr.groups(), row.field(4), report);
 }

@@ -151,14 +151,7 @@ fn skip(
     'occurrences: for _ in 0..count {
         let groups = &mut [None; 10];
         let (_, end) = next_occurrence(
-            matcher,
-            text,
-            last,
-            false,
-            groups,
-            seeking,
-            scratch,
-            steps,
+            matcher, text, last, false, groups, seeking, scratch, steps,
         )?;
         last = Some(end);
     }
@@ -261,14 +254,7 @@ fn replace(
         let behind = Some(copied);
         occurrence = if substitution.global {
             next_occurrence(
-                matcher,
-                text,
-                behind,
-                wanted,
-                groups,
-                seeking,
-                scratch,
-                steps,
+                matcher, text, behind, wanted, groups, seeking, scratch, steps,
             )
         } else {
             None

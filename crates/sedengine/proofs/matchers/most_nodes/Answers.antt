@@ -15,10 +15,10 @@ loop-matcher-preserved c =
     let fit = fits_at c.args.limit es l.matcher-index x inside c.matcher-item.is c.requires.fit in
     let is = slice_get-get_or es l.matcher-index x inside ∙ ap (λ (v : Written). Some v) (sym c.matcher-item.is) in
     let facts : (l.most ≤ more) × (length x.nodes ≤ more) × (more ≤ 65536) =
-        (elim c.if-most-nodes.branch [
-          then-most-nodes w ↦ (omega arith, omega arith, omega (arith, fit))
-        | else-most-nodes w ↦ (omega arith, omega arith, omega (arith, l.invariant.few))
-        ]) in
+    (elim c.if-most-nodes.branch [
+      | then-most-nodes w ↦ (omega arith, omega arith, omega (arith, fit))
+      | else-most-nodes w ↦ (omega arith, omega arith, omega (arith, l.invariant.few))
+    ]) in
     record {
       some = omega (arith, l.invariant.some, facts.0);
       few = facts.2;

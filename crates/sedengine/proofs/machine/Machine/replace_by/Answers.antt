@@ -33,7 +33,7 @@ replace_in-requires-clause-more c = λ t is more x at.
     let same = ap (λ (e : Run). e.script) c.self.view_is in
     let inside : c.args.e < length a.script.expressions = rw same c.requires.expression in
     let there = subst (λ (xs : List Written). slice_get xs c.args.e ≡ Some x)
-        (sought a.script.expressions a.limits.nodes a.matchers.items c.self.invariant.matchers) at in
+    (sought a.script.expressions a.limits.nodes a.matchers.items c.self.invariant.matchers) at in
     rw (c.self.invariant.scratch_text (omega arith)) (c.self.invariant.seeking c.args.k t is more c.args.e x there)
 
 pub replace_in-requires-clause-room : goal.replace_in-requires-clause-room
@@ -41,9 +41,9 @@ replace_in-requires-clause-room c = λ x at.
     let a = c.self.inside in
     let ms = a.matchers.items in
     let fit = fits_at a.limits.nodes ms c.args.e x (slice_get_within ms c.args.e x at) (sym (get_or_from_slice_get ms c.args.e x x at))
-        (sought_fit a.script.expressions a.limits.nodes ms c.self.invariant.matchers) in
+    (sought_fit a.script.expressions a.limits.nodes ms c.self.invariant.matchers) in
     let few = few_places (length x.nodes) (length a.pattern.bytes) (omega (arith, fit, c.nodes.ensures.most, c.nodes.ensures.value))
-        (omega (arith, c.self.invariant.pattern, c.space.ensures.most, c.space.ensures.value)) in
+    (omega (arith, c.self.invariant.pattern, c.space.ensures.most, c.space.ensures.value)) in
     omega (arith, few)
 
 pub returns-in-Err-clause-makes : goal.returns-in-Err-clause-makes

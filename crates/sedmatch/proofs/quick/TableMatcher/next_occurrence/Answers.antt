@@ -15,7 +15,7 @@ returns-clause-spans c =
     let E = EndsWithin (length c.args.text.now) in
     if_spans (tree c.args.self.now) c.args.text.now c.match-last.last c.next_counted.result
     (elim c.match-last.branch [
-      in-Some+else-occurrences+else-allowance-occurrences w ↦
+      | in-Some+else-occurrences+else-allowance-occurrences w ↦
           subst E (sym w.last-is) (subst E w.in-Some.is c.requires.last)
-    | in_default w ↦ subst E (sym w.last-is) c.requires.last
+      | in_default w ↦ subst E (sym w.last-is) c.requires.last
     ]) c.next_counted.ensures.next
