@@ -1,5 +1,5 @@
--- Private to the proofs: no contract of a public item cites what stands here.
--- Where a pass forwards and a pass from the text's end meet, and what is kept of the latter.
+-- Where a pass forwards and a pass from the text's end meet, and what is kept of the latter. What `RoomFor` and `Serves` say
+-- stands here: `Occurrences::begin` gives it, and callers hand it on from call to call, so that nobody has to read it.
 use Rattle.std.specs.Prelude.{◌≡◌, ◌↔◌, ℕ, ◌+◌, ◌-◌, ◌*◌, ◌<◌, ◌≤◌, Bool, true, false, List, length, reverse, slice_get, slice_index_or, Option, Some, None, IsTrue}
 use Rattle.sedre.specs.Tree.{Tree}
 use Rattle.sedre.specs.Arena.{Written}
