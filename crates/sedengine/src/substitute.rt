@@ -2,7 +2,9 @@
 ghost use Rattle.std.specs.Prelude.{◌≡◌, ℕ, ◌+◌, ◌*◌, ◌^◌, ◌<◌, ◌≤◌, List, [], ◌∷◌, length, true, Some, None, IfSome, IfNone, IsTrue, slice_get};
 ghost use Rattle.sedre.specs.Arena.{Written, tree};
 ghost use Rattle.sedmatch.specs.Occurrences.{KeepsRoom, RoomFor, Serves, owed, owed_after};
+ghost use Rattle.sedmatch.specs.Matching.{report};
 ghost use Rattle.sedmatch.specs.Parts.{part_of, span_of};
+ghost use Rattle.sedmatch.specs.Spans.{Spans};
 ghost use Rattle.sedscript.specs.Replacement.{GroupsWithin, pieces_in};
 ghost use Rattle.sedengine.specs.Substitute.{chosen, next_occurrence, occurrences, put_for, replaced_from};
 ghost use Rattle.sedengine.specs.Fitting.{AllFit, seeks_more};
@@ -86,7 +88,7 @@ fn substitute(
     ensures grows { steps.old ≤ steps.new }
     ensures cost { steps.new ≤ steps.old + 416 * length matcher.old.nodes * (length text.now + 1) }
 {
-    seeking.begin();
+    seeking.begin(matcher, &Text::new(text), scratch);
     let skipped = substitution.number - 1;
     let Some(last) = skip(matcher, text, skipped, seeking, scratch, steps) else {
         return Ok(false);
@@ -201,14 +203,33 @@ fn next_occurrence(
     ensures cost { let m = length matcher.old.nodes in let n = length text.now in
         steps.new + owed_after m n result seeking.new ≤ steps.old + owed m n last seeking.old }
 {
-    let bytes = Text::new(text);
-    let span = matcher.next_occurrence(&bytes, last, seeking, scratch, steps)?;
+    let span = matcher.next_occurrence(&Text::new(text), last, seeking, scratch, steps)?;
     if wanted {
-        // Groups are decided within the span alone, and counted apart.
-        let told = matcher.groups_of(&bytes, span.0, span.1, scratch, &mut Steps::new());
-        *groups = told;
+        tell_groups(matcher, text, span, groups, scratch);
     }
     Some(span)
+}
+
+/// Tells the groups of an occurrence. They are decided within its span alone, and counted apart.
+// It is no part of its caller, which would clear the room for the groups at each call.
+#[inline(never)]
+fn tell_groups(
+    matcher: &TableMatcher,
+    text: &[u8],
+    span: (usize, usize),
+    groups: &mut Groups,
+    scratch: &mut Scratch,
+)
+    requires text { length text.now ≤ scratch.old.text }
+    requires nodes { length matcher.now.nodes ≤ scratch.old.nodes }
+    requires lies { (span.0 ≤ span.1) × (span.1 ≤ length text.now) }
+    requires spans { Spans (tree matcher.now) text.now span.0 span.1 }
+    ensures groups { groups.new ≡ report (tree matcher.now) text.now span.0 span.1 }
+    ensures groups_in { GroupsIn (length text.now) groups.new }
+    ensures scratch { scratch.new ≡ scratch.old }
+{
+    let told = matcher.groups_of(&Text::new(text), span.0, span.1, scratch, &mut Steps::new());
+    *groups = told;
 }
 
 /// Appends the text with the first occurrence and, with the flag `g`, all behind it replaced.

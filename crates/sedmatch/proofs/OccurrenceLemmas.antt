@@ -1,14 +1,16 @@
 -- What the searches for all occurrences in one text cost together.
-use Rattle.std.proofs.Common.{Bool, true, List, length, ◌≡◌, ℕ, ◌+◌, ◌-◌, ◌*◌, ◌^◌, ◌<◌, ◌≤◌, false, Option, Some, None, IsTrue, IfSome, refl, sym, ap, subst, arith, mul-le-mul_left}
+use Rattle.std.proofs.Common.{⊎_elim, Bool, true, List, length, ◌≡◌, ℕ, ◌+◌, ◌-◌, ◌*◌, ◌^◌, ◌<◌, ◌≤◌, false, Option, Some, None, IsTrue, IfSome, refl, sym, ap, subst, arith, mul-le-mul_left}
 use Rattle.std.specs.Prelude.{◌&&◌, nat_eq, nat_lt, if◌then◌else◌}
+use Rattle.std.proofs.lemmas.Bool.{cases_lt}
 use Rattle.std.proofs.lemmas.Bool.Decides.{nat_tests}
 use Rattle.sedre.specs.Tree.{Tree}
+use Rattle.sedre.specs.Arena.{Written}
 use Rattle.sedmatch.specs.Spans.{Spans}
 use Rattle.sedmatch.specs.Matching.{found}
 use Rattle.sedmatch.proofs.MatchingLemmas.{found-iff}
 use Rattle.sedmatch.specs.declared.occurrences.Occurrences.{Occurrences}
 use Rattle.sedmatch.specs.Meet.{blocks_cost, end_to}
-use Rattle.sedmatch.specs.Occurrences.{EndsWithin, next_span, unless_null_at, owed_met, owed_apart, owed_together, owed_behind, owed_after}
+use Rattle.sedmatch.specs.Occurrences.{EndsWithin, Keeps, Serves, next_span, unless_null_at, owed_met, owed_apart, owed_together, owed_behind, owed_after}
 
 -- what is owed after an answer, where c is what the blocks may cost
 abbrev pub owed_end : ℕ → ℕ → ℕ → Option (ℕ × ℕ) → ℕ
@@ -43,7 +45,27 @@ pub owed_is_met : (m n q : ℕ) (o : Occurrences) → IsTrue o.met → owed_toge
 owed_is_met m n q o is = ap (λ b. if b then owed_met m n q o else 128 * m * (n + 1)) is
 
 pub behind_is_met : (m n q : ℕ) (o : Occurrences) → IsTrue o.met → owed_behind m n q o ≡ owed_met m n q o
-behind_is_met m n q o is = ap (λ b. if b then owed_met m n q o else owed_apart m n o.spent) is
+behind_is_met m n q o is = ap (λ b. if b then owed_met m n q o else owed_apart m n o.left) is
+
+-- a search is paid for by what is left, or by what is kept for the last one
+pub counted_paid : (m n left s t : ℕ) → 0 < left → s ≤ t → t ≤ s + 256 * m * (n + 1) →
+    t + owed_apart m n (left - (t - s)) ≤ s + owed_apart m n left
+counted_paid m n left s t some grows cost =
+    ⊎_elim
+    (λ (more : t - s < left).
+    let rest : 0 < left - (t - s) = omega arith in
+    rw (left_some m n (left - (t - s)) rest) (rw (left_some m n left some) (omega arith)))
+    (λ (less : left ≤ t - s).
+    let none : left - (t - s) ≡ 0 = omega arith in
+    rw none (rw (left_some m n left some) (omega arith)))
+    (cases_lt (t - s) left)
+  where
+    left_some : (m n left : ℕ) → 0 < left → owed_apart m n left ≡ left + 384 * m * (n + 1)
+    left_some m n left some = by (nat_eq left 0) (λ zero. absurd (let none : left ≡ 0 = grind (arith, nat_tests) in omega (arith, none, some)))
+      where
+        by : (b : Bool) → (b ≡ true → ⊥) → (if b then 128 * m * (n + 1) else left + 384 * m * (n + 1)) ≡ left + 384 * m * (n + 1)
+        by true never = absurd (never refl)
+        by false never = refl
 
 -- a search that finds none
 none_paid : (m at k b c s t : ℕ) → t + 25 * m * at + c ≤ s + 54 * m + 25 * m * (at + k) + b → t ≤ s + (79 * m * (k + 1) + b)
@@ -102,3 +124,9 @@ pub if_spans : (e : Tree) (w : List ℕ) (last : Option ℕ) (r : Option (ℕ ×
     r ≡ next_span (found e w) (length w) last → IfSome r (λ f. Spans e w f.0 f.1)
 if_spans e w last None inside is = tt
 if_spans e w last (Some f) inside is = next_spans e w last f inside (sym is)
+
+-- what is kept serves where no steps are left
+pub if_serves : (e : Written) (w : List ℕ) (r : Option (ℕ × ℕ)) (o : Occurrences) → o.left ≡ 0 →
+    IfSome r (λ f. Keeps e w f.1 o) → IfSome r (λ f. Serves e w (Some f.1) o)
+if_serves e w None o none kept = tt
+if_serves e w (Some f) o none kept = ((λ some. absurd (omega (arith, none, some))), kept)

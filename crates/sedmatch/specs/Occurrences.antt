@@ -1,5 +1,6 @@
 -- All occurrences in one text, one after another (XCU sed, "s/BRE/replacement/flags").
 use Rattle.std.specs.Prelude.{◌≡◌, ℕ, ◌+◌, ◌-◌, ◌*◌, ◌≤◌, false, ◌&&◌, List, length, Option, Some, None, IsTrue, nat_eq, nat_lt, if◌then◌else◌}
+use Rattle.std.specs.Prelude.{◌<◌}
 use Rattle.sedre.specs.Arena.{Written}
 use Rattle.sedmatch.specs.declared.occurrences.Occurrences.{Occurrences}
 use Rattle.sedmatch.specs.Meet.{HasBehind, IsKept, Reaches, blocks_cost}
@@ -35,24 +36,29 @@ RoomFor text nodes o = HasBehind text nodes o.behind
 abbrev pub KeepsRoom : Occurrences → Occurrences → Type 0
 KeepsRoom old new = (text nodes : ℕ) → RoomFor text nodes old → RoomFor text nodes new
 
--- what is kept is of this text and expression, and serves to search behind an occurrence that ended at the place, if there is one
+-- where a pass from the end was made, what is kept is of this text and expression, and serves behind the place
+abbrev pub Keeps : Written → List ℕ → ℕ → Occurrences → Type 0
+Keeps e w q o = IsTrue o.met → IsKept e w (length e.nodes - 1) o.behind × Reaches (length w) q o.behind
+
+-- What is kept serves to search behind an occurrence that ended at the place, if there is one. No pass from the end was made
+-- while some steps are left.
 abbrev pub Serves : Written → List ℕ → Option ℕ → Occurrences → Type 0
-Serves e w None o = (o.met ≡ false) × (o.spent ≡ 0)
-Serves e w (Some q) o = IsTrue o.met → IsKept e w (length e.nodes - 1) o.behind × Reaches (length w) q o.behind
+Serves e w None o = (o.met ≡ false) × (0 < o.left)
+Serves e w (Some q) o = (0 < o.left → o.met ≡ false) × Keeps e w q o
 
 -- The steps that the searches may still take behind an occurrence that ended at the place q, with m nodes in a text of n bytes:
--- after the pass from the end; before it, when it is due; and when it isn't yet.
+-- after the pass from the end; and before it, where so many are left, or none and the pass is due.
 abbrev pub owed_met : ℕ → ℕ → ℕ → Occurrences → ℕ
 owed_met m n q o = 79 * m * (n + 1 - q) + blocks_cost m o.behind
 
 abbrev pub owed_apart : ℕ → ℕ → ℕ → ℕ
-owed_apart m n spent = if nat_lt (32 * m * (n + 1)) spent then 128 * m * (n + 1) else 416 * m * (n + 1) - spent
+owed_apart m n left = if nat_eq left 0 then 128 * m * (n + 1) else left + 384 * m * (n + 1)
 
 abbrev pub owed_together : ℕ → ℕ → ℕ → Occurrences → ℕ
 owed_together m n q o = if o.met then owed_met m n q o else 128 * m * (n + 1)
 
 abbrev pub owed_behind : ℕ → ℕ → ℕ → Occurrences → ℕ
-owed_behind m n q o = if o.met then owed_met m n q o else owed_apart m n o.spent
+owed_behind m n q o = if o.met then owed_met m n q o else owed_apart m n o.left
 
 abbrev pub owed : ℕ → ℕ → Option ℕ → Occurrences → ℕ
 owed m n None o = owed_behind m n 0 o

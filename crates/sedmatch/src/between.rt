@@ -291,6 +291,7 @@ fn parted_end(
 
 impl Between {
     /// The first place from `from` on at which a match begins.
+    #[inline(never)]
     pub fn start(&self, text: &Text, from: usize, steps: &mut Steps) -> Option<usize>
         requires short { length text.now ≤ 2 ^ 30 }
         requires from { from ≤ length text.now }
@@ -311,6 +312,7 @@ impl Between {
     }
 
     /// Where the longest match ends that begins at `start`.
+    #[inline(never)]
     pub fn end(&self, text: &Text, start: usize, steps: &mut Steps) -> usize
         requires short { length text.now ≤ 2 ^ 30 }
         requires can { CanPart self.now text.now start }

@@ -3,7 +3,7 @@ ghost use Rattle.std.specs.Prelude.{◌≡◌, ℕ, List, false, ◌+◌, ◌*�
 ghost use Rattle.sedre.specs.Arena.{Written, tree};
 ghost use Rattle.sedmatch.specs.Matching.{found, report};
 ghost use Rattle.sedmatch.specs.Meet.{HasBehind, IsKept, KeepsBehind, Reaches};
-ghost use Rattle.sedmatch.specs.Occurrences.{EndsWithin, KeepsRoom, LiesBehind, RoomFor, Serves, next_span, owed, owed_after, owed_apart, owed_met, owed_together};
+ghost use Rattle.sedmatch.specs.Occurrences.{EndsWithin, Keeps, KeepsRoom, LiesBehind, RoomFor, Serves, next_span, owed, owed_after, owed_apart, owed_met, owed_together};
 ghost use Rattle.sedmatch.specs.Parts.{SpanIn, span_of};
 ghost use Rattle.sedmatch.specs.Spans.{Spans};
 
@@ -28,20 +28,21 @@ use std::alloc::{AllocError, Global};
 #[derive(Drop)]
 pub struct Occurrences {
     behind: Behind,
-    /// How many steps the searches in this text took, as long as no pass from its end was made.
-    spent: u128,
+    /// How many steps the searches in this text may still take before a pass from its end is made.
+    left: usize,
     /// Whether a pass from the text's end was made.
     met: bool,
 }
 
 /// How many steps the searches may take before a pass from the text's end is made.
-fn allowance(nodes: usize, len: usize) -> u128
+fn allowance(nodes: usize, len: usize) -> usize
+    requires some { 1 ≤ nodes }
     requires nodes { nodes ≤ 65536 }
     requires len { len ≤ 2 ^ 30 }
-    ensures value { result ≡ 32 * nodes * (len + 1) }
-    ensures small { result ≤ 2 ^ 60 }
+    ensures is { result ≡ 32 * nodes * (len + 1) }
+    ensures some { 0 < result }
 {
-    32 * nodes as u128 * (len as u128 + 1)
+    32 * nodes * (len + 1)
 }
 
 impl Occurrences {
@@ -55,18 +56,22 @@ impl Occurrences {
     {
         Ok(Occurrences {
             behind: new_behind(alloc, max_text, max_nodes)?,
-            spent: 0,
+            left: 0,
             met: false,
         })
     }
 
-    /// Begins anew, for another text.
-    pub fn begin(&mut self)
+    /// Begins anew, for this expression and text.
+    pub fn begin(&mut self, matcher: &TableMatcher, text: &Text, scratch: &Scratch)
+        requires text_fits { length text.now ≤ scratch.now.text }
+        requires expr_fits { length matcher.now.nodes ≤ scratch.now.nodes }
         ensures room { KeepsRoom self.old self.new }
-        ensures serves { (e : Written) (w : List ℕ) → Serves e w None self.new }
-        ensures owed { (m n : ℕ) → owed m n None self.new ≡ 416 * m * (n + 1) }
+        ensures serves { Serves matcher.now text.now None self.new }
+        ensures owed { let m = length matcher.now.nodes in let n = length text.now in
+            owed m n None self.new ≡ 416 * m * (n + 1) }
     {
-        self.spent = 0;
+        scratch.bounds();
+        self.left = allowance(matcher.root + 1, text.len());
         self.met = false;
     }
 }
@@ -89,6 +94,7 @@ fn see_met(
     requires room { steps.old ≤ 2 ^ 100 }
     ensures kept { KeepsBehind occurrences.old.behind occurrences.new.behind }
     ensures met { IsTrue occurrences.new.met }
+    ensures left { occurrences.new.left ≡ occurrences.old.left }
     ensures all { IsKept expr.now text.now root occurrences.new.behind }
     ensures reaches { Reaches (length text.now) at occurrences.new.behind }
     ensures grows { steps.old ≤ steps.new }
@@ -105,6 +111,7 @@ fn see_met(
 
 impl TableMatcher {
     /// The next occurrence by one search after another.
+    #[inline(always)]
     fn next_apart(
         &mut self,
         text: &Text,
@@ -139,6 +146,7 @@ impl TableMatcher {
     }
 
     /// The same, and counts what it took.
+    #[inline(always)]
     fn next_counted(
         &mut self,
         text: &Text,
@@ -151,7 +159,7 @@ impl TableMatcher {
         requires text_fits { length text.now ≤ scratch.old.text }
         requires expr_fits { length self.old.nodes ≤ scratch.old.nodes }
         requires met { occurrences.old.met ≡ false }
-        requires spent { occurrences.old.spent ≤ 32 * length self.old.nodes * (length text.now + 1) }
+        requires left { 0 < occurrences.old.left }
         requires room { steps.old ≤ 2 ^ 100 }
         ensures same { self.new ≡ self.old }
         ensures scratch { scratch.new ≡ scratch.old }
@@ -162,17 +170,18 @@ impl TableMatcher {
         ensures behind { LiesBehind last result }
         ensures grows { steps.old ≤ steps.new }
         ensures cost { let m = length self.old.nodes in let n = length text.now in
-            steps.new + owed_apart m n occurrences.new.spent ≤ steps.old + owed_apart m n occurrences.old.spent }
+            steps.new + owed_apart m n occurrences.new.left ≤ steps.old + owed_apart m n occurrences.old.left }
     {
         scratch.bounds();
-        let _most = allowance(self.nodes(), text.len());
         let before = steps.count();
         let next = self.next_apart(text, last, scratch, steps);
-        occurrences.spent += steps.count() - before;
+        let taken = (steps.count() - before) as usize;
+        occurrences.left = occurrences.left.saturating_sub(taken);
         next
     }
 
     /// The next occurrence by a pass from the text's end.
+    #[inline(never)]
     fn next_together(
         &mut self,
         text: &Text,
@@ -185,7 +194,7 @@ impl TableMatcher {
         requires text_fits { length text.now ≤ scratch.old.text }
         requires expr_fits { length self.old.nodes ≤ scratch.old.nodes }
         requires room_fits { RoomFor (length text.now) (length self.old.nodes) occurrences.old }
-        requires serves { Serves self.old text.now (Some at) occurrences.old }
+        requires keeps { Keeps self.old text.now at occurrences.old }
         requires room { steps.old ≤ 2 ^ 100 }
         ensures same { self.new ≡ self.old }
         ensures scratch { scratch.new ≡ scratch.old }
@@ -193,7 +202,8 @@ impl TableMatcher {
         ensures next { result ≡ next_span (found (tree self.old) text.now) (length text.now) (Some at) }
         ensures lies { IfSome result (λ f. (f.0 ≤ f.1) × (f.1 ≤ length text.now)) }
         ensures behind { LiesBehind (Some at) result }
-        ensures serves { IfSome result (λ f. Serves self.old text.now (Some f.1) occurrences.new) }
+        ensures keeps { IfSome result (λ f. Keeps self.old text.now f.1 occurrences.new) }
+        ensures left { occurrences.new.left ≡ occurrences.old.left }
         ensures grows { steps.old ≤ steps.new }
         ensures cost { let m = length self.old.nodes in let n = length text.now in
             steps.new + owed_after m n result occurrences.new ≤ steps.old + owed_together m n at occurrences.old }
@@ -243,7 +253,7 @@ impl TableMatcher {
     {
         scratch.bounds();
         if let Some(at) = last {
-            if occurrences.met || allowance(self.nodes(), text.len()) < occurrences.spent {
+            if occurrences.left == 0 {
                 return self.next_together(text, at, occurrences, scratch, steps);
             }
         }

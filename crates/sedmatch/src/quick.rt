@@ -455,6 +455,7 @@ impl TableMatcher {
     }
 
     /// Where the leftmost-longest match that begins at `from` or later begins and ends, without its groups.
+    #[inline(always)]
     pub fn find_span(
         &mut self,
         text: &Text,

@@ -150,6 +150,7 @@ pub fn sight_matches(sight: &Sight, text: &Text, from: usize, steps: &mut Steps)
 }
 
 /// Where the longest match ends that begins at `start`.
+#[inline(always)]
 fn sight_end(sight: &Sight, text: &Text, start: usize, steps: &mut Steps) -> usize
     requires start { start ≤ length text.now }
     requires can { CanStart sight.now text.now start }
@@ -169,6 +170,7 @@ fn sight_end(sight: &Sight, text: &Text, start: usize, steps: &mut Steps) -> usi
 }
 
 /// Where the leftmost-longest match that begins at `from` or later begins and ends.
+#[inline(always)]
 pub fn sight_span(
     sight: &Sight,
     text: &Text,

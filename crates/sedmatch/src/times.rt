@@ -118,6 +118,7 @@ fn last_outside(
 }
 
 /// The first place from `from` on from which so many bytes are in the set.
+#[inline(never)]
 pub fn find_times(
     set: &ByteSet,
     count: usize,

@@ -37,9 +37,6 @@ pub skip-requires-clause-more : goal.skip-requires-clause-more
 skip-requires-clause-more c = λ some.
     c.begin.ensures.room _ _ (c.requires.more (more_of_later c.args.substitution.now (omega (arith, some))))
 
-pub skip-requires-clause-serves : goal.skip-requires-clause-serves
-skip-requires-clause-serves c = c.begin.ensures.serves c.args.matcher.now c.args.text.now
-
 pub returns-in_default-clause-kept : goal.returns-in_default-clause-kept
 returns-in_default-clause-kept c = λ text nodes has.
     c.in_default.ensures.kept text nodes (c.begin.ensures.room text nodes has)

@@ -18,7 +18,7 @@ returns-clause-cost c =
     let m = length c.self.inside.expr.nodes in
     let n = length c.args.text.now in
     let met = c.see_met.new.occurrences in
-    let new : Occurrences = record { behind = c.next_behind.new.behind; spent = met.spent; met = met.met } in
+    let new : Occurrences = record { behind = c.next_behind.new.behind; left = met.left; met = met.met } in
     let paid = search_paid m n c.args.at (blocks_cost m met.behind) (blocks_cost m new.behind) c.see_met.new.steps c.next_behind.new.steps c.next_behind.result c.requires.at c.next_behind.ensures.lies c.next_behind.ensures.cost in
     let before = c.see_met.ensures.cost in
     let both : c.next_behind.new.steps + owed_after m n c.next_behind.result new ≤ c.args.steps.now + owed_together m n c.args.at c.args.occurrences.now =
