@@ -9,6 +9,14 @@ use Rattle.sedmatch.specs.declared.scratch.Plan.{Plan}
 abbrev pub FitsNodes : ℕ → Sets → Type 0
 FitsNodes n s = (n ≤ length s.null) × (n ≤ length s.entered) × (n ≤ length s.ended)
 
+-- the same, and there are no more nodes than an expression may have
+abbrev pub FitsFew : ℕ → Sets → Type 0
+FitsFew m s = FitsNodes m s × (m ≤ 65536)
+
+-- the same, and a text of n bytes is no longer than it may be
+abbrev pub Fits : ℕ → ℕ → Sets → Type 0
+Fits m n s = FitsNodes m s × (m ≤ 65536) × (n ≤ 2 ^ 30)
+
 -- there are as many marks as before
 abbrev pub SameMarks : Sets → Sets → Type 0
 SameMarks old new = (length new.null ≡ length old.null) × (length new.entered ≡ length old.entered) × (length new.ended ≡ length old.ended)

@@ -13,7 +13,7 @@ pub mod Places
 pub mod States
 pub mod Tables
 pub mod Linear
-pub mod Quick
+pub mod Ready
 pub mod Skip
 pub mod Needed
 pub mod Ahead

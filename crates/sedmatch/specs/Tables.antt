@@ -83,6 +83,14 @@ pub record AreStates (nodes : List Node) (r : ℕ) (sweeps : Bool) (classes : Li
 abbrev pub IsTable : List Node → ℕ → Table → Type 0
 IsTable nodes r t = AreStates nodes r t.sweeps t.classes.items t.columns t.rows t.ends.items t.count t.cells.items t.index.items t.at_begin t.later
 
+-- the same, and every place is a start in it
+abbrev pub IsSweep : List Node → ℕ → Table → Type 0
+IsSweep nodes r t = IsTable nodes r t × IsTrue t.sweeps
+
+-- the same, and the first place alone is a start in it
+abbrev pub IsSingle : List Node → ℕ → Table → Type 0
+IsSingle nodes r t = IsTable nodes r t × (t.sweeps ≡ false)
+
 -- the state of the table is right at the place
 abbrev pub StateAt : List Node → List ℕ → ℕ → Starts → ℕ → Table → ℕ → Type 0
 StateAt nodes w r s place t q = IsAt nodes w r s place (row_of t.rows q) (ends_of t.ends.items q)

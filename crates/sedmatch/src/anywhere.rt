@@ -1,20 +1,18 @@
 //! The leftmost-longest span by tables: from where a match can begin at all, and what tells of it before any table does.
-ghost use Rattle.std.specs.Prelude.{IfSome, IfNone, true, false, ◌≡◌, ℕ, ◌+◌, ◌*◌, ◌^◌, ◌<◌, ◌≤◌, length, IsTrue};
+ghost use Rattle.std.specs.Prelude.{IfSome, IfNone, ◌≡◌, ℕ, ◌+◌, ◌*◌, ◌^◌, ◌<◌, ◌≤◌, length};
 ghost use Rattle.sedre.specs.Arena.{tree};
-ghost use Rattle.sedre.specs.Mirror.{seen};
-ghost use Rattle.sedmatch.specs.Fits.{FitsNodes, SameMarks};
+ghost use Rattle.sedmatch.specs.Fits.{Fits, SameMarks};
 ghost use Rattle.sedmatch.specs.Spans.{Spans, Found as IsFound, NotFound};
-ghost use Rattle.sedmatch.specs.Skip.{AllBegin};
-ghost use Rattle.sedmatch.specs.Rare.{AllRare};
-ghost use Rattle.sedmatch.specs.Needed.{IsNeeded};
-ghost use Rattle.sedmatch.specs.Tables.{IsTable};
+ghost use Rattle.sedmatch.specs.Tables.{IsSingle};
+ghost use Rattle.sedmatch.specs.Ready.{AreTables, IsKnown};
 
 use crate::ahead::Lead;
 use crate::counted::Text;
 use crate::linear::{first_end_in, region_by, span_by};
-use crate::needed::{Needed, narrowed};
+use crate::needed::narrowed;
 use crate::quick::longest_in;
-use crate::rare::{Rare, first_place};
+use crate::rare::first_place;
+use crate::ready::{Known, Tables};
 use crate::scratch::Sets;
 use crate::skip::Begins;
 use crate::tables::Table;
@@ -31,16 +29,12 @@ pub fn anchored_by(
     steps: &mut Steps,
 ) -> Option<(usize, usize)>
     requires root { root + 1 ≡ length expr.now.nodes }
-    requires few { length expr.now.nodes ≤ 65536 }
-    requires short { length text.now ≤ 2 ^ 30 }
     requires from { from ≤ length text.now }
     requires begins { (i j : ℕ) → Spans (tree expr.now) text.now i j → i ≡ 0 }
-    requires single { IsTable expr.now.nodes root single.old }
-    requires single_sweeps { single.old.sweeps ≡ false }
-    requires fits { FitsNodes (length expr.now.nodes) sets.old }
+    requires single { IsSingle expr.now.nodes root single.old }
+    requires fits { Fits (length expr.now.nodes) (length text.now) sets.old }
     requires room { steps.old < 2 ^ 110 }
-    ensures single { IsTable expr.now.nodes root single.new }
-    ensures single_sweeps { single.new.sweeps ≡ false }
+    ensures single { IsSingle expr.now.nodes root single.new }
     ensures marks { SameMarks sets.old sets.new }
     ensures found { IfSome result (λ f. IsFound (tree expr.now) text.now from f.0 f.1) }
     ensures none { IfNone result (NotFound (tree expr.now) text.now from) }
@@ -61,38 +55,20 @@ pub fn anchored_by(
 pub fn leftmost_by(
     expr: &Expr,
     root: usize,
-    begins: &Begins,
-    needed: &Option<Needed>,
-    few: &Option<Rare>,
+    known: &Known,
     text: &Text,
     from: usize,
-    every: &mut Table,
-    single: &mut Table,
-    back: &mut Table,
+    tables: &mut Tables,
     sets: &mut Sets,
     steps: &mut Steps,
 ) -> Option<(usize, usize)>
     requires root { root + 1 ≡ length expr.now.nodes }
-    requires few { length expr.now.nodes ≤ 65536 }
-    requires short { length text.now ≤ 2 ^ 30 }
     requires from { from ≤ length text.now }
-    requires begins { AllBegin (tree expr.now) begins.now }
-    requires needed { IsNeeded (tree expr.now) needed.now }
-    requires begins_few { AllRare (tree expr.now) few.now }
-    requires every { IsTable expr.now.nodes root every.old }
-    requires every_sweeps { IsTrue every.old.sweeps }
-    requires single { IsTable expr.now.nodes root single.old }
-    requires single_sweeps { single.old.sweeps ≡ false }
-    requires back { IsTable (seen true expr.now).nodes root back.old }
-    requires back_sweeps { IsTrue back.old.sweeps }
-    requires fits { FitsNodes (length expr.now.nodes) sets.old }
+    requires known { IsKnown (tree expr.now) known.now }
+    requires tables { AreTables expr.now root tables.old }
+    requires fits { Fits (length expr.now.nodes) (length text.now) sets.old }
     requires room { steps.old ≤ 2 ^ 101 }
-    ensures every { IsTable expr.now.nodes root every.new }
-    ensures every_sweeps { IsTrue every.new.sweeps }
-    ensures single { IsTable expr.now.nodes root single.new }
-    ensures single_sweeps { single.new.sweeps ≡ false }
-    ensures back { IsTable (seen true expr.now).nodes root back.new }
-    ensures back_sweeps { IsTrue back.new.sweeps }
+    ensures tables { AreTables expr.now root tables.new }
     ensures marks { SameMarks sets.old sets.new }
     ensures found { IfSome result (λ f. IsFound (tree expr.now) text.now from f.0 f.1) }
     ensures none { IfNone result (NotFound (tree expr.now) text.now from) }
@@ -105,13 +81,11 @@ pub fn leftmost_by(
     ensures none_cost { let m = length expr.now.nodes in let n = length text.now in
         IfNone result (steps.new ≤ steps.old + 64 * m * (n + 1)) }
 {
-    match begins {
-        Begins::AtStart => anchored_by(expr, root, text, from, single, sets, steps),
-        _ => match narrowed(needed, text, from, steps) {
+    match &known.begins {
+        Begins::AtStart => anchored_by(expr, root, text, from, &mut tables.single, sets, steps),
+        _ => match narrowed(&known.needed, text, from, steps) {
             None => None,
-            Some(start) => anywhere_by(
-                expr, root, begins, few, text, start, every, single, back, sets, steps,
-            ),
+            Some(start) => anywhere_by(expr, root, known, text, start, tables, sets, steps),
         },
     }
 }
@@ -120,36 +94,20 @@ pub fn leftmost_by(
 fn anywhere_by(
     expr: &Expr,
     root: usize,
-    begins: &Begins,
-    few: &Option<Rare>,
+    known: &Known,
     text: &Text,
     from: usize,
-    every: &mut Table,
-    single: &mut Table,
-    back: &mut Table,
+    tables: &mut Tables,
     sets: &mut Sets,
     steps: &mut Steps,
 ) -> Option<(usize, usize)>
     requires root { root + 1 ≡ length expr.now.nodes }
-    requires few { length expr.now.nodes ≤ 65536 }
-    requires short { length text.now ≤ 2 ^ 30 }
     requires from { from ≤ length text.now }
-    requires begins { AllBegin (tree expr.now) begins.now }
-    requires begins_few { AllRare (tree expr.now) few.now }
-    requires every { IsTable expr.now.nodes root every.old }
-    requires every_sweeps { IsTrue every.old.sweeps }
-    requires single { IsTable expr.now.nodes root single.old }
-    requires single_sweeps { single.old.sweeps ≡ false }
-    requires back { IsTable (seen true expr.now).nodes root back.old }
-    requires back_sweeps { IsTrue back.old.sweeps }
-    requires fits { FitsNodes (length expr.now.nodes) sets.old }
+    requires known { IsKnown (tree expr.now) known.now }
+    requires tables { AreTables expr.now root tables.old }
+    requires fits { Fits (length expr.now.nodes) (length text.now) sets.old }
     requires room { steps.old ≤ 2 ^ 102 }
-    ensures every { IsTable expr.now.nodes root every.new }
-    ensures every_sweeps { IsTrue every.new.sweeps }
-    ensures single { IsTable expr.now.nodes root single.new }
-    ensures single_sweeps { single.new.sweeps ≡ false }
-    ensures back { IsTable (seen true expr.now).nodes root back.new }
-    ensures back_sweeps { IsTrue back.new.sweeps }
+    ensures tables { AreTables expr.now root tables.new }
     ensures marks { SameMarks sets.old sets.new }
     ensures found { IfSome result (λ f. IsFound (tree expr.now) text.now from f.0 f.1) }
     ensures none { IfNone result (NotFound (tree expr.now) text.now from) }
@@ -162,11 +120,11 @@ fn anywhere_by(
     ensures none_cost { let m = length expr.now.nodes in let n = length text.now in
         IfNone result (steps.new ≤ steps.old + 41 * m + 43 * m * n) }
 {
-    match first_place(expr, begins, few, text, from, steps) {
+    match first_place(expr, &known.begins, &known.rare, text, from, steps) {
         None => None,
         Some((start, lead)) => match lead {
             Lead::To(end) => Some((start, end)),
-            _ => span_from(expr, root, text, start, every, single, back, sets, steps),
+            _ => span_from(expr, root, text, start, tables, sets, steps),
         },
     }
 }
@@ -177,30 +135,16 @@ fn span_from(
     root: usize,
     text: &Text,
     start: usize,
-    every: &mut Table,
-    single: &mut Table,
-    back: &mut Table,
+    tables: &mut Tables,
     sets: &mut Sets,
     steps: &mut Steps,
 ) -> Option<(usize, usize)>
     requires root { root + 1 ≡ length expr.now.nodes }
-    requires few { length expr.now.nodes ≤ 65536 }
-    requires short { length text.now ≤ 2 ^ 30 }
     requires start { start ≤ length text.now }
-    requires every { IsTable expr.now.nodes root every.old }
-    requires every_sweeps { IsTrue every.old.sweeps }
-    requires single { IsTable expr.now.nodes root single.old }
-    requires single_sweeps { single.old.sweeps ≡ false }
-    requires back { IsTable (seen true expr.now).nodes root back.old }
-    requires back_sweeps { IsTrue back.old.sweeps }
-    requires fits { FitsNodes (length expr.now.nodes) sets.old }
+    requires tables { AreTables expr.now root tables.old }
+    requires fits { Fits (length expr.now.nodes) (length text.now) sets.old }
     requires room { steps.old ≤ 2 ^ 103 }
-    ensures every { IsTable expr.now.nodes root every.new }
-    ensures every_sweeps { IsTrue every.new.sweeps }
-    ensures single { IsTable expr.now.nodes root single.new }
-    ensures single_sweeps { single.new.sweeps ≡ false }
-    ensures back { IsTable (seen true expr.now).nodes root back.new }
-    ensures back_sweeps { IsTrue back.new.sweeps }
+    ensures tables { AreTables expr.now root tables.new }
     ensures marks { SameMarks sets.old sets.new }
     ensures found { IfSome result (λ f. IsFound (tree expr.now) text.now start f.0 f.1) }
     ensures none { IfNone result (NotFound (tree expr.now) text.now start) }
@@ -213,9 +157,18 @@ fn span_from(
     ensures none_cost { let m = length expr.now.nodes in let n = length text.now in
         IfNone result (steps.new + 42 * m * start ≤ steps.old + 40 * m + 42 * m * n) }
 {
-    let Some(first) = first_end_in(expr, root, text, start, every, sets, steps) else {
+    let Some(first) = first_end_in(expr, root, text, start, &mut tables.every, sets, steps) else {
         return None;
     };
-    let region = region_by(expr, root, text, start, first, single, sets, steps);
-    span_by(expr, root, text, region, single, back, sets, steps)
+    let region = region_by(
+        expr,
+        root,
+        text,
+        start,
+        first,
+        &mut tables.single,
+        sets,
+        steps,
+    );
+    span_by(expr, root, text, region, tables, sets, steps)
 }

@@ -1,9 +1,9 @@
 //! Where the parts of a node that matches a given span begin and end.
-ghost use Rattle.std.specs.Prelude.{◌≡◌, ℕ, Bool, false, true, List, ◌+◌, ◌-◌, ◌*◌, ◌^◌, ◌<◌, ◌≤◌, ◌↔◌, length};
-ghost use Rattle.std.specs.Prelude.{vec_len, slice_index_or, IfSome, IfNone, IsTrue, slice_get, slice_index, Some};
-ghost use Rattle.sedmatch.specs.Spans.{Spans, Copies};
-ghost use Rattle.sedmatch.specs.Fits.{FitsNodes, SameMarks, FitsPlaces, SameNotes};
-ghost use Rattle.sedmatch.specs.Reach.{Marked, Below, At, one_start, Entered, Enters, Ends, OpenFrom};
+ghost use Rattle.std.specs.Prelude.{◌≡◌, ℕ, false, true, ◌+◌, ◌-◌, ◌*◌, ◌^◌, ◌<◌, ◌≤◌, ◌↔◌, length};
+ghost use Rattle.std.specs.Prelude.{slice_index_or, IfSome, IfNone, IsTrue, slice_index, Some};
+ghost use Rattle.sedmatch.specs.Spans.{Copies};
+ghost use Rattle.sedmatch.specs.Fits.{Fits, FitsFew, FitsPlaces, SameMarks, SameNotes};
+ghost use Rattle.sedmatch.specs.Reach.{At, one_start, OpenFrom};
 ghost use Rattle.sedmatch.specs.Reach.{TellEntered, TellBegun};
 ghost use Rattle.sedmatch.specs.Caps.{LastCut, LastCopy};
 ghost use Rattle.sedmatch.specs.Cuts.{GreatestBelow, IsNext, LeastFrom};
@@ -27,11 +27,9 @@ pub fn reaches(
     steps: &mut Steps,
 ) -> bool
     requires root { root < length expr.now.nodes }
-    requires few { length expr.now.nodes ≤ 65536 }
-    requires short { length text.now ≤ 2 ^ 30 }
     requires start { start ≤ stop }
     requires stop { stop ≤ length text.now }
-    requires fits { FitsNodes (length expr.now.nodes) sets.old }
+    requires fits { Fits (length expr.now.nodes) (length text.now) sets.old }
     requires room { steps.old < 2 ^ 115 }
     ensures marks { SameMarks sets.old sets.new }
     ensures spans { IsTrue result ↔ At expr.now.nodes text.now root start stop }
@@ -57,11 +55,9 @@ fn reaches_by_pass(
     steps: &mut Steps,
 ) -> bool
     requires root { root < length expr.now.nodes }
-    requires few { length expr.now.nodes ≤ 65536 }
-    requires short { length text.now ≤ 2 ^ 30 }
     requires start { start ≤ stop }
     requires stop { stop ≤ length text.now }
-    requires fits { FitsNodes (length expr.now.nodes) sets.old }
+    requires fits { Fits (length expr.now.nodes) (length text.now) sets.old }
     requires room { steps.old < 2 ^ 116 }
     ensures marks { SameMarks sets.old sets.new }
     ensures spans { IsTrue result ↔ At expr.now.nodes text.now root start stop }
@@ -93,10 +89,9 @@ fn advance_if(
     steps: &mut Steps,
 ) -> Here
     requires root { root < length expr.now.nodes }
-    requires few { length expr.now.nodes ≤ 65536 }
     requires start { start ≤ place }
     requires place { place ≤ length text.now }
-    requires fits { FitsNodes (length expr.now.nodes) sets.old }
+    requires fits { FitsFew (length expr.now.nodes) sets.old }
     requires entered { IsTrue more → TellEntered expr.now.nodes text.now root (one_start start) place sets.old.entered }
     requires closed { (k : ℕ) → place ≤ k → At expr.now.nodes text.now root start k → IsTrue more }
     requires room { steps.old < 2 ^ 117 }
@@ -129,11 +124,9 @@ fn ends_from(
     steps: &mut Steps,
 )
     requires root { root < length expr.now.nodes }
-    requires few { length expr.now.nodes ≤ 65536 }
-    requires short { length text.now ≤ 2 ^ 30 }
     requires start { start ≤ stop }
     requires stop { stop ≤ length text.now }
-    requires fits { FitsNodes (length expr.now.nodes) sets.old }
+    requires fits { Fits (length expr.now.nodes) (length text.now) sets.old }
     requires ends_fit { length text.now < length ends.old }
     requires room { steps.old < 2 ^ 116 }
     ensures marks { SameMarks sets.old sets.new }
@@ -165,11 +158,9 @@ fn first_end(
     steps: &mut Steps,
 ) -> Option<usize>
     requires root { root < length nodes.now.nodes }
-    requires few { length nodes.now.nodes ≤ 65536 }
-    requires short { length bytes.now ≤ 2 ^ 30 }
     requires start { start ≤ stop }
     requires stop { stop ≤ length bytes.now }
-    requires fits { FitsNodes (length nodes.now.nodes) sets.old }
+    requires fits { Fits (length nodes.now.nodes) (length bytes.now) sets.old }
     requires ends_fit { length bytes.now < length ends.now }
     requires room { steps.old < 2 ^ 116 }
     ensures marks { SameMarks sets.old sets.new }
@@ -275,11 +266,9 @@ pub fn last_cut(
 ) -> usize
     requires left_inside { left < length expr.now.nodes }
     requires right_inside { right < length expr.now.nodes }
-    requires few { length expr.now.nodes ≤ 65536 }
-    requires short { length text.now ≤ 2 ^ 30 }
     requires start { start ≤ stop }
     requires stop { stop ≤ length text.now }
-    requires fits { FitsNodes (length expr.now.nodes) sets.old }
+    requires fits { Fits (length expr.now.nodes) (length text.now) sets.old }
     requires ends_fit { length text.now < length ends.old }
     requires spans { (k : ℕ) × At expr.now.nodes text.now left start k × At expr.now.nodes text.now right k stop }
     requires room { steps.old ≤ 2 ^ 114 }
@@ -310,11 +299,9 @@ fn cut_by_passes(
 ) -> usize
     requires left_inside { left < length expr.now.nodes }
     requires right_inside { right < length expr.now.nodes }
-    requires few { length expr.now.nodes ≤ 65536 }
-    requires short { length text.now ≤ 2 ^ 30 }
     requires start { start ≤ stop }
     requires stop { stop ≤ length text.now }
-    requires fits { FitsNodes (length expr.now.nodes) sets.old }
+    requires fits { Fits (length expr.now.nodes) (length text.now) sets.old }
     requires ends_fit { length text.now < length ends.old }
     requires spans { (k : ℕ) × At expr.now.nodes text.now left start k × At expr.now.nodes text.now right k stop }
     requires room { steps.old < 2 ^ 115 }
@@ -356,11 +343,9 @@ fn copy_to(
     steps: &mut Steps,
 ) -> Option<usize>
     requires root { root < length expr.now.nodes }
-    requires few { length expr.now.nodes ≤ 65536 }
-    requires short { length text.now ≤ 2 ^ 30 }
     requires start { start ≤ stop }
     requires stop { stop ≤ length text.now }
-    requires fits { FitsNodes (length expr.now.nodes) sets.old }
+    requires fits { Fits (length expr.now.nodes) (length text.now) sets.old }
     requires tail_fits { length text.now < length tail.now }
     requires room { steps.old < 2 ^ 116 }
     ensures marks { SameMarks sets.old sets.new }
@@ -395,11 +380,9 @@ fn mark_tail(
     steps: &mut Steps,
 )
     requires root { root < length expr.now.nodes }
-    requires few { length expr.now.nodes ≤ 65536 }
-    requires short { length text.now ≤ 2 ^ 30 }
     requires start { start ≤ stop }
     requires stop { stop ≤ length text.now }
-    requires fits { FitsNodes (length expr.now.nodes) sets.old }
+    requires fits { Fits (length expr.now.nodes) (length text.now) sets.old }
     requires notes_fit { FitsPlaces (length text.now + 1) notes.old }
     requires room { steps.old < 2 ^ 115 }
     ensures marks { SameMarks sets.old sets.new }
@@ -429,11 +412,9 @@ pub fn last_copy(
     steps: &mut Steps,
 ) -> usize
     requires root { root < length expr.now.nodes }
-    requires few { length expr.now.nodes ≤ 65536 }
-    requires short { length text.now ≤ 2 ^ 30 }
     requires start { start < stop }
     requires stop { stop ≤ length text.now }
-    requires fits { FitsNodes (length expr.now.nodes) sets.old }
+    requires fits { Fits (length expr.now.nodes) (length text.now) sets.old }
     requires notes_fit { FitsPlaces (length text.now + 1) notes.old }
     requires spans { Copies (At expr.now.nodes text.now root) stop start }
     requires room { steps.old ≤ 2 ^ 114 }
@@ -465,11 +446,9 @@ fn copy_by_passes(
     steps: &mut Steps,
 ) -> usize
     requires root { root < length expr.now.nodes }
-    requires few { length expr.now.nodes ≤ 65536 }
-    requires short { length text.now ≤ 2 ^ 30 }
     requires start { start < stop }
     requires stop { stop ≤ length text.now }
-    requires fits { FitsNodes (length expr.now.nodes) sets.old }
+    requires fits { Fits (length expr.now.nodes) (length text.now) sets.old }
     requires notes_fit { FitsPlaces (length text.now + 1) notes.old }
     requires spans { Copies (At expr.now.nodes text.now root) stop start }
     requires room { steps.old < 2 ^ 115 }

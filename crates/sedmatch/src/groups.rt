@@ -1,16 +1,16 @@
 //! Which span each group of a match has.
 //!
 //! The tasks of a plan take the place of a recursion over the expression, so that its depth costs no stack.
-ghost use Rattle.std.specs.Prelude.{◌≡◌, ℕ, List, [], ◌∷◌, ◌++◌, reverse, ◌+◌, ◌-◌, ◌*◌, ◌^◌, ◌<◌, ◌≤◌, length};
+ghost use Rattle.std.specs.Prelude.{◌≡◌, ℕ, [], ◌∷◌, ◌++◌, reverse, ◌+◌, ◌-◌, ◌*◌, ◌^◌, ◌<◌, ◌≤◌, length};
 ghost use Rattle.std.specs.Prelude.{vec_len, vec_capacity, slice_get, Some, None, slice_set, IsTrue, ◌↔◌};
 ghost use Rattle.sedre.specs.Tree.{size};
 ghost use Rattle.sedre.specs.Arena.{tree_at, tree};
 ghost use Rattle.sedmatch.specs.Spans.{Spans};
 ghost use Rattle.sedmatch.specs.Caps.{Caps, Groups, forget, IsReport};
-ghost use Rattle.sedmatch.specs.Fits.{FitsNodes, SameMarks, FitsPlaces, HasPlaces, KeepsPlaces, SameNotes, FitsWork, AllDone};
+ghost use Rattle.sedmatch.specs.Fits.{AllDone, Fits, FitsPlaces, FitsWork, HasPlaces, KeepsPlaces, SameMarks, SameNotes};
 ghost use Rattle.sedmatch.specs.Reach.{At};
 ghost use Rattle.sedmatch.specs.Work.{IsStep, Run, IsReady, weights, inners, wholes, node_cost, forget_if};
-ghost use Rattle.sedmatch.specs.Work.{tasks_of, forgets_of, forget_all, sizes, InRange, parts_of, forget_node};
+ghost use Rattle.sedmatch.specs.Work.{tasks_of, forgets_of, sizes, parts_of, forget_node};
 
 use crate::counted::Text;
 use crate::cuts::{last_copy, last_cut, reaches};
@@ -105,10 +105,8 @@ fn has_empty_copy(
     steps: &mut Steps,
 ) -> bool
     requires part { part < length expr.now.nodes }
-    requires few { length expr.now.nodes ≤ 65536 }
-    requires short { length text.now ≤ 2 ^ 30 }
     requires place { place ≤ length text.now }
-    requires fits { FitsNodes (length expr.now.nodes) sets.old }
+    requires fits { Fits (length expr.now.nodes) (length text.now) sets.old }
     requires room { steps.old < 2 ^ 115 }
     ensures marks { SameMarks sets.old sets.new }
     ensures copy { IsTrue result ↔ (IsTrue first × At expr.now.nodes text.now part place place) }
@@ -131,11 +129,9 @@ fn split_node(
     steps: &mut Steps,
 ) -> Split
     requires inside { x < length expr.now.nodes }
-    requires few { length expr.now.nodes ≤ 65536 }
-    requires short { length text.now ≤ 2 ^ 30 }
     requires start { start ≤ stop }
     requires stop { stop ≤ length text.now }
-    requires fits { FitsNodes (length expr.now.nodes) sets.old }
+    requires fits { Fits (length expr.now.nodes) (length text.now) sets.old }
     requires notes_fit { FitsPlaces (length text.now + 1) notes.old }
     requires node { slice_get expr.now.nodes x ≡ Some node.now }
     requires spans { At expr.now.nodes text.now x start stop }
@@ -296,10 +292,8 @@ fn work(
     notes: &mut Notes,
     steps: &mut Steps,
 )
-    requires few { length expr.now.nodes ≤ 65536 }
-    requires short { length text.now ≤ 2 ^ 30 }
     requires sizes { (x : ℕ) → x < length expr.now.nodes → size (tree_at expr.now.nodes x) ≤ length expr.now.nodes }
-    requires fits { FitsNodes (length expr.now.nodes) sets.old }
+    requires fits { Fits (length expr.now.nodes) (length text.now) sets.old }
     requires notes_fit { FitsPlaces (length text.now + 1) notes.old }
     requires stack_empty { plan.old.stack.items ≡ [] }
     requires stack_room { length expr.now.nodes < vec_capacity plan.old.stack }
@@ -345,13 +339,11 @@ pub fn decide(
     steps: &mut Steps,
 )
     requires root { root < length expr.now.nodes }
-    requires few { length expr.now.nodes ≤ 65536 }
-    requires short { length text.now ≤ 2 ^ 30 }
     requires start { start ≤ stop }
     requires stop { stop ≤ length text.now }
     requires spans { At expr.now.nodes text.now root start stop }
     requires sizes { (x : ℕ) → x < length expr.now.nodes → size (tree_at expr.now.nodes x) ≤ length expr.now.nodes }
-    requires fits { FitsNodes (length expr.now.nodes) sets.old }
+    requires fits { Fits (length expr.now.nodes) (length text.now) sets.old }
     requires notes_fit { FitsPlaces (length text.now + 1) notes.old }
     requires work_fits { FitsWork (length expr.now.nodes) plan.old }
     requires room { let m = length expr.now.nodes in let n = length text.now in
@@ -381,12 +373,10 @@ pub fn report(
     notes: &mut Notes,
     steps: &mut Steps,
 ) -> [Option<(usize, usize)>; 10]
-    requires few { length expr.now.nodes ≤ 65536 }
-    requires short { length text.now ≤ 2 ^ 30 }
     requires start { start ≤ stop }
     requires stop { stop ≤ length text.now }
     requires spans { Spans (tree expr.now) text.now start stop }
-    requires fits { FitsNodes (length expr.now.nodes) sets.old }
+    requires fits { Fits (length expr.now.nodes) (length text.now) sets.old }
     requires notes_room { HasPlaces (length text.now + 1) notes.old }
     requires work_fits { FitsWork (length expr.now.nodes) plan.old }
     requires room { let m = length expr.now.nodes in let n = length text.now in

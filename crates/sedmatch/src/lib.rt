@@ -35,6 +35,7 @@ mod occurrences;
 mod passes;
 mod quick;
 mod rare;
+mod ready;
 mod region;
 mod runs;
 mod scratch;

@@ -1,20 +1,21 @@
 //! The search for the leftmost of the longest spans by tables, in which each byte is passed four times at most.
-ghost use Rattle.std.specs.Prelude.{IfSome, IfNone, true, false, Bool, List, ◌≡◌, ℕ, ◌+◌, ◌-◌, ◌*◌, ◌^◌, ◌<◌, ◌≤◌, ◌↔◌, length, IsTrue};
+ghost use Rattle.std.specs.Prelude.{IfSome, IfNone, true, Bool, List, ◌≡◌, ℕ, ◌+◌, ◌-◌, ◌*◌, ◌^◌, ◌<◌, ◌≤◌, ◌↔◌, length, IsTrue};
 ghost use Rattle.sedre.specs.Arena.{tree};
-ghost use Rattle.sedre.specs.Mirror.{seen, mirror};
-ghost use Rattle.sedre.specs.Tree.{Tree};
+ghost use Rattle.sedre.specs.Mirror.{seen};
 ghost use Rattle.sedre.specs.declared.types.Node.{Node};
-ghost use Rattle.sedmatch.specs.Fits.{FitsNodes, SameMarks};
+ghost use Rattle.sedmatch.specs.Fits.{Fits, FitsFew, SameMarks};
 ghost use Rattle.sedmatch.specs.Spans.{Found as IsFound};
-ghost use Rattle.sedmatch.specs.Reach.{At, SomeSpan};
+ghost use Rattle.sedmatch.specs.Reach.{SomeSpan};
 ghost use Rattle.sedmatch.specs.Search.{IsRegion, LastEnd, IsEarliest, starts_to};
 ghost use Rattle.sedmatch.specs.States.{IsAt};
-ghost use Rattle.sedmatch.specs.Tables.{IsTable, NextIs, starts_from};
+ghost use Rattle.sedmatch.specs.Tables.{IsSingle, IsSweep, IsTable, NextIs, starts_from};
 ghost use Rattle.sedmatch.specs.Linear.{NoneBefore, IsFirstEnd, ended_to, IsBound};
+ghost use Rattle.sedmatch.specs.Ready.{AreTables};
 
 use crate::counted::{Bytes, Text};
 use crate::passes::{Starts, advance};
 use crate::quick::longest_in;
+use crate::ready::Tables;
 use crate::region::Region;
 use crate::scratch::Sets;
 use crate::states::Ends;
@@ -56,11 +57,9 @@ fn first_end_on(
     steps: &mut Steps,
 ) -> Option<FirstEnd>
     requires root { root + 1 ≡ length expr.now.nodes }
-    requires few { length expr.now.nodes ≤ 65536 }
-    requires short { length text.now ≤ 2 ^ 30 }
     requires start { start ≤ place }
     requires place { place ≤ length text.now }
-    requires fits { FitsNodes (length expr.now.nodes) sets.old }
+    requires fits { Fits (length expr.now.nodes) (length text.now) sets.old }
     requires at { IsAt expr.now.nodes text.now root (starts_from start text.now) place sets.old.entered ends }
     requires missed { NoneBefore expr.now.nodes text.now root start place }
     requires room { steps.old < 2 ^ 116 }
@@ -109,15 +108,11 @@ fn first_end(
     steps: &mut Steps,
 ) -> Option<FirstEnd>
     requires root { root + 1 ≡ length expr.now.nodes }
-    requires few { length expr.now.nodes ≤ 65536 }
-    requires short { length text.now ≤ 2 ^ 30 }
     requires from { from ≤ length text.now }
-    requires table { IsTable expr.now.nodes root table.old }
-    requires sweeps { IsTrue table.old.sweeps }
-    requires fits { FitsNodes (length expr.now.nodes) sets.old }
+    requires table { IsSweep expr.now.nodes root table.old }
+    requires fits { Fits (length expr.now.nodes) (length text.now) sets.old }
     requires room { steps.old < 2 ^ 110 }
-    ensures table { IsTable expr.now.nodes root table.new }
-    ensures sweeps { IsTrue table.new.sweeps }
+    ensures table { IsSweep expr.now.nodes root table.new }
     ensures marks { SameMarks sets.old sets.new }
     ensures first { IsFirstEnd expr.now.nodes text.now root from sets.new.entered result }
     ensures grows { steps.old ≤ steps.new }
@@ -169,12 +164,10 @@ fn bound_on(
     steps: &mut Steps,
 ) -> usize
     requires root { root + 1 ≡ length expr.now.nodes }
-    requires few { length expr.now.nodes ≤ 65536 }
-    requires short { length text.now ≤ 2 ^ 30 }
     requires start { start ≤ last }
     requires last { last ≤ place }
     requires place { place ≤ length text.now }
-    requires fits { FitsNodes (length expr.now.nodes) sets.old }
+    requires fits { Fits (length expr.now.nodes) (length text.now) sets.old }
     requires at { IsAt expr.now.nodes text.now root (starts_to start last) place sets.old.entered ends }
     requires room { steps.old < 2 ^ 116 }
     ensures marks { SameMarks sets.old sets.new }
@@ -210,9 +203,8 @@ fn enter(
     steps: &mut Steps,
 ) -> Next
     requires root { root + 1 ≡ length expr.now.nodes }
-    requires few { length expr.now.nodes ≤ 65536 }
     requires table { IsTable expr.now.nodes root table.old }
-    requires fits { FitsNodes (length expr.now.nodes) sets.old }
+    requires fits { FitsFew (length expr.now.nodes) sets.old }
     requires room { steps.old < 2 ^ 115 }
     ensures table { IsTable expr.now.nodes root table.new }
     ensures sweeps { table.new.sweeps ≡ table.old.sweeps }
@@ -243,17 +235,13 @@ fn bound_by(
     steps: &mut Steps,
 ) -> usize
     requires root { root + 1 ≡ length expr.now.nodes }
-    requires few { length expr.now.nodes ≤ 65536 }
-    requires short { length text.now ≤ 2 ^ 30 }
     requires start { start ≤ last }
     requires last { last ≤ length text.now }
-    requires table { IsTable expr.now.nodes root table.old }
-    requires sweeps { table.old.sweeps ≡ false }
-    requires fits { FitsNodes (length expr.now.nodes) sets.old }
+    requires table { IsSingle expr.now.nodes root table.old }
+    requires fits { Fits (length expr.now.nodes) (length text.now) sets.old }
     requires at { IsAt expr.now.nodes text.now root (starts_to start last) last sets.old.entered ends }
     requires room { steps.old < 2 ^ 110 }
-    ensures table { IsTable expr.now.nodes root table.new }
-    ensures sweeps { table.new.sweeps ≡ false }
+    ensures table { IsSingle expr.now.nodes root table.new }
     ensures marks { SameMarks sets.old sets.new }
     ensures bound { IsBound expr.now.nodes text.now root start last result }
     ensures grows { steps.old ≤ steps.new }
@@ -337,12 +325,10 @@ fn last_on(
     steps: &mut Steps,
 ) -> Option<usize>
     requires root { root + 1 ≡ length nodes.now.nodes }
-    requires few { length nodes.now.nodes ≤ 65536 }
-    requires short { length bytes.now ≤ 2 ^ 30 }
     requires first { first ≤ place }
     requires place { place ≤ stop }
     requires stop { stop ≤ length bytes.now }
-    requires fits { FitsNodes (length nodes.now.nodes) sets.old }
+    requires fits { Fits (length nodes.now.nodes) (length bytes.now) sets.old }
     requires at { IsAt nodes.now.nodes bytes.now root (starts_from first bytes.now) place sets.old.entered ends }
     requires best { LastEnd (tree nodes.now) bytes.now first place before }
     requires room { steps.old < 2 ^ 116 }
@@ -381,16 +367,12 @@ fn last_by(
     steps: &mut Steps,
 ) -> Option<usize>
     requires root { root + 1 ≡ length nodes.now.nodes }
-    requires few { length nodes.now.nodes ≤ 65536 }
-    requires short { length bytes.now ≤ 2 ^ 30 }
     requires order { first ≤ stop }
     requires inside { stop ≤ length bytes.now }
-    requires table { IsTable nodes.now.nodes root table.old }
-    requires sweeps { IsTrue table.old.sweeps }
-    requires fits { FitsNodes (length nodes.now.nodes) sets.old }
+    requires table { IsSweep nodes.now.nodes root table.old }
+    requires fits { Fits (length nodes.now.nodes) (length bytes.now) sets.old }
     requires room { steps.old < 2 ^ 110 }
-    ensures table { IsTable nodes.now.nodes root table.new }
-    ensures sweeps { IsTrue table.new.sweeps }
+    ensures table { IsSweep nodes.now.nodes root table.new }
     ensures marks { SameMarks sets.old sets.new }
     ensures last { LastEnd (tree nodes.now) bytes.now first (stop + 1) result }
     ensures grows { steps.old ≤ steps.new }
@@ -448,15 +430,11 @@ pub fn first_end_in(
     steps: &mut Steps,
 ) -> Option<FirstEnd>
     requires root { root + 1 ≡ length expr.now.nodes }
-    requires few { length expr.now.nodes ≤ 65536 }
-    requires short { length text.now ≤ 2 ^ 30 }
     requires from { from ≤ length text.now }
-    requires table { IsTable expr.now.nodes root table.old }
-    requires sweeps { IsTrue table.old.sweeps }
-    requires fits { FitsNodes (length expr.now.nodes) sets.old }
+    requires table { IsSweep expr.now.nodes root table.old }
+    requires fits { Fits (length expr.now.nodes) (length text.now) sets.old }
     requires room { steps.old < 2 ^ 110 }
-    ensures table { IsTable expr.now.nodes root table.new }
-    ensures sweeps { IsTrue table.new.sweeps }
+    ensures table { IsSweep expr.now.nodes root table.new }
     ensures marks { SameMarks sets.old sets.new }
     ensures first { IsFirstEnd expr.now.nodes text.now root from sets.new.entered result }
     ensures grows { steps.old ≤ steps.new }
@@ -481,17 +459,13 @@ fn bound_in(
     steps: &mut Steps,
 ) -> usize
     requires root { root + 1 ≡ length expr.now.nodes }
-    requires few { length expr.now.nodes ≤ 65536 }
-    requires short { length text.now ≤ 2 ^ 30 }
     requires start { start ≤ last }
     requires last { last ≤ length text.now }
-    requires table { IsTable expr.now.nodes root table.old }
-    requires sweeps { table.old.sweeps ≡ false }
-    requires fits { FitsNodes (length expr.now.nodes) sets.old }
+    requires table { IsSingle expr.now.nodes root table.old }
+    requires fits { Fits (length expr.now.nodes) (length text.now) sets.old }
     requires at { IsAt expr.now.nodes text.now root (starts_to start last) last sets.old.entered ends }
     requires room { steps.old < 2 ^ 110 }
-    ensures table { IsTable expr.now.nodes root table.new }
-    ensures sweeps { table.new.sweeps ≡ false }
+    ensures table { IsSingle expr.now.nodes root table.new }
     ensures marks { SameMarks sets.old sets.new }
     ensures bound { IsBound expr.now.nodes text.now root start last result }
     ensures grows { steps.old ≤ steps.new }
@@ -514,19 +488,15 @@ pub fn region_by(
     steps: &mut Steps,
 ) -> Region
     requires root { root + 1 ≡ length expr.now.nodes }
-    requires few { length expr.now.nodes ≤ 65536 }
-    requires short { length text.now ≤ 2 ^ 30 }
-    requires table { IsTable expr.now.nodes root table.old }
-    requires sweeps { table.old.sweeps ≡ false }
-    requires fits { FitsNodes (length expr.now.nodes) sets.old }
+    requires table { IsSingle expr.now.nodes root table.old }
+    requires fits { Fits (length expr.now.nodes) (length text.now) sets.old }
     requires start { start ≤ first.place }
     requires inside { first.place ≤ length text.now }
     requires some { SomeSpan expr.now.nodes text.now root (starts_from start text.now) first.place }
     requires at { first.place < length text.now →
         IsAt expr.now.nodes text.now root (starts_from start text.now) first.place sets.old.entered first.ends }
     requires room { steps.old < 2 ^ 110 }
-    ensures table { IsTable expr.now.nodes root table.new }
-    ensures sweeps { table.new.sweeps ≡ false }
+    ensures table { IsSingle expr.now.nodes root table.new }
     ensures marks { SameMarks sets.old sets.new }
     ensures start { result.start ≡ start }
     ensures last { result.last ≡ first.place }
@@ -560,15 +530,11 @@ fn earliest_by(
     steps: &mut Steps,
 ) -> usize
     requires root { root + 1 ≡ length expr.now.nodes }
-    requires few { length expr.now.nodes ≤ 65536 }
-    requires short { length text.now ≤ 2 ^ 30 }
     requires region { IsRegion (tree expr.now) text.now true region }
-    requires table { IsTable (seen true expr.now).nodes root table.old }
-    requires sweeps { IsTrue table.old.sweeps }
-    requires fits { FitsNodes (length expr.now.nodes) sets.old }
+    requires table { IsSweep (seen true expr.now).nodes root table.old }
+    requires fits { Fits (length expr.now.nodes) (length text.now) sets.old }
     requires room { steps.old < 2 ^ 110 }
-    ensures table { IsTable (seen true expr.now).nodes root table.new }
-    ensures sweeps { IsTrue table.new.sweeps }
+    ensures table { IsSweep (seen true expr.now).nodes root table.new }
     ensures marks { SameMarks sets.old sets.new }
     ensures earliest { IsEarliest (tree expr.now) text.now region result }
     ensures grows { steps.old ≤ steps.new }
@@ -595,25 +561,16 @@ pub fn span_by(
     root: usize,
     text: &Text,
     region: Region,
-    single: &mut Table,
-    back: &mut Table,
+    tables: &mut Tables,
     sets: &mut Sets,
     steps: &mut Steps,
 ) -> Option<(usize, usize)>
     requires root { root + 1 ≡ length expr.now.nodes }
-    requires few { length expr.now.nodes ≤ 65536 }
-    requires short { length text.now ≤ 2 ^ 30 }
     requires region { IsRegion (tree expr.now) text.now true region }
-    requires single { IsTable expr.now.nodes root single.old }
-    requires single_sweeps { single.old.sweeps ≡ false }
-    requires back { IsTable (seen true expr.now).nodes root back.old }
-    requires back_sweeps { IsTrue back.old.sweeps }
-    requires fits { FitsNodes (length expr.now.nodes) sets.old }
+    requires tables { AreTables expr.now root tables.old }
+    requires fits { Fits (length expr.now.nodes) (length text.now) sets.old }
     requires room { steps.old < 2 ^ 108 }
-    ensures single { IsTable expr.now.nodes root single.new }
-    ensures single_sweeps { single.new.sweeps ≡ false }
-    ensures back { IsTable (seen true expr.now).nodes root back.new }
-    ensures back_sweeps { IsTrue back.new.sweeps }
+    ensures tables { AreTables expr.now root tables.new }
     ensures marks { SameMarks sets.old sets.new }
     ensures found { IfSome result (λ f. IsFound (tree expr.now) text.now region.start f.0 f.1) }
     ensures some { IfNone result ⊥ }
@@ -626,8 +583,8 @@ pub fn span_by(
     if region.bound == region.start {
         return Some((region.start, region.start));
     }
-    let start = earliest_by(expr, root, text, region, back, sets, steps);
-    match longest_in(expr, root, text, start, single, sets, steps) {
+    let start = earliest_by(expr, root, text, region, &mut tables.back, sets, steps);
+    match longest_in(expr, root, text, start, &mut tables.single, sets, steps) {
         None => None,
         Some(end) => Some((start, end)),
     }

@@ -6,10 +6,9 @@
 //! What the pass from the end tells is kept for one block of places alone, and of the others with which marks it came
 //! to them. A block is made again when the first of its places is asked for; places are asked for from the text's
 //! beginning to its end, so that each block is made twice in all.
-ghost use Rattle.std.specs.Prelude.{◌≡◌, ℕ, Bool, List, [], ◌+◌, ◌-◌, ◌*◌, ◌^◌, ◌<◌, ◌≤◌, ◌↔◌, length, IsTrue, IfSome, IfNone, IfOk, true, false, reverse, slice_index_or, Option, Some, if◌then◌else◌};
+ghost use Rattle.std.specs.Prelude.{◌≡◌, ℕ, [], ◌+◌, ◌-◌, ◌*◌, ◌^◌, ◌<◌, ◌≤◌, ◌↔◌, length, IsTrue, IfSome, IfOk, true, false, slice_index_or, Option, Some, if◌then◌else◌};
 ghost use Rattle.sedre.specs.Arena.{tree};
-ghost use Rattle.sedre.specs.Mirror.{seen};
-ghost use Rattle.sedmatch.specs.Fits.{FitsNodes, SameMarks};
+ghost use Rattle.sedmatch.specs.Fits.{Fits, SameMarks};
 ghost use Rattle.sedmatch.specs.Local.{takes_next};
 ghost use Rattle.sedmatch.specs.Words.{row_of};
 ghost use Rattle.sedmatch.specs.Reach.{Longest, TellBegun, TellEntered, one_start};
@@ -18,7 +17,6 @@ ghost use Rattle.sedmatch.specs.Occurrences.{next_span, unless_null_at};
 ghost use Rattle.sedmatch.specs.Search.{starts_to};
 ghost use Rattle.sedmatch.specs.Cuts.{LeastFrom};
 ghost use Rattle.sedmatch.specs.Matching.{found};
-ghost use Rattle.sedmatch.specs.Spans.{Found as IsFound, NotFound};
 
 use crate::counted::{Bytes, Marks, Rows, Text};
 use crate::passes::{Starts, advance, takes_byte};
@@ -108,11 +106,9 @@ fn pass_places(
     steps: &mut Steps,
 )
     requires root { root + 1 ≡ length nodes.now.nodes }
-    requires few { length nodes.now.nodes ≤ 65536 }
-    requires short { length bytes.now ≤ 2 ^ 30 }
     requires order { from ≤ to }
     requires inside { to ≤ length bytes.now + 1 }
-    requires fits { FitsNodes (length nodes.now.nodes) sets.old }
+    requires fits { Fits (length nodes.now.nodes) (length bytes.now) sets.old }
     requires entered { TellEntered nodes.now.nodes bytes.now root (starts_to 0 (length bytes.now)) from sets.old.entered }
     requires rows_there { to ≤ from + length rows.old }
     requires rows_fit { (q : ℕ) → q < length rows.old → root + 1 ≤ length (row_of rows.old q) }
@@ -380,11 +376,9 @@ fn goes_on(
     steps: &mut Steps,
 ) -> bool
     requires root { root + 1 ≡ length expr.now.nodes }
-    requires few { length expr.now.nodes ≤ 65536 }
-    requires short { length text.now ≤ 2 ^ 30 }
     requires start { start ≤ place }
     requires place { place ≤ length text.now }
-    requires fits { FitsNodes (length expr.now.nodes) sets.old }
+    requires fits { Fits (length expr.now.nodes) (length text.now) sets.old }
     requires behind_fits { HasBehind (length text.now) (length expr.now.nodes) behind.old }
     requires all { IsKept expr.now text.now root behind.old }
     requires reaches { Reaches (length text.now) place behind.old }
@@ -423,10 +417,8 @@ fn longest_met(
     steps: &mut Steps,
 ) -> Option<usize>
     requires root { root + 1 ≡ length expr.now.nodes }
-    requires few { length expr.now.nodes ≤ 65536 }
-    requires short { length text.now ≤ 2 ^ 30 }
     requires start { start ≤ length text.now }
-    requires fits { FitsNodes (length expr.now.nodes) sets.old }
+    requires fits { Fits (length expr.now.nodes) (length text.now) sets.old }
     requires behind_fits { HasBehind (length text.now) (length expr.now.nodes) behind.old }
     requires all { IsKept expr.now text.now root behind.old }
     requires reaches { Reaches (length text.now) start behind.old }
@@ -500,10 +492,8 @@ fn next_met(
     steps: &mut Steps,
 ) -> Option<(usize, usize)>
     requires root { root + 1 ≡ length expr.now.nodes }
-    requires few { length expr.now.nodes ≤ 65536 }
-    requires short { length text.now ≤ 2 ^ 30 }
     requires from { from ≤ length text.now }
-    requires fits { FitsNodes (length expr.now.nodes) sets.old }
+    requires fits { Fits (length expr.now.nodes) (length text.now) sets.old }
     requires behind_fits { HasBehind (length text.now) (length expr.now.nodes) behind.old }
     requires all { IsKept expr.now text.now root behind.old }
     requires reaches { Reaches (length text.now) from behind.old }
@@ -540,10 +530,8 @@ pub fn next_behind(
     steps: &mut Steps,
 ) -> Option<(usize, usize)>
     requires root { root + 1 ≡ length expr.now.nodes }
-    requires few { length expr.now.nodes ≤ 65536 }
-    requires short { length text.now ≤ 2 ^ 30 }
     requires at { at ≤ length text.now }
-    requires fits { FitsNodes (length expr.now.nodes) sets.old }
+    requires fits { Fits (length expr.now.nodes) (length text.now) sets.old }
     requires behind_fits { HasBehind (length text.now) (length expr.now.nodes) behind.old }
     requires all { IsKept expr.now text.now root behind.old }
     requires reaches { Reaches (length text.now) at behind.old }

@@ -2,12 +2,11 @@
 //!
 //! A pass goes over the text once, and keeps for each node of an expression whether it begins or ends at the
 //! place that the pass has come to, in a match from one of its starts.
-ghost use Rattle.std.specs.Prelude.{◌≡◌, ℕ, Bool, false, List, ◌+◌, ◌-◌, ◌*◌, ◌^◌, ◌<◌, ◌≤◌, ◌↔◌, ◌&&◌, ◌||◌};
-ghost use Rattle.std.specs.Prelude.{length, slice_index_or, slice_set, slice_get, Some, nat_eq, IsTrue};
-ghost use Rattle.sedre.specs.Arena.{IsPart, IsArena, Written};
-ghost use Rattle.sedmatch.specs.Fits.{FitsNodes, SameMarks};
+ghost use Rattle.std.specs.Prelude.{◌≡◌, ℕ, false, List, ◌+◌, ◌-◌, ◌*◌, ◌^◌, ◌<◌, ◌≤◌, ◌↔◌, ◌&&◌, ◌||◌};
+ghost use Rattle.std.specs.Prelude.{length, slice_index_or, slice_get, Some, IsTrue};
+ghost use Rattle.sedmatch.specs.Fits.{FitsFew, SameMarks};
 ghost use Rattle.sedmatch.specs.Local.{PartsBelow, takes_next, null_of, end_of, enter_parts, takes};
-ghost use Rattle.sedmatch.specs.Reach.{Marked, Below, At, IsStart, Enters, Ends, Entered, SetsFrom, SomeSpan, OpenAt};
+ghost use Rattle.sedmatch.specs.Reach.{IsStart, SetsFrom, SomeSpan, OpenAt};
 ghost use Rattle.sedmatch.specs.Reach.{TellNull, TellEntered, TellEnded, TellBegun};
 ghost use Rattle.sedmatch.specs.Places.{IsPlace, ComesAfter};
 
@@ -147,8 +146,7 @@ pub fn ascend(
     steps: &mut Steps,
 )
     requires root { root < length expr.now.nodes }
-    requires few { length expr.now.nodes ≤ 65536 }
-    requires fits { FitsNodes (length expr.now.nodes) sets.old }
+    requires fits { FitsFew (length expr.now.nodes) sets.old }
     requires room { steps.old < 2 ^ 118 }
     ensures marks { SameMarks sets.old sets.new }
     ensures kept { sets.new.entered ≡ sets.old.entered }
@@ -192,8 +190,7 @@ pub fn descend(
     steps: &mut Steps,
 ) -> bool
     requires root { root < length expr.now.nodes }
-    requires few { length expr.now.nodes ≤ 65536 }
-    requires fits { FitsNodes (length expr.now.nodes) sets.old }
+    requires fits { FitsFew (length expr.now.nodes) sets.old }
     requires room { steps.old < 2 ^ 118 }
     ensures marks { SameMarks sets.old sets.new }
     ensures kept_null { sets.new.null ≡ sets.old.null }
@@ -295,9 +292,8 @@ pub fn advance(
     steps: &mut Steps,
 ) -> Here
     requires root { root < length expr.now.nodes }
-    requires few { length expr.now.nodes ≤ 65536 }
     requires place { place ≤ length text.now }
-    requires fits { FitsNodes (length expr.now.nodes) sets.old }
+    requires fits { FitsFew (length expr.now.nodes) sets.old }
     requires entered { TellEntered expr.now.nodes text.now root starts place sets.old.entered }
     requires room { steps.old < 2 ^ 117 }
     ensures marks { SameMarks sets.old sets.new }

@@ -1,33 +1,30 @@
 //! Searches by a table.
 ghost use Rattle.std.specs.Prelude.{IfOk, IfSome, IfNone, true, false, is_some, ◌≡◌, ℕ, ◌+◌, ◌*◌, ◌^◌, ◌<◌, ◌≤◌, ◌↔◌, length, IsTrue};
 ghost use Rattle.sedre.specs.Arena.{tree};
-ghost use Rattle.sedmatch.specs.Fits.{FitsNodes, SameMarks};
+ghost use Rattle.sedmatch.specs.Fits.{Fits, SameMarks};
 ghost use Rattle.sedmatch.specs.Spans.{Found as IsFound, NotFound, SomeFound};
-ghost use Rattle.sedmatch.specs.Skip.{AllBegin};
-ghost use Rattle.sedmatch.specs.Rare.{AllRare};
-ghost use Rattle.sedmatch.specs.Needed.{IsNeeded};
-ghost use Rattle.sedmatch.specs.Tables.{IsTable, IsCut};
+ghost use Rattle.sedmatch.specs.Tables.{IsSingle, IsSweep};
 ghost use Rattle.sedmatch.specs.Reach.{Longest};
 ghost use Rattle.sedmatch.specs.Answer.{span_found};
 ghost use Rattle.sedmatch.specs.Caps.{IsReport};
 ghost use Rattle.sedmatch.specs.Matching.{found, report};
 ghost use Rattle.sedmatch.specs.Parts.{SpanIn, span_of};
-ghost use Rattle.sedre.specs.Mirror.{seen};
+ghost use Rattle.sedmatch.specs.Ready.{AreTables, IsKnown};
 
 use crate::ahead::Lead;
 use crate::anywhere::{anchored_by, leftmost_by};
-use crate::classes::{Classes, find_classes};
 use crate::counted::{Bytes, Text};
 use crate::groups::report;
 use crate::linear::first_end_in;
 use crate::matcher::{Found, find, find_span};
-use crate::needed::{Needed, find_needed, narrowed};
-use crate::rare::{Rare, first_place, rare_of};
+use crate::needed::narrowed;
+use crate::rare::first_place;
+use crate::ready::{Known, Tables, find_known, new_tables};
 use crate::scratch::{Scratch, Sets};
 use crate::search::{better, longest_on};
 use crate::sight::{Sight, sight_find, sight_matches, sight_of, sight_span};
-use crate::skip::{Begins, how_begins};
-use crate::tables::{Next, Table, first_state, follow_past, go, new_table, stay};
+use crate::skip::Begins;
+use crate::tables::{Next, Table, first_state, follow_past, go, stay};
 use sedre::{Expr, Nodes, Steps};
 use std::alloc::{AllocError, Global};
 use std::marker::Model;
@@ -36,43 +33,47 @@ use std::marker::Model;
 fn some_by(
     expr: &Expr,
     root: usize,
-    begins: &Begins,
-    needed: &Option<Needed>,
-    few: &Option<Rare>,
+    known: &Known,
     text: &Text,
     from: usize,
-    every: &mut Table,
-    single: &mut Table,
+    tables: &mut Tables,
     sets: &mut Sets,
     steps: &mut Steps,
 ) -> bool
     requires root { root + 1 ≡ length expr.now.nodes }
-    requires few { length expr.now.nodes ≤ 65536 }
-    requires short { length text.now ≤ 2 ^ 30 }
     requires from { from ≤ length text.now }
-    requires begins { AllBegin (tree expr.now) begins.now }
-    requires needed { IsNeeded (tree expr.now) needed.now }
-    requires begins_few { AllRare (tree expr.now) few.now }
-    requires every { IsTable expr.now.nodes root every.old }
-    requires every_sweeps { IsTrue every.old.sweeps }
-    requires single { IsTable expr.now.nodes root single.old }
-    requires single_sweeps { single.old.sweeps ≡ false }
-    requires fits { FitsNodes (length expr.now.nodes) sets.old }
+    requires known { IsKnown (tree expr.now) known.now }
+    requires tables { AreTables expr.now root tables.old }
+    requires fits { Fits (length expr.now.nodes) (length text.now) sets.old }
     requires room { steps.old < 2 ^ 108 }
-    ensures every { IsTable expr.now.nodes root every.new }
-    ensures every_sweeps { IsTrue every.new.sweeps }
-    ensures single { IsTable expr.now.nodes root single.new }
-    ensures single_sweeps { single.new.sweeps ≡ false }
+    ensures tables { AreTables expr.now root tables.new }
     ensures marks { SameMarks sets.old sets.new }
     ensures matches { IsTrue result ↔ SomeFound (tree expr.now) text.now from }
     ensures grows { steps.old ≤ steps.new }
     ensures cost { steps.new ≤ steps.old + 64 * length expr.now.nodes * (length text.now + 1) }
 {
-    match begins {
-        Begins::AtStart => anchored_by(expr, root, text, from, single, sets, steps).is_some(),
-        _ => match narrowed(needed, text, from, steps) {
+    match &known.begins {
+        Begins::AtStart => anchored_by(
+            expr,
+            root,
+            text,
+            from,
+            &mut tables.single,
+            sets,
+            steps,
+        ).is_some(),
+        _ => match narrowed(&known.needed, text, from, steps) {
             None => false,
-            Some(start) => some_anywhere(expr, root, begins, few, text, start, every, sets, steps),
+            Some(start) => some_anywhere(
+                expr,
+                root,
+                known,
+                text,
+                start,
+                &mut tables.every,
+                sets,
+                steps,
+            ),
         },
     }
 }
@@ -81,8 +82,7 @@ fn some_by(
 fn some_anywhere(
     expr: &Expr,
     root: usize,
-    begins: &Begins,
-    few: &Option<Rare>,
+    known: &Known,
     text: &Text,
     from: usize,
     table: &mut Table,
@@ -90,23 +90,18 @@ fn some_anywhere(
     steps: &mut Steps,
 ) -> bool
     requires root { root + 1 ≡ length expr.now.nodes }
-    requires few { length expr.now.nodes ≤ 65536 }
-    requires short { length text.now ≤ 2 ^ 30 }
     requires from { from ≤ length text.now }
-    requires begins { AllBegin (tree expr.now) begins.now }
-    requires begins_few { AllRare (tree expr.now) few.now }
-    requires table { IsTable expr.now.nodes root table.old }
-    requires sweeps { IsTrue table.old.sweeps }
-    requires fits { FitsNodes (length expr.now.nodes) sets.old }
+    requires known { IsKnown (tree expr.now) known.now }
+    requires table { IsSweep expr.now.nodes root table.old }
+    requires fits { Fits (length expr.now.nodes) (length text.now) sets.old }
     requires room { steps.old < 2 ^ 109 }
-    ensures table { IsTable expr.now.nodes root table.new }
-    ensures sweeps { IsTrue table.new.sweeps }
+    ensures table { IsSweep expr.now.nodes root table.new }
     ensures marks { SameMarks sets.old sets.new }
     ensures matches { IsTrue result ↔ SomeFound (tree expr.now) text.now from }
     ensures grows { steps.old ≤ steps.new }
     ensures cost { let m = length expr.now.nodes in steps.new ≤ steps.old + 41 * m + 43 * m * length text.now }
 {
-    match first_place(expr, begins, few, text, from, steps) {
+    match first_place(expr, &known.begins, &known.rare, text, from, steps) {
         None => false,
         Some((start, lead)) => match lead {
             Lead::To(_) => true,
@@ -126,15 +121,11 @@ fn longest_by(
     steps: &mut Steps,
 ) -> Option<usize>
     requires root { root + 1 ≡ length expr.now.nodes }
-    requires few { length expr.now.nodes ≤ 65536 }
-    requires short { length text.now ≤ 2 ^ 30 }
     requires start { start ≤ length text.now }
-    requires table { IsTable expr.now.nodes root table.old }
-    requires sweeps { table.old.sweeps ≡ false }
-    requires fits { FitsNodes (length expr.now.nodes) sets.old }
+    requires table { IsSingle expr.now.nodes root table.old }
+    requires fits { Fits (length expr.now.nodes) (length text.now) sets.old }
     requires room { steps.old < 2 ^ 110 }
-    ensures table { IsTable expr.now.nodes root table.new }
-    ensures sweeps { table.new.sweeps ≡ false }
+    ensures table { IsSingle expr.now.nodes root table.new }
     ensures marks { SameMarks sets.old sets.new }
     ensures longest { Longest (tree expr.now) text.now start result }
     ensures lies { IfSome result (λ end. (start ≤ end) × (end ≤ length text.now)) }
@@ -193,15 +184,11 @@ pub fn longest_in(
     steps: &mut Steps,
 ) -> Option<usize>
     requires root { root + 1 ≡ length expr.now.nodes }
-    requires few { length expr.now.nodes ≤ 65536 }
-    requires short { length text.now ≤ 2 ^ 30 }
     requires start { start ≤ length text.now }
-    requires table { IsTable expr.now.nodes root table.old }
-    requires sweeps { table.old.sweeps ≡ false }
-    requires fits { FitsNodes (length expr.now.nodes) sets.old }
+    requires table { IsSingle expr.now.nodes root table.old }
+    requires fits { Fits (length expr.now.nodes) (length text.now) sets.old }
     requires room { steps.old < 2 ^ 110 }
-    ensures table { IsTable expr.now.nodes root table.new }
-    ensures sweeps { table.new.sweeps ≡ false }
+    ensures table { IsSingle expr.now.nodes root table.new }
     ensures marks { SameMarks sets.old sets.new }
     ensures longest { Longest (tree expr.now) text.now start result }
     ensures lies { IfSome result (λ end. (start ≤ end) × (end ≤ length text.now)) }
@@ -218,14 +205,10 @@ pub fn longest_in(
 fn find_by(
     expr: &Expr,
     root: usize,
-    begins: &Begins,
-    needed: &Option<Needed>,
-    few: &Option<Rare>,
+    known: &Known,
     text: &Text,
     from: usize,
-    every: &mut Table,
-    single: &mut Table,
-    back: &mut Table,
+    tables: &mut Tables,
     scratch: &mut Scratch,
     steps: &mut Steps,
 ) -> Option<Found>
@@ -234,22 +217,10 @@ fn find_by(
     requires from { from ≤ length text.now }
     requires text_fits { length text.now ≤ scratch.old.text }
     requires expr_fits { length expr.now.nodes ≤ scratch.old.nodes }
-    requires begins { AllBegin (tree expr.now) begins.now }
-    requires needed { IsNeeded (tree expr.now) needed.now }
-    requires begins_few { AllRare (tree expr.now) few.now }
-    requires every { IsTable expr.now.nodes root every.old }
-    requires every_sweeps { IsTrue every.old.sweeps }
-    requires single { IsTable expr.now.nodes root single.old }
-    requires single_sweeps { single.old.sweeps ≡ false }
-    requires back { IsTable (seen true expr.now).nodes root back.old }
-    requires back_sweeps { IsTrue back.old.sweeps }
+    requires known { IsKnown (tree expr.now) known.now }
+    requires tables { AreTables expr.now root tables.old }
     requires room { steps.old ≤ 2 ^ 100 }
-    ensures every { IsTable expr.now.nodes root every.new }
-    ensures every_sweeps { IsTrue every.new.sweeps }
-    ensures single { IsTable expr.now.nodes root single.new }
-    ensures single_sweeps { single.new.sweeps ≡ false }
-    ensures back { IsTable (seen true expr.now).nodes root back.new }
-    ensures back_sweeps { IsTrue back.new.sweeps }
+    ensures tables { AreTables expr.now root tables.new }
     ensures scratch { scratch.new ≡ scratch.old }
     ensures found { IfSome result (λ f. IsFound (tree expr.now) text.now from f.start f.end) }
     ensures groups { IfSome result (λ f. IsReport (tree expr.now) text.now f.start f.end f.groups) }
@@ -268,9 +239,7 @@ fn find_by(
         IfNone result (steps.new ≤ steps.old + 64 * m * (n + 1)) }
 {
     let sets = &mut scratch.sets;
-    let (start, end) = leftmost_by(
-        expr, root, begins, needed, few, text, from, every, single, back, sets, steps,
-    )?;
+    let (start, end) = leftmost_by(expr, root, known, text, from, tables, sets, steps)?;
     let groups = report(
         expr,
         text,
@@ -282,52 +251,6 @@ fn find_by(
         steps,
     );
     Some(Found { start, end, groups })
-}
-
-/// An empty table for the expression as it is.
-fn new_table_of(
-    alloc: Global,
-    expr: &Expr,
-    root: usize,
-    sweeps: bool,
-    classes: &Classes,
-    states: usize,
-) -> Result<Table, AllocError>
-    requires nodes { length expr.now.nodes ≤ 65536 }
-    requires classes { IsCut classes.now }
-    requires few { states ≤ 64 }
-    ensures table { IfOk result (λ t. IsTable expr.now.nodes root t) }
-    ensures sweeps { IfOk result (λ t. t.sweeps ≡ sweeps) }
-{
-    let nodes = Nodes::of(expr);
-    new_table(alloc, &nodes, root, sweeps, classes, states)
-}
-
-/// An empty table for the mirrored expression, in which every place is a start.
-fn mirror_table_of(
-    alloc: Global,
-    expr: &Expr,
-    root: usize,
-    classes: &Classes,
-    states: usize,
-) -> Result<Table, AllocError>
-    requires nodes { length expr.now.nodes ≤ 65536 }
-    requires classes { IsCut classes.now }
-    requires few { states ≤ 64 }
-    ensures table { IfOk result (λ t. IsTable (seen true expr.now).nodes root t) }
-    ensures sweeps { IfOk result (λ t. IsTrue t.sweeps) }
-{
-    let nodes = Nodes::mirrored(expr);
-    new_table(alloc, &nodes, root, true, classes, states)
-}
-
-/// The classes of bytes for an expression.
-fn classes_of(alloc: Global, expr: &Expr) -> Result<Classes, AllocError>
-    requires nodes { length expr.now.nodes ≤ 65536 }
-    ensures { IfOk result IsCut }
-{
-    let nodes = Nodes::of(expr);
-    find_classes(alloc, &nodes)
 }
 
 /// How many states a table has room for, where no other number is asked for.
@@ -344,14 +267,10 @@ const STATES: usize = 64;
 pub struct TableMatcher {
     pub(crate) expr: Expr,
     pub(crate) root: usize,
-    begins: Begins,
-    needed: Option<Needed>,
-    few: Option<Rare>,
+    known: Known,
     // Where a look at the text tells as much as the tables would.
     sight: Option<Sight>,
-    every: Table,
-    single: Table,
-    back: Table,
+    tables: Tables,
 }
 
 impl Model for TableMatcher {
@@ -359,11 +278,11 @@ impl Model for TableMatcher {
 
     ghost Value = { Written };
 
-    ghost use Rattle.sedmatch.specs.Quick.{IsReady};
+    ghost use Rattle.sedmatch.specs.Ready.{IsReady};
 
     ghost view = { λ m. m.expr };
 
-    ghost invariant = { λ m. IsReady m.expr m.root m.begins m.needed m.few m.sight m.every m.single m.back };
+    ghost invariant = { λ m. IsReady m.expr m.root m.known m.sight m.tables };
 }
 
 impl TableMatcher {
@@ -387,25 +306,16 @@ impl TableMatcher {
         ensures { IfOk result (λ m. m ≡ expr.now) }
     {
         let root = expr.root().index();
-        let classes = classes_of(alloc, expr)?;
-        let every = new_table_of(alloc, expr, root, true, &classes, states)?;
-        let single = new_table_of(alloc, expr, root, false, &classes, states)?;
-        let back = mirror_table_of(alloc, expr, root, &classes, states)?;
+        let tables = new_tables(alloc, expr, root, states)?;
         let mut steps = Steps::new();
-        let begins = how_begins(expr, &mut steps);
         let sight = sight_of(alloc, expr, &mut steps)?;
-        let few = rare_of(expr, &begins, &mut steps);
-        let needed = find_needed(alloc, expr, &mut steps)?;
+        let known = find_known(alloc, expr, &mut steps)?;
         Ok(TableMatcher {
             expr: expr.copy(alloc)?,
             root,
-            begins,
-            needed,
-            few,
+            known,
             sight,
-            every,
-            single,
-            back,
+            tables,
         })
     }
 
@@ -442,13 +352,10 @@ impl TableMatcher {
         some_by(
             &self.expr,
             self.root,
-            &self.begins,
-            &self.needed,
-            &self.few,
+            &self.known,
             text,
             from,
-            &mut self.every,
-            &mut self.single,
+            &mut self.tables,
             sets,
             steps,
         )
@@ -491,14 +398,10 @@ impl TableMatcher {
         leftmost_by(
             &self.expr,
             self.root,
-            &self.begins,
-            &self.needed,
-            &self.few,
+            &self.known,
             text,
             from,
-            &mut self.every,
-            &mut self.single,
-            &mut self.back,
+            &mut self.tables,
             sets,
             steps,
         )
@@ -543,14 +446,10 @@ impl TableMatcher {
         find_by(
             &self.expr,
             self.root,
-            &self.begins,
-            &self.needed,
-            &self.few,
+            &self.known,
             text,
             from,
-            &mut self.every,
-            &mut self.single,
-            &mut self.back,
+            &mut self.tables,
             scratch,
             steps,
         )

@@ -2,10 +2,9 @@
 //!
 //! What a mirrored expression matches in the text read from its end is what the expression itself matches. So the
 //! last place at which a match of the mirrored one ends is the first at which a match begins.
-ghost use Rattle.std.specs.Prelude.{◌≡◌, ℕ, true, List, ◌+◌, ◌-◌, ◌*◌, ◌^◌, ◌<◌, ◌≤◌, length, reverse, IsTrue};
+ghost use Rattle.std.specs.Prelude.{◌≡◌, true, ◌+◌, ◌-◌, ◌*◌, ◌^◌, ◌<◌, ◌≤◌, length};
 ghost use Rattle.sedre.specs.Arena.{tree};
-ghost use Rattle.sedre.specs.Mirror.{seen, mirror};
-ghost use Rattle.sedmatch.specs.Fits.{FitsNodes, SameMarks};
+ghost use Rattle.sedmatch.specs.Fits.{Fits, SameMarks};
 ghost use Rattle.sedmatch.specs.Search.{IsRegion, LastEnd, IsEarliest};
 
 use crate::counted::{Bytes, Text};
@@ -33,11 +32,9 @@ fn last_end(
     sets: &mut Sets,
     steps: &mut Steps,
 ) -> Option<usize>
-    requires few { length nodes.now.nodes ≤ 65536 }
-    requires short { length bytes.now ≤ 2 ^ 30 }
     requires order { first ≤ stop }
     requires inside { stop ≤ length bytes.now + 1 }
-    requires fits { FitsNodes (length nodes.now.nodes) sets.old }
+    requires fits { Fits (length nodes.now.nodes) (length bytes.now) sets.old }
     requires room { steps.old < 2 ^ 116 }
     ensures marks { SameMarks sets.old sets.new }
     ensures last { LastEnd (tree nodes.now) bytes.now first stop result }
@@ -68,10 +65,8 @@ pub fn earliest(
     sets: &mut Sets,
     steps: &mut Steps,
 ) -> usize
-    requires few { length expr.now.nodes ≤ 65536 }
-    requires short { length text.now ≤ 2 ^ 30 }
     requires region { IsRegion (tree expr.now) text.now true region }
-    requires fits { FitsNodes (length expr.now.nodes) sets.old }
+    requires fits { Fits (length expr.now.nodes) (length text.now) sets.old }
     requires room { steps.old < 2 ^ 116 }
     ensures marks { SameMarks sets.old sets.new }
     ensures earliest { IsEarliest (tree expr.now) text.now region result }

@@ -1,18 +1,17 @@
 //! The search for the leftmost of the longest matches.
-ghost use Rattle.std.specs.Prelude.{◌≡◌, ℕ, Bool, false, List, ◌+◌, ◌-◌, ◌*◌, ◌^◌, ◌<◌, ◌≤◌, ◌↔◌, ◌&&◌, ◌||◌};
-ghost use Rattle.std.specs.Prelude.{length, slice_index_or, IfSome, IfNone, IsTrue, true};
+ghost use Rattle.std.specs.Prelude.{◌≡◌, ℕ, List, ◌+◌, ◌-◌, ◌*◌, ◌^◌, ◌<◌, ◌≤◌, ◌↔◌, ◌&&◌, ◌||◌};
+ghost use Rattle.std.specs.Prelude.{length, IfSome, IfNone, IsTrue, true};
 ghost use Rattle.sedre.specs.Arena.{tree};
-ghost use Rattle.sedmatch.specs.Fits.{FitsNodes, SameMarks};
+ghost use Rattle.sedmatch.specs.Fits.{Fits, FitsFew, SameMarks};
 ghost use Rattle.sedre.specs.Tree.{Tree};
-ghost use Rattle.sedmatch.specs.Spans.{Spans, Found as IsFound, NotFound, SomeFound};
-ghost use Rattle.sedmatch.specs.Reach.{Longest, LongestBelow, Marked, Below, At, one_start, Entered, Enters, Ends};
+ghost use Rattle.sedmatch.specs.Spans.{Spans, Found as IsFound, NotFound};
+ghost use Rattle.sedmatch.specs.Reach.{Longest, LongestBelow, At, one_start, Ends};
 ghost use Rattle.sedmatch.specs.Reach.{TellEntered, TellBegun};
 ghost use Rattle.sedmatch.specs.Reach.{OpenFrom, OpenAt, SomeSpan};
 ghost use Rattle.sedmatch.specs.Search.{IsSwept, swept_to, Sought, sought_to, Scanned, IsRegion, starts_to};
 ghost use Rattle.sedmatch.specs.Ahead.{LeadsTo};
 ghost use Rattle.sedmatch.specs.Skip.{AllBegin};
 ghost use Rattle.sedmatch.specs.States.{IsAt};
-ghost use Rattle.sedmatch.specs.Tables.{starts_from};
 
 use crate::ahead::{Lead, look_ahead};
 use crate::counted::{Bytes, Text};
@@ -36,9 +35,8 @@ fn advance_forwards(
     steps: &mut Steps,
 ) -> Here
     requires root { root < length expr.now.nodes }
-    requires few { length expr.now.nodes ≤ 65536 }
     requires place { place ≤ length text.now }
-    requires fits { FitsNodes (length expr.now.nodes) sets.old }
+    requires fits { FitsFew (length expr.now.nodes) sets.old }
     requires entered { TellEntered expr.now.nodes text.now root starts place sets.old.entered }
     requires room { steps.old < 2 ^ 117 }
     ensures marks { SameMarks sets.old sets.new }
@@ -64,10 +62,9 @@ pub fn advance_seen(
     steps: &mut Steps,
 ) -> Here
     requires root { root < length nodes.now.nodes }
-    requires few { length nodes.now.nodes ≤ 65536 }
     requires start { start ≤ place }
     requires place { place ≤ length bytes.now }
-    requires fits { FitsNodes (length nodes.now.nodes) sets.old }
+    requires fits { FitsFew (length nodes.now.nodes) sets.old }
     requires entered { TellEntered nodes.now.nodes bytes.now root (one_start start) place sets.old.entered }
     requires room { steps.old < 2 ^ 117 }
     ensures marks { SameMarks sets.old sets.new }
@@ -95,10 +92,9 @@ pub fn advance_from(
     steps: &mut Steps,
 ) -> Here
     requires root { root < length expr.now.nodes }
-    requires few { length expr.now.nodes ≤ 65536 }
     requires start { start ≤ place }
     requires place { place ≤ length text.now }
-    requires fits { FitsNodes (length expr.now.nodes) sets.old }
+    requires fits { FitsFew (length expr.now.nodes) sets.old }
     requires entered { TellEntered expr.now.nodes text.now root (one_start start) place sets.old.entered }
     requires room { steps.old < 2 ^ 117 }
     ensures marks { SameMarks sets.old sets.new }
@@ -123,10 +119,8 @@ fn longest_at(
     sets: &mut Sets,
     steps: &mut Steps,
 ) -> Option<usize>
-    requires few { length expr.now.nodes ≤ 65536 }
-    requires short { length text.now ≤ 2 ^ 30 }
     requires start { start ≤ length text.now }
-    requires fits { FitsNodes (length expr.now.nodes) sets.old }
+    requires fits { Fits (length expr.now.nodes) (length text.now) sets.old }
     requires room { steps.old < 2 ^ 116 }
     ensures marks { SameMarks sets.old sets.new }
     ensures longest { Longest (tree expr.now) text.now start result }
@@ -158,11 +152,9 @@ fn longest_from(
     sets: &mut Sets,
     steps: &mut Steps,
 ) -> Option<usize>
-    requires few { length expr.now.nodes ≤ 65536 }
-    requires short { length text.now ≤ 2 ^ 30 }
     requires start { start ≤ length text.now }
     requires leads { LeadsTo (length text.now) (Spans (tree expr.now) text.now start) lead }
-    requires fits { FitsNodes (length expr.now.nodes) sets.old }
+    requires fits { Fits (length expr.now.nodes) (length text.now) sets.old }
     requires room { steps.old < 2 ^ 113 }
     ensures marks { SameMarks sets.old sets.new }
     ensures longest { Longest (tree expr.now) text.now start result }
@@ -203,11 +195,9 @@ fn region_to(
     steps: &mut Steps,
 ) -> Region
     requires root { root + 1 ≡ length expr.now.nodes }
-    requires few { length expr.now.nodes ≤ 65536 }
-    requires short { length text.now ≤ 2 ^ 30 }
     requires order { start ≤ last }
     requires inside { last ≤ length text.now }
-    requires fits { FitsNodes (length expr.now.nodes) sets.old }
+    requires fits { Fits (length expr.now.nodes) (length text.now) sets.old }
     requires begun { TellBegun expr.now.nodes text.now root (starts_to start (length text.now)) last sets.old.entered }
     requires spans { SomeSpan expr.now.nodes text.now root (starts_to start (length text.now)) last }
     requires opens { IsTrue whole → OpenAt expr.now.nodes text.now root (starts_to start (length text.now)) last goes_on }
@@ -255,10 +245,8 @@ fn sweep(
     sets: &mut Sets,
     steps: &mut Steps,
 ) -> Swept
-    requires few { length expr.now.nodes ≤ 65536 }
-    requires short { length text.now ≤ 2 ^ 30 }
     requires start { start ≤ length text.now }
-    requires fits { FitsNodes (length expr.now.nodes) sets.old }
+    requires fits { Fits (length expr.now.nodes) (length text.now) sets.old }
     requires room { steps.old < 2 ^ 114 }
     ensures marks { SameMarks sets.old sets.new }
     ensures swept { IsSwept (tree expr.now) text.now whole start result }
@@ -309,11 +297,9 @@ pub fn longest_on(
     steps: &mut Steps,
 ) -> Option<usize>
     requires root { root + 1 ≡ length expr.now.nodes }
-    requires few { length expr.now.nodes ≤ 65536 }
-    requires short { length text.now ≤ 2 ^ 30 }
     requires start { start ≤ place }
     requires place { place ≤ length text.now }
-    requires fits { FitsNodes (length expr.now.nodes) sets.old }
+    requires fits { Fits (length expr.now.nodes) (length text.now) sets.old }
     requires at { IsAt expr.now.nodes text.now root (one_start start) place sets.old.entered ends }
     requires best { LongestBelow (tree expr.now) text.now start place before }
     requires best_lies { IfSome before (λ end. (start ≤ end) × (end ≤ length text.now)) }
@@ -346,11 +332,9 @@ fn sweep_from(
     sets: &mut Sets,
     steps: &mut Steps,
 ) -> Swept
-    requires few { length expr.now.nodes ≤ 65536 }
-    requires short { length text.now ≤ 2 ^ 30 }
     requires start { start ≤ length text.now }
     requires leads { LeadsTo (length text.now) (Spans (tree expr.now) text.now start) lead }
-    requires fits { FitsNodes (length expr.now.nodes) sets.old }
+    requires fits { Fits (length expr.now.nodes) (length text.now) sets.old }
     requires room { steps.old < 2 ^ 114 }
     ensures marks { SameMarks sets.old sets.new }
     ensures swept { IsSwept (tree expr.now) text.now whole start result }
@@ -414,11 +398,9 @@ pub fn scan(
     sets: &mut Sets,
     steps: &mut Steps,
 ) -> Option<Region>
-    requires few { length expr.now.nodes ≤ 65536 }
-    requires short { length text.now ≤ 2 ^ 30 }
     requires from { from ≤ length text.now }
     requires begins { AllBegin (tree expr.now) begins.now }
-    requires fits { FitsNodes (length expr.now.nodes) sets.old }
+    requires fits { Fits (length expr.now.nodes) (length text.now) sets.old }
     requires room { steps.old < 2 ^ 113 }
     ensures marks { SameMarks sets.old sets.new }
     ensures scanned { Scanned (tree expr.now) text.now whole from result }
@@ -451,10 +433,8 @@ fn span_in(
     sets: &mut Sets,
     steps: &mut Steps,
 ) -> Option<(usize, usize)>
-    requires few { length expr.now.nodes ≤ 65536 }
-    requires short { length text.now ≤ 2 ^ 30 }
     requires region { IsRegion (tree expr.now) text.now true region }
-    requires fits { FitsNodes (length expr.now.nodes) sets.old }
+    requires fits { Fits (length expr.now.nodes) (length text.now) sets.old }
     requires room { steps.old < 2 ^ 112 }
     ensures marks { SameMarks sets.old sets.new }
     ensures found { IfSome result (λ f. IsFound (tree expr.now) text.now region.start f.0 f.1) }
@@ -485,10 +465,8 @@ pub fn leftmost(
     sets: &mut Sets,
     steps: &mut Steps,
 ) -> Option<(usize, usize)>
-    requires few { length expr.now.nodes ≤ 65536 }
-    requires short { length text.now ≤ 2 ^ 30 }
     requires from { from ≤ length text.now }
-    requires fits { FitsNodes (length expr.now.nodes) sets.old }
+    requires fits { Fits (length expr.now.nodes) (length text.now) sets.old }
     requires room { steps.old ≤ 2 ^ 101 }
     ensures marks { SameMarks sets.old sets.new }
     ensures found { IfSome result (λ f. IsFound (tree expr.now) text.now from f.0 f.1) }

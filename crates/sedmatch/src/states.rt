@@ -2,7 +2,7 @@
 //!
 //! What a step tells holds of every text and place that agree with what it was given, so that it can be kept.
 ghost use Rattle.std.specs.Prelude.{slice_get, Some, ◌≡◌, ℕ, Bool, false, List, ◌+◌, ◌*◌, ◌^◌, ◌<◌, ◌≤◌, ◌↔◌, length, slice_index_or, IsTrue};
-ghost use Rattle.sedmatch.specs.Fits.{FitsNodes, SameMarks};
+ghost use Rattle.sedmatch.specs.Fits.{FitsFew, SameMarks};
 ghost use Rattle.sedmatch.specs.Reach.{IsStart, TellEntered};
 ghost use Rattle.sedmatch.specs.Places.{ComesAfter};
 ghost use Rattle.sedmatch.specs.States.{IsAt};
@@ -65,8 +65,7 @@ pub fn step(
     steps: &mut Steps,
 ) -> Ends
     requires root { root < length expr.now.nodes }
-    requires few { length expr.now.nodes ≤ 65536 }
-    requires fits { FitsNodes (length expr.now.nodes) sets.old }
+    requires fits { FitsFew (length expr.now.nodes) sets.old }
     requires room { steps.old < 2 ^ 117 }
     ensures marks { SameMarks sets.old sets.new }
     ensures state { (w : List ℕ) (s : Starts) (place : ℕ) →

@@ -5,14 +5,10 @@
 //!
 //! A full table is emptied, and the search goes on. Where few bytes were passed by its cells since the last time,
 //! that search goes on by marks in its place: so a table that doesn't help costs little.
-ghost use Rattle.std.specs.Prelude.{◌≡◌, ℕ, Bool, true, false, List, ◌+◌, ◌-◌, ◌*◌, ◌/◌, ◌^◌, ◌<◌, ◌≤◌, ◌↔◌, length, replicate, slice_index_or, slice_get, Some, IsTrue, IfOk, IfSome, IfNone, vec_len};
-ghost use Rattle.sedre.specs.Arena.{IsArena};
-ghost use Rattle.sedmatch.specs.Fits.{FitsNodes, SameMarks};
-ghost use Rattle.sedmatch.specs.Words.{AgreeBelow, row_of};
-ghost use Rattle.sedmatch.specs.Reach.{IsStart, SomeSpan};
-ghost use Rattle.sedmatch.specs.States.{IsAt};
-ghost use Rattle.sedmatch.specs.Tables.{IsTable, StateAt, NextIs, stops, code_of, ends_of, LeadsOn, LeadsFrom, IsFirst, HasState, Grows, Follows, Stays, look_cost, IsCut};
-ghost use Rattle.sedmatch.specs.declared.passes.Starts.{Starts};
+ghost use Rattle.std.specs.Prelude.{◌≡◌, ℕ, true, false, ◌+◌, ◌-◌, ◌*◌, ◌/◌, ◌^◌, ◌<◌, ◌≤◌, ◌↔◌, length, slice_index_or, Some, IsTrue, IfOk, IfSome, IfNone, vec_len};
+ghost use Rattle.sedmatch.specs.Fits.{FitsFew, SameMarks};
+ghost use Rattle.sedmatch.specs.Words.{row_of};
+ghost use Rattle.sedmatch.specs.Tables.{IsTable, NextIs, stops, code_of, ends_of, LeadsFrom, IsFirst, HasState, Grows, Follows, Stays, look_cost, IsCut};
 
 use crate::classes::{Classes, are_classes};
 use crate::counted::{Bytes, Marks, Rows};
@@ -337,10 +333,9 @@ fn fill(
     steps: &mut Steps,
 ) -> Next
     requires root { root < length expr.now.nodes }
-    requires few { length expr.now.nodes ≤ 65536 }
     requires table { IsTable expr.now.nodes root table.old }
     requires state { state < table.old.count }
-    requires fits { FitsNodes (length expr.now.nodes) sets.old }
+    requires fits { FitsFew (length expr.now.nodes) sets.old }
     requires room { steps.old < 2 ^ 115 }
     ensures table { IsTable expr.now.nodes root table.new }
     ensures sweeps { table.new.sweeps ≡ table.old.sweeps }
@@ -379,10 +374,9 @@ pub fn go(
     steps: &mut Steps,
 ) -> Next
     requires root { root < length expr.now.nodes }
-    requires few { length expr.now.nodes ≤ 65536 }
     requires table { IsTable expr.now.nodes root table.old }
     requires state { state < table.old.count }
-    requires fits { FitsNodes (length expr.now.nodes) sets.old }
+    requires fits { FitsFew (length expr.now.nodes) sets.old }
     requires room { steps.old < 2 ^ 114 }
     ensures table { IsTable expr.now.nodes root table.new }
     ensures sweeps { table.new.sweeps ≡ table.old.sweeps }
@@ -408,9 +402,8 @@ fn find_first(
     steps: &mut Steps,
 ) -> Next
     requires root { root < length expr.now.nodes }
-    requires few { length expr.now.nodes ≤ 65536 }
     requires table { IsTable expr.now.nodes root table.old }
-    requires fits { FitsNodes (length expr.now.nodes) sets.old }
+    requires fits { FitsFew (length expr.now.nodes) sets.old }
     requires room { steps.old < 2 ^ 115 }
     ensures table { IsTable expr.now.nodes root table.new }
     ensures sweeps { table.new.sweeps ≡ table.old.sweeps }
@@ -444,9 +437,8 @@ pub fn first_state(
     steps: &mut Steps,
 ) -> Next
     requires root { root < length expr.now.nodes }
-    requires few { length expr.now.nodes ≤ 65536 }
     requires table { IsTable expr.now.nodes root table.old }
-    requires fits { FitsNodes (length expr.now.nodes) sets.old }
+    requires fits { FitsFew (length expr.now.nodes) sets.old }
     requires room { steps.old < 2 ^ 114 }
     ensures table { IsTable expr.now.nodes root table.new }
     ensures sweeps { table.new.sweeps ≡ table.old.sweeps }

@@ -9,27 +9,27 @@ use Rattle.sedmatch.proofs.SweepLemmas.{found_later}
 use Rattle.sedmatch.proofs.anywhere.leftmost_by.Goals as goal
 
 pub anchored_by-requires-clause-begins : goal.anchored_by-requires-clause-begins
-anchored_by-requires-clause-begins c i j s = subst (λ b. CanBegin b c.args.text.now i) c.in-AtStart.is (c.requires.begins c.args.text.now i j s)
+anchored_by-requires-clause-begins c i j s = subst (λ b. CanBegin b c.args.text.now i) c.in-AtStart.is (c.requires.known.0 c.args.text.now i j s)
 
 pub returns-in-AtStart-clause-short_cost : goal.returns-in-AtStart-clause-short_cost
 returns-in-AtStart-clause-short_cost c =
     anchored_steps (length c.args.expr.now.nodes) (length c.args.text.now) c.args.steps.now c.anchored_by.new.steps c.anchored_by.ensures.cost
 
 pub returns-in-None-clause-none : goal.returns-in-None-clause-none
-returns-in-None-clause-none c = c.in-None.ensures.narrowed (tree c.args.expr.now) c.requires.needed
+returns-in-None-clause-none c = c.in-None.ensures.narrowed (tree c.args.expr.now) c.requires.known.1
 
 pub anywhere_by-requires-clause-from : goal.anywhere_by-requires-clause-from
-anywhere_by-requires-clause-from c = (c.in-Some.ensures.narrowed (tree c.args.expr.now) c.requires.needed).1
+anywhere_by-requires-clause-from c = (c.in-Some.ensures.narrowed (tree c.args.expr.now) c.requires.known.1).1
 
 pub returns-in-Some-clause-found : goal.returns-in-Some-clause-found
 returns-in-Some-clause-found c =
-    let h = c.in-Some.ensures.narrowed (tree c.args.expr.now) c.requires.needed in
+    let h = c.in-Some.ensures.narrowed (tree c.args.expr.now) c.requires.known.1 in
     IfSome_then c.anywhere_by.result c.anywhere_by.ensures.found
     (λ f found. found_later (tree c.args.expr.now) c.args.text.now c.args.from c.in-Some.start f.0 f.1 h.0 h.2 found)
 
 pub returns-in-Some-clause-none : goal.returns-in-Some-clause-none
 returns-in-Some-clause-none c =
-    let h = c.in-Some.ensures.narrowed (tree c.args.expr.now) c.requires.needed in
+    let h = c.in-Some.ensures.narrowed (tree c.args.expr.now) c.requires.known.1 in
     none_then c.anywhere_by.result (NotFound (tree c.args.expr.now) c.args.text.now c.in-Some.start) (NotFound (tree c.args.expr.now) c.args.text.now c.args.from)
     (not_before (tree c.args.expr.now) c.args.text.now c.args.from c.in-Some.start h.2) c.anywhere_by.ensures.none
 

@@ -13,7 +13,7 @@ use Rattle.sedmatch.proofs.linear.bound_by.Goals as goal
 pub loop-next-init : goal.loop-next-init
 loop-next-init c = record {
   table = c.enter-next.ensures.table;
-  sweeps = c.enter-next.ensures.sweeps ∙ c.requires.sweeps;
+  sweeps = c.enter-next.ensures.sweeps ∙ c.requires.table.1;
   marks = c.enter-next.ensures.marks;
   after = omega arith;
   within = c.requires.last;

@@ -1,22 +1,22 @@
 use Rattle.std.proofs.Common.{◌-◌, length, None, Some, sym, subst, arith}
 use Rattle.sedre.specs.Arena.{Written, tree}
 use Rattle.sedmatch.specs.Search.{IsEarliest}
-use Rattle.sedmatch.specs.Tables.{IsTable}
+use Rattle.sedmatch.specs.Tables.{IsSweep}
 use Rattle.sedmatch.proofs.RegionLemmas.{earliest_none, earliest_some, last_mirrored, mirrored_nodes}
 use Rattle.sedmatch.proofs.LinearLemmas.{back_steps}
 use Rattle.sedmatch.proofs.linear.earliest_by.Goals as goal
 
 pub last_by-requires-clause-table : goal.last_by-requires-clause-table
 last_by-requires-clause-table c =
-    subst (λ (v : Written). IsTable v.nodes c.args.root c.args.table.now) (sym c.mirrored-nodes.ensures) c.requires.table
+    subst (λ (v : Written). IsSweep v.nodes c.args.root c.args.table.now) (sym c.mirrored-nodes.ensures) c.requires.table
 
 pub returns-in-None-clause-table : goal.returns-in-None-clause-table
 returns-in-None-clause-table c =
-    subst (λ (v : Written). IsTable v.nodes c.args.root c.last_by.new.table) c.mirrored-nodes.ensures c.in-None.ensures.table
+    subst (λ (v : Written). IsSweep v.nodes c.args.root c.last_by.new.table) c.mirrored-nodes.ensures c.in-None.ensures.table
 
 pub returns-in-Some-clause-table : goal.returns-in-Some-clause-table
 returns-in-Some-clause-table c =
-    subst (λ (v : Written). IsTable v.nodes c.args.root c.last_by.new.table) c.mirrored-nodes.ensures c.in-Some.ensures.table
+    subst (λ (v : Written). IsSweep v.nodes c.args.root c.last_by.new.table) c.mirrored-nodes.ensures c.in-Some.ensures.table
 
 pub returns-in-None-clause-earliest : goal.returns-in-None-clause-earliest
 returns-in-None-clause-earliest c =

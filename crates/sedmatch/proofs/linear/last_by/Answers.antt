@@ -20,7 +20,7 @@ loop-next-init c =
     let first = c.args.first in
     record {
       table = c.first_state-next.ensures.table;
-      sweeps = c.first_state-next.ensures.sweeps ∙ c.requires.sweeps;
+      sweeps = c.first_state-next.ensures.sweeps ∙ c.requires.table.1;
       marks = c.first_state-next.ensures.marks;
       after = omega arith;
       within = c.requires.order;

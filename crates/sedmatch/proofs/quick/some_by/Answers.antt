@@ -8,7 +8,7 @@ use Rattle.sedmatch.proofs.NarrowLemmas.{not_some, some_before}
 use Rattle.sedmatch.proofs.quick.some_by.Goals as goal
 
 pub anchored_by-requires-clause-begins : goal.anchored_by-requires-clause-begins
-anchored_by-requires-clause-begins c i j s = subst (λ b. CanBegin b c.args.text.now i) c.in-AtStart.is (c.requires.begins c.args.text.now i j s)
+anchored_by-requires-clause-begins c i j s = subst (λ b. CanBegin b c.args.text.now i) c.in-AtStart.is (c.requires.known.0 c.args.text.now i j s)
 
 pub returns-in-AtStart-clause-matches : goal.returns-in-AtStart-clause-matches
 returns-in-AtStart-clause-matches c =
@@ -17,14 +17,14 @@ returns-in-AtStart-clause-matches c =
 
 pub returns-in-None-clause-matches : goal.returns-in-None-clause-matches
 returns-in-None-clause-matches c =
-    not_some (tree c.args.expr.now) c.args.text.now c.args.from (c.in-None.ensures.narrowed (tree c.args.expr.now) c.requires.needed)
+    not_some (tree c.args.expr.now) c.args.text.now c.args.from (c.in-None.ensures.narrowed (tree c.args.expr.now) c.requires.known.1)
 
 pub some_anywhere-requires-clause-from : goal.some_anywhere-requires-clause-from
-some_anywhere-requires-clause-from c = (c.in-Some.ensures.narrowed (tree c.args.expr.now) c.requires.needed).1
+some_anywhere-requires-clause-from c = (c.in-Some.ensures.narrowed (tree c.args.expr.now) c.requires.known.1).1
 
 pub returns-in-Some-clause-matches : goal.returns-in-Some-clause-matches
 returns-in-Some-clause-matches c =
-    let h = c.in-Some.ensures.narrowed (tree c.args.expr.now) c.requires.needed in
+    let h = c.in-Some.ensures.narrowed (tree c.args.expr.now) c.requires.known.1 in
     some_before (tree c.args.expr.now) c.args.text.now c.args.from c.in-Some.start h.2 c.some_anywhere.result h.0 c.some_anywhere.ensures.matches
 
 pub returns-in-Some-clause-cost : goal.returns-in-Some-clause-cost

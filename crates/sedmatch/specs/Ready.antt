@@ -1,0 +1,29 @@
+-- Private to the proofs: no contract of a public item cites what stands here.
+-- An expression with what is known of it, and its tables.
+use Rattle.std.specs.Prelude.{◌≡◌, ℕ, ◌+◌, true, length, Option}
+use Rattle.sedre.specs.Tree.{Tree}
+use Rattle.sedre.specs.Arena.{Written, tree}
+use Rattle.sedre.specs.Mirror.{seen}
+use Rattle.sedmatch.specs.Skip.{AllBegin}
+use Rattle.sedmatch.specs.Needed.{IsNeeded}
+use Rattle.sedmatch.specs.Rare.{AllRare}
+use Rattle.sedmatch.specs.Sight.{IsSightOf}
+use Rattle.sedmatch.specs.Tables.{IsSingle, IsSweep}
+use Rattle.sedmatch.specs.declared.sight.Sight.{Sight}
+use Rattle.sedmatch.specs.declared.ready.Known.{Known}
+use Rattle.sedmatch.specs.declared.ready.Tables.{Tables}
+
+-- what is known of the expression is so
+abbrev pub IsKnown : Tree → Known → Type 0
+IsKnown e k = AllBegin e k.begins × IsNeeded e k.needed × AllRare e k.rare
+
+-- the tables are for the whole expression: in the one every place is a start, in the other the first alone
+abbrev pub AreTables : Written → ℕ → Tables → Type 0
+AreTables e root t = IsSweep e.nodes root t.every × IsSingle e.nodes root t.single × IsSweep (seen true e).nodes root t.back
+
+-- what a matcher holds is of its expression
+pub record IsReady (e : Written) (root : ℕ) (known : Known) (sight : Option Sight) (tables : Tables) : Type 0 where
+  pub whole : root + 1 ≡ length e.nodes
+  pub known_so : IsKnown (tree e) known
+  pub sight_so : IsSightOf (tree e) sight
+  pub tables_so : AreTables e root tables

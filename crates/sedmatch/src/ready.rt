@@ -1,0 +1,117 @@
+//! What is found out of an expression when its matcher is made, and its tables.
+ghost use Rattle.std.specs.Prelude.{IfOk, true, false, ◌≡◌, ℕ, ◌+◌, ◌^◌, ◌<◌, ◌≤◌, length, IsTrue};
+ghost use Rattle.sedre.specs.Arena.{tree};
+ghost use Rattle.sedre.specs.Mirror.{seen};
+ghost use Rattle.sedmatch.specs.Ready.{AreTables, IsKnown};
+ghost use Rattle.sedmatch.specs.Tables.{IsCut, IsTable};
+
+use crate::classes::{Classes, find_classes};
+use crate::needed::{Needed, find_needed};
+use crate::rare::{Rare, rare_of};
+use crate::skip::{Begins, how_begins};
+use crate::tables::{Table, new_table};
+use sedre::{Expr, Nodes, Steps};
+use std::alloc::{AllocError, Global};
+
+/// What all matches of an expression have in common.
+#[derive(Drop)]
+pub struct Known {
+    /// How they begin.
+    pub begins: Begins,
+    /// The literal that they hold, if there is one.
+    pub needed: Option<Needed>,
+    /// The rarest bytes at fixed distances behind their beginning, if they are told.
+    pub rare: Option<Rare>,
+}
+
+/// The tables of an expression.
+#[derive(Drop)]
+pub struct Tables {
+    /// For a pass in which every place is a start.
+    pub every: Table,
+    /// For a pass from a single start.
+    pub single: Table,
+    /// For a pass backwards, in which every place is a start.
+    pub back: Table,
+}
+
+/// Finds out what all matches of the expression have in common.
+pub fn find_known(alloc: Global, expr: &Expr, steps: &mut Steps) -> Result<Known, AllocError>
+    requires nodes { length expr.now.nodes ≤ 65536 }
+    requires room { steps.old < 2 ^ 80 }
+    ensures { IfOk result (λ k. IsKnown (tree expr.now) k) }
+{
+    let begins = how_begins(expr, steps);
+    let rare = rare_of(expr, &begins, steps);
+    let needed = find_needed(alloc, expr, steps)?;
+    Ok(Known {
+        begins,
+        needed,
+        rare,
+    })
+}
+
+/// An empty table for the expression as it is.
+fn new_table_of(
+    alloc: Global,
+    expr: &Expr,
+    root: usize,
+    sweeps: bool,
+    classes: &Classes,
+    states: usize,
+) -> Result<Table, AllocError>
+    requires nodes { length expr.now.nodes ≤ 65536 }
+    requires classes { IsCut classes.now }
+    requires few { states ≤ 64 }
+    ensures table { IfOk result (λ t. IsTable expr.now.nodes root t) }
+    ensures sweeps { IfOk result (λ t. t.sweeps ≡ sweeps) }
+{
+    let nodes = Nodes::of(expr);
+    new_table(alloc, &nodes, root, sweeps, classes, states)
+}
+
+/// An empty table for the mirrored expression, in which every place is a start.
+fn mirror_table_of(
+    alloc: Global,
+    expr: &Expr,
+    root: usize,
+    classes: &Classes,
+    states: usize,
+) -> Result<Table, AllocError>
+    requires nodes { length expr.now.nodes ≤ 65536 }
+    requires classes { IsCut classes.now }
+    requires few { states ≤ 64 }
+    ensures table { IfOk result (λ t. IsTable (seen true expr.now).nodes root t) }
+    ensures sweeps { IfOk result (λ t. IsTrue t.sweeps) }
+{
+    let nodes = Nodes::mirrored(expr);
+    new_table(alloc, &nodes, root, true, classes, states)
+}
+
+/// The classes of bytes for an expression.
+fn classes_of(alloc: Global, expr: &Expr) -> Result<Classes, AllocError>
+    requires nodes { length expr.now.nodes ≤ 65536 }
+    ensures { IfOk result IsCut }
+{
+    let nodes = Nodes::of(expr);
+    find_classes(alloc, &nodes)
+}
+
+/// Empty tables for the expression, of so many states each at most.
+pub fn new_tables(
+    alloc: Global,
+    expr: &Expr,
+    root: usize,
+    states: usize,
+) -> Result<Tables, AllocError>
+    requires nodes { length expr.now.nodes ≤ 65536 }
+    requires few { states ≤ 64 }
+    ensures { IfOk result (λ t. AreTables expr.now root t) }
+{
+    let classes = classes_of(alloc, expr)?;
+    Ok(Tables {
+        every: new_table_of(alloc, expr, root, true, &classes, states)?,
+        single: new_table_of(alloc, expr, root, false, &classes, states)?,
+        back: mirror_table_of(alloc, expr, root, &classes, states)?,
+    })
+}
