@@ -1,4 +1,4 @@
-use Rattle.std.proofs.Common.{◌≤◌, Some, length, sym, subst}
+use Rattle.std.proofs.Common.{Some, length, sym, subst}
 use Rattle.sedre.specs.Arena.{tree}
 use Rattle.sedmatch.specs.Occurrences.{EndsWithin}
 use Rattle.sedmatch.proofs.OccurrenceLemmas.{if_spans}
