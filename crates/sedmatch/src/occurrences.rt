@@ -1,5 +1,5 @@
 //! All occurrences in one text, one after another.
-ghost use Rattle.std.specs.Prelude.{◌≡◌, ℕ, List, false, ◌+◌, ◌*◌, ◌^◌, ◌<◌, ◌≤◌, length, None, Some, IfOk, IfSome, IsTrue};
+ghost use Rattle.std.specs.Prelude.{◌≡◌, ℕ, false, ◌+◌, ◌*◌, ◌^◌, ◌<◌, ◌≤◌, length, nat_lt, if◌then◌else◌, None, Some, IfOk, IfSome, IsTrue};
 ghost use Rattle.sedre.specs.Arena.{Written, tree};
 ghost use Rattle.sedmatch.specs.Matching.{found, report};
 ghost use Rattle.sedmatch.specs.Meet.{HasBehind, IsKept, KeepsBehind, Reaches};
@@ -109,7 +109,45 @@ fn see_met(
     occurrences.met = true;
 }
 
+/// Where the last occurrence ended, and before the first one the text's beginning.
+fn place_of(last: Option<usize>) -> usize
+    ensures none { last ≡ None → result ≡ 0 }
+    ensures some { (q : ℕ) → last ≡ Some q → result ≡ q }
+{
+    match last {
+        None => 0,
+        Some(at) => at,
+    }
+}
+
 impl TableMatcher {
+    /// The next match where the null string at the place is none: one byte further, where the text goes on.
+    // It is seldom called, and no part of its caller, which stays small.
+    #[inline(never)]
+    fn past_null(
+        &mut self,
+        text: &Text,
+        at: usize,
+        scratch: &mut Scratch,
+        steps: &mut Steps,
+    ) -> Option<(usize, usize)>
+        requires at { at ≤ length text.now }
+        requires text_fits { length text.now ≤ scratch.old.text }
+        requires expr_fits { length self.old.nodes ≤ scratch.old.nodes }
+        requires room { steps.old ≤ 2 ^ 101 }
+        ensures same { self.new ≡ self.old }
+        ensures scratch { scratch.new ≡ scratch.old }
+        ensures next { result ≡ if nat_lt at (length text.now) then found (tree self.old) text.now (at + 1) else None }
+        ensures lies { IfSome result (λ f. (at < f.0) × (f.0 ≤ f.1) × (f.1 ≤ length text.now)) }
+        ensures grows { steps.old ≤ steps.new }
+        ensures cost { steps.new ≤ steps.old + 128 * length self.old.nodes * (length text.now + 1) }
+    {
+        if at >= text.len() {
+            return None;
+        }
+        self.find_span(text, at + 1, scratch, steps)
+    }
+
     /// The next occurrence by one search after another.
     #[inline(always)]
     fn next_apart(
@@ -132,17 +170,12 @@ impl TableMatcher {
         ensures cost { steps.new ≤ steps.old + 256 * length self.old.nodes * (length text.now + 1) }
     {
         scratch.bounds();
-        let Some(at) = last else {
-            return self.find_span(text, 0, scratch, steps);
-        };
+        let at = place_of(last);
         let first = self.find_span(text, at, scratch, steps);
-        if !is_null_at(first, at) {
+        if last.is_none() || !is_null_at(first, at) {
             return first;
         }
-        if at >= text.len() {
-            return None;
-        }
-        self.find_span(text, at + 1, scratch, steps)
+        self.past_null(text, at, scratch, steps)
     }
 
     /// The same, and counts what it took.
