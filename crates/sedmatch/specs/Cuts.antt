@@ -2,6 +2,7 @@
 -- Where a copy of a part ends.
 use Rattle.std.specs.Prelude.{◌<◌, ℕ, ◌≤◌, Option, Some, None}
 use Rattle.sedmatch.specs.Spans.{Copies}
+use Rattle.sedmatch.specs.Caps.{LastCopy}
 
 -- the greatest number below n of which P holds, if there is one
 abbrev pub GreatestBelow : (ℕ → Type 0) → ℕ → Option ℕ → Type 0
@@ -20,3 +21,7 @@ pub record IsNext (R : ℕ → ℕ → Type 0) (j x l : ℕ) : Type 0 where
   pub copy : R x l
   pub rest : Copies R j l
   pub greatest : (k : ℕ) → x < k → R x k → Copies R j k → k ≤ l
+
+-- the last of the copies of R from i to j begins at c, and that is a place of i..j
+abbrev pub LastCopyIn : (ℕ → ℕ → Type 0) → ℕ → ℕ → ℕ → Type 0
+LastCopyIn R j i c = LastCopy R j i c × (i ≤ c) × (c < j)

@@ -45,6 +45,34 @@ FitsWork n p = (p.tasks.items ≡ []) × (p.stack.items ≡ []) × (2 * n < vec_
 abbrev pub AllDone : Plan → Plan → Type 0
 AllDone old new = (new.tasks.items ≡ []) × (new.stack.items ≡ []) × (vec_capacity old.tasks ≤ vec_capacity new.tasks) × (vec_capacity old.stack ≤ vec_capacity new.stack)
 
+-- marks and notes fit, to cut the spans that nodes match into those of their parts
+abbrev pub FitsCuts : ℕ → ℕ → Sets → Notes → Type 0
+FitsCuts m n s t = Fits m n s × FitsPlaces (n + 1) t
+
+-- there are as many marks and notes as before
+abbrev pub SameRoom : Sets → Sets → Notes → Notes → Type 0
+SameRoom old new before after = SameMarks old new × SameNotes before after
+
+-- marks, notes and the plan fit, to decide the groups of a match
+abbrev pub FitsGroups : ℕ → ℕ → Sets → Notes → Plan → Type 0
+FitsGroups m n s t p = Fits m n s × FitsPlaces (n + 1) t × FitsWork m p
+
+-- the same, but for the notes there is the room alone
+abbrev pub HasGroups : ℕ → ℕ → Sets → Notes → Plan → Type 0
+HasGroups m n s t p = Fits m n s × HasPlaces (n + 1) t × FitsWork m p
+
+-- nothing is left to do, and there is as much room for all as before
+abbrev pub KeepsGroups : Sets → Sets → Notes → Notes → Plan → Plan → Type 0
+KeepsGroups old new before after from to = SameMarks old new × KeepsPlaces before after × AllDone from to
+
+-- no nodes are left on the stack, and there is room for n of them
+abbrev pub HasStack : ℕ → Plan → Type 0
+HasStack n p = (p.stack.items ≡ []) × (n < vec_capacity p.stack)
+
+-- no nodes are left on the stack, and there is as much room as before
+abbrev pub KeepsPlan : Plan → Plan → Type 0
+KeepsPlan old new = (new.stack.items ≡ []) × (vec_capacity old.stack ≤ vec_capacity new.stack) × (vec_capacity old.tasks ≤ vec_capacity new.tasks)
+
 -- the room for texts of so many bytes and expressions of so many nodes
 pub record HasRoom (text nodes : ℕ) (sets : Sets) (notes : Notes) (plan : Plan) : Type 0 where
   pub short : text ≤ 2 ^ 30

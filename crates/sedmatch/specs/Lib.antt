@@ -7,6 +7,7 @@ pub mod Bytes
 pub mod Room
 pub mod Words
 pub mod Fits
+pub mod Costs
 pub mod Local
 pub mod Reach
 pub mod Places

@@ -1,9 +1,13 @@
 -- Private to the proofs: no contract of a public item cites what stands here.
 -- Places of a text as far as an expression tells them apart, and what a pass tells of one.
-use Rattle.std.specs.Prelude.{◌≡◌, ℕ, ◌+◌, Bool, true, false, ◌↔◌, List, length, slice_get, slice_index_or, Option, Some, IsTrue}
+use Rattle.std.specs.Prelude.{◌≡◌, ℕ, ◌+◌, ◌≤◌, Bool, true, false, ◌↔◌, List, length, slice_get, slice_index_or, Option, Some, IsTrue}
 use Rattle.sedre.specs.declared.types.Node.{Node}
 use Rattle.sedre.specs.declared.types.Node.TheVariants.{Empty, Set, Begin, End, Seq, Alt, Group, Star, Opt}
 use Rattle.sedmatch.specs.Local.{takes}
+
+-- the three places stand in this order
+abbrev pub InOrder : ℕ → ℕ → ℕ → Type 0
+InOrder a b c = (a ≤ b) × (b ≤ c)
 
 -- begin and end say whether the place is the text's beginning, and whether it is its end
 abbrev pub IsPlace : List ℕ → ℕ → Bool → Bool → Type 0

@@ -1,8 +1,9 @@
 -- Private to the proofs: no contract of a public item cites what stands here.
 -- What the parts of a search tell.
-use Rattle.std.specs.Prelude.{◌≡◌, ℕ, ◌+◌, ◌<◌, ◌≤◌, Bool, List, length, Option, Some, None, IsTrue}
+use Rattle.std.specs.Prelude.{◌≡◌, ℕ, ◌+◌, ◌<◌, ◌≤◌, Bool, true, List, length, Option, Some, None, IfSome, IsTrue}
 use Rattle.sedre.specs.Tree.{Tree}
 use Rattle.sedmatch.specs.Spans.{Spans, NotFound}
+use Rattle.sedmatch.specs.Reach.{LongestBelow}
 use Rattle.sedmatch.specs.Ahead.{LeadsTo}
 use Rattle.sedmatch.specs.declared.ahead.Lead.{Lead}
 use Rattle.sedmatch.specs.declared.passes.Starts.{Starts}
@@ -32,6 +33,14 @@ pub record IsRegion (e : Tree) (w : List ℕ) (whole : Bool) (r : Region) : Type
   pub some : (i : ℕ) × (k : ℕ) × (r.start ≤ i) × (i ≤ r.last) × Spans e w i k
   pub all : IsTrue whole → (i k : ℕ) → r.start ≤ i → i ≤ r.last → Spans e w i k → k ≤ r.bound
 
+-- the same of a region that begins at the place p
+abbrev pub IsRegionFrom : Tree → List ℕ → Bool → ℕ → Region → Type 0
+IsRegionFrom e w whole p r = (r.start ≡ p) × IsRegion e w whole r
+
+-- the same of a whole region whose last place is the place q
+abbrev pub IsRegionTo : Tree → List ℕ → ℕ → ℕ → Region → Type 0
+IsRegionTo e w p q r = (r.start ≡ p) × (r.last ≡ q) × IsRegion e w true r
+
 -- the first place of the region at which a match begins
 pub record IsEarliest (e : Tree) (w : List ℕ) (r : Region) (i : ℕ) : Type 0 where
   pub ordered : r.start ≤ i
@@ -44,13 +53,17 @@ abbrev pub LastEnd : Tree → List ℕ → ℕ → ℕ → Option ℕ → Type 0
 LastEnd e w first n None = (i k : ℕ) → first ≤ i → k < n → Spans e w i k → ⊥
 LastEnd e w first n (Some p) = (p < n) × ((i : ℕ) × (first ≤ i) × Spans e w i p) × ((i k : ℕ) → first ≤ i → k < n → Spans e w i k → k ≤ p)
 
+-- the end of the longest match from the place i that ends before the place n, if there is one; it lies in the text
+abbrev pub IsBest : Tree → List ℕ → ℕ → ℕ → Option ℕ → Type 0
+IsBest e w i n best = LongestBelow e w i n best × IfSome best (λ end. (i ≤ end) × (end ≤ length w))
+
 -- the starts from one to another
 abbrev pub starts_to : ℕ → ℕ → Starts
 starts_to first last = record { first = first; last = last }
 
 -- what a pass from the place p on tells
 abbrev pub IsSwept : Tree → List ℕ → Bool → ℕ → Swept → Type 0
-IsSwept e w whole p (Hit r) = (r.start ≡ p) × IsRegion e w whole r
+IsSwept e w whole p (Hit r) = IsRegionFrom e w whole p r
 IsSwept e w whole p (Miss stop) = (p ≤ stop) × (stop ≤ length w) × NoneIn e w p (stop + 1)
 
 -- where it ended

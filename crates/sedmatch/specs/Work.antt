@@ -71,6 +71,10 @@ weights nodes [] = 0
 weights nodes (Enter x i j ∷ tasks) = 2 * size (tree_at nodes x) + weights nodes tasks
 weights nodes (Close k i j ∷ tasks) = 1 + weights nodes tasks
 
+-- some tasks were begun: what is left is less, each of it is ready, and it takes the groups to where the tasks take them
+abbrev pub LeavesLess : List Node → List ℕ → List Task → Groups → List Task → Groups → Type 0
+LeavesLess nodes w tasks old rest new = ((f : Groups) → Run nodes w rest new f → Run nodes w tasks old f) × IsReady nodes w rest × (weights nodes rest + 1 ≤ weights nodes tasks)
+
 -- how many nodes of a tree have parts
 abbrev pub inner : Tree → ℕ
 inner empty = 0

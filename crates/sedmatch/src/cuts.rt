@@ -2,11 +2,13 @@
 ghost use Rattle.std.specs.Prelude.{◌≡◌, ℕ, false, true, ◌+◌, ◌-◌, ◌*◌, ◌^◌, ◌<◌, ◌≤◌, ◌↔◌, length};
 ghost use Rattle.std.specs.Prelude.{slice_index_or, IfSome, IfNone, IsTrue, slice_index, Some};
 ghost use Rattle.sedmatch.specs.Spans.{Copies};
-ghost use Rattle.sedmatch.specs.Fits.{Fits, FitsFew, FitsPlaces, SameMarks, SameNotes};
+ghost use Rattle.sedmatch.specs.Fits.{Fits, FitsCuts, FitsFew, FitsPlaces, SameMarks, SameNotes, SameRoom};
+ghost use Rattle.sedmatch.specs.Costs.{Takes};
+ghost use Rattle.sedmatch.specs.Places.{InOrder};
 ghost use Rattle.sedmatch.specs.Reach.{At, one_start, OpenFrom};
 ghost use Rattle.sedmatch.specs.Reach.{TellEntered, TellBegun};
-ghost use Rattle.sedmatch.specs.Caps.{LastCut, LastCopy};
-ghost use Rattle.sedmatch.specs.Cuts.{GreatestBelow, IsNext, LeastFrom};
+ghost use Rattle.sedmatch.specs.Caps.{LastCut};
+ghost use Rattle.sedmatch.specs.Cuts.{GreatestBelow, IsNext, LastCopyIn, LeastFrom};
 
 use crate::ahead::{Lead, lead_from};
 use crate::counted::{Bytes, Marks, Text};
@@ -89,8 +91,7 @@ fn advance_if(
     steps: &mut Steps,
 ) -> Here
     requires root { root < length expr.now.nodes }
-    requires start { start ≤ place }
-    requires place { place ≤ length text.now }
+    requires order { InOrder start place (length text.now) }
     requires fits { FitsFew (length expr.now.nodes) sets.old }
     requires entered { IsTrue more → TellEntered expr.now.nodes text.now root (one_start start) place sets.old.entered }
     requires closed { (k : ℕ) → place ≤ k → At expr.now.nodes text.now root start k → IsTrue more }
@@ -99,8 +100,7 @@ fn advance_if(
     ensures entered { IsTrue result.more → TellBegun expr.now.nodes text.now root (one_start start) place sets.new.entered }
     ensures spans { IsTrue result.matched ↔ At expr.now.nodes text.now root start place }
     ensures opens { OpenFrom expr.now.nodes text.now root start place result.more }
-    ensures grows { steps.old ≤ steps.new }
-    ensures cost { steps.new ≤ steps.old + 15 * length expr.now.nodes + 5 }
+    ensures cost { Takes steps.old steps.new (15 * length expr.now.nodes + 5) }
 {
     if more {
         advance_from(expr, root, text, start, place, sets, steps)
@@ -231,8 +231,7 @@ fn cut_at_sight(
     requires right_inside { right < length expr.now.nodes }
     requires few { length expr.now.nodes ≤ 65536 }
     requires short { length text.now ≤ 2 ^ 30 }
-    requires start { start ≤ stop }
-    requires stop { stop ≤ length text.now }
+    requires order { InOrder start stop (length text.now) }
     requires spans { (k : ℕ) × At expr.now.nodes text.now left start k × At expr.now.nodes text.now right k stop }
     requires room { steps.old ≤ 2 ^ 114 }
     ensures cut { IfSome result (LastCut (At expr.now.nodes text.now left) (At expr.now.nodes text.now right) start stop) }
@@ -266,8 +265,7 @@ pub fn last_cut(
 ) -> usize
     requires left_inside { left < length expr.now.nodes }
     requires right_inside { right < length expr.now.nodes }
-    requires start { start ≤ stop }
-    requires stop { stop ≤ length text.now }
+    requires order { InOrder start stop (length text.now) }
     requires fits { Fits (length expr.now.nodes) (length text.now) sets.old }
     requires ends_fit { length text.now < length ends.old }
     requires spans { (k : ℕ) × At expr.now.nodes text.now left start k × At expr.now.nodes text.now right k stop }
@@ -275,9 +273,7 @@ pub fn last_cut(
     ensures marks { SameMarks sets.old sets.new }
     ensures ends_len { length ends.new ≡ length ends.old }
     ensures cut { LastCut (At expr.now.nodes text.now left) (At expr.now.nodes text.now right) start stop result }
-    ensures grows { steps.old ≤ steps.new }
-    ensures cost { let m = length expr.now.nodes in let n = length text.now in
-        steps.new ≤ steps.old + 23 * m * (n + 1) * (n + 2) }
+    ensures cost { let m = length expr.now.nodes in let n = length text.now in Takes steps.old steps.new (23 * m * (n + 1) * (n + 2)) }
 {
     match cut_at_sight(expr, left, right, text, start, stop, steps) {
         Some(cut) => cut,
@@ -299,8 +295,7 @@ fn cut_by_passes(
 ) -> usize
     requires left_inside { left < length expr.now.nodes }
     requires right_inside { right < length expr.now.nodes }
-    requires start { start ≤ stop }
-    requires stop { stop ≤ length text.now }
+    requires order { InOrder start stop (length text.now) }
     requires fits { Fits (length expr.now.nodes) (length text.now) sets.old }
     requires ends_fit { length text.now < length ends.old }
     requires spans { (k : ℕ) × At expr.now.nodes text.now left start k × At expr.now.nodes text.now right k stop }
@@ -308,9 +303,7 @@ fn cut_by_passes(
     ensures marks { SameMarks sets.old sets.new }
     ensures ends_len { length ends.new ≡ length ends.old }
     ensures cut { LastCut (At expr.now.nodes text.now left) (At expr.now.nodes text.now right) start stop result }
-    ensures grows { steps.old ≤ steps.new }
-    ensures cost { let m = length expr.now.nodes in let n = length text.now in
-        steps.new ≤ steps.old + 44 * m * (n + 1) }
+    ensures cost { let m = length expr.now.nodes in let n = length text.now in Takes steps.old steps.new (44 * m * (n + 1)) }
 {
     ends_from(expr, left, text, start, stop, sets, ends, steps);
     let len = text.len();
@@ -414,15 +407,11 @@ pub fn last_copy(
     requires root { root < length expr.now.nodes }
     requires start { start < stop }
     requires stop { stop ≤ length text.now }
-    requires fits { Fits (length expr.now.nodes) (length text.now) sets.old }
-    requires notes_fit { FitsPlaces (length text.now + 1) notes.old }
+    requires fits { FitsCuts (length expr.now.nodes) (length text.now) sets.old notes.old }
     requires spans { Copies (At expr.now.nodes text.now root) stop start }
     requires room { steps.old ≤ 2 ^ 114 }
-    ensures marks { SameMarks sets.old sets.new }
-    ensures notes { SameNotes notes.old notes.new }
-    ensures last { LastCopy (At expr.now.nodes text.now root) stop start result }
-    ensures after { start ≤ result }
-    ensures before { result < stop }
+    ensures same { SameRoom sets.old sets.new notes.old notes.new }
+    ensures last { LastCopyIn (At expr.now.nodes text.now root) stop start result }
     ensures grows { steps.old ≤ steps.new }
     ensures cost { let m = length expr.now.nodes in let n = length text.now in
         steps.new ≤ steps.old + 23 * m * (n + 1) * (n + 1) + 2 }
@@ -448,15 +437,11 @@ fn copy_by_passes(
     requires root { root < length expr.now.nodes }
     requires start { start < stop }
     requires stop { stop ≤ length text.now }
-    requires fits { Fits (length expr.now.nodes) (length text.now) sets.old }
-    requires notes_fit { FitsPlaces (length text.now + 1) notes.old }
+    requires fits { FitsCuts (length expr.now.nodes) (length text.now) sets.old notes.old }
     requires spans { Copies (At expr.now.nodes text.now root) stop start }
     requires room { steps.old < 2 ^ 115 }
-    ensures marks { SameMarks sets.old sets.new }
-    ensures notes { SameNotes notes.old notes.new }
-    ensures last { LastCopy (At expr.now.nodes text.now root) stop start result }
-    ensures after { start ≤ result }
-    ensures before { result < stop }
+    ensures same { SameRoom sets.old sets.new notes.old notes.new }
+    ensures last { LastCopyIn (At expr.now.nodes text.now root) stop start result }
     ensures grows { steps.old ≤ steps.new }
     ensures cost { let m = length expr.now.nodes in let n = length text.now in
         steps.new ≤ steps.old + 23 * m * (n + 1) * (n + 1) + 1 }

@@ -6,10 +6,11 @@ ghost use Rattle.std.specs.Prelude.{vec_len, vec_capacity, slice_get, Some, None
 ghost use Rattle.sedre.specs.Tree.{size};
 ghost use Rattle.sedre.specs.Arena.{tree_at, tree};
 ghost use Rattle.sedmatch.specs.Spans.{Spans};
-ghost use Rattle.sedmatch.specs.Caps.{Caps, Groups, forget, IsReport};
-ghost use Rattle.sedmatch.specs.Fits.{AllDone, Fits, FitsPlaces, FitsWork, HasPlaces, KeepsPlaces, SameMarks, SameNotes};
+ghost use Rattle.sedmatch.specs.Caps.{Caps, forget, IsReport};
+ghost use Rattle.sedmatch.specs.Fits.{AllDone, Fits, FitsCuts, FitsGroups, HasGroups, HasStack, KeepsGroups, KeepsPlan, SameMarks, SameRoom};
+ghost use Rattle.sedmatch.specs.Places.{InOrder};
 ghost use Rattle.sedmatch.specs.Reach.{At};
-ghost use Rattle.sedmatch.specs.Work.{IsStep, Run, IsReady, weights, inners, wholes, node_cost, forget_if};
+ghost use Rattle.sedmatch.specs.Work.{IsStep, IsReady, LeavesLess, weights, inners, wholes, node_cost, forget_if};
 ghost use Rattle.sedmatch.specs.Work.{tasks_of, forgets_of, sizes, parts_of, forget_node};
 
 use crate::counted::Text;
@@ -129,15 +130,12 @@ fn split_node(
     steps: &mut Steps,
 ) -> Split
     requires inside { x < length expr.now.nodes }
-    requires start { start ≤ stop }
-    requires stop { stop ≤ length text.now }
-    requires fits { Fits (length expr.now.nodes) (length text.now) sets.old }
-    requires notes_fit { FitsPlaces (length text.now + 1) notes.old }
+    requires order { InOrder start stop (length text.now) }
+    requires fits { FitsCuts (length expr.now.nodes) (length text.now) sets.old notes.old }
     requires node { slice_get expr.now.nodes x ≡ Some node.now }
     requires spans { At expr.now.nodes text.now x start stop }
     requires room { steps.old ≤ 2 ^ 114 }
-    ensures marks { SameMarks sets.old sets.new }
-    ensures notes { SameNotes notes.old notes.new }
+    ensures same { SameRoom sets.old sets.new notes.old notes.new }
     ensures step { IsStep expr.now.nodes text.now x start stop (forgets_of result) (tasks_of result) }
     ensures grows { steps.old ≤ steps.new }
     ensures cost { let m = length expr.now.nodes in let n = length text.now in
@@ -293,21 +291,14 @@ fn work(
     steps: &mut Steps,
 )
     requires sizes { (x : ℕ) → x < length expr.now.nodes → size (tree_at expr.now.nodes x) ≤ length expr.now.nodes }
-    requires fits { Fits (length expr.now.nodes) (length text.now) sets.old }
-    requires notes_fit { FitsPlaces (length text.now + 1) notes.old }
-    requires stack_empty { plan.old.stack.items ≡ [] }
-    requires stack_room { length expr.now.nodes < vec_capacity plan.old.stack }
+    requires fits { FitsCuts (length expr.now.nodes) (length text.now) sets.old notes.old }
+    requires stack { HasStack (length expr.now.nodes) plan.old }
     requires ready { IsReady expr.now.nodes text.now (task.now ∷ reverse plan.old.tasks.items) }
     requires tasks_room { weights expr.now.nodes (task.now ∷ reverse plan.old.tasks.items) < vec_capacity plan.old.tasks }
     requires room { steps.old < 2 ^ 114 }
-    ensures marks { SameMarks sets.old sets.new }
-    ensures notes { SameNotes notes.old notes.new }
-    ensures stack_empty { plan.new.stack.items ≡ [] }
-    ensures stack_room { vec_capacity plan.old.stack ≤ vec_capacity plan.new.stack }
-    ensures tasks_room { vec_capacity plan.old.tasks ≤ vec_capacity plan.new.tasks }
-    ensures run { (f : Groups) → Run expr.now.nodes text.now (reverse plan.new.tasks.items) groups.new f → Run expr.now.nodes text.now (task.now ∷ reverse plan.old.tasks.items) groups.old f }
-    ensures ready { IsReady expr.now.nodes text.now (reverse plan.new.tasks.items) }
-    ensures less { weights expr.now.nodes (reverse plan.new.tasks.items) + 1 ≤ weights expr.now.nodes (task.now ∷ reverse plan.old.tasks.items) }
+    ensures same { SameRoom sets.old sets.new notes.old notes.new }
+    ensures plan { KeepsPlan plan.old plan.new }
+    ensures less { LeavesLess expr.now.nodes text.now (task.now ∷ reverse plan.old.tasks.items) groups.old (reverse plan.new.tasks.items) groups.new }
     ensures grows { steps.old ≤ steps.new }
     ensures cost { steps.new + (23 * length expr.now.nodes * (length text.now + 1) * (length text.now + 2) + 1 + length expr.now.nodes) * inners expr.now.nodes (reverse plan.new.tasks.items) + 3 * wholes expr.now.nodes (reverse plan.new.tasks.items)
         ≤ steps.old + (23 * length expr.now.nodes * (length text.now + 1) * (length text.now + 2) + 1 + length expr.now.nodes) * inners expr.now.nodes (task.now ∷ reverse plan.old.tasks.items) + 3 * wholes expr.now.nodes (task.now ∷ reverse plan.old.tasks.items) }
@@ -339,17 +330,13 @@ pub fn decide(
     steps: &mut Steps,
 )
     requires root { root < length expr.now.nodes }
-    requires start { start ≤ stop }
-    requires stop { stop ≤ length text.now }
+    requires order { InOrder start stop (length text.now) }
     requires spans { At expr.now.nodes text.now root start stop }
     requires sizes { (x : ℕ) → x < length expr.now.nodes → size (tree_at expr.now.nodes x) ≤ length expr.now.nodes }
-    requires fits { Fits (length expr.now.nodes) (length text.now) sets.old }
-    requires notes_fit { FitsPlaces (length text.now + 1) notes.old }
-    requires work_fits { FitsWork (length expr.now.nodes) plan.old }
+    requires fits { FitsGroups (length expr.now.nodes) (length text.now) sets.old notes.old plan.old }
     requires room { let m = length expr.now.nodes in let n = length text.now in
         steps.old + (23 * m * (n + 1) * (n + 2) + 1 + m) * m + 3 * m < 2 ^ 114 }
-    ensures marks { SameMarks sets.old sets.new }
-    ensures notes { SameNotes notes.old notes.new }
+    ensures same { SameRoom sets.old sets.new notes.old notes.new }
     ensures done { AllDone plan.old plan.new }
     ensures caps { Caps (tree_at expr.now.nodes root) text.now start stop groups.old groups.new }
     ensures grows { steps.old ≤ steps.new }
@@ -376,14 +363,10 @@ pub fn report(
     requires start { start ≤ stop }
     requires stop { stop ≤ length text.now }
     requires spans { Spans (tree expr.now) text.now start stop }
-    requires fits { Fits (length expr.now.nodes) (length text.now) sets.old }
-    requires notes_room { HasPlaces (length text.now + 1) notes.old }
-    requires work_fits { FitsWork (length expr.now.nodes) plan.old }
+    requires fits { HasGroups (length expr.now.nodes) (length text.now) sets.old notes.old plan.old }
     requires room { let m = length expr.now.nodes in let n = length text.now in
         steps.old + (23 * m * (n + 1) * (n + 2) + 1 + m) * m + 3 * m < 2 ^ 114 }
-    ensures marks { SameMarks sets.old sets.new }
-    ensures notes { KeepsPlaces notes.old notes.new }
-    ensures done { AllDone plan.old plan.new }
+    ensures done { KeepsGroups sets.old sets.new notes.old notes.new plan.old plan.new }
     ensures report { IsReport (tree expr.now) text.now start stop result }
     ensures grows { steps.old ≤ steps.new }
     ensures none_cost { expr.now.groups ≡ 0 → steps.new ≡ steps.old }

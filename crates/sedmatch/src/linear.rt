@@ -1,12 +1,13 @@
 //! The search for the leftmost of the longest spans by tables, in which each byte is passed four times at most.
-ghost use Rattle.std.specs.Prelude.{IfSome, IfNone, true, Bool, List, ◌≡◌, ℕ, ◌+◌, ◌-◌, ◌*◌, ◌^◌, ◌<◌, ◌≤◌, ◌↔◌, length, IsTrue};
+ghost use Rattle.std.specs.Prelude.{IfSome, IfNone, Some, true, Bool, List, ◌≡◌, ℕ, ◌+◌, ◌-◌, ◌*◌, ◌^◌, ◌<◌, ◌≤◌, ◌↔◌, length, IsTrue};
 ghost use Rattle.sedre.specs.Arena.{tree};
 ghost use Rattle.sedre.specs.Mirror.{seen};
 ghost use Rattle.sedre.specs.declared.types.Node.{Node};
 ghost use Rattle.sedmatch.specs.Fits.{Fits, FitsFew, SameMarks};
+ghost use Rattle.sedmatch.specs.Places.{InOrder};
 ghost use Rattle.sedmatch.specs.Spans.{Found as IsFound};
 ghost use Rattle.sedmatch.specs.Reach.{SomeSpan};
-ghost use Rattle.sedmatch.specs.Search.{IsRegion, LastEnd, IsEarliest, starts_to};
+ghost use Rattle.sedmatch.specs.Search.{IsRegion, IsRegionTo, LastEnd, IsEarliest, starts_to};
 ghost use Rattle.sedmatch.specs.States.{IsAt};
 ghost use Rattle.sedmatch.specs.Tables.{IsSingle, IsSweep, IsTable, NextIs, starts_from};
 ghost use Rattle.sedmatch.specs.Linear.{NoneBefore, IsFirstEnd, ended_to, IsBound};
@@ -57,8 +58,7 @@ fn first_end_on(
     steps: &mut Steps,
 ) -> Option<FirstEnd>
     requires root { root + 1 ≡ length expr.now.nodes }
-    requires start { start ≤ place }
-    requires place { place ≤ length text.now }
+    requires order { InOrder start place (length text.now) }
     requires fits { Fits (length expr.now.nodes) (length text.now) sets.old }
     requires at { IsAt expr.now.nodes text.now root (starts_from start text.now) place sets.old.entered ends }
     requires missed { NoneBefore expr.now.nodes text.now root start place }
@@ -164,8 +164,7 @@ fn bound_on(
     steps: &mut Steps,
 ) -> usize
     requires root { root + 1 ≡ length expr.now.nodes }
-    requires start { start ≤ last }
-    requires last { last ≤ place }
+    requires order { InOrder start last place }
     requires place { place ≤ length text.now }
     requires fits { Fits (length expr.now.nodes) (length text.now) sets.old }
     requires at { IsAt expr.now.nodes text.now root (starts_to start last) place sets.old.entered ends }
@@ -235,8 +234,7 @@ fn bound_by(
     steps: &mut Steps,
 ) -> usize
     requires root { root + 1 ≡ length expr.now.nodes }
-    requires start { start ≤ last }
-    requires last { last ≤ length text.now }
+    requires order { InOrder start last (length text.now) }
     requires table { IsSingle expr.now.nodes root table.old }
     requires fits { Fits (length expr.now.nodes) (length text.now) sets.old }
     requires at { IsAt expr.now.nodes text.now root (starts_to start last) last sets.old.entered ends }
@@ -325,8 +323,7 @@ fn last_on(
     steps: &mut Steps,
 ) -> Option<usize>
     requires root { root + 1 ≡ length nodes.now.nodes }
-    requires first { first ≤ place }
-    requires place { place ≤ stop }
+    requires order { InOrder first place stop }
     requires stop { stop ≤ length bytes.now }
     requires fits { Fits (length nodes.now.nodes) (length bytes.now) sets.old }
     requires at { IsAt nodes.now.nodes bytes.now root (starts_from first bytes.now) place sets.old.entered ends }
@@ -459,8 +456,7 @@ fn bound_in(
     steps: &mut Steps,
 ) -> usize
     requires root { root + 1 ≡ length expr.now.nodes }
-    requires start { start ≤ last }
-    requires last { last ≤ length text.now }
+    requires order { InOrder start last (length text.now) }
     requires table { IsSingle expr.now.nodes root table.old }
     requires fits { Fits (length expr.now.nodes) (length text.now) sets.old }
     requires at { IsAt expr.now.nodes text.now root (starts_to start last) last sets.old.entered ends }
@@ -490,17 +486,11 @@ pub fn region_by(
     requires root { root + 1 ≡ length expr.now.nodes }
     requires table { IsSingle expr.now.nodes root table.old }
     requires fits { Fits (length expr.now.nodes) (length text.now) sets.old }
-    requires start { start ≤ first.place }
-    requires inside { first.place ≤ length text.now }
-    requires some { SomeSpan expr.now.nodes text.now root (starts_from start text.now) first.place }
-    requires at { first.place < length text.now →
-        IsAt expr.now.nodes text.now root (starts_from start text.now) first.place sets.old.entered first.ends }
+    requires first { IsFirstEnd expr.now.nodes text.now root start sets.old.entered (Some first) }
     requires room { steps.old < 2 ^ 110 }
     ensures table { IsSingle expr.now.nodes root table.new }
     ensures marks { SameMarks sets.old sets.new }
-    ensures start { result.start ≡ start }
-    ensures last { result.last ≡ first.place }
-    ensures region { IsRegion (tree expr.now) text.now true result }
+    ensures region { IsRegionTo (tree expr.now) text.now start first.place result }
     ensures grows { steps.old ≤ steps.new }
     ensures cost { let m = length expr.now.nodes in
         steps.new + 42 * m * first.place ≤ steps.old + 6 * m + 42 * m * result.bound }

@@ -3,12 +3,13 @@ ghost use Rattle.std.specs.Prelude.{◌≡◌, ℕ, List, ◌+◌, ◌-◌, ◌*
 ghost use Rattle.std.specs.Prelude.{length, IfSome, IfNone, IsTrue, true};
 ghost use Rattle.sedre.specs.Arena.{tree};
 ghost use Rattle.sedmatch.specs.Fits.{Fits, FitsFew, SameMarks};
+ghost use Rattle.sedmatch.specs.Places.{InOrder};
 ghost use Rattle.sedre.specs.Tree.{Tree};
 ghost use Rattle.sedmatch.specs.Spans.{Spans, Found as IsFound, NotFound};
 ghost use Rattle.sedmatch.specs.Reach.{Longest, LongestBelow, At, one_start, Ends};
 ghost use Rattle.sedmatch.specs.Reach.{TellEntered, TellBegun};
 ghost use Rattle.sedmatch.specs.Reach.{OpenFrom, OpenAt, SomeSpan};
-ghost use Rattle.sedmatch.specs.Search.{IsSwept, swept_to, Sought, sought_to, Scanned, IsRegion, starts_to};
+ghost use Rattle.sedmatch.specs.Search.{IsSwept, swept_to, Sought, sought_to, Scanned, IsRegion, IsRegionFrom, IsBest, starts_to};
 ghost use Rattle.sedmatch.specs.Ahead.{LeadsTo};
 ghost use Rattle.sedmatch.specs.Skip.{AllBegin};
 ghost use Rattle.sedmatch.specs.States.{IsAt};
@@ -62,8 +63,7 @@ pub fn advance_seen(
     steps: &mut Steps,
 ) -> Here
     requires root { root < length nodes.now.nodes }
-    requires start { start ≤ place }
-    requires place { place ≤ length bytes.now }
+    requires order { InOrder start place (length bytes.now) }
     requires fits { FitsFew (length nodes.now.nodes) sets.old }
     requires entered { TellEntered nodes.now.nodes bytes.now root (one_start start) place sets.old.entered }
     requires room { steps.old < 2 ^ 117 }
@@ -92,8 +92,7 @@ pub fn advance_from(
     steps: &mut Steps,
 ) -> Here
     requires root { root < length expr.now.nodes }
-    requires start { start ≤ place }
-    requires place { place ≤ length text.now }
+    requires order { InOrder start place (length text.now) }
     requires fits { FitsFew (length expr.now.nodes) sets.old }
     requires entered { TellEntered expr.now.nodes text.now root (one_start start) place sets.old.entered }
     requires room { steps.old < 2 ^ 117 }
@@ -195,16 +194,14 @@ fn region_to(
     steps: &mut Steps,
 ) -> Region
     requires root { root + 1 ≡ length expr.now.nodes }
-    requires order { start ≤ last }
-    requires inside { last ≤ length text.now }
+    requires order { InOrder start last (length text.now) }
     requires fits { Fits (length expr.now.nodes) (length text.now) sets.old }
     requires begun { TellBegun expr.now.nodes text.now root (starts_to start (length text.now)) last sets.old.entered }
     requires spans { SomeSpan expr.now.nodes text.now root (starts_to start (length text.now)) last }
     requires opens { IsTrue whole → OpenAt expr.now.nodes text.now root (starts_to start (length text.now)) last goes_on }
     requires room { steps.old < 2 ^ 116 }
     ensures marks { SameMarks sets.old sets.new }
-    ensures start { result.start ≡ start }
-    ensures region { IsRegion (tree expr.now) text.now whole result }
+    ensures region { IsRegionFrom (tree expr.now) text.now whole start result }
     ensures grows { steps.old ≤ steps.new }
     ensures cost { let m = length expr.now.nodes in
         steps.new + 20 * m * (last + 1) ≤ steps.old + 20 * m * (result.bound + 1) }
@@ -297,12 +294,10 @@ pub fn longest_on(
     steps: &mut Steps,
 ) -> Option<usize>
     requires root { root + 1 ≡ length expr.now.nodes }
-    requires start { start ≤ place }
-    requires place { place ≤ length text.now }
+    requires order { InOrder start place (length text.now) }
     requires fits { Fits (length expr.now.nodes) (length text.now) sets.old }
     requires at { IsAt expr.now.nodes text.now root (one_start start) place sets.old.entered ends }
-    requires best { LongestBelow (tree expr.now) text.now start place before }
-    requires best_lies { IfSome before (λ end. (start ≤ end) × (end ≤ length text.now)) }
+    requires best { IsBest (tree expr.now) text.now start place before }
     requires room { steps.old < 2 ^ 116 }
     ensures marks { SameMarks sets.old sets.new }
     ensures longest { Longest (tree expr.now) text.now start result }

@@ -7,6 +7,7 @@
 //! that search goes on by marks in its place: so a table that doesn't help costs little.
 ghost use Rattle.std.specs.Prelude.{◌≡◌, ℕ, true, false, ◌+◌, ◌-◌, ◌*◌, ◌/◌, ◌^◌, ◌<◌, ◌≤◌, ◌↔◌, length, slice_index_or, Some, IsTrue, IfOk, IfSome, IfNone, vec_len};
 ghost use Rattle.sedmatch.specs.Fits.{FitsFew, SameMarks};
+ghost use Rattle.sedmatch.specs.Places.{InOrder};
 ghost use Rattle.sedmatch.specs.Words.{row_of};
 ghost use Rattle.sedmatch.specs.Tables.{IsTable, NextIs, stops, code_of, ends_of, LeadsFrom, IsFirst, HasState, Grows, Follows, Stays, look_cost, IsCut};
 
@@ -480,8 +481,7 @@ pub fn follow_to(
 ) -> Stop
     requires table { IsTable expr.now.nodes root table.now }
     requires state { state < table.now.count }
-    requires from { from ≤ to }
-    requires to { to ≤ length text.now }
+    requires order { InOrder from to (length text.now) }
     requires short { length text.now ≤ 2 ^ 30 }
     requires room { steps.old < 2 ^ 118 }
     ensures state { result.state < table.now.count }
@@ -557,8 +557,7 @@ pub fn stay(
 ) -> usize
     requires table { IsTable expr.now.nodes root table.now }
     requires state { state < table.now.count }
-    requires from { from ≤ to }
-    requires to { to ≤ length text.now }
+    requires order { InOrder from to (length text.now) }
     requires short { length text.now ≤ 2 ^ 30 }
     requires room { steps.old < 2 ^ 118 }
     ensures after { from ≤ result }
@@ -587,8 +586,7 @@ fn stay_on(
 ) -> usize
     requires table { IsTable expr.now.nodes root table.now }
     requires state { state < table.now.count }
-    requires from { from ≤ to }
-    requires to { to ≤ length text.now }
+    requires order { InOrder from to (length text.now) }
     requires short { length text.now ≤ 2 ^ 30 }
     requires room { steps.old < 2 ^ 118 }
     ensures after { from ≤ result }
@@ -628,8 +626,7 @@ pub fn follow_past(
 ) -> Stop
     requires table { IsTable expr.now.nodes root table.now }
     requires state { state < table.now.count }
-    requires from { from ≤ to }
-    requires to { to ≤ length text.now }
+    requires order { InOrder from to (length text.now) }
     requires short { length text.now ≤ 2 ^ 30 }
     requires room { steps.old < 2 ^ 118 }
     ensures state { result.state < table.now.count }

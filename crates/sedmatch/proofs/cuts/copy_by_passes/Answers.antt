@@ -24,7 +24,7 @@ returns-then-end-stop-clause-last c =
     let next : IsNext R c.args.stop c.loop-root.copy c.copy_end-end.result =
     subst (λ v. IsNext R c.args.stop c.loop-root.copy v) (sym c.copy_end-end.ensures)
     (c.mark_tail.ensures.next c.loop-root.copy c.loop-root.invariant.after c.loop-root.invariant.before c.loop-root.invariant.rest) in
-    c.loop-root.invariant.last c.loop-root.copy (LastCopy-end R c.args.stop c.loop-root.copy c.copy_end-end.result next (omega arith))
+    (c.loop-root.invariant.last c.loop-root.copy (LastCopy-end R c.args.stop c.loop-root.copy c.copy_end-end.result next (omega arith)), c.loop-root.invariant.after, c.loop-root.invariant.before)
 
 pub loop-root-smaller : goal.loop-root-smaller
 loop-root-smaller c =

@@ -14,17 +14,17 @@ loop-task-init c =
     let w = c.args.text.now in
     let first : Task = Enter c.args.root c.args.start c.args.stop in
     let begun : reverse c.put_task.new.tasks.items ≡ first ∷ [] =
-    ap reverse (c.put_task.ensures.items ∙ ap (λ (xs : List Task). xs ++ (first ∷ [])) c.requires.work_fits.0) in
+    ap reverse (c.put_task.ensures.items ∙ ap (λ (xs : List Task). xs ++ (first ∷ [])) c.requires.fits.2.0) in
     let weight : weights nodes (reverse c.put_task.new.tasks.items) ≡ weights nodes (first ∷ []) = ap (weights nodes) begun in
     let small = c.requires.sizes c.args.root c.requires.root in
     let low : weights nodes (reverse c.put_task.new.tasks.items) ≤ 2 * length nodes = omega (arith, weight, small) in
     record {
       marks = (refl, refl, refl);
       notes = (refl, refl, omega arith);
-      stack_empty = c.requires.work_fits.1;
+      stack_empty = c.requires.fits.2.1;
       stack_room = omega arith;
       tasks_room = omega arith;
-      ready = subst (λ ts. IsReady nodes w ts) (sym begun) (c.requires.root, c.requires.start, c.requires.stop, c.requires.spans, tt);
+      ready = subst (λ ts. IsReady nodes w ts) (sym begun) (c.requires.root, c.requires.order.0, c.requires.order.1, c.requires.spans, tt);
       grows = omega arith;
       cost = decide_start nodes (23 * length nodes * (length w + 1) * (length w + 2) + 1 + length nodes) (length nodes) c.args.steps.now c.args.root c.args.start c.args.stop
           (reverse c.put_task.new.tasks.items) begun small;
@@ -40,17 +40,17 @@ loop-task-preserved c =
     let w = c.args.text.now in
     let old = c.pop.new.self.items in
     let popped : reverse c.loop-task.plan.tasks.items ≡ c.in-Some.task ∷ reverse old = ap reverse c.in-Some.ensures.items ∙ reverse-append old (c.in-Some.task ∷ []) in
-    let less : weights nodes (reverse c.work.new.plan.tasks.items) + 1 ≤ weights nodes (reverse c.loop-task.plan.tasks.items) = omega (arith, c.work.ensures.less, ap (weights nodes) popped) in
+    let less : weights nodes (reverse c.work.new.plan.tasks.items) + 1 ≤ weights nodes (reverse c.loop-task.plan.tasks.items) = omega (arith, c.work.ensures.less.2, ap (weights nodes) popped) in
     record {
       marks = (omega arith, omega arith, omega arith);
       notes = (omega arith, omega arith, omega arith);
-      stack_empty = c.work.ensures.stack_empty;
+      stack_empty = c.work.ensures.plan.0;
       stack_room = omega arith;
       tasks_room = omega (arith, c.pop.ensures.capacity);
-      ready = c.work.ensures.ready;
+      ready = c.work.ensures.less.1;
       grows = omega arith;
       cost = decide_next nodes (23 * length nodes * (length w + 1) * (length w + 2) + 1 + length nodes) (length nodes) c.args.steps.now c.loop-task.steps c.work.new.steps
           (reverse c.work.new.plan.tasks.items) (reverse c.loop-task.plan.tasks.items) (c.in-Some.task ∷ reverse old) popped c.work.ensures.cost c.loop-task.invariant.cost;
       less = omega (arith, less);
-      caps = λ f run. c.loop-task.invariant.caps f (subst (λ ts. Run nodes w ts c.loop-task.groups f) (sym popped) (c.work.ensures.run f run));
+      caps = λ f run. c.loop-task.invariant.caps f (subst (λ ts. Run nodes w ts c.loop-task.groups f) (sym popped) (c.work.ensures.less.0 f run));
     }

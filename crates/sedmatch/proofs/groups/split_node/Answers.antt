@@ -75,31 +75,31 @@ returns-in-Seq-clause-step c =
     let is : slice_get c.args.expr.now.nodes c.args.x ≡ Some (Seq c.in-Seq.a c.in-Seq.b) = c.requires.node ∙ ap Some c.in-Seq.is in
     let cut : LastCut (At c.args.expr.now.nodes c.args.text.now c.in-Seq.a.index) (At c.args.expr.now.nodes c.args.text.now c.in-Seq.b.index) c.args.start c.args.stop c.last_cut-cut.result =
     rw (c.index-left.ensures, c.index-right.ensures) at c.last_cut-cut.ensures.cut in
-    rw (c.index-left.ensures, c.index-right.ensures) (step_seq c.args.expr.now.nodes c.args.text.now c.nodes-count.ensures.arena c.args.x c.requires.inside c.in-Seq.a c.in-Seq.b is c.args.start c.last_cut-cut.result c.args.stop c.requires.stop cut)
+    rw (c.index-left.ensures, c.index-right.ensures) (step_seq c.args.expr.now.nodes c.args.text.now c.nodes-count.ensures.arena c.args.x c.requires.inside c.in-Seq.a c.in-Seq.b is c.args.start c.last_cut-cut.result c.args.stop c.requires.order.1 cut)
 
 pub returns-then-spans-clause-step : goal.returns-then-spans-clause-step
 returns-then-spans-clause-step c =
     let is : slice_get c.args.expr.now.nodes c.args.x ≡ Some (Alt c.in-Alt.a c.in-Alt.b) = c.requires.node ∙ ap Some c.in-Alt.is in
     let at : At c.args.expr.now.nodes c.args.text.now c.in-Alt.a.index c.args.start c.args.stop = rw c.index-left-in-Alt.ensures at (c.reaches-spans.ensures.spans.0 c.if-spans.true) in
-    rw c.index-left-in-Alt.ensures (step_alt_left c.args.expr.now.nodes c.args.text.now c.nodes-count.ensures.arena c.args.x c.requires.inside c.in-Alt.a c.in-Alt.b is c.args.start c.args.stop c.requires.start c.requires.stop at)
+    rw c.index-left-in-Alt.ensures (step_alt_left c.args.expr.now.nodes c.args.text.now c.nodes-count.ensures.arena c.args.x c.requires.inside c.in-Alt.a c.in-Alt.b is c.args.start c.args.stop c.requires.order.0 c.requires.order.1 at)
 
 pub returns-else-spans-clause-step : goal.returns-else-spans-clause-step
 returns-else-spans-clause-step c =
     let is : slice_get c.args.expr.now.nodes c.args.x ≡ Some (Alt c.in-Alt.a c.in-Alt.b) = c.requires.node ∙ ap Some c.in-Alt.is in
     let missing : At c.args.expr.now.nodes c.args.text.now c.in-Alt.a.index c.args.start c.args.stop → ⊥ =
     λ at. both_ways _ c.if-spans.false (c.reaches-spans.ensures.spans.1 (subst (λ n. At c.args.expr.now.nodes c.args.text.now n c.args.start c.args.stop) (sym c.index-left-in-Alt.ensures) at)) in
-    rw c.index-right-in-Alt.ensures (step_alt_right c.args.expr.now.nodes c.args.text.now c.nodes-count.ensures.arena c.args.x c.requires.inside c.in-Alt.a c.in-Alt.b is c.args.start c.args.stop c.requires.start c.requires.stop missing c.requires.spans)
+    rw c.index-right-in-Alt.ensures (step_alt_right c.args.expr.now.nodes c.args.text.now c.nodes-count.ensures.arena c.args.x c.requires.inside c.in-Alt.a c.in-Alt.b is c.args.start c.args.stop c.requires.order.0 c.requires.order.1 missing c.requires.spans)
 
 pub returns-in-Group-clause-step : goal.returns-in-Group-clause-step
 returns-in-Group-clause-step c =
     let is : slice_get c.args.expr.now.nodes c.args.x ≡ Some (Group c.in-Group.k c.in-Group.a) = c.requires.node ∙ ap Some c.in-Group.is in
-    rw c.index-inner.ensures (step_group c.args.expr.now.nodes c.args.text.now c.nodes-count.ensures.arena c.args.x c.requires.inside c.in-Group.k c.in-Group.a is c.args.start c.args.stop c.requires.start c.requires.stop c.requires.spans)
+    rw c.index-inner.ensures (step_group c.args.expr.now.nodes c.args.text.now c.nodes-count.ensures.arena c.args.x c.requires.inside c.in-Group.k c.in-Group.a is c.args.start c.args.stop c.requires.order.0 c.requires.order.1 c.requires.spans)
 
 pub returns-then-start-stop-clause-step : goal.returns-then-start-stop-clause-step
 returns-then-start-stop-clause-step c =
     let is : slice_get c.args.expr.now.nodes c.args.x ≡ Some (Star c.in-Star.a c.in-Star.first) = c.requires.node ∙ ap Some c.in-Star.is in
-    let last : LastCopy (At c.args.expr.now.nodes c.args.text.now c.in-Star.a.index) c.args.stop c.args.start c.last_copy-copy.result = rw c.index-inner-in-Star.ensures at c.last_copy-copy.ensures.last in
-    rw c.index-inner-in-Star.ensures (step_star c.args.expr.now.nodes c.args.text.now c.nodes-count.ensures.arena c.args.x c.requires.inside c.in-Star.a c.in-Star.first is c.args.start c.last_copy-copy.result c.args.stop c.if-start-stop.true c.last_copy-copy.ensures.after c.requires.stop last)
+    let last : LastCopy (At c.args.expr.now.nodes c.args.text.now c.in-Star.a.index) c.args.stop c.args.start c.last_copy-copy.result = rw c.index-inner-in-Star.ensures at c.last_copy-copy.ensures.last.0 in
+    rw c.index-inner-in-Star.ensures (step_star c.args.expr.now.nodes c.args.text.now c.nodes-count.ensures.arena c.args.x c.requires.inside c.in-Star.a c.in-Star.first is c.args.start c.last_copy-copy.result c.args.stop c.if-start-stop.true c.last_copy-copy.ensures.last.1 c.requires.order.1 last)
 
 pub returns-then-has_empty_copy-clause-step : goal.returns-then-has_empty_copy-clause-step
 returns-then-has_empty_copy-clause-step c =
@@ -122,7 +122,7 @@ returns-else-has_empty_copy-clause-step c =
 pub returns-then-start-stop-2-clause-step : goal.returns-then-start-stop-2-clause-step
 returns-then-start-stop-2-clause-step c =
     let is : slice_get c.args.expr.now.nodes c.args.x ≡ Some (Opt c.in-Opt.a c.in-Opt.first) = c.requires.node ∙ ap Some c.in-Opt.is in
-    rw c.index-inner-in-Opt.ensures (step_opt c.args.expr.now.nodes c.args.text.now c.nodes-count.ensures.arena c.args.x c.requires.inside c.in-Opt.a c.in-Opt.first is c.args.start c.args.stop c.if-start-stop-2.true c.requires.stop c.requires.spans)
+    rw c.index-inner-in-Opt.ensures (step_opt c.args.expr.now.nodes c.args.text.now c.nodes-count.ensures.arena c.args.x c.requires.inside c.in-Opt.a c.in-Opt.first is c.args.start c.args.stop c.if-start-stop-2.true c.requires.order.1 c.requires.spans)
 
 pub returns-then-has_empty_copy-2-clause-step : goal.returns-then-has_empty_copy-2-clause-step
 returns-then-has_empty_copy-2-clause-step c =

@@ -6,11 +6,11 @@ use Rattle.sedmatch.proofs.LinearLemmas.{bound_closed, bound_end}
 use Rattle.sedmatch.proofs.linear.bound_on.Goals as goal
 
 pub returns-then-place-len-clause-bound : goal.returns-then-place-len-clause-bound
-returns-then-place-len-clause-bound c = bound_end c.args.expr.now.nodes c.args.text.now c.args.root c.args.start c.args.last c.requires.root c.args.place (omega arith) c.requires.last
+returns-then-place-len-clause-bound c = bound_end c.args.expr.now.nodes c.args.text.now c.args.root c.args.start c.args.last c.requires.root c.args.place (omega arith) c.requires.order.1
 
 pub returns-then-not-ends-clause-bound : goal.returns-then-not-ends-clause-bound
 returns-then-not-ends-clause-bound c =
-    bound_closed c.args.expr.now.nodes c.args.text.now c.args.root c.args.start c.args.last c.requires.root c.args.place c.args.ends.goes c.requires.last c.requires.place
+    bound_closed c.args.expr.now.nodes c.args.text.now c.args.root c.args.start c.args.last c.requires.root c.args.place c.args.ends.goes c.requires.order.1 c.requires.place
     (not-true c.args.ends.goes c.if-not-ends.true) (c.requires.at.goes (omega arith))
 
 pub loop-at-init : goal.loop-at-init

@@ -9,7 +9,7 @@ use Rattle.sedmatch.proofs.linear.first_end_on.Goals as goal
 
 pub returns-then-place-len-clause-first : goal.returns-then-place-len-clause-first
 returns-then-place-len-clause-first c =
-    c.at_last.ensures.first c.args.expr.now.nodes c.args.text.now c.args.root c.args.start c.args.sets.now.entered c.requires.root (omega arith) c.requires.start (c.requires.at.last (omega arith)) c.requires.missed
+    c.at_last.ensures.first c.args.expr.now.nodes c.args.text.now c.args.root c.args.start c.args.sets.now.entered c.requires.root (omega arith) c.requires.order.0 (c.requires.at.last (omega arith)) c.requires.missed
 
 pub returns-then-place-len-clause-after : goal.returns-then-place-len-clause-after
 returns-then-place-len-clause-after c =
@@ -22,7 +22,7 @@ returns-then-place-len-clause-cost c =
 
 pub returns-then-ends-clause-first : goal.returns-then-ends-clause-first
 returns-then-ends-clause-first c =
-    (c.requires.start, c.requires.place, (c.requires.at.inner (omega arith)).0 c.if-ends.true, λ lt. c.requires.at)
+    (c.requires.order.0, c.requires.order.1, (c.requires.at.inner (omega arith)).0 c.if-ends.true, λ lt. c.requires.at)
 
 pub loop-at-init : goal.loop-at-init
 loop-at-init c =

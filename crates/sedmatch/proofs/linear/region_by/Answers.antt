@@ -7,16 +7,22 @@ pub returns-then-last-len-clause-region : goal.returns-then-last-len-clause-regi
 returns-then-last-len-clause-region c =
     let nodes = c.args.expr.now.nodes in
     let w = c.args.text.now in
-    let last = c.args.first.place in
-    region_closed nodes w c.args.root c.requires.root true c.args.start last (length w) last refl (omega arith) c.requires.inside c.requires.some
-    (λ i k is_whole lo hi at. closed_end nodes w c.args.root c.requires.root last last i k (omega arith) (omega arith) hi at)
+    let last = c.args.first.place in (
+      refl,
+      refl,
+      region_closed nodes w c.args.root c.requires.root true c.args.start last (length w) last refl (omega arith) c.requires.first.1 c.requires.first.2
+          (λ i k is_whole lo hi at. closed_end nodes w c.args.root c.requires.root last last i k (omega arith) (omega arith) hi at),
+    )
 
 pub bound_in-bound-requires-clause-at : goal.bound_in-bound-requires-clause-at
 bound_in-bound-requires-clause-at c =
-    restart_at c.args.expr.now.nodes c.args.text.now c.args.root c.args.start c.args.first.place c.args.sets.now.entered c.args.first.ends (omega arith) (c.requires.at (omega arith))
+    restart_at c.args.expr.now.nodes c.args.text.now c.args.root c.args.start c.args.first.place c.args.sets.now.entered c.args.first.ends (omega arith) (c.requires.first.3 (omega arith))
 
 pub returns-clause-region : goal.returns-clause-region
 returns-clause-region c =
-    let b = c.bound_in-bound.ensures.bound in
-    region_closed c.args.expr.now.nodes c.args.text.now c.args.root c.requires.root true c.args.start c.args.first.place (length c.args.text.now) c.bound_in-bound.result refl b.0 b.1 c.requires.some
-    (λ i k is_whole lo hi at. b.2 i k lo hi at)
+    let b = c.bound_in-bound.ensures.bound in (
+      refl,
+      refl,
+      region_closed c.args.expr.now.nodes c.args.text.now c.args.root c.requires.root true c.args.start c.args.first.place (length c.args.text.now) c.bound_in-bound.result refl b.0 b.1 c.requires.first.2
+          (λ i k is_whole lo hi at. b.2 i k lo hi at),
+    )

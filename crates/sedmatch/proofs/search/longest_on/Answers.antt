@@ -10,7 +10,7 @@ returns-then-place-len-clause-longest c =
     let e = tree c.args.expr.now in
     let w = c.args.text.now in
     Longest-from_below e w c.args.start (c.args.place + 1) c.better.result (omega arith) (omega arith)
-    (c.better.ensures.longest e w c.args.start (one_span c.args.expr.now.nodes w c.args.root c.args.start c.requires.root c.args.place c.args.ends.last (c.requires.at.last (omega arith))) c.requires.best)
+    (c.better.ensures.longest e w c.args.start (one_span c.args.expr.now.nodes w c.args.root c.args.start c.requires.root c.args.place c.args.ends.last (c.requires.at.last (omega arith))) c.requires.best.0)
 
 pub loop-at-init : goal.loop-at-init
 loop-at-init c =
@@ -22,8 +22,8 @@ loop-at-init c =
       grows = omega arith;
       cost = omega arith;
       entered = next_entered nodes w c.args.root (one_start c.args.start) c.nodes-count.ensures.arena c.args.sets.now.entered c.args.place (c.requires.at.begun (omega arith));
-      longest = c.better-best.ensures.longest e w c.args.start (one_span nodes w c.args.root c.args.start c.requires.root c.args.place c.args.ends.inner (c.requires.at.inner (omega arith))) c.requires.best;
-      lies = c.better-best.ensures.lies c.args.start (length w) c.requires.start c.requires.place c.requires.best_lies;
+      longest = c.better-best.ensures.longest e w c.args.start (one_span nodes w c.args.root c.args.start c.requires.root c.args.place c.args.ends.inner (c.requires.at.inner (omega arith))) c.requires.best.0;
+      lies = c.better-best.ensures.lies c.args.start (length w) c.requires.order.0 c.requires.order.1 c.requires.best.1;
     }
 
 pub loop-at-preserved : goal.loop-at-preserved
