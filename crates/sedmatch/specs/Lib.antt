@@ -6,6 +6,7 @@ pub mod Matching
 pub mod Bytes
 pub mod Room
 pub mod Words
+pub mod Costs
 pub mod Fits
 pub mod Local
 pub mod Reach

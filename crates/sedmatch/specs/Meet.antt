@@ -1,6 +1,6 @@
 -- Where a pass forwards and a pass from the text's end meet, and what is kept of the latter. What `RoomFor` and `Serves` say
 -- stands here: `Occurrences::begin` gives it, and callers hand it on from call to call, so that nobody has to read it.
-use Rattle.std.specs.Prelude.{◌≡◌, ◌↔◌, ℕ, ◌+◌, ◌-◌, ◌*◌, ◌<◌, ◌≤◌, Bool, true, false, List, length, reverse, slice_get, slice_index_or, Option, Some, None, IsTrue}
+use Rattle.std.specs.Prelude.{◌≡◌, ◌↔◌, ℕ, ◌+◌, ◌-◌, ◌*◌, ◌<◌, ◌≤◌, Bool, true, false, List, length, reverse, slice_get, slice_index_or, Option, Some, None, IfSome, IsTrue}
 use Rattle.sedre.specs.Tree.{Tree}
 use Rattle.sedre.specs.Arena.{Written}
 use Rattle.sedre.specs.Mirror.{seen}
@@ -8,7 +8,8 @@ use Rattle.sedre.specs.declared.types.Node.{Node}
 use Rattle.sedre.specs.declared.types.Node.TheVariants.{Set}
 use Rattle.sedmatch.specs.declared.passes.Starts.{Starts}
 use Rattle.sedmatch.specs.declared.meet.Behind.{Behind}
-use Rattle.sedmatch.specs.Fits.{FitsNodes}
+use Rattle.sedmatch.specs.declared.scratch.Sets.{Sets}
+use Rattle.sedmatch.specs.Fits.{Fits, FitsNodes, SameMarks}
 use Rattle.sedmatch.specs.Local.{takes}
 use Rattle.sedmatch.specs.Words.{row_of}
 use Rattle.sedmatch.specs.Reach.{At, IsStart, TellBegun, TellEntered, SomeSpan}
@@ -71,6 +72,14 @@ IsKept e w r b = HasKept (seen true e).nodes (reverse w) r b
 abbrev pub Reaches : ℕ → ℕ → Behind → Type 0
 Reaches n place b = n ≤ place + low_of b + b.width
 
+-- what is kept serves to search from the place on
+abbrev pub Served : Written → List ℕ → ℕ → ℕ → Behind → Type 0
+Served e w r place b = IsKept e w r b × Reaches (length w) place b
+
+-- it is kept, and serves to search behind the match found, if there is one
+abbrev pub ServedBehind : Written → List ℕ → ℕ → Option (ℕ × ℕ) → Behind → Type 0
+ServedBehind e w r found b = IsKept e w r b × IfSome found (λ f. Reaches (length w) f.1 b)
+
 -- there is room for texts of so many bytes and expressions of so many nodes
 pub record HasBehind (text nodes : ℕ) (b : Behind) : Type 0 where
   pub places : text < length b.begins
@@ -85,6 +94,14 @@ pub record HasBehind (text nodes : ℕ) (b : Behind) : Type 0 where
 -- there is as much room as before
 abbrev pub KeepsBehind : Behind → Behind → Type 0
 KeepsBehind old new = (text nodes : ℕ) → HasBehind text nodes old → HasBehind text nodes new
+
+-- there is room for both passes, over an expression of m nodes and a text of n bytes
+abbrev pub FitsPasses : ℕ → ℕ → Sets → Behind → Type 0
+FitsPasses m n s b = Fits m n s × HasBehind n m b
+
+-- there is as much room for both passes as before
+abbrev pub KeepsPasses : Sets → Sets → Behind → Behind → Type 0
+KeepsPasses old_sets new_sets old new = SameMarks old_sets new_sets × KeepsBehind old new
 
 -- the end of the match, or the start where there is none
 abbrev pub met_to : ℕ → Option ℕ → ℕ

@@ -8,11 +8,12 @@
 //! beginning to its end, so that each block is made twice in all.
 ghost use Rattle.std.specs.Prelude.{◌≡◌, ℕ, [], ◌+◌, ◌-◌, ◌*◌, ◌^◌, ◌<◌, ◌≤◌, ◌↔◌, length, IsTrue, IfSome, IfOk, true, false, slice_index_or, Option, Some, if◌then◌else◌};
 ghost use Rattle.sedre.specs.Arena.{tree};
+ghost use Rattle.sedmatch.specs.Costs.{Pays};
 ghost use Rattle.sedmatch.specs.Fits.{Fits, SameMarks};
 ghost use Rattle.sedmatch.specs.Local.{takes_next};
 ghost use Rattle.sedmatch.specs.Words.{row_of};
 ghost use Rattle.sedmatch.specs.Reach.{Longest, TellBegun, TellEntered, one_start};
-ghost use Rattle.sedmatch.specs.Meet.{MeetsBelow, GoesOnFrom, RowsTell, EdgesTell, MarkTells, BlockTells, HasKept, IsKept, Reaches, HasBehind, KeepsBehind, low_of, met_to, begin_to, end_to, blocks_cost};
+ghost use Rattle.sedmatch.specs.Meet.{MeetsBelow, GoesOnFrom, RowsTell, EdgesTell, MarkTells, BlockTells, HasKept, IsKept, HasBehind, FitsPasses, KeepsBehind, KeepsPasses, Served, ServedBehind, low_of, met_to, begin_to, end_to, blocks_cost};
 ghost use Rattle.sedmatch.specs.Occurrences.{next_span, unless_null_at};
 ghost use Rattle.sedmatch.specs.Search.{starts_to};
 ghost use Rattle.sedmatch.specs.Cuts.{LeastFrom};
@@ -376,23 +377,17 @@ fn goes_on(
     steps: &mut Steps,
 ) -> bool
     requires root { root + 1 ≡ length expr.now.nodes }
-    requires start { start ≤ place }
-    requires place { place ≤ length text.now }
-    requires fits { Fits (length expr.now.nodes) (length text.now) sets.old }
-    requires behind_fits { HasBehind (length text.now) (length expr.now.nodes) behind.old }
-    requires all { IsKept expr.now text.now root behind.old }
-    requires reaches { Reaches (length text.now) place behind.old }
+    requires place { (start ≤ place) × (place ≤ length text.now) }
+    requires fits { FitsPasses (length expr.now.nodes) (length text.now) sets.old behind.old }
+    requires served { Served expr.now text.now root place behind.old }
     requires begun { TellBegun expr.now.nodes text.now root (one_start start) place sets.old.entered }
     requires room { steps.old < 2 ^ 114 }
-    ensures marks { SameMarks sets.old sets.new }
+    ensures kept { KeepsPasses sets.old sets.new behind.old behind.new }
     ensures entered { sets.new.entered ≡ sets.old.entered }
-    ensures kept { KeepsBehind behind.old behind.new }
-    ensures all { IsKept expr.now text.now root behind.new }
-    ensures reaches { Reaches (length text.now) place behind.new }
+    ensures served { Served expr.now text.now root place behind.new }
     ensures goes { IsTrue result ↔ GoesOnFrom expr.now.nodes text.now root start place }
-    ensures grows { steps.old ≤ steps.new }
     ensures cost { let m = length expr.now.nodes in
-        steps.new + blocks_cost m behind.new ≤ steps.old + blocks_cost m behind.old + 4 * m + 1 }
+        Pays steps.old steps.new (blocks_cost m behind.old + 4 * m + 1) (blocks_cost m behind.new) }
 {
     let _count = expr.nodes();
     if place >= text.len() {
@@ -418,15 +413,11 @@ fn longest_met(
 ) -> Option<usize>
     requires root { root + 1 ≡ length expr.now.nodes }
     requires start { start ≤ length text.now }
-    requires fits { Fits (length expr.now.nodes) (length text.now) sets.old }
-    requires behind_fits { HasBehind (length text.now) (length expr.now.nodes) behind.old }
-    requires all { IsKept expr.now text.now root behind.old }
-    requires reaches { Reaches (length text.now) start behind.old }
+    requires fits { FitsPasses (length expr.now.nodes) (length text.now) sets.old behind.old }
+    requires served { Served expr.now text.now root start behind.old }
     requires room { steps.old < 2 ^ 113 }
-    ensures marks { SameMarks sets.old sets.new }
-    ensures kept { KeepsBehind behind.old behind.new }
-    ensures all { IsKept expr.now text.now root behind.new }
-    ensures reaches { Reaches (length text.now) (met_to start result) behind.new }
+    ensures kept { KeepsPasses sets.old sets.new behind.old behind.new }
+    ensures served { Served expr.now text.now root (met_to start result) behind.new }
     ensures longest { Longest (tree expr.now) text.now start result }
     ensures lies { IfSome result (λ end. (start ≤ end) × (end ≤ length text.now)) }
     ensures grows { steps.old ≤ steps.new }
@@ -493,15 +484,11 @@ fn next_met(
 ) -> Option<(usize, usize)>
     requires root { root + 1 ≡ length expr.now.nodes }
     requires from { from ≤ length text.now }
-    requires fits { Fits (length expr.now.nodes) (length text.now) sets.old }
-    requires behind_fits { HasBehind (length text.now) (length expr.now.nodes) behind.old }
-    requires all { IsKept expr.now text.now root behind.old }
-    requires reaches { Reaches (length text.now) from behind.old }
+    requires fits { FitsPasses (length expr.now.nodes) (length text.now) sets.old behind.old }
+    requires served { Served expr.now text.now root from behind.old }
     requires room { steps.old < 2 ^ 112 }
-    ensures marks { SameMarks sets.old sets.new }
-    ensures kept { KeepsBehind behind.old behind.new }
-    ensures all { IsKept expr.now text.now root behind.new }
-    ensures reaches { IfSome result (λ f. Reaches (length text.now) f.1 behind.new) }
+    ensures kept { KeepsPasses sets.old sets.new behind.old behind.new }
+    ensures served { ServedBehind expr.now text.now root result behind.new }
     ensures next { result ≡ found (tree expr.now) text.now from }
     ensures lies { IfSome result (λ f. (from ≤ f.0) × (f.0 ≤ f.1) × (f.1 ≤ length text.now)) }
     ensures grows { steps.old ≤ steps.new }
@@ -531,14 +518,11 @@ pub fn next_behind(
 ) -> Option<(usize, usize)>
     requires root { root + 1 ≡ length expr.now.nodes }
     requires at { at ≤ length text.now }
-    requires fits { Fits (length expr.now.nodes) (length text.now) sets.old }
-    requires behind_fits { HasBehind (length text.now) (length expr.now.nodes) behind.old }
-    requires all { IsKept expr.now text.now root behind.old }
-    requires reaches { Reaches (length text.now) at behind.old }
+    requires fits { FitsPasses (length expr.now.nodes) (length text.now) sets.old behind.old }
+    requires served { Served expr.now text.now root at behind.old }
     requires room { steps.old < 2 ^ 110 }
-    ensures marks { SameMarks sets.old sets.new }
-    ensures kept { KeepsBehind behind.old behind.new }
-    ensures served { IfSome result (λ f. IsKept expr.now text.now root behind.new × Reaches (length text.now) f.1 behind.new) }
+    ensures kept { KeepsPasses sets.old sets.new behind.old behind.new }
+    ensures served { IfSome result (λ f. Served expr.now text.now root f.1 behind.new) }
     ensures next { result ≡ next_span (found (tree expr.now) text.now) (length text.now) (Some at) }
     ensures lies { IfSome result (λ f. (at ≤ f.0) × (at < f.1) × (f.0 ≤ f.1) × (f.1 ≤ length text.now)) }
     ensures grows { steps.old ≤ steps.new }
