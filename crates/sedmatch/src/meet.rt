@@ -13,7 +13,7 @@ ghost use Rattle.sedmatch.specs.Fits.{Fits, SameMarks};
 ghost use Rattle.sedmatch.specs.Local.{takes_next};
 ghost use Rattle.sedmatch.specs.Words.{row_of};
 ghost use Rattle.sedmatch.specs.Reach.{Longest, TellBegun, TellEntered, one_start};
-ghost use Rattle.sedmatch.specs.Meet.{MeetsBelow, GoesOnFrom, RowsTell, EdgesTell, MarkTells, BlockTells, HasKept, IsKept, HasBehind, FitsPasses, KeepsBehind, KeepsPasses, Served, ServedBehind, low_of, met_to, begin_to, end_to, blocks_cost};
+ghost use Rattle.sedmatch.specs.Meet.{MeetsBelow, GoesOnFrom, CameTo, PassTells, MarksGrow, BlockTells, HasKept, IsKept, Served, ServedBehind, HasBehind, FitsBehind, FitsPasses, FitsRows, SameShape, KeepsBehind, KeepsPasses, HasPlace, TurnsTo, BlockTakes, low_of, met_to, begin_to, end_to, blocks_cost};
 ghost use Rattle.sedmatch.specs.Occurrences.{next_span, unless_null_at};
 ghost use Rattle.sedmatch.specs.Search.{starts_to};
 ghost use Rattle.sedmatch.specs.Cuts.{LeastFrom};
@@ -107,24 +107,16 @@ fn pass_places(
     steps: &mut Steps,
 )
     requires root { root + 1 ≡ length nodes.now.nodes }
-    requires order { from ≤ to }
-    requires inside { to ≤ length bytes.now + 1 }
+    requires places { (from ≤ to) × (to ≤ length bytes.now + 1) }
     requires fits { Fits (length nodes.now.nodes) (length bytes.now) sets.old }
     requires entered { TellEntered nodes.now.nodes bytes.now root (starts_to 0 (length bytes.now)) from sets.old.entered }
-    requires rows_there { to ≤ from + length rows.old }
-    requires rows_fit { (q : ℕ) → q < length rows.old → root + 1 ≤ length (row_of rows.old q) }
-    requires begins_there { length bytes.now < length begins.old }
+    requires there { FitsRows (length bytes.now) root from to rows.old begins.old }
     requires room { steps.old < 2 ^ 116 }
     ensures marks { SameMarks sets.old sets.new }
-    ensures rows_len { length rows.new ≡ length rows.old }
-    ensures rows_lens { (q : ℕ) → q < length rows.old → length (row_of rows.new q) ≡ length (row_of rows.old q) }
-    ensures begins_len { length begins.new ≡ length begins.old }
-    ensures rows { RowsTell nodes.now.nodes bytes.now root from to rows.new }
-    ensures begins { (q : ℕ) → from ≤ q → q < to → MarkTells nodes.now.nodes bytes.now root begins.new q }
-    ensures others { (q : ℕ) → MarkTells nodes.now.nodes bytes.now root begins.old q → MarkTells nodes.now.nodes bytes.now root begins.new q }
+    ensures shape { SameShape rows.old rows.new begins.old begins.new }
+    ensures tells { PassTells nodes.now.nodes bytes.now root from to rows.new begins.old begins.new }
     ensures entered { TellEntered nodes.now.nodes bytes.now root (starts_to 0 (length bytes.now)) to sets.new.entered }
-    ensures grows { steps.old ≤ steps.new }
-    ensures cost { let m = length nodes.now.nodes in steps.new + 22 * m * from ≤ steps.old + 22 * m * to }
+    ensures cost { let m = length nodes.now.nodes in Pays steps.old steps.new (22 * m * to) (22 * m * from) }
 {
     let _count = nodes.nodes();
     let starts = Starts {
@@ -148,25 +140,17 @@ fn make_block(
     steps: &mut Steps,
 )
     requires root { root + 1 ≡ length nodes.now.nodes }
-    requires few { length nodes.now.nodes ≤ 65536 }
-    requires short { length bytes.now ≤ 2 ^ 30 }
-    requires fits { HasBehind (length bytes.now) (length nodes.now.nodes) behind.old }
+    requires fits { FitsBehind (length nodes.now.nodes) (length bytes.now) behind.old }
     requires inside { behind.old.width * block ≤ length bytes.now }
     requires entered { TellEntered nodes.now.nodes bytes.now root (starts_to 0 (length bytes.now)) (behind.old.width * block) behind.old.sets.entered }
     requires room { steps.old < 2 ^ 116 }
-    ensures kept { KeepsBehind behind.old behind.new }
-    ensures width { behind.new.width ≡ behind.old.width }
-    ensures block { behind.new.block ≡ block }
+    ensures turns { TurnsTo block behind.old behind.new }
     ensures edges { behind.new.edges ≡ behind.old.edges }
     ensures rows { BlockTells nodes.now.nodes bytes.now root behind.new }
-    ensures begins { (q : ℕ) → low_of behind.new ≤ q → q < low_of behind.new + behind.new.width → q ≤ length bytes.now → MarkTells nodes.now.nodes bytes.now root behind.new.begins q }
-    ensures others { (q : ℕ) → MarkTells nodes.now.nodes bytes.now root behind.old.begins q → MarkTells nodes.now.nodes bytes.now root behind.new.begins q }
+    ensures begins { MarksGrow nodes.now.nodes bytes.now root (low_of behind.new) (low_of behind.new + behind.new.width) behind.old.begins behind.new.begins }
     ensures entered { low_of behind.new + behind.new.width ≤ length bytes.now →
         TellEntered nodes.now.nodes bytes.now root (starts_to 0 (length bytes.now)) (low_of behind.new + behind.new.width) behind.new.sets.entered }
-    ensures grows { steps.old ≤ steps.new }
-    ensures cost { steps.new ≤ steps.old + 22 * length nodes.now.nodes * behind.new.width }
-    ensures rest_cost { let m = length nodes.now.nodes in
-        steps.new + 22 * m * low_of behind.new ≤ steps.old + 22 * m * (length bytes.now + 1) }
+    ensures cost { BlockTakes (length nodes.now.nodes) (length bytes.now) behind.new steps.old steps.new 0 }
 {
     let from = behind.width * block;
     let to = block_end(from, behind.width, bytes.len());
@@ -194,26 +178,14 @@ fn keep_block(
     steps: &mut Steps,
 )
     requires root { root + 1 ≡ length nodes.now.nodes }
-    requires few { length nodes.now.nodes ≤ 65536 }
-    requires short { length bytes.now ≤ 2 ^ 30 }
-    requires fits { HasBehind (length bytes.now) (length nodes.now.nodes) behind.old }
+    requires fits { FitsBehind (length nodes.now.nodes) (length bytes.now) behind.old }
     requires inside { behind.old.width * block ≤ length bytes.now }
-    requires entered { TellEntered nodes.now.nodes bytes.now root (starts_to 0 (length bytes.now)) (behind.old.width * block) behind.old.sets.entered }
-    requires edges { EdgesTell nodes.now.nodes bytes.now root behind.old.width block behind.old.edges }
-    requires begins { (q : ℕ) → q < behind.old.width * block → MarkTells nodes.now.nodes bytes.now root behind.old.begins q }
+    requires came { CameTo nodes.now.nodes bytes.now root block behind.old }
     requires room { steps.old < 2 ^ 115 }
-    ensures kept { KeepsBehind behind.old behind.new }
-    ensures width { behind.new.width ≡ behind.old.width }
-    ensures block { behind.new.block ≡ block }
-    ensures edges { EdgesTell nodes.now.nodes bytes.now root behind.new.width (block + 1) behind.new.edges }
+    ensures turns { TurnsTo block behind.old behind.new }
+    ensures came { CameTo nodes.now.nodes bytes.now root (block + 1) behind.new }
     ensures rows { BlockTells nodes.now.nodes bytes.now root behind.new }
-    ensures begins { (q : ℕ) → q < low_of behind.new + behind.new.width → q ≤ length bytes.now → MarkTells nodes.now.nodes bytes.now root behind.new.begins q }
-    ensures entered { low_of behind.new + behind.new.width ≤ length bytes.now →
-        TellEntered nodes.now.nodes bytes.now root (starts_to 0 (length bytes.now)) (low_of behind.new + behind.new.width) behind.new.sets.entered }
-    ensures grows { steps.old ≤ steps.new }
-    ensures cost { let m = length nodes.now.nodes in steps.new ≤ steps.old + m + 22 * m * behind.new.width }
-    ensures rest_cost { let m = length nodes.now.nodes in
-        steps.new + 22 * m * low_of behind.new ≤ steps.old + m + 22 * m * (length bytes.now + 1) }
+    ensures cost { let m = length nodes.now.nodes in BlockTakes m (length bytes.now) behind.new steps.old steps.new m }
 {
     behind
         .edges
@@ -272,15 +244,11 @@ fn remake(
     steps: &mut Steps,
 )
     requires root { root + 1 ≡ length nodes.now.nodes }
-    requires few { length nodes.now.nodes ≤ 65536 }
-    requires short { length bytes.now ≤ 2 ^ 30 }
-    requires fits { HasBehind (length bytes.now) (length nodes.now.nodes) behind.old }
+    requires fits { FitsBehind (length nodes.now.nodes) (length bytes.now) behind.old }
     requires all { HasKept nodes.now.nodes bytes.now root behind.old }
     requires inside { behind.old.width * block ≤ length bytes.now }
     requires room { steps.old < 2 ^ 115 }
-    ensures kept { KeepsBehind behind.old behind.new }
-    ensures width { behind.new.width ≡ behind.old.width }
-    ensures block { behind.new.block ≡ block }
+    ensures turns { TurnsTo block behind.old behind.new }
     ensures all { HasKept nodes.now.nodes bytes.now root behind.new }
     ensures grows { steps.old ≤ steps.new }
     ensures cost { let m = length nodes.now.nodes in steps.new ≤ steps.old + m + 22 * m * behind.new.width }
@@ -301,17 +269,14 @@ fn bring(
     steps: &mut Steps,
 )
     requires root { root + 1 ≡ length expr.now.nodes }
-    requires few { length expr.now.nodes ≤ 65536 }
-    requires short { length text.now ≤ 2 ^ 30 }
-    requires fits { HasBehind (length text.now) (length expr.now.nodes) behind.old }
+    requires fits { FitsBehind (length expr.now.nodes) (length text.now) behind.old }
     requires all { IsKept expr.now text.now root behind.old }
     requires inside { place ≤ length text.now }
     requires before { place < low_of behind.old + behind.old.width }
     requires room { steps.old < 2 ^ 115 }
     ensures kept { KeepsBehind behind.old behind.new }
     ensures all { IsKept expr.now text.now root behind.new }
-    ensures low { low_of behind.new ≤ place }
-    ensures high { place < low_of behind.new + behind.new.width }
+    ensures here { HasPlace place behind.new }
     ensures grows { steps.old ≤ steps.new }
     ensures cost { let m = length expr.now.nodes in
         steps.new + blocks_cost m behind.new ≤ steps.old + blocks_cost m behind.old }
