@@ -6,8 +6,8 @@ pub mod Matching
 pub mod Bytes
 pub mod Room
 pub mod Words
-pub mod Fits
 pub mod Costs
+pub mod Fits
 pub mod Local
 pub mod Reach
 pub mod Places

@@ -1,6 +1,6 @@
 -- Where a pass forwards and a pass from the text's end meet, and what is kept of the latter. What `RoomFor` and `Serves` say
 -- stands here: `Occurrences::begin` gives it, and callers hand it on from call to call, so that nobody has to read it.
-use Rattle.std.specs.Prelude.{◌≡◌, ◌↔◌, ℕ, ◌+◌, ◌-◌, ◌*◌, ◌<◌, ◌≤◌, Bool, true, false, List, length, reverse, slice_get, slice_index_or, Option, Some, None, IsTrue}
+use Rattle.std.specs.Prelude.{◌≡◌, ◌↔◌, ℕ, ◌+◌, ◌-◌, ◌*◌, ◌^◌, ◌<◌, ◌≤◌, Bool, true, false, List, length, reverse, slice_get, slice_index_or, Option, Some, None, IfSome, IsTrue}
 use Rattle.sedre.specs.Tree.{Tree}
 use Rattle.sedre.specs.Arena.{Written}
 use Rattle.sedre.specs.Mirror.{seen}
@@ -8,7 +8,8 @@ use Rattle.sedre.specs.declared.types.Node.{Node}
 use Rattle.sedre.specs.declared.types.Node.TheVariants.{Set}
 use Rattle.sedmatch.specs.declared.passes.Starts.{Starts}
 use Rattle.sedmatch.specs.declared.meet.Behind.{Behind}
-use Rattle.sedmatch.specs.Fits.{FitsNodes}
+use Rattle.sedmatch.specs.declared.scratch.Sets.{Sets}
+use Rattle.sedmatch.specs.Fits.{Fits, FitsNodes, SameMarks}
 use Rattle.sedmatch.specs.Local.{takes}
 use Rattle.sedmatch.specs.Words.{row_of}
 use Rattle.sedmatch.specs.Reach.{At, IsStart, TellBegun, TellEntered, SomeSpan}
@@ -48,6 +49,19 @@ EdgesTell nodes w r width n edges = (b : ℕ) → b < n → (r < length (row_of 
 abbrev pub MarkTells : List Node → List ℕ → ℕ → List Bool → ℕ → Type 0
 MarkTells nodes w r marks q = IsTrue (slice_index_or marks q false) ↔ SomeSpan nodes w r (starts_to 0 (length w)) q
 
+-- the new marks tell of the places from one up to another, and still of all of which the old ones told
+abbrev pub MarksGrow : List Node → List ℕ → ℕ → ℕ → ℕ → List Bool → List Bool → Type 0
+MarksGrow nodes w r from to old new = ((q : ℕ) → from ≤ q → q < to → q ≤ length w → MarkTells nodes w r new q) × ((q : ℕ) → MarkTells nodes w r old q → MarkTells nodes w r new q)
+
+-- behind a pass over the places from one up to another, rows and marks tell of them
+abbrev pub PassTells : List Node → List ℕ → ℕ → ℕ → ℕ → List (List Bool) → List Bool → List Bool → Type 0
+PassTells nodes w r from to rows old new = RowsTell nodes w r from to rows × MarksGrow nodes w r from to old new
+
+-- a pass has come to the block: edges and marks tell of the blocks before it, and the marks of the pass tell of its first place
+abbrev pub CameTo : List Node → List ℕ → ℕ → ℕ → Behind → Type 0
+CameTo nodes w r block b =
+    EdgesTell nodes w r b.width block b.edges × ((q : ℕ) → q < b.width * block → q ≤ length w → MarkTells nodes w r b.begins q) × (b.width * block ≤ length w → TellEntered nodes w r (starts_to 0 (length w)) (b.width * block) b.sets.entered)
+
 -- the first place of the block whose rows are kept
 abbrev pub low_of : Behind → ℕ
 low_of b = b.width * b.block
@@ -55,6 +69,10 @@ low_of b = b.width * b.block
 -- the rows that are kept tell of the places of the block
 abbrev pub BlockTells : List Node → List ℕ → ℕ → Behind → Type 0
 BlockTells nodes w r b = (q : ℕ) → low_of b ≤ q → q < low_of b + b.width → q ≤ length w → RowTells nodes w r q (row_of b.rows (q - low_of b))
+
+-- the place is one of the block
+abbrev pub HasPlace : ℕ → Behind → Type 0
+HasPlace place b = (low_of b ≤ place) × (place < low_of b + b.width)
 
 -- what is kept of a pass over the whole text, each place a start
 pub record HasKept (nodes : List Node) (w : List ℕ) (r : ℕ) (b : Behind) : Type 0 where
@@ -71,6 +89,14 @@ IsKept e w r b = HasKept (seen true e).nodes (reverse w) r b
 abbrev pub Reaches : ℕ → ℕ → Behind → Type 0
 Reaches n place b = n ≤ place + low_of b + b.width
 
+-- what is kept serves to search from the place on
+abbrev pub Served : Written → List ℕ → ℕ → ℕ → Behind → Type 0
+Served e w r place b = IsKept e w r b × Reaches (length w) place b
+
+-- it is kept, and serves to search behind the match found, if there is one
+abbrev pub ServedBehind : Written → List ℕ → ℕ → Option (ℕ × ℕ) → Behind → Type 0
+ServedBehind e w r found b = IsKept e w r b × IfSome found (λ f. Reaches (length w) f.1 b)
+
 -- there is room for texts of so many bytes and expressions of so many nodes
 pub record HasBehind (text nodes : ℕ) (b : Behind) : Type 0 where
   pub places : text < length b.begins
@@ -85,6 +111,30 @@ pub record HasBehind (text nodes : ℕ) (b : Behind) : Type 0 where
 -- there is as much room as before
 abbrev pub KeepsBehind : Behind → Behind → Type 0
 KeepsBehind old new = (text nodes : ℕ) → HasBehind text nodes old → HasBehind text nodes new
+
+-- the rows that are kept are now for that block; there is as much room as before, and a block is as wide
+abbrev pub TurnsTo : ℕ → Behind → Behind → Type 0
+TurnsTo block old new = KeepsBehind old new × (new.width ≡ old.width) × (new.block ≡ block)
+
+-- there is room for m nodes and a text of n bytes, and neither is larger than it may be
+abbrev pub FitsBehind : ℕ → ℕ → Behind → Type 0
+FitsBehind m n b = HasBehind n m b × (m ≤ 65536) × (n ≤ 2 ^ 30)
+
+-- there are rows of marks up to r for the places from one up to another, and a mark for each place of a text of n bytes
+abbrev pub FitsRows : ℕ → ℕ → ℕ → ℕ → List (List Bool) → List Bool → Type 0
+FitsRows n r from to rows begins = (to ≤ from + length rows) × ((q : ℕ) → q < length rows → r + 1 ≤ length (row_of rows q)) × (n < length begins)
+
+-- there are as many rows as before, each of as many marks, and as many marks beside them
+abbrev pub SameShape : List (List Bool) → List (List Bool) → List Bool → List Bool → Type 0
+SameShape old_rows new_rows old new = (length new_rows ≡ length old_rows) × ((q : ℕ) → q < length old_rows → length (row_of new_rows q) ≡ length (row_of old_rows q)) × (length new ≡ length old)
+
+-- there is room for both passes, over an expression of m nodes and a text of n bytes
+abbrev pub FitsPasses : ℕ → ℕ → Sets → Behind → Type 0
+FitsPasses m n s b = Fits m n s × HasBehind n m b
+
+-- there is as much room for both passes as before
+abbrev pub KeepsPasses : Sets → Sets → Behind → Behind → Type 0
+KeepsPasses old_sets new_sets old new = SameMarks old_sets new_sets × KeepsBehind old new
 
 -- the end of the match, or the start where there is none
 abbrev pub met_to : ℕ → Option ℕ → ℕ
@@ -108,3 +158,8 @@ end_to n (Some f) = f.1
 -- what the blocks before the one whose rows are kept cost at most, for m nodes
 abbrev pub blocks_cost : ℕ → Behind → ℕ
 blocks_cost m b = 24 * m * low_of b
+
+-- The steps grew from s to t: by k at most, and 22 for each of m nodes and each place of the block, and by no more than k and 22 for each
+-- node and each place from the block's first one to the end of a text of n bytes.
+abbrev pub BlockTakes : ℕ → ℕ → Behind → ℕ → ℕ → ℕ → Type 0
+BlockTakes m n b s t k = (s ≤ t) × (t ≤ s + k + 22 * m * b.width) × (t + 22 * m * low_of b ≤ s + k + 22 * m * (n + 1))

@@ -8,11 +8,12 @@
 //! beginning to its end, so that each block is made twice in all.
 ghost use Rattle.std.specs.Prelude.{◌≡◌, ℕ, [], ◌+◌, ◌-◌, ◌*◌, ◌^◌, ◌<◌, ◌≤◌, ◌↔◌, length, IsTrue, IfSome, IfOk, true, false, slice_index_or, Option, Some, if◌then◌else◌};
 ghost use Rattle.sedre.specs.Arena.{tree};
+ghost use Rattle.sedmatch.specs.Costs.{Pays};
 ghost use Rattle.sedmatch.specs.Fits.{Fits, SameMarks};
 ghost use Rattle.sedmatch.specs.Local.{takes_next};
 ghost use Rattle.sedmatch.specs.Words.{row_of};
 ghost use Rattle.sedmatch.specs.Reach.{Longest, TellBegun, TellEntered, one_start};
-ghost use Rattle.sedmatch.specs.Meet.{MeetsBelow, GoesOnFrom, RowsTell, EdgesTell, MarkTells, BlockTells, HasKept, IsKept, Reaches, HasBehind, KeepsBehind, low_of, met_to, begin_to, end_to, blocks_cost};
+ghost use Rattle.sedmatch.specs.Meet.{MeetsBelow, GoesOnFrom, CameTo, PassTells, MarksGrow, BlockTells, HasKept, IsKept, Served, ServedBehind, HasBehind, FitsBehind, FitsPasses, FitsRows, SameShape, KeepsBehind, KeepsPasses, HasPlace, TurnsTo, BlockTakes, low_of, met_to, begin_to, end_to, blocks_cost};
 ghost use Rattle.sedmatch.specs.Occurrences.{next_span, unless_null_at};
 ghost use Rattle.sedmatch.specs.Search.{starts_to};
 ghost use Rattle.sedmatch.specs.Cuts.{LeastFrom};
@@ -106,24 +107,16 @@ fn pass_places(
     steps: &mut Steps,
 )
     requires root { root + 1 ≡ length nodes.now.nodes }
-    requires order { from ≤ to }
-    requires inside { to ≤ length bytes.now + 1 }
+    requires places { (from ≤ to) × (to ≤ length bytes.now + 1) }
     requires fits { Fits (length nodes.now.nodes) (length bytes.now) sets.old }
     requires entered { TellEntered nodes.now.nodes bytes.now root (starts_to 0 (length bytes.now)) from sets.old.entered }
-    requires rows_there { to ≤ from + length rows.old }
-    requires rows_fit { (q : ℕ) → q < length rows.old → root + 1 ≤ length (row_of rows.old q) }
-    requires begins_there { length bytes.now < length begins.old }
+    requires there { FitsRows (length bytes.now) root from to rows.old begins.old }
     requires room { steps.old < 2 ^ 116 }
     ensures marks { SameMarks sets.old sets.new }
-    ensures rows_len { length rows.new ≡ length rows.old }
-    ensures rows_lens { (q : ℕ) → q < length rows.old → length (row_of rows.new q) ≡ length (row_of rows.old q) }
-    ensures begins_len { length begins.new ≡ length begins.old }
-    ensures rows { RowsTell nodes.now.nodes bytes.now root from to rows.new }
-    ensures begins { (q : ℕ) → from ≤ q → q < to → MarkTells nodes.now.nodes bytes.now root begins.new q }
-    ensures others { (q : ℕ) → MarkTells nodes.now.nodes bytes.now root begins.old q → MarkTells nodes.now.nodes bytes.now root begins.new q }
+    ensures shape { SameShape rows.old rows.new begins.old begins.new }
+    ensures tells { PassTells nodes.now.nodes bytes.now root from to rows.new begins.old begins.new }
     ensures entered { TellEntered nodes.now.nodes bytes.now root (starts_to 0 (length bytes.now)) to sets.new.entered }
-    ensures grows { steps.old ≤ steps.new }
-    ensures cost { let m = length nodes.now.nodes in steps.new + 22 * m * from ≤ steps.old + 22 * m * to }
+    ensures cost { let m = length nodes.now.nodes in Pays steps.old steps.new (22 * m * to) (22 * m * from) }
 {
     let _count = nodes.nodes();
     let starts = Starts {
@@ -147,25 +140,17 @@ fn make_block(
     steps: &mut Steps,
 )
     requires root { root + 1 ≡ length nodes.now.nodes }
-    requires few { length nodes.now.nodes ≤ 65536 }
-    requires short { length bytes.now ≤ 2 ^ 30 }
-    requires fits { HasBehind (length bytes.now) (length nodes.now.nodes) behind.old }
+    requires fits { FitsBehind (length nodes.now.nodes) (length bytes.now) behind.old }
     requires inside { behind.old.width * block ≤ length bytes.now }
     requires entered { TellEntered nodes.now.nodes bytes.now root (starts_to 0 (length bytes.now)) (behind.old.width * block) behind.old.sets.entered }
     requires room { steps.old < 2 ^ 116 }
-    ensures kept { KeepsBehind behind.old behind.new }
-    ensures width { behind.new.width ≡ behind.old.width }
-    ensures block { behind.new.block ≡ block }
+    ensures turns { TurnsTo block behind.old behind.new }
     ensures edges { behind.new.edges ≡ behind.old.edges }
     ensures rows { BlockTells nodes.now.nodes bytes.now root behind.new }
-    ensures begins { (q : ℕ) → low_of behind.new ≤ q → q < low_of behind.new + behind.new.width → q ≤ length bytes.now → MarkTells nodes.now.nodes bytes.now root behind.new.begins q }
-    ensures others { (q : ℕ) → MarkTells nodes.now.nodes bytes.now root behind.old.begins q → MarkTells nodes.now.nodes bytes.now root behind.new.begins q }
+    ensures begins { MarksGrow nodes.now.nodes bytes.now root (low_of behind.new) (low_of behind.new + behind.new.width) behind.old.begins behind.new.begins }
     ensures entered { low_of behind.new + behind.new.width ≤ length bytes.now →
         TellEntered nodes.now.nodes bytes.now root (starts_to 0 (length bytes.now)) (low_of behind.new + behind.new.width) behind.new.sets.entered }
-    ensures grows { steps.old ≤ steps.new }
-    ensures cost { steps.new ≤ steps.old + 22 * length nodes.now.nodes * behind.new.width }
-    ensures rest_cost { let m = length nodes.now.nodes in
-        steps.new + 22 * m * low_of behind.new ≤ steps.old + 22 * m * (length bytes.now + 1) }
+    ensures cost { BlockTakes (length nodes.now.nodes) (length bytes.now) behind.new steps.old steps.new 0 }
 {
     let from = behind.width * block;
     let to = block_end(from, behind.width, bytes.len());
@@ -193,26 +178,14 @@ fn keep_block(
     steps: &mut Steps,
 )
     requires root { root + 1 ≡ length nodes.now.nodes }
-    requires few { length nodes.now.nodes ≤ 65536 }
-    requires short { length bytes.now ≤ 2 ^ 30 }
-    requires fits { HasBehind (length bytes.now) (length nodes.now.nodes) behind.old }
+    requires fits { FitsBehind (length nodes.now.nodes) (length bytes.now) behind.old }
     requires inside { behind.old.width * block ≤ length bytes.now }
-    requires entered { TellEntered nodes.now.nodes bytes.now root (starts_to 0 (length bytes.now)) (behind.old.width * block) behind.old.sets.entered }
-    requires edges { EdgesTell nodes.now.nodes bytes.now root behind.old.width block behind.old.edges }
-    requires begins { (q : ℕ) → q < behind.old.width * block → MarkTells nodes.now.nodes bytes.now root behind.old.begins q }
+    requires came { CameTo nodes.now.nodes bytes.now root block behind.old }
     requires room { steps.old < 2 ^ 115 }
-    ensures kept { KeepsBehind behind.old behind.new }
-    ensures width { behind.new.width ≡ behind.old.width }
-    ensures block { behind.new.block ≡ block }
-    ensures edges { EdgesTell nodes.now.nodes bytes.now root behind.new.width (block + 1) behind.new.edges }
+    ensures turns { TurnsTo block behind.old behind.new }
+    ensures came { CameTo nodes.now.nodes bytes.now root (block + 1) behind.new }
     ensures rows { BlockTells nodes.now.nodes bytes.now root behind.new }
-    ensures begins { (q : ℕ) → q < low_of behind.new + behind.new.width → q ≤ length bytes.now → MarkTells nodes.now.nodes bytes.now root behind.new.begins q }
-    ensures entered { low_of behind.new + behind.new.width ≤ length bytes.now →
-        TellEntered nodes.now.nodes bytes.now root (starts_to 0 (length bytes.now)) (low_of behind.new + behind.new.width) behind.new.sets.entered }
-    ensures grows { steps.old ≤ steps.new }
-    ensures cost { let m = length nodes.now.nodes in steps.new ≤ steps.old + m + 22 * m * behind.new.width }
-    ensures rest_cost { let m = length nodes.now.nodes in
-        steps.new + 22 * m * low_of behind.new ≤ steps.old + m + 22 * m * (length bytes.now + 1) }
+    ensures cost { let m = length nodes.now.nodes in BlockTakes m (length bytes.now) behind.new steps.old steps.new m }
 {
     behind
         .edges
@@ -271,15 +244,11 @@ fn remake(
     steps: &mut Steps,
 )
     requires root { root + 1 ≡ length nodes.now.nodes }
-    requires few { length nodes.now.nodes ≤ 65536 }
-    requires short { length bytes.now ≤ 2 ^ 30 }
-    requires fits { HasBehind (length bytes.now) (length nodes.now.nodes) behind.old }
+    requires fits { FitsBehind (length nodes.now.nodes) (length bytes.now) behind.old }
     requires all { HasKept nodes.now.nodes bytes.now root behind.old }
     requires inside { behind.old.width * block ≤ length bytes.now }
     requires room { steps.old < 2 ^ 115 }
-    ensures kept { KeepsBehind behind.old behind.new }
-    ensures width { behind.new.width ≡ behind.old.width }
-    ensures block { behind.new.block ≡ block }
+    ensures turns { TurnsTo block behind.old behind.new }
     ensures all { HasKept nodes.now.nodes bytes.now root behind.new }
     ensures grows { steps.old ≤ steps.new }
     ensures cost { let m = length nodes.now.nodes in steps.new ≤ steps.old + m + 22 * m * behind.new.width }
@@ -300,17 +269,14 @@ fn bring(
     steps: &mut Steps,
 )
     requires root { root + 1 ≡ length expr.now.nodes }
-    requires few { length expr.now.nodes ≤ 65536 }
-    requires short { length text.now ≤ 2 ^ 30 }
-    requires fits { HasBehind (length text.now) (length expr.now.nodes) behind.old }
+    requires fits { FitsBehind (length expr.now.nodes) (length text.now) behind.old }
     requires all { IsKept expr.now text.now root behind.old }
     requires inside { place ≤ length text.now }
     requires before { place < low_of behind.old + behind.old.width }
     requires room { steps.old < 2 ^ 115 }
     ensures kept { KeepsBehind behind.old behind.new }
     ensures all { IsKept expr.now text.now root behind.new }
-    ensures low { low_of behind.new ≤ place }
-    ensures high { place < low_of behind.new + behind.new.width }
+    ensures here { HasPlace place behind.new }
     ensures grows { steps.old ≤ steps.new }
     ensures cost { let m = length expr.now.nodes in
         steps.new + blocks_cost m behind.new ≤ steps.old + blocks_cost m behind.old }
@@ -376,23 +342,17 @@ fn goes_on(
     steps: &mut Steps,
 ) -> bool
     requires root { root + 1 ≡ length expr.now.nodes }
-    requires start { start ≤ place }
-    requires place { place ≤ length text.now }
-    requires fits { Fits (length expr.now.nodes) (length text.now) sets.old }
-    requires behind_fits { HasBehind (length text.now) (length expr.now.nodes) behind.old }
-    requires all { IsKept expr.now text.now root behind.old }
-    requires reaches { Reaches (length text.now) place behind.old }
+    requires place { (start ≤ place) × (place ≤ length text.now) }
+    requires fits { FitsPasses (length expr.now.nodes) (length text.now) sets.old behind.old }
+    requires served { Served expr.now text.now root place behind.old }
     requires begun { TellBegun expr.now.nodes text.now root (one_start start) place sets.old.entered }
     requires room { steps.old < 2 ^ 114 }
-    ensures marks { SameMarks sets.old sets.new }
+    ensures kept { KeepsPasses sets.old sets.new behind.old behind.new }
     ensures entered { sets.new.entered ≡ sets.old.entered }
-    ensures kept { KeepsBehind behind.old behind.new }
-    ensures all { IsKept expr.now text.now root behind.new }
-    ensures reaches { Reaches (length text.now) place behind.new }
+    ensures served { Served expr.now text.now root place behind.new }
     ensures goes { IsTrue result ↔ GoesOnFrom expr.now.nodes text.now root start place }
-    ensures grows { steps.old ≤ steps.new }
     ensures cost { let m = length expr.now.nodes in
-        steps.new + blocks_cost m behind.new ≤ steps.old + blocks_cost m behind.old + 4 * m + 1 }
+        Pays steps.old steps.new (blocks_cost m behind.old + 4 * m + 1) (blocks_cost m behind.new) }
 {
     let _count = expr.nodes();
     if place >= text.len() {
@@ -418,15 +378,11 @@ fn longest_met(
 ) -> Option<usize>
     requires root { root + 1 ≡ length expr.now.nodes }
     requires start { start ≤ length text.now }
-    requires fits { Fits (length expr.now.nodes) (length text.now) sets.old }
-    requires behind_fits { HasBehind (length text.now) (length expr.now.nodes) behind.old }
-    requires all { IsKept expr.now text.now root behind.old }
-    requires reaches { Reaches (length text.now) start behind.old }
+    requires fits { FitsPasses (length expr.now.nodes) (length text.now) sets.old behind.old }
+    requires served { Served expr.now text.now root start behind.old }
     requires room { steps.old < 2 ^ 113 }
-    ensures marks { SameMarks sets.old sets.new }
-    ensures kept { KeepsBehind behind.old behind.new }
-    ensures all { IsKept expr.now text.now root behind.new }
-    ensures reaches { Reaches (length text.now) (met_to start result) behind.new }
+    ensures kept { KeepsPasses sets.old sets.new behind.old behind.new }
+    ensures served { Served expr.now text.now root (met_to start result) behind.new }
     ensures longest { Longest (tree expr.now) text.now start result }
     ensures lies { IfSome result (λ end. (start ≤ end) × (end ≤ length text.now)) }
     ensures grows { steps.old ≤ steps.new }
@@ -493,15 +449,11 @@ fn next_met(
 ) -> Option<(usize, usize)>
     requires root { root + 1 ≡ length expr.now.nodes }
     requires from { from ≤ length text.now }
-    requires fits { Fits (length expr.now.nodes) (length text.now) sets.old }
-    requires behind_fits { HasBehind (length text.now) (length expr.now.nodes) behind.old }
-    requires all { IsKept expr.now text.now root behind.old }
-    requires reaches { Reaches (length text.now) from behind.old }
+    requires fits { FitsPasses (length expr.now.nodes) (length text.now) sets.old behind.old }
+    requires served { Served expr.now text.now root from behind.old }
     requires room { steps.old < 2 ^ 112 }
-    ensures marks { SameMarks sets.old sets.new }
-    ensures kept { KeepsBehind behind.old behind.new }
-    ensures all { IsKept expr.now text.now root behind.new }
-    ensures reaches { IfSome result (λ f. Reaches (length text.now) f.1 behind.new) }
+    ensures kept { KeepsPasses sets.old sets.new behind.old behind.new }
+    ensures served { ServedBehind expr.now text.now root result behind.new }
     ensures next { result ≡ found (tree expr.now) text.now from }
     ensures lies { IfSome result (λ f. (from ≤ f.0) × (f.0 ≤ f.1) × (f.1 ≤ length text.now)) }
     ensures grows { steps.old ≤ steps.new }
@@ -531,14 +483,11 @@ pub fn next_behind(
 ) -> Option<(usize, usize)>
     requires root { root + 1 ≡ length expr.now.nodes }
     requires at { at ≤ length text.now }
-    requires fits { Fits (length expr.now.nodes) (length text.now) sets.old }
-    requires behind_fits { HasBehind (length text.now) (length expr.now.nodes) behind.old }
-    requires all { IsKept expr.now text.now root behind.old }
-    requires reaches { Reaches (length text.now) at behind.old }
+    requires fits { FitsPasses (length expr.now.nodes) (length text.now) sets.old behind.old }
+    requires served { Served expr.now text.now root at behind.old }
     requires room { steps.old < 2 ^ 110 }
-    ensures marks { SameMarks sets.old sets.new }
-    ensures kept { KeepsBehind behind.old behind.new }
-    ensures served { IfSome result (λ f. IsKept expr.now text.now root behind.new × Reaches (length text.now) f.1 behind.new) }
+    ensures kept { KeepsPasses sets.old sets.new behind.old behind.new }
+    ensures served { IfSome result (λ f. Served expr.now text.now root f.1 behind.new) }
     ensures next { result ≡ next_span (found (tree expr.now) text.now) (length text.now) (Some at) }
     ensures lies { IfSome result (λ f. (at ≤ f.0) × (at < f.1) × (f.0 ≤ f.1) × (f.1 ≤ length text.now)) }
     ensures grows { steps.old ≤ steps.new }

@@ -12,7 +12,7 @@ use Rattle.sedmatch.proofs.meet.goes_on.Goals as goal
 pub returns-then-place-len-clause-goes : goal.returns-then-place-len-clause-goes
 returns-then-place-len-clause-goes c = (
   λ h. absurd (true≢false (sym h)),
-  λ h. absurd (goes_end c.args.expr.now.nodes c.args.text.now c.args.root c.args.start c.args.place (omega (arith, c.requires.start, c.requires.place)) (omega arith) h),
+  λ h. absurd (goes_end c.args.expr.now.nodes c.args.text.now c.args.root c.args.start c.args.place (omega (arith, c.requires.place)) (omega arith) h),
 )
 
 pub returns-clause-goes : goal.returns-clause-goes
@@ -23,8 +23,8 @@ returns-clause-goes c =
     let q = c.len-2.result - c.args.place - 1 in
     let behind = c.bring.new.behind in
     let sum : c.args.place + 1 + q ≡ length w = omega arith in
-    let row = c.bring.ensures.all.block q c.bring.ensures.low c.bring.ensures.high (omega (arith, length-reverse w)) in
+    let row = c.bring.ensures.all.block q c.bring.ensures.here.0 c.bring.ensures.here.1 (omega (arith, length-reverse w)) in
     let told : TellBegun (seen true e).nodes (reverse w) root (starts_to 0 (length (reverse w))) q c.load.new.marks =
     same_told (root + 1) (row_of behind.rows (q - low_of behind)) c.load.new.marks (λ x. Enters (seen true e).nodes (reverse w) root (starts_to 0 (length (reverse w))) x q) c.load.ensures.same row.1 in
     goes_met e w root c.args.start c.args.place q c.byte-next.result c.args.sets.now.entered c.load.new.marks c.meets.result
-    c.nodes-count.ensures.arena (omega (arith, c.requires.root)) c.requires.start sum c.byte-next.ensures.byte c.requires.begun told c.meets.ensures.meets
+    c.nodes-count.ensures.arena (omega (arith, c.requires.root)) c.requires.place.0 sum c.byte-next.ensures.byte c.requires.begun told c.meets.ensures.meets

@@ -10,10 +10,10 @@ use Rattle.sedmatch.proofs.meet.longest_met.Goals as goal
 pub loop-place-init : goal.loop-place-init
 loop-place-init c = record {
   marks = (refl, refl, refl);
-  has = c.requires.behind_fits;
+  has = c.requires.fits.1;
   kept = λ t n h. h;
-  all = c.requires.all;
-  reaches = c.requires.reaches;
+  all = c.requires.served.0;
+  reaches = c.requires.served.1;
   grows = omega arith;
   cost = omega arith;
   entered = clear_entered c.args.expr.now.nodes c.args.text.now c.args.root (one_start c.args.start) c.nodes-count.ensures.arena c.clear.new.self c.args.start refl (λ n below. c.clear.ensures.clear n (omega arith));
@@ -23,7 +23,10 @@ loop-place-init c = record {
 }
 
 pub returns-then-not-goes_on-clause-kept : goal.returns-then-not-goes_on-clause-kept
-returns-then-not-goes_on-clause-kept c text nodes has = c.goes_on.ensures.kept text nodes (c.loop-place.invariant.kept text nodes has)
+returns-then-not-goes_on-clause-kept c = (
+  (omega arith, omega arith, omega arith),
+  λ text nodes has. c.goes_on.ensures.kept.1 text nodes (c.loop-place.invariant.kept text nodes has),
+)
 
 pub returns-then-not-goes_on-clause-longest : goal.returns-then-not-goes_on-clause-longest
 returns-then-not-goes_on-clause-longest c =
@@ -39,8 +42,8 @@ returns-then-not-goes_on-clause-longest c =
     ]) in
     best_all nodes w c.args.root start place c.if-here.best c.requires.root (λ h. true≢false (sym (c.goes_on.ensures.goes.1 h) ∙ c.if-not-goes_on.true)) best
 
-pub returns-then-not-goes_on-clause-reaches : goal.returns-then-not-goes_on-clause-reaches
-returns-then-not-goes_on-clause-reaches c =
+pub returns-then-not-goes_on-clause-served : goal.returns-then-not-goes_on-clause-served
+returns-then-not-goes_on-clause-served c =
     let start = c.args.start in
     let place = c.loop-place.place in
     let order : start ≤ place = omega (arith, c.loop-place.auto.place) in
@@ -52,7 +55,7 @@ returns-then-not-goes_on-clause-reaches c =
           let from = met_from start (length c.args.text.now) c.loop-place.best c.loop-place.invariant.lies in
           subst (λ b. place ≤ met_to start b) (sym w.best-is) (omega arith)
     ]) in
-    omega (arith, c.goes_on.ensures.reaches)
+    (c.goes_on.ensures.served.0, omega (arith, c.goes_on.ensures.served.1))
 
 pub returns-then-not-goes_on-clause-cost : goal.returns-then-not-goes_on-clause-cost
 returns-then-not-goes_on-clause-cost c =
@@ -80,10 +83,10 @@ loop-place-preserved c =
     let inv = c.loop-place.invariant in
     record {
       marks = (omega arith, omega arith, omega arith);
-      has = c.goes_on.ensures.kept (length w) (length nodes) inv.has;
-      kept = λ t n h. c.goes_on.ensures.kept t n (inv.kept t n h);
-      all = c.goes_on.ensures.all;
-      reaches = omega (arith, c.goes_on.ensures.reaches);
+      has = c.goes_on.ensures.kept.1 (length w) (length nodes) inv.has;
+      kept = λ t n h. c.goes_on.ensures.kept.1 t n (inv.kept t n h);
+      all = c.goes_on.ensures.served.0;
+      reaches = omega (arith, c.goes_on.ensures.served.1);
       grows = omega arith;
       cost = omega arith;
       entered = subst (λ v. Marked v (Below (root + 1)) (λ x. Entered nodes w root (one_start start) x (place + 1))) (sym c.goes_on.ensures.entered)
@@ -101,8 +104,8 @@ loop-place-preserved c =
       ahead = λ q low is. let same : place ≡ q = omega arith in subst (GoesOnFrom nodes w root start) same (c.goes_on.ensures.goes.0 c.if-not-goes_on.false);
     }
 
-pub returns-clause-reaches : goal.returns-clause-reaches
-returns-clause-reaches c =
+pub returns-clause-served : goal.returns-clause-served
+returns-clause-served c =
     absurd (goes_end c.args.expr.now.nodes c.args.text.now c.args.root c.args.start (length c.args.text.now) c.requires.start (omega arith)
     (c.loop-place.invariant.ahead (length c.args.text.now) c.requires.start (omega arith)))
 

@@ -7,16 +7,22 @@ pub returns-then-not-is_null_at-clause-lies : goal.returns-then-not-is_null_at-c
 returns-then-not-is_null_at-clause-lies c =
     lies_behind c.args.at (length c.args.text.now) c.next_met-first.result c.next_met-first.ensures.lies (c.is_null_at.ensures.behind c.if-not-is_null_at.true)
 
-pub next_met-requires-clause-behind_fits : goal.next_met-requires-clause-behind_fits
-next_met-requires-clause-behind_fits c = c.next_met-first.ensures.kept (length c.args.text.now) (length c.args.expr.now.nodes) c.requires.behind_fits
+pub next_met-requires-clause-fits : goal.next_met-requires-clause-fits
+next_met-requires-clause-fits c = (
+  ((omega arith, omega arith, omega arith), c.requires.fits.0.1, c.requires.fits.0.2),
+  c.next_met-first.ensures.kept.1 (length c.args.text.now) (length c.args.expr.now.nodes) c.requires.fits.1,
+)
 
-pub next_met-requires-clause-reaches : goal.next_met-requires-clause-reaches
-next_met-requires-clause-reaches c =
-    let here = null_reaches c.args.at (λ v. Reaches (length c.args.text.now) v c.next_met-first.new.behind) c.next_met-first.result (c.is_null_at.ensures.null c.if-not-is_null_at.false) c.next_met-first.ensures.reaches in
-    omega (arith, here)
+pub next_met-requires-clause-served : goal.next_met-requires-clause-served
+next_met-requires-clause-served c =
+    let here = null_reaches c.args.at (λ v. Reaches (length c.args.text.now) v c.next_met-first.new.behind) c.next_met-first.result (c.is_null_at.ensures.null c.if-not-is_null_at.false) c.next_met-first.ensures.served.1 in
+    (c.next_met-first.ensures.served.0, omega (arith, here))
 
 pub returns-clause-kept : goal.returns-clause-kept
-returns-clause-kept c text nodes has = c.next_met.ensures.kept text nodes (c.next_met-first.ensures.kept text nodes has)
+returns-clause-kept c = (
+  (omega arith, omega arith, omega arith),
+  λ text nodes has. c.next_met.ensures.kept.1 text nodes (c.next_met-first.ensures.kept.1 text nodes has),
+)
 
 pub returns-clause-cost : goal.returns-clause-cost
 returns-clause-cost c =

@@ -15,10 +15,10 @@ loop-place-preserved c =
     let place = c.loop-place.place in
     let inv = c.loop-place.invariant in
     let low : from ≤ place = omega arith in
-    let there : place - from < length c.loop-place.rows = omega (arith, inv.rows_len, c.requires.rows_there) in
+    let there : place - from < length c.loop-place.rows = omega (arith, inv.rows_len, c.requires.there.0) in
     let wide : root + 1 ≤ length (row_of c.store.new.self (place - from)) =
-    omega (arith, c.store.ensures.lens (place - from) there, inv.rows_lens (place - from) (omega arith), c.requires.rows_fit (place - from) (omega arith)) in
-    let inside : place < length c.loop-place.begins = omega arith in
+    omega (arith, c.store.ensures.lens (place - from) there, inv.rows_lens (place - from) (omega arith), c.requires.there.1 (place - from) (omega arith)) in
+    let inside : place < length c.loop-place.begins = omega (arith, inv.begins_len, c.requires.there.2, c.requires.places.1) in
     let told : TellBegun nodes w root (starts_to 0 (length w)) place c.advance-here.new.sets.entered =
     subst (λ v. TellBegun nodes w root (starts_to 0 v) place c.advance-here.new.sets.entered) c.len.ensures c.advance-here.ensures.entered in
     let tells : IsTrue c.advance-here.result.matched ↔ SomeSpan nodes w root (starts_to 0 (length w)) place =

@@ -1,17 +1,19 @@
-use Rattle.std.proofs.Common.{◌+◌, ◌≤◌, length, sym, subst, arith}
+use Rattle.std.proofs.Common.{◌+◌, ◌≤◌, length, sym, subst, arith, rules}
 use Rattle.sedmatch.specs.declared.occurrences.Occurrences.{Occurrences}
 use Rattle.sedmatch.specs.Meet.{HasBehind, blocks_cost}
 use Rattle.sedmatch.specs.Occurrences.{owed_after, owed_together}
 use Rattle.sedmatch.proofs.OccurrenceLemmas.{search_paid, after_is_met}
 use Rattle.sedmatch.proofs.quick.TableMatcher.next_together.Goals as goal
 
-pub next_behind-requires-clause-behind_fits : goal.next_behind-requires-clause-behind_fits
-next_behind-requires-clause-behind_fits c =
-    subst (λ v. HasBehind (length c.args.text.now) (length v.nodes) c.see_met.new.occurrences.behind) (sym c.self.view_is)
-    (c.see_met.ensures.kept (length c.args.text.now) (length c.args.self.now.nodes) c.requires.room_fits)
+pub next_behind-requires-clause-fits : goal.next_behind-requires-clause-fits
+next_behind-requires-clause-fits c = (
+  search rules,
+  subst (λ v. HasBehind (length c.args.text.now) (length v.nodes) c.see_met.new.occurrences.behind) (sym c.self.view_is)
+      (c.see_met.ensures.kept (length c.args.text.now) (length c.args.self.now.nodes) c.requires.room_fits),
+)
 
 pub returns-clause-room_kept : goal.returns-clause-room_kept
-returns-clause-room_kept c text nodes has = c.next_behind.ensures.kept text nodes (c.see_met.ensures.kept text nodes has)
+returns-clause-room_kept c text nodes has = c.next_behind.ensures.kept.1 text nodes (c.see_met.ensures.kept text nodes has)
 
 pub returns-clause-cost : goal.returns-clause-cost
 returns-clause-cost c =
