@@ -5,6 +5,7 @@ pub mod Answer
 pub mod Matching
 pub mod Bytes
 pub mod Room
+pub mod Costs
 pub mod Words
 pub mod Fits
 pub mod Local

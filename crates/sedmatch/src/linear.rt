@@ -1,16 +1,16 @@
 //! The search for the leftmost of the longest spans by tables, in which each byte is passed four times at most.
-ghost use Rattle.std.specs.Prelude.{IfSome, IfNone, true, Bool, List, ◌≡◌, ℕ, ◌+◌, ◌-◌, ◌*◌, ◌^◌, ◌<◌, ◌≤◌, ◌↔◌, length, IsTrue};
+ghost use Rattle.std.specs.Prelude.{true, Bool, List, ◌≡◌, ℕ, ◌+◌, ◌-◌, ◌*◌, ◌^◌, ◌<◌, ◌≤◌, ◌↔◌, length, IsTrue};
 ghost use Rattle.sedre.specs.Arena.{tree};
 ghost use Rattle.sedre.specs.Mirror.{seen};
 ghost use Rattle.sedre.specs.declared.types.Node.{Node};
 ghost use Rattle.sedmatch.specs.Fits.{Fits, FitsFew, SameMarks};
-ghost use Rattle.sedmatch.specs.Spans.{Found as IsFound};
 ghost use Rattle.sedmatch.specs.Reach.{SomeSpan};
 ghost use Rattle.sedmatch.specs.Search.{IsRegion, LastEnd, IsEarliest, starts_to};
 ghost use Rattle.sedmatch.specs.States.{IsAt};
 ghost use Rattle.sedmatch.specs.Tables.{IsSingle, IsSweep, IsTable, NextIs, starts_from};
-ghost use Rattle.sedmatch.specs.Linear.{NoneBefore, IsFirstEnd, ended_to, IsBound};
+ghost use Rattle.sedmatch.specs.Linear.{NoneBefore, IsFirstEnd, ended_to, IsBound, IsThere};
 ghost use Rattle.sedmatch.specs.Ready.{AreTables};
+ghost use Rattle.sedmatch.specs.Costs.{TakesLess};
 
 use crate::counted::{Bytes, Text};
 use crate::passes::{Starts, advance};
@@ -572,13 +572,10 @@ pub fn span_by(
     requires room { steps.old < 2 ^ 108 }
     ensures tables { AreTables expr.now root tables.new }
     ensures marks { SameMarks sets.old sets.new }
-    ensures found { IfSome result (λ f. IsFound (tree expr.now) text.now region.start f.0 f.1) }
-    ensures some { IfNone result ⊥ }
-    ensures lies { IfSome result (λ f. (f.0 ≤ f.1) × (f.1 ≤ length text.now)) }
-    ensures grows { steps.old ≤ steps.new }
+    ensures answer { IsThere (tree expr.now) text.now region.start result }
     ensures none_long { region.bound ≡ region.start → steps.new ≡ steps.old }
     ensures cost { let m = length expr.now.nodes in
-        steps.new + 84 * m * region.start ≤ steps.old + 76 * m + 42 * m * region.bound + 42 * m * length text.now }
+        TakesLess steps.old steps.new (84 * m * region.start) (76 * m + 42 * m * region.bound + 42 * m * length text.now) }
 {
     if region.bound == region.start {
         return Some((region.start, region.start));
