@@ -5,6 +5,9 @@ use Rattle.std.proofs.lemmas.Bool.{cases_lt}
 use Rattle.sedre.specs.Tree.{Tree}
 use Rattle.sedmatch.specs.Spans.{NotFound, SomeFound}
 use Rattle.sedmatch.specs.Search.{NoneIn}
+use Rattle.sedmatch.specs.Answer.{SpanAnswer}
+use Rattle.sedmatch.specs.Linear.{IsThere}
+use Rattle.sedmatch.proofs.SweepLemmas.{found_later}
 
 -- what follows where there is nothing
 pub none_then : (o : Option (ℕ × ℕ)) (P Q : Type 0) → (P → Q) → IfNone o P → IfNone o Q
@@ -26,3 +29,13 @@ module _ (e : Tree) (w : List ℕ) (from start : ℕ) (none : NoneIn e w from st
 
 pub not_some : (e : Tree) (w : List ℕ) (from : ℕ) → NotFound e w from → IsTrue false ↔ SomeFound e w from
 not_some e w from none = (λ h. absurd (true≢false (sym h)), λ some. absurd (none some.0 some.1 some.2 some.3 some.4))
+
+-- the answer from the first place on at which a match can begin is that from an earlier place
+pub answer_later : (e : Tree) (w : List ℕ) (from start : ℕ) (r : Option (ℕ × ℕ)) → from ≤ start → NoneIn e w from start → SpanAnswer e w start r → SpanAnswer e w from r
+answer_later e w from start None low none answer = (tt, not_before e w from start none answer.1, tt)
+answer_later e w from start (Some f) low none answer = (found_later e w from start f.0 f.1 low none answer.0, tt, answer.2)
+
+-- a match that is there is the answer
+pub there_answer : (e : Tree) (w : List ℕ) (from : ℕ) (r : Option (ℕ × ℕ)) → IsThere e w from r → SpanAnswer e w from r
+there_answer e w from None there = absurd there.1
+there_answer e w from (Some f) there = (there.0, tt, there.2)

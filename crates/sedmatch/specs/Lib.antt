@@ -5,8 +5,8 @@ pub mod Answer
 pub mod Matching
 pub mod Bytes
 pub mod Room
-pub mod Words
 pub mod Costs
+pub mod Words
 pub mod Fits
 pub mod Local
 pub mod Reach

@@ -1,8 +1,10 @@
 -- Private to the proofs: no contract of a public item cites what stands here.
 -- What the passes by tables tell.
-use Rattle.std.specs.Prelude.{ℕ, ◌+◌, ◌<◌, ◌≤◌, Bool, List, length, Option, Some, None}
+use Rattle.std.specs.Prelude.{ℕ, ◌+◌, ◌<◌, ◌≤◌, Bool, List, length, Option, Some, None, IfSome, IfNone}
+use Rattle.sedre.specs.Tree.{Tree}
 use Rattle.sedre.specs.declared.types.Node.{Node}
 use Rattle.sedmatch.specs.declared.linear.FirstEnd.{FirstEnd}
+use Rattle.sedmatch.specs.Spans.{Found}
 use Rattle.sedmatch.specs.Reach.{At, SomeSpan}
 use Rattle.sedmatch.specs.States.{IsAt}
 use Rattle.sedmatch.specs.Tables.{starts_from}
@@ -25,3 +27,7 @@ ended_to n (Some f) = f.place
 -- no match that begins at one of these places ends behind the bound
 abbrev pub IsBound : List Node → List ℕ → ℕ → ℕ → ℕ → ℕ → Type 0
 IsBound nodes w r start last bound = (last ≤ bound) × (bound ≤ length w) × ((i k : ℕ) → start ≤ i → i ≤ last → At nodes w r i k → k ≤ bound)
+
+-- there is a leftmost-longest match from the place on, within the text
+abbrev pub IsThere : Tree → List ℕ → ℕ → Option (ℕ × ℕ) → Type 0
+IsThere e w from r = IfSome r (λ f. Found e w from f.0 f.1) × IfNone r ⊥ × IfSome r (λ f. (f.0 ≤ f.1) × (f.1 ≤ length w))

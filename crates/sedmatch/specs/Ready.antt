@@ -21,6 +21,10 @@ IsKnown e k = AllBegin e k.begins × IsNeeded e k.needed × AllRare e k.rare
 abbrev pub AreTables : Written → ℕ → Tables → Type 0
 AreTables e root t = IsSweep e.nodes root t.every × IsSingle e.nodes root t.single × IsSweep (seen true e).nodes root t.back
 
+-- the expression is prepared for searches: the root is its last node, what is known of it is so, and the tables are for it
+abbrev pub IsPrepared : Written → ℕ → Known → Tables → Type 0
+IsPrepared e root k t = (root + 1 ≡ length e.nodes) × IsKnown (tree e) k × AreTables e root t
+
 -- what a matcher holds is of its expression
 pub record IsReady (e : Written) (root : ℕ) (known : Known) (sight : Option Sight) (tables : Tables) : Type 0 where
   pub whole : root + 1 ≡ length e.nodes

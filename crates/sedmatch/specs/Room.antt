@@ -1,7 +1,11 @@
 -- The room for a search, as its callers see it.
-use Rattle.std.specs.Prelude.{ℕ}
+use Rattle.std.specs.Prelude.{ℕ, ◌≤◌}
 
 -- the most bytes that a text may have, and the most nodes that an expression may have
 pub record Room : Type 0 where
   pub text : ℕ
   pub nodes : ℕ
+
+-- a text of so many bytes and an expression of so many nodes fit into the room
+abbrev pub FitInto : ℕ → ℕ → Room → Type 0
+FitInto text nodes room = (text ≤ room.text) × (nodes ≤ room.nodes)

@@ -1,10 +1,12 @@
 //! The leftmost-longest span by tables: from where a match can begin at all, and what tells of it before any table does.
-ghost use Rattle.std.specs.Prelude.{IfSome, IfNone, ◌≡◌, ℕ, ◌+◌, ◌*◌, ◌^◌, ◌<◌, ◌≤◌, length};
+ghost use Rattle.std.specs.Prelude.{IfNone, ◌≡◌, ℕ, ◌+◌, ◌*◌, ◌^◌, ◌<◌, ◌≤◌, length};
 ghost use Rattle.sedre.specs.Arena.{tree};
 ghost use Rattle.sedmatch.specs.Fits.{Fits, SameMarks};
-ghost use Rattle.sedmatch.specs.Spans.{Spans, Found as IsFound, NotFound};
+ghost use Rattle.sedmatch.specs.Spans.{Spans};
 ghost use Rattle.sedmatch.specs.Tables.{IsSingle};
-ghost use Rattle.sedmatch.specs.Ready.{AreTables, IsKnown};
+ghost use Rattle.sedmatch.specs.Ready.{AreTables, IsPrepared};
+ghost use Rattle.sedmatch.specs.Answer.{SpanAnswer};
+ghost use Rattle.sedmatch.specs.Costs.{Pays, Takes};
 
 use crate::ahead::Lead;
 use crate::counted::Text;
@@ -36,11 +38,8 @@ pub fn anchored_by(
     requires room { steps.old < 2 ^ 110 }
     ensures single { IsSingle expr.now.nodes root single.new }
     ensures marks { SameMarks sets.old sets.new }
-    ensures found { IfSome result (λ f. IsFound (tree expr.now) text.now from f.0 f.1) }
-    ensures none { IfNone result (NotFound (tree expr.now) text.now from) }
-    ensures lies { IfSome result (λ f. (f.0 ≤ f.1) × (f.1 ≤ length text.now)) }
-    ensures grows { steps.old ≤ steps.new }
-    ensures cost { let m = length expr.now.nodes in steps.new ≤ steps.old + 38 * m + 42 * m * length text.now }
+    ensures answer { SpanAnswer (tree expr.now) text.now from result }
+    ensures cost { let m = length expr.now.nodes in Takes steps.old steps.new (38 * m + 42 * m * length text.now) }
 {
     if from > 0 {
         return None;
@@ -62,20 +61,15 @@ pub fn leftmost_by(
     sets: &mut Sets,
     steps: &mut Steps,
 ) -> Option<(usize, usize)>
-    requires root { root + 1 ≡ length expr.now.nodes }
+    requires ready { IsPrepared expr.now root known.now tables.old }
     requires from { from ≤ length text.now }
-    requires known { IsKnown (tree expr.now) known.now }
-    requires tables { AreTables expr.now root tables.old }
     requires fits { Fits (length expr.now.nodes) (length text.now) sets.old }
     requires room { steps.old ≤ 2 ^ 101 }
     ensures tables { AreTables expr.now root tables.new }
     ensures marks { SameMarks sets.old sets.new }
-    ensures found { IfSome result (λ f. IsFound (tree expr.now) text.now from f.0 f.1) }
-    ensures none { IfNone result (NotFound (tree expr.now) text.now from) }
-    ensures lies { IfSome result (λ f. (f.0 ≤ f.1) × (f.1 ≤ length text.now)) }
-    ensures grows { steps.old ≤ steps.new }
+    ensures answer { SpanAnswer (tree expr.now) text.now from result }
     ensures cost { let m = length expr.now.nodes in let n = length text.now in
-        steps.new ≤ steps.old + 128 * m * (n + 1) }
+        Takes steps.old steps.new (128 * m * (n + 1)) }
     ensures short_cost { let m = length expr.now.nodes in let n = length text.now in
         steps.new ≤ steps.old + 64 * m * (n + 1) * (n + 1) }
     ensures none_cost { let m = length expr.now.nodes in let n = length text.now in
@@ -101,20 +95,15 @@ fn anywhere_by(
     sets: &mut Sets,
     steps: &mut Steps,
 ) -> Option<(usize, usize)>
-    requires root { root + 1 ≡ length expr.now.nodes }
+    requires ready { IsPrepared expr.now root known.now tables.old }
     requires from { from ≤ length text.now }
-    requires known { IsKnown (tree expr.now) known.now }
-    requires tables { AreTables expr.now root tables.old }
     requires fits { Fits (length expr.now.nodes) (length text.now) sets.old }
     requires room { steps.old ≤ 2 ^ 102 }
     ensures tables { AreTables expr.now root tables.new }
     ensures marks { SameMarks sets.old sets.new }
-    ensures found { IfSome result (λ f. IsFound (tree expr.now) text.now from f.0 f.1) }
-    ensures none { IfNone result (NotFound (tree expr.now) text.now from) }
-    ensures lies { IfSome result (λ f. (f.0 ≤ f.1) × (f.1 ≤ length text.now)) }
-    ensures grows { steps.old ≤ steps.new }
+    ensures answer { SpanAnswer (tree expr.now) text.now from result }
     ensures cost { let m = length expr.now.nodes in let n = length text.now in
-        steps.new ≤ steps.old + 123 * m + 127 * m * n }
+        Takes steps.old steps.new (123 * m + 127 * m * n) }
     ensures short_cost { let m = length expr.now.nodes in let n = length text.now in
         steps.new ≤ steps.old + 64 * m * (n + 1) * (n + 1) }
     ensures none_cost { let m = length expr.now.nodes in let n = length text.now in
@@ -146,12 +135,9 @@ fn span_from(
     requires room { steps.old ≤ 2 ^ 103 }
     ensures tables { AreTables expr.now root tables.new }
     ensures marks { SameMarks sets.old sets.new }
-    ensures found { IfSome result (λ f. IsFound (tree expr.now) text.now start f.0 f.1) }
-    ensures none { IfNone result (NotFound (tree expr.now) text.now start) }
-    ensures lies { IfSome result (λ f. (f.0 ≤ f.1) × (f.1 ≤ length text.now)) }
-    ensures grows { steps.old ≤ steps.new }
+    ensures answer { SpanAnswer (tree expr.now) text.now start result }
     ensures cost { let m = length expr.now.nodes in let n = length text.now in
-        steps.new + 126 * m * start ≤ steps.old + 122 * m + 126 * m * n }
+        Pays steps.old steps.new (122 * m + 126 * m * n) (126 * m * start) }
     ensures short_cost { let m = length expr.now.nodes in
         start ≡ length text.now → steps.new ≤ steps.old + 46 * m }
     ensures none_cost { let m = length expr.now.nodes in let n = length text.now in

@@ -1,17 +1,17 @@
 //! The search for the leftmost of the longest spans by tables, in which each byte is passed four times at most.
-ghost use Rattle.std.specs.Prelude.{IfSome, IfNone, Some, true, Bool, List, ◌≡◌, ℕ, ◌+◌, ◌-◌, ◌*◌, ◌^◌, ◌<◌, ◌≤◌, ◌↔◌, length, IsTrue};
+ghost use Rattle.std.specs.Prelude.{Some, true, Bool, List, ◌≡◌, ℕ, ◌+◌, ◌-◌, ◌*◌, ◌^◌, ◌<◌, ◌≤◌, ◌↔◌, length, IsTrue};
 ghost use Rattle.sedre.specs.Arena.{tree};
 ghost use Rattle.sedre.specs.Mirror.{seen};
 ghost use Rattle.sedre.specs.declared.types.Node.{Node};
 ghost use Rattle.sedmatch.specs.Fits.{Fits, FitsFew, SameMarks};
 ghost use Rattle.sedmatch.specs.Places.{InOrder};
-ghost use Rattle.sedmatch.specs.Spans.{Found as IsFound};
 ghost use Rattle.sedmatch.specs.Reach.{SomeSpan};
 ghost use Rattle.sedmatch.specs.Search.{IsRegion, IsRegionTo, LastEnd, IsEarliest, starts_to};
 ghost use Rattle.sedmatch.specs.States.{IsAt};
 ghost use Rattle.sedmatch.specs.Tables.{IsSingle, IsSweep, IsTable, NextIs, starts_from};
-ghost use Rattle.sedmatch.specs.Linear.{NoneBefore, IsFirstEnd, ended_to, IsBound};
+ghost use Rattle.sedmatch.specs.Linear.{NoneBefore, IsFirstEnd, ended_to, IsBound, IsThere};
 ghost use Rattle.sedmatch.specs.Ready.{AreTables};
+ghost use Rattle.sedmatch.specs.Costs.{Pays};
 
 use crate::counted::{Bytes, Text};
 use crate::passes::{Starts, advance};
@@ -562,13 +562,10 @@ pub fn span_by(
     requires room { steps.old < 2 ^ 108 }
     ensures tables { AreTables expr.now root tables.new }
     ensures marks { SameMarks sets.old sets.new }
-    ensures found { IfSome result (λ f. IsFound (tree expr.now) text.now region.start f.0 f.1) }
-    ensures some { IfNone result ⊥ }
-    ensures lies { IfSome result (λ f. (f.0 ≤ f.1) × (f.1 ≤ length text.now)) }
-    ensures grows { steps.old ≤ steps.new }
+    ensures answer { IsThere (tree expr.now) text.now region.start result }
     ensures none_long { region.bound ≡ region.start → steps.new ≡ steps.old }
     ensures cost { let m = length expr.now.nodes in
-        steps.new + 84 * m * region.start ≤ steps.old + 76 * m + 42 * m * region.bound + 42 * m * length text.now }
+        Pays steps.old steps.new (76 * m + 42 * m * region.bound + 42 * m * length text.now) (84 * m * region.start) }
 {
     if region.bound == region.start {
         return Some((region.start, region.start));

@@ -1,11 +1,12 @@
 //! The calls that search (XBD 9.1).
-ghost use Rattle.std.specs.Prelude.{◌≡◌, ℕ, ◌+◌, ◌*◌, ◌^◌, ◌<◌, ◌≤◌, ◌↔◌, length, IfSome, IfNone, IsTrue, is_some};
+ghost use Rattle.std.specs.Prelude.{◌≡◌, ◌+◌, ◌*◌, ◌^◌, ◌<◌, ◌≤◌, ◌↔◌, length, IfNone, IsTrue, is_some};
 ghost use Rattle.sedre.specs.Arena.{tree};
-ghost use Rattle.sedmatch.specs.Spans.{Spans, Found as IsFound, NotFound, SomeFound};
-ghost use Rattle.sedmatch.specs.Caps.{IsReport};
-ghost use Rattle.sedmatch.specs.Answer.{span_found};
-ghost use Rattle.sedmatch.specs.Matching.{found, report};
+ghost use Rattle.sedmatch.specs.Spans.{SomeFound};
+ghost use Rattle.sedmatch.specs.Answer.{IsComputed, MatchAnswer, SpanAnswer};
+ghost use Rattle.sedmatch.specs.Matching.{found};
 ghost use Rattle.sedmatch.specs.Parts.{SpanIn, span_of, part_of};
+ghost use Rattle.sedmatch.specs.Costs.{Takes};
+ghost use Rattle.sedmatch.specs.Room.{FitInto};
 
 use crate::counted::Text;
 use crate::groups::report;
@@ -51,23 +52,15 @@ pub fn find(
     steps: &mut Steps,
 ) -> Option<Found>
     requires from { from ≤ length text.now }
-    requires text_fits { length text.now ≤ scratch.old.text }
-    requires expr_fits { length expr.now.nodes ≤ scratch.old.nodes }
+    requires fits { FitInto (length text.now) (length expr.now.nodes) scratch.old }
     requires room { steps.old ≤ 2 ^ 100 }
     ensures scratch { scratch.new ≡ scratch.old }
-    ensures found { IfSome result (λ f. IsFound (tree expr.now) text.now from f.start f.end) }
-    ensures groups { IfSome result (λ f. IsReport (tree expr.now) text.now f.start f.end f.groups) }
-    ensures none { IfNone result (NotFound (tree expr.now) text.now from) }
-    ensures computed { span_found result ≡ found (tree expr.now) text.now from }
-    ensures reported { IfSome result (λ f. f.groups ≡ report (tree expr.now) text.now f.start f.end) }
-    ensures lies { IfSome result (λ f. (k : ℕ) → SpanIn (length text.now) (span_of f.groups k)) }
-    ensures grows { steps.old ≤ steps.new }
+    ensures answer { MatchAnswer (tree expr.now) text.now from result }
+    ensures computed { IsComputed (tree expr.now) text.now from result }
     ensures cost { let m = length expr.now.nodes in let n = length text.now in
-        steps.new ≤ steps.old + 64 * m * m * (n + 1) * (n + 1) }
-    ensures cost_without_groups { let m = length expr.now.nodes in let n = length text.now in
-        expr.now.groups ≡ 0 → steps.new ≤ steps.old + 64 * m * (n + 1) * (n + 1) }
-    ensures linear_without_groups { let m = length expr.now.nodes in let n = length text.now in
-        expr.now.groups ≡ 0 → steps.new ≤ steps.old + 96 * m * (n + 1) }
+        Takes steps.old steps.new (64 * m * m * (n + 1) * (n + 1)) }
+    ensures cost_without_groups { let m = length expr.now.nodes in let n = length text.now in expr.now.groups ≡ 0 →
+        (steps.new ≤ steps.old + 64 * m * (n + 1) * (n + 1)) × (steps.new ≤ steps.old + 96 * m * (n + 1)) }
     ensures cost_of_none { let m = length expr.now.nodes in let n = length text.now in
         IfNone result (steps.new ≤ steps.old + 64 * m * (n + 1)) }
 {
@@ -94,17 +87,13 @@ pub fn find_span(
     steps: &mut Steps,
 ) -> Option<(usize, usize)>
     requires from { from ≤ length text.now }
-    requires text_fits { length text.now ≤ scratch.old.text }
-    requires expr_fits { length expr.now.nodes ≤ scratch.old.nodes }
+    requires fits { FitInto (length text.now) (length expr.now.nodes) scratch.old }
     requires room { steps.old ≤ 2 ^ 101 }
     ensures scratch { scratch.new ≡ scratch.old }
-    ensures found { IfSome result (λ f. IsFound (tree expr.now) text.now from f.0 f.1) }
-    ensures none { IfNone result (NotFound (tree expr.now) text.now from) }
+    ensures answer { SpanAnswer (tree expr.now) text.now from result }
     ensures computed { result ≡ found (tree expr.now) text.now from }
-    ensures lies { IfSome result (λ f. (f.0 ≤ f.1) × (f.1 ≤ length text.now)) }
-    ensures grows { steps.old ≤ steps.new }
     ensures cost { let m = length expr.now.nodes in let n = length text.now in
-        steps.new ≤ steps.old + 64 * m * (n + 1) * (n + 1) }
+        Takes steps.old steps.new (64 * m * (n + 1) * (n + 1)) }
     ensures linear_cost { let m = length expr.now.nodes in let n = length text.now in
         steps.new ≤ steps.old + 96 * m * (n + 1) }
     ensures cost_of_none { let m = length expr.now.nodes in let n = length text.now in
@@ -122,14 +111,12 @@ pub fn is_match(
     steps: &mut Steps,
 ) -> bool
     requires from { from ≤ length text.now }
-    requires text_fits { length text.now ≤ scratch.old.text }
-    requires expr_fits { length expr.now.nodes ≤ scratch.old.nodes }
+    requires fits { FitInto (length text.now) (length expr.now.nodes) scratch.old }
     requires room { steps.old ≤ 2 ^ 100 }
     ensures scratch { scratch.new ≡ scratch.old }
     ensures matches { IsTrue result ↔ SomeFound (tree expr.now) text.now from }
     ensures computed { result ≡ is_some (found (tree expr.now) text.now from) }
-    ensures grows { steps.old ≤ steps.new }
-    ensures cost { steps.new ≤ steps.old + 64 * length expr.now.nodes * (length text.now + 1) }
+    ensures cost { Takes steps.old steps.new (64 * length expr.now.nodes * (length text.now + 1)) }
 {
     let sets = &mut scratch.sets;
     let begins = how_begins(expr, steps);

@@ -6,6 +6,7 @@ ghost use Rattle.sedmatch.specs.Meet.{HasBehind, IsKept, KeepsBehind, Reaches};
 ghost use Rattle.sedmatch.specs.Occurrences.{EndsWithin, Keeps, KeepsRoom, LiesBehind, RoomFor, Serves, next_span, owed, owed_after, owed_apart, owed_met, owed_together};
 ghost use Rattle.sedmatch.specs.Parts.{SpanIn, span_of};
 ghost use Rattle.sedmatch.specs.Spans.{Spans};
+ghost use Rattle.sedmatch.specs.Room.{FitInto};
 
 use crate::counted::Text;
 use crate::groups::report;
@@ -305,8 +306,7 @@ impl TableMatcher {
         requires order { start ≤ end }
         requires inside { end ≤ length text.now }
         requires spans { Spans (tree self.now) text.now start end }
-        requires text_fits { length text.now ≤ scratch.old.text }
-        requires expr_fits { length self.now.nodes ≤ scratch.old.nodes }
+        requires fits { FitInto (length text.now) (length self.now.nodes) scratch.old }
         requires room { steps.old ≤ 2 ^ 100 }
         ensures scratch { scratch.new ≡ scratch.old }
         ensures groups { result ≡ report (tree self.now) text.now start end }

@@ -1,15 +1,15 @@
 //! Searches by a table.
-ghost use Rattle.std.specs.Prelude.{IfOk, IfSome, IfNone, true, false, is_some, ◌≡◌, ℕ, ◌+◌, ◌*◌, ◌^◌, ◌<◌, ◌≤◌, ◌↔◌, length, IsTrue};
+ghost use Rattle.std.specs.Prelude.{IfOk, IfSome, IfNone, true, false, is_some, ◌≡◌, ◌+◌, ◌*◌, ◌^◌, ◌<◌, ◌≤◌, ◌↔◌, length, IsTrue};
 ghost use Rattle.sedre.specs.Arena.{tree};
 ghost use Rattle.sedmatch.specs.Fits.{Fits, SameMarks};
-ghost use Rattle.sedmatch.specs.Spans.{Found as IsFound, NotFound, SomeFound};
+ghost use Rattle.sedmatch.specs.Spans.{SomeFound};
 ghost use Rattle.sedmatch.specs.Tables.{IsSingle, IsSweep};
 ghost use Rattle.sedmatch.specs.Reach.{Longest};
-ghost use Rattle.sedmatch.specs.Answer.{span_found};
-ghost use Rattle.sedmatch.specs.Caps.{IsReport};
-ghost use Rattle.sedmatch.specs.Matching.{found, report};
-ghost use Rattle.sedmatch.specs.Parts.{SpanIn, span_of};
-ghost use Rattle.sedmatch.specs.Ready.{AreTables, IsKnown};
+ghost use Rattle.sedmatch.specs.Answer.{IsComputed, MatchAnswer, SpanAnswer};
+ghost use Rattle.sedmatch.specs.Matching.{found};
+ghost use Rattle.sedmatch.specs.Ready.{AreTables, IsKnown, IsPrepared};
+ghost use Rattle.sedmatch.specs.Costs.{Takes};
+ghost use Rattle.sedmatch.specs.Room.{FitInto};
 
 use crate::ahead::Lead;
 use crate::anywhere::{anchored_by, leftmost_by};
@@ -212,29 +212,18 @@ fn find_by(
     scratch: &mut Scratch,
     steps: &mut Steps,
 ) -> Option<Found>
-    requires root { root + 1 ≡ length expr.now.nodes }
-    requires some { 2 ≤ length expr.now.nodes }
+    requires ready { (2 ≤ length expr.now.nodes) × IsPrepared expr.now root known.now tables.old }
     requires from { from ≤ length text.now }
-    requires text_fits { length text.now ≤ scratch.old.text }
-    requires expr_fits { length expr.now.nodes ≤ scratch.old.nodes }
-    requires known { IsKnown (tree expr.now) known.now }
-    requires tables { AreTables expr.now root tables.old }
+    requires fits { FitInto (length text.now) (length expr.now.nodes) scratch.old }
     requires room { steps.old ≤ 2 ^ 100 }
     ensures tables { AreTables expr.now root tables.new }
     ensures scratch { scratch.new ≡ scratch.old }
-    ensures found { IfSome result (λ f. IsFound (tree expr.now) text.now from f.start f.end) }
-    ensures groups { IfSome result (λ f. IsReport (tree expr.now) text.now f.start f.end f.groups) }
-    ensures none { IfNone result (NotFound (tree expr.now) text.now from) }
-    ensures computed { span_found result ≡ found (tree expr.now) text.now from }
-    ensures reported { IfSome result (λ f. f.groups ≡ report (tree expr.now) text.now f.start f.end) }
-    ensures lies { IfSome result (λ f. (k : ℕ) → SpanIn (length text.now) (span_of f.groups k)) }
-    ensures grows { steps.old ≤ steps.new }
+    ensures answer { MatchAnswer (tree expr.now) text.now from result }
+    ensures computed { IsComputed (tree expr.now) text.now from result }
     ensures cost { let m = length expr.now.nodes in let n = length text.now in
-        steps.new ≤ steps.old + 64 * m * m * (n + 1) * (n + 1) }
-    ensures cost_without_groups { let m = length expr.now.nodes in let n = length text.now in
-        expr.now.groups ≡ 0 → steps.new ≤ steps.old + 64 * m * (n + 1) * (n + 1) }
-    ensures linear_without_groups { let m = length expr.now.nodes in let n = length text.now in
-        expr.now.groups ≡ 0 → steps.new ≤ steps.old + 128 * m * (n + 1) }
+        Takes steps.old steps.new (64 * m * m * (n + 1) * (n + 1)) }
+    ensures cost_without_groups { let m = length expr.now.nodes in let n = length text.now in expr.now.groups ≡ 0 →
+        (steps.new ≤ steps.old + 64 * m * (n + 1) * (n + 1)) × (steps.new ≤ steps.old + 128 * m * (n + 1)) }
     ensures cost_of_none { let m = length expr.now.nodes in let n = length text.now in
         IfNone result (steps.new ≤ steps.old + 64 * m * (n + 1)) }
 {
@@ -335,15 +324,13 @@ impl TableMatcher {
         steps: &mut Steps,
     ) -> bool
         requires from { from ≤ length text.now }
-        requires text_fits { length text.now ≤ scratch.old.text }
-        requires expr_fits { length self.old.nodes ≤ scratch.old.nodes }
+        requires fits { FitInto (length text.now) (length self.old.nodes) scratch.old }
         requires room { steps.old ≤ 2 ^ 100 }
         ensures same { self.new ≡ self.old }
         ensures scratch { scratch.new ≡ scratch.old }
         ensures matches { IsTrue result ↔ SomeFound (tree self.old) text.now from }
         ensures computed { result ≡ is_some (found (tree self.old) text.now from) }
-        ensures grows { steps.old ≤ steps.new }
-        ensures cost { steps.new ≤ steps.old + 64 * length self.old.nodes * (length text.now + 1) }
+        ensures cost { Takes steps.old steps.new (64 * length self.old.nodes * (length text.now + 1)) }
     {
         let sets = &mut scratch.sets;
         if let Some(sight) = &self.sight {
@@ -371,18 +358,14 @@ impl TableMatcher {
         steps: &mut Steps,
     ) -> Option<(usize, usize)>
         requires from { from ≤ length text.now }
-        requires text_fits { length text.now ≤ scratch.old.text }
-        requires expr_fits { length self.old.nodes ≤ scratch.old.nodes }
+        requires fits { FitInto (length text.now) (length self.old.nodes) scratch.old }
         requires room { steps.old ≤ 2 ^ 101 }
         ensures same { self.new ≡ self.old }
         ensures scratch { scratch.new ≡ scratch.old }
-        ensures found { IfSome result (λ f. IsFound (tree self.old) text.now from f.0 f.1) }
-        ensures none { IfNone result (NotFound (tree self.old) text.now from) }
+        ensures answer { SpanAnswer (tree self.old) text.now from result }
         ensures computed { result ≡ found (tree self.old) text.now from }
-        ensures lies { IfSome result (λ f. (f.0 ≤ f.1) × (f.1 ≤ length text.now)) }
-        ensures grows { steps.old ≤ steps.new }
         ensures cost { let m = length self.old.nodes in let n = length text.now in
-            steps.new ≤ steps.old + 64 * m * (n + 1) * (n + 1) }
+            Takes steps.old steps.new (64 * m * (n + 1) * (n + 1)) }
         ensures linear_cost { let m = length self.old.nodes in let n = length text.now in
             steps.new ≤ steps.old + 128 * m * (n + 1) }
         ensures cost_of_none { let m = length self.old.nodes in let n = length text.now in
@@ -416,24 +399,16 @@ impl TableMatcher {
         steps: &mut Steps,
     ) -> Option<Found>
         requires from { from ≤ length text.now }
-        requires text_fits { length text.now ≤ scratch.old.text }
-        requires expr_fits { length self.old.nodes ≤ scratch.old.nodes }
+        requires fits { FitInto (length text.now) (length self.old.nodes) scratch.old }
         requires room { steps.old ≤ 2 ^ 100 }
         ensures same { self.new ≡ self.old }
         ensures scratch { scratch.new ≡ scratch.old }
-        ensures found { IfSome result (λ f. IsFound (tree self.old) text.now from f.start f.end) }
-        ensures groups { IfSome result (λ f. IsReport (tree self.old) text.now f.start f.end f.groups) }
-        ensures none { IfNone result (NotFound (tree self.old) text.now from) }
-        ensures computed { span_found result ≡ found (tree self.old) text.now from }
-        ensures reported { IfSome result (λ f. f.groups ≡ report (tree self.old) text.now f.start f.end) }
-        ensures lies { IfSome result (λ f. (k : ℕ) → SpanIn (length text.now) (span_of f.groups k)) }
-        ensures grows { steps.old ≤ steps.new }
+        ensures answer { MatchAnswer (tree self.old) text.now from result }
+        ensures computed { IsComputed (tree self.old) text.now from result }
         ensures cost { let m = length self.old.nodes in let n = length text.now in
-            steps.new ≤ steps.old + 64 * m * m * (n + 1) * (n + 1) }
-        ensures cost_without_groups { let m = length self.old.nodes in let n = length text.now in
-            self.old.groups ≡ 0 → steps.new ≤ steps.old + 64 * m * (n + 1) * (n + 1) }
-        ensures linear_without_groups { let m = length self.old.nodes in let n = length text.now in
-            self.old.groups ≡ 0 → steps.new ≤ steps.old + 128 * m * (n + 1) }
+            Takes steps.old steps.new (64 * m * m * (n + 1) * (n + 1)) }
+        ensures cost_without_groups { let m = length self.old.nodes in let n = length text.now in self.old.groups ≡ 0 →
+            (steps.new ≤ steps.old + 64 * m * (n + 1) * (n + 1)) × (steps.new ≤ steps.old + 128 * m * (n + 1)) }
         ensures cost_of_none { let m = length self.old.nodes in let n = length text.now in
             IfNone result (steps.new ≤ steps.old + 64 * m * (n + 1)) }
     {

@@ -5,7 +5,7 @@ ghost use Rattle.sedre.specs.Arena.{tree};
 ghost use Rattle.sedmatch.specs.Fits.{Fits, FitsFew, SameMarks};
 ghost use Rattle.sedmatch.specs.Places.{InOrder};
 ghost use Rattle.sedre.specs.Tree.{Tree};
-ghost use Rattle.sedmatch.specs.Spans.{Spans, Found as IsFound, NotFound};
+ghost use Rattle.sedmatch.specs.Spans.{Spans, Found as IsFound};
 ghost use Rattle.sedmatch.specs.Reach.{Longest, LongestBelow, At, one_start, Ends};
 ghost use Rattle.sedmatch.specs.Reach.{TellEntered, TellBegun};
 ghost use Rattle.sedmatch.specs.Reach.{OpenFrom, OpenAt, SomeSpan};
@@ -13,6 +13,8 @@ ghost use Rattle.sedmatch.specs.Search.{IsSwept, swept_to, Sought, sought_to, Sc
 ghost use Rattle.sedmatch.specs.Ahead.{LeadsTo};
 ghost use Rattle.sedmatch.specs.Skip.{AllBegin};
 ghost use Rattle.sedmatch.specs.States.{IsAt};
+ghost use Rattle.sedmatch.specs.Answer.{SpanAnswer};
+ghost use Rattle.sedmatch.specs.Costs.{Takes};
 
 use crate::ahead::{Lead, look_ahead};
 use crate::counted::{Bytes, Text};
@@ -464,13 +466,10 @@ pub fn leftmost(
     requires fits { Fits (length expr.now.nodes) (length text.now) sets.old }
     requires room { steps.old ≤ 2 ^ 101 }
     ensures marks { SameMarks sets.old sets.new }
-    ensures found { IfSome result (λ f. IsFound (tree expr.now) text.now from f.0 f.1) }
-    ensures none { IfNone result (NotFound (tree expr.now) text.now from) }
-    ensures lies { IfSome result (λ f. (f.0 ≤ f.1) × (f.1 ≤ length text.now)) }
+    ensures answer { SpanAnswer (tree expr.now) text.now from result }
     ensures some { 0 < length expr.now.nodes }
-    ensures grows { steps.old ≤ steps.new }
     ensures cost { let m = length expr.now.nodes in let n = length text.now in
-        steps.new ≤ steps.old + 96 * m * (n + 1) }
+        Takes steps.old steps.new (96 * m * (n + 1)) }
     ensures short_cost { let m = length expr.now.nodes in let n = length text.now in
         steps.new ≤ steps.old + 48 * m * (n + 1) * (n + 1) }
     ensures none_cost { let m = length expr.now.nodes in let n = length text.now in

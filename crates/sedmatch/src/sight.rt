@@ -7,11 +7,10 @@ ghost use Rattle.std.specs.Prelude.{◌≡◌, ℕ, ◌+◌, ◌*◌, ◌^◌, �
 ghost use Rattle.sedre.specs.Arena.{tree};
 ghost use Rattle.sedre.specs.Tree.{Tree};
 ghost use Rattle.sedmatch.specs.Spans.{Found as IsFound, NotFound, SomeFound, IsIn};
-ghost use Rattle.sedmatch.specs.Answer.{span_found};
-ghost use Rattle.sedmatch.specs.Caps.{IsReport};
-ghost use Rattle.sedmatch.specs.Matching.{found, report};
-ghost use Rattle.sedmatch.specs.Parts.{SpanIn, span_of};
+ghost use Rattle.sedmatch.specs.Answer.{IsComputed, MatchAnswer};
 ghost use Rattle.sedmatch.specs.Sight.{IsFirst, FirstWith, IsSight, IsSightOf, CanStart, FirstStart, EndsAt};
+ghost use Rattle.sedmatch.specs.Costs.{Takes};
+ghost use Rattle.sedmatch.specs.Room.{FitInto};
 
 use crate::between::{Between, between_of};
 use crate::counted::Text;
@@ -204,19 +203,13 @@ pub fn sight_find(
 ) -> Option<Found>
     requires sight { IsSight (tree expr.now) sight.now }
     requires from { from ≤ length text.now }
-    requires text_fits { length text.now ≤ scratch.old.text }
-    requires expr_fits { length expr.now.nodes ≤ scratch.old.nodes }
+    requires fits { FitInto (length text.now) (length expr.now.nodes) scratch.old }
     requires room { steps.old ≤ 2 ^ 100 }
     ensures scratch { scratch.new ≡ scratch.old }
-    ensures found { IfSome result (λ f. IsFound (tree expr.now) text.now from f.start f.end) }
-    ensures groups { IfSome result (λ f. IsReport (tree expr.now) text.now f.start f.end f.groups) }
-    ensures none { IfNone result (NotFound (tree expr.now) text.now from) }
-    ensures computed { span_found result ≡ found (tree expr.now) text.now from }
-    ensures reported { IfSome result (λ f. f.groups ≡ report (tree expr.now) text.now f.start f.end) }
-    ensures lies { IfSome result (λ f. (k : ℕ) → SpanIn (length text.now) (span_of f.groups k)) }
-    ensures grows { steps.old ≤ steps.new }
+    ensures answer { MatchAnswer (tree expr.now) text.now from result }
+    ensures computed { IsComputed (tree expr.now) text.now from result }
     ensures cost { let m = length expr.now.nodes in let n = length text.now in
-        steps.new ≤ steps.old + 64 * m * m * (n + 1) * (n + 1) }
+        Takes steps.old steps.new (64 * m * m * (n + 1) * (n + 1)) }
     ensures linear_without_groups { expr.now.groups ≡ 0 → steps.new ≤ steps.old + 50 * (length text.now + 1) }
     ensures cost_of_none { IfNone result (steps.new ≤ steps.old + 50 * (length text.now + 1)) }
 {

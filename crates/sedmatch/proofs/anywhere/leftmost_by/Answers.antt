@@ -1,47 +1,38 @@
 use Rattle.std.proofs.Common.{◌+◌, ◌*◌, ◌≤◌, length, subst, arith}
-use Rattle.std.proofs.lemmas.Option.{IfSome_then}
 use Rattle.sedre.specs.Arena.{tree}
 use Rattle.sedmatch.specs.Skip.{CanBegin}
-use Rattle.sedmatch.specs.Spans.{NotFound}
 use Rattle.sedmatch.proofs.LinearLemmas.{anchored_steps, none_linear, whole_linear, whole_square}
-use Rattle.sedmatch.proofs.NarrowLemmas.{none_then, not_before}
-use Rattle.sedmatch.proofs.SweepLemmas.{found_later}
+use Rattle.sedmatch.proofs.NarrowLemmas.{answer_later, none_then}
 use Rattle.sedmatch.proofs.anywhere.leftmost_by.Goals as goal
 
 pub anchored_by-requires-clause-begins : goal.anchored_by-requires-clause-begins
-anchored_by-requires-clause-begins c i j s = subst (λ b. CanBegin b c.args.text.now i) c.in-AtStart.is (c.requires.known.0 c.args.text.now i j s)
+anchored_by-requires-clause-begins c i j s = subst (λ b. CanBegin b c.args.text.now i) c.in-AtStart.is (c.requires.ready.1.0 c.args.text.now i j s)
 
 pub returns-in-AtStart-clause-short_cost : goal.returns-in-AtStart-clause-short_cost
 returns-in-AtStart-clause-short_cost c =
-    anchored_steps (length c.args.expr.now.nodes) (length c.args.text.now) c.args.steps.now c.anchored_by.new.steps c.anchored_by.ensures.cost
+    anchored_steps (length c.args.expr.now.nodes) (length c.args.text.now) c.args.steps.now c.anchored_by.new.steps (omega (arith, c.anchored_by.ensures.cost.1))
 
-pub returns-in-None-clause-none : goal.returns-in-None-clause-none
-returns-in-None-clause-none c = c.in-None.ensures.narrowed (tree c.args.expr.now) c.requires.known.1
+pub returns-in-None-clause-answer : goal.returns-in-None-clause-answer
+returns-in-None-clause-answer c = (tt, c.in-None.ensures.narrowed (tree c.args.expr.now) c.requires.ready.1.1, tt)
 
 pub anywhere_by-requires-clause-from : goal.anywhere_by-requires-clause-from
-anywhere_by-requires-clause-from c = (c.in-Some.ensures.narrowed (tree c.args.expr.now) c.requires.known.1).1
+anywhere_by-requires-clause-from c = (c.in-Some.ensures.narrowed (tree c.args.expr.now) c.requires.ready.1.1).1
 
-pub returns-in-Some-clause-found : goal.returns-in-Some-clause-found
-returns-in-Some-clause-found c =
-    let h = c.in-Some.ensures.narrowed (tree c.args.expr.now) c.requires.known.1 in
-    IfSome_then c.anywhere_by.result c.anywhere_by.ensures.found
-    (λ f found. found_later (tree c.args.expr.now) c.args.text.now c.args.from c.in-Some.start f.0 f.1 h.0 h.2 found)
-
-pub returns-in-Some-clause-none : goal.returns-in-Some-clause-none
-returns-in-Some-clause-none c =
-    let h = c.in-Some.ensures.narrowed (tree c.args.expr.now) c.requires.known.1 in
-    none_then c.anywhere_by.result (NotFound (tree c.args.expr.now) c.args.text.now c.in-Some.start) (NotFound (tree c.args.expr.now) c.args.text.now c.args.from)
-    (not_before (tree c.args.expr.now) c.args.text.now c.args.from c.in-Some.start h.2) c.anywhere_by.ensures.none
+pub returns-in-Some-clause-answer : goal.returns-in-Some-clause-answer
+returns-in-Some-clause-answer c =
+    let h = c.in-Some.ensures.narrowed (tree c.args.expr.now) c.requires.ready.1.1 in
+    answer_later (tree c.args.expr.now) c.args.text.now c.args.from c.in-Some.start c.anywhere_by.result h.0 h.2 c.anywhere_by.ensures.answer
 
 pub returns-in-Some-clause-cost : goal.returns-in-Some-clause-cost
 returns-in-Some-clause-cost c =
-    whole_linear (length c.args.expr.now.nodes) (length c.args.text.now) c.args.steps.now c.narrowed.new.steps c.anywhere_by.new.steps
-    (omega arith) (omega (arith, c.in-Some.ensures.cost)) c.anywhere_by.ensures.cost
+    let cost = whole_linear (length c.args.expr.now.nodes) (length c.args.text.now) c.args.steps.now c.narrowed.new.steps c.anywhere_by.new.steps
+    (omega arith) (omega (arith, c.in-Some.ensures.cost)) (omega (arith, c.anywhere_by.ensures.cost.1)) in
+    (omega arith, cost)
 
 pub returns-in-Some-clause-short_cost : goal.returns-in-Some-clause-short_cost
 returns-in-Some-clause-short_cost c =
     whole_square (length c.args.expr.now.nodes) (length c.args.text.now) c.args.steps.now c.narrowed.new.steps c.anywhere_by.new.steps
-    (omega arith) (omega (arith, c.in-Some.ensures.cost)) c.anywhere_by.ensures.cost c.anywhere_by.ensures.short_cost
+    (omega arith) (omega (arith, c.in-Some.ensures.cost)) (omega (arith, c.anywhere_by.ensures.cost.1)) c.anywhere_by.ensures.short_cost
 
 pub returns-in-Some-clause-none_cost : goal.returns-in-Some-clause-none_cost
 returns-in-Some-clause-none_cost c =

@@ -1,26 +1,27 @@
 use Rattle.std.proofs.Common.{◌≡◌, ◌≤◌, ◌^◌, None, length, sym, subst, ap, arith}
 use Rattle.sedre.specs.Arena.{tree}
 use Rattle.sedmatch.proofs.GroupLemmas.{by_room, by_miss, by_cost}
-use Rattle.sedmatch.specs.Answer.{span_found}
-use Rattle.sedmatch.specs.Matching.{found}
+use Rattle.sedmatch.specs.Answer.{IsComputed}
 use Rattle.sedmatch.proofs.MatchingLemmas.{found-iff, not_found-iff, report-iff}
 use Rattle.sedmatch.proofs.PartLemmas.{report_lies}
 use Rattle.sedmatch.proofs.quick.find_by.Goals as goal
 
 pub returns-in_err-start-clause-cost : goal.returns-in_err-start-clause-cost
 returns-in_err-start-clause-cost c =
-    by_miss (length c.args.expr.now.nodes) (length c.args.text.now) c.args.steps.now c.leftmost_by.new.steps (omega arith) c.leftmost_by.ensures.short_cost
+    let cost = by_miss (length c.args.expr.now.nodes) (length c.args.text.now) c.args.steps.now c.leftmost_by.new.steps (omega arith) c.leftmost_by.ensures.short_cost in
+    (omega arith, cost)
 
-pub returns-clause-lies : goal.returns-clause-lies
-returns-clause-lies c =
-    let lies = c.in_ok-start.ensures.lies in
-    report_lies (length c.args.text.now) (tree c.args.expr.now) c.args.text.now c.in_ok-start.start c.in_ok-start.end c.report-groups.result lies.0 lies.1 c.report-groups.ensures.report
+pub returns-clause-answer : goal.returns-clause-answer
+returns-clause-answer c =
+    let lies = c.in_ok-start.ensures.answer.2 in
+    let all = report_lies (length c.args.text.now) (tree c.args.expr.now) c.args.text.now c.in_ok-start.start c.in_ok-start.end c.report-groups.result lies.0 lies.1 c.report-groups.ensures.report in
+    (c.in_ok-start.ensures.answer.0, tt, c.report-groups.ensures.report, all)
 
 pub report-groups-requires-clause-start : goal.report-groups-requires-clause-start
-report-groups-requires-clause-start c = c.in_ok-start.ensures.lies.0
+report-groups-requires-clause-start c = c.in_ok-start.ensures.answer.2.0
 
 pub report-groups-requires-clause-stop : goal.report-groups-requires-clause-stop
-report-groups-requires-clause-stop c = c.in_ok-start.ensures.lies.1
+report-groups-requires-clause-stop c = c.in_ok-start.ensures.answer.2.1
 
 pub report-groups-requires-clause-room : goal.report-groups-requires-clause-room
 report-groups-requires-clause-room c =
@@ -30,18 +31,18 @@ report-groups-requires-clause-room c =
 
 pub returns-clause-cost : goal.returns-clause-cost
 returns-clause-cost c =
-    by_cost (length c.args.expr.now.nodes) (length c.args.text.now) c.args.steps.now c.leftmost_by.new.steps c.report-groups.new.steps c.requires.some c.leftmost_by.ensures.short_cost c.report-groups.ensures.cost
+    let cost = by_cost (length c.args.expr.now.nodes) (length c.args.text.now) c.args.steps.now c.leftmost_by.new.steps c.report-groups.new.steps c.requires.ready.0 c.leftmost_by.ensures.short_cost c.report-groups.ensures.cost in
+    (omega arith, cost)
 
 pub returns-in_err-start-clause-computed : goal.returns-in_err-start-clause-computed
 returns-in_err-start-clause-computed c =
     let none : c.from_residual.result ≡ None = cc in
-    subst (λ r. span_found r ≡ found (tree c.args.expr.now) c.args.text.now c.args.from) (sym none)
-    (sym ((not_found-iff (tree c.args.expr.now) c.args.text.now c.args.from c.requires.from).1 c.in_err-start.ensures.none))
+    subst (IsComputed (tree c.args.expr.now) c.args.text.now c.args.from) (sym none)
+    (sym ((not_found-iff (tree c.args.expr.now) c.args.text.now c.args.from c.requires.from).1 c.in_err-start.ensures.answer.1), tt)
 
 pub returns-clause-computed : goal.returns-clause-computed
 returns-clause-computed c =
-    sym ((found-iff (tree c.args.expr.now) c.args.text.now c.args.from c.in_ok-start.start c.in_ok-start.end c.requires.from).1 c.in_ok-start.ensures.found)
-
-pub returns-clause-reported : goal.returns-clause-reported
-returns-clause-reported c =
-    (report-iff (tree c.args.expr.now) c.args.text.now c.in_ok-start.start c.in_ok-start.end c.report-groups.result c.in_ok-start.ensures.found.spans).1 c.report-groups.ensures.report
+    let found = c.in_ok-start.ensures.answer.0 in (
+      sym ((found-iff (tree c.args.expr.now) c.args.text.now c.args.from c.in_ok-start.start c.in_ok-start.end c.requires.from).1 found),
+      (report-iff (tree c.args.expr.now) c.args.text.now c.in_ok-start.start c.in_ok-start.end c.report-groups.result found.spans).1 c.report-groups.ensures.report,
+    )

@@ -13,7 +13,7 @@ anchored_by-requires-clause-begins c i j s = subst (λ b. CanBegin b c.args.text
 pub returns-in-AtStart-clause-matches : goal.returns-in-AtStart-clause-matches
 returns-in-AtStart-clause-matches c =
     subst (λ b. IsTrue b ↔ SomeFound (tree c.args.expr.now) c.args.text.now c.args.from) (sym c.is_some.ensures)
-    (found_tells (tree c.args.expr.now) c.args.text.now c.args.from c.anchored_by.result c.anchored_by.ensures.found c.anchored_by.ensures.none c.anchored_by.ensures.lies)
+    (found_tells (tree c.args.expr.now) c.args.text.now c.args.from c.anchored_by.result c.anchored_by.ensures.answer.0 c.anchored_by.ensures.answer.1 c.anchored_by.ensures.answer.2)
 
 pub returns-in-None-clause-matches : goal.returns-in-None-clause-matches
 returns-in-None-clause-matches c =

@@ -1,14 +1,14 @@
 use Rattle.std.proofs.Common.{◌+◌, None, length, arith}
-use Rattle.std.proofs.lemmas.Option.{IfSome_then}
 use Rattle.sedre.specs.Arena.{tree}
 use Rattle.sedmatch.specs.Search.{NoneIn}
 use Rattle.sedmatch.specs.Reach.{Longest}
 use Rattle.sedmatch.proofs.CostLemmas.{whole_cost}
-use Rattle.sedmatch.proofs.SweepLemmas.{none_at, none_join, found_later}
+use Rattle.sedmatch.proofs.NarrowLemmas.{answer_later, there_answer}
+use Rattle.sedmatch.proofs.SweepLemmas.{none_at, none_join}
 use Rattle.sedmatch.proofs.search.leftmost.Goals as goal
 
-pub returns-clause-found : goal.returns-clause-found
-returns-clause-found c =
+pub returns-clause-answer : goal.returns-clause-answer
+returns-clause-answer c =
     let e = tree c.args.expr.now in
     let w = c.args.text.now in
     let next = c.in-Some.ensures.sought in
@@ -17,10 +17,12 @@ returns-clause-found c =
     let here : NoneIn e w c.args.from (c.in-Some.start + 1) =
     none_join e w c.args.from c.in-Some.start (c.in-Some.start + 1) next.2 (none_at e w c.in-Some.start missed) in
     let none : NoneIn e w c.args.from c.in-Some-scan.region.start = none_join e w c.args.from (c.in-Some.start + 1) c.in-Some-scan.region.start here scanned.1 in
-    IfSome_then c.span_in.result c.span_in.ensures.found (λ f. found_later e w c.args.from c.in-Some-scan.region.start f.0 f.1 (omega (arith, next.0, scanned.0)) none)
+    let there = there_answer e w c.in-Some-scan.region.start c.span_in.result (c.span_in.ensures.found, c.span_in.ensures.some, c.span_in.ensures.lies) in
+    answer_later e w c.args.from c.in-Some-scan.region.start c.span_in.result (omega (arith, next.0, scanned.0)) none there
 
 pub returns-clause-cost : goal.returns-clause-cost
 returns-clause-cost c =
-    whole_cost (length c.args.expr.now.nodes) (length c.args.text.now) c.args.from c.in-Some.start c.in-Some-scan.region.start c.args.steps.now c.how_begins-begins.new.steps
+    let cost = whole_cost (length c.args.expr.now.nodes) (length c.args.text.now) c.args.from c.in-Some.start c.in-Some-scan.region.start c.args.steps.now c.how_begins-begins.new.steps
     c.next_place.new.steps c.longest_from.new.steps c.scan.new.steps c.span_in.new.steps c.in-Some-scan.ensures.scanned.0
-    c.how_begins-begins.ensures.cost c.in-Some.ensures.cost c.longest_from.ensures.cost c.scan.ensures.cost c.span_in.ensures.cost
+    c.how_begins-begins.ensures.cost c.in-Some.ensures.cost c.longest_from.ensures.cost c.scan.ensures.cost c.span_in.ensures.cost in
+    (omega arith, cost)

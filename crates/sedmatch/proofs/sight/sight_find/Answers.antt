@@ -2,20 +2,21 @@ use Rattle.std.proofs.Common.{◌≡◌, ◌≤◌, ◌^◌, None, length, sym, 
 use Rattle.sedre.specs.Arena.{tree}
 use Rattle.sedmatch.proofs.GroupLemmas.{by_room}
 use Rattle.sedmatch.proofs.SightLemmas.{sight_squares, sight_miss, sight_cost}
-use Rattle.sedmatch.specs.Answer.{span_found}
-use Rattle.sedmatch.specs.Matching.{found}
+use Rattle.sedmatch.specs.Answer.{IsComputed}
 use Rattle.sedmatch.proofs.MatchingLemmas.{found-iff, not_found-iff, report-iff}
 use Rattle.sedmatch.proofs.PartLemmas.{report_lies}
 use Rattle.sedmatch.proofs.sight.sight_find.Goals as goal
 
 pub returns-in_err-start-clause-cost : goal.returns-in_err-start-clause-cost
 returns-in_err-start-clause-cost c =
-    sight_miss (length c.args.expr.now.nodes) (length c.args.text.now) c.args.steps.now c.sight_span.new.steps (omega arith) c.sight_span.ensures.cost
+    let cost = sight_miss (length c.args.expr.now.nodes) (length c.args.text.now) c.args.steps.now c.sight_span.new.steps (omega arith) c.sight_span.ensures.cost in
+    (omega arith, cost)
 
-pub returns-clause-lies : goal.returns-clause-lies
-returns-clause-lies c =
+pub returns-clause-answer : goal.returns-clause-answer
+returns-clause-answer c =
     let lies = c.in_ok-start.ensures.lies in
-    report_lies (length c.args.text.now) (tree c.args.expr.now) c.args.text.now c.in_ok-start.start c.in_ok-start.end c.report-groups.result lies.0 lies.1 c.report-groups.ensures.report
+    let all = report_lies (length c.args.text.now) (tree c.args.expr.now) c.args.text.now c.in_ok-start.start c.in_ok-start.end c.report-groups.result lies.0 lies.1 c.report-groups.ensures.report in
+    (c.in_ok-start.ensures.found (tree c.args.expr.now) c.requires.sight, tt, c.report-groups.ensures.report, all)
 
 pub report-groups-requires-clause-start : goal.report-groups-requires-clause-start
 report-groups-requires-clause-start c = c.in_ok-start.ensures.lies.0
@@ -32,22 +33,18 @@ report-groups-requires-clause-room c =
 
 pub returns-clause-cost : goal.returns-clause-cost
 returns-clause-cost c =
-    sight_cost (length c.args.expr.now.nodes) (length c.args.text.now) c.args.steps.now c.sight_span.new.steps c.report-groups.new.steps (omega arith) c.sight_span.ensures.cost c.report-groups.ensures.cost
+    let cost = sight_cost (length c.args.expr.now.nodes) (length c.args.text.now) c.args.steps.now c.sight_span.new.steps c.report-groups.new.steps (omega arith) c.sight_span.ensures.cost c.report-groups.ensures.cost in
+    (omega arith, cost)
 
 pub returns-in_err-start-clause-computed : goal.returns-in_err-start-clause-computed
 returns-in_err-start-clause-computed c =
     let none : c.from_residual.result ≡ None = cc in
-    subst (λ r. span_found r ≡ found (tree c.args.expr.now) c.args.text.now c.args.from) (sym none)
-    (sym ((not_found-iff (tree c.args.expr.now) c.args.text.now c.args.from c.requires.from).1 (c.in_err-start.ensures.none (tree c.args.expr.now) c.requires.sight)))
+    subst (IsComputed (tree c.args.expr.now) c.args.text.now c.args.from) (sym none)
+    (sym ((not_found-iff (tree c.args.expr.now) c.args.text.now c.args.from c.requires.from).1 (c.in_err-start.ensures.none (tree c.args.expr.now) c.requires.sight)), tt)
 
 pub returns-clause-computed : goal.returns-clause-computed
 returns-clause-computed c =
-    sym ((found-iff (tree c.args.expr.now) c.args.text.now c.args.from c.in_ok-start.start c.in_ok-start.end c.requires.from).1 (c.in_ok-start.ensures.found (tree c.args.expr.now) c.requires.sight))
-
-pub returns-clause-reported : goal.returns-clause-reported
-returns-clause-reported c =
-    let found = c.in_ok-start.ensures.found (tree c.args.expr.now) c.requires.sight in
-    (report-iff (tree c.args.expr.now) c.args.text.now c.in_ok-start.start c.in_ok-start.end c.report-groups.result found.spans).1 c.report-groups.ensures.report
-
-pub returns-clause-found : goal.returns-clause-found
-returns-clause-found c = c.in_ok-start.ensures.found (tree c.args.expr.now) c.requires.sight
+    let found = c.in_ok-start.ensures.found (tree c.args.expr.now) c.requires.sight in (
+      sym ((found-iff (tree c.args.expr.now) c.args.text.now c.args.from c.in_ok-start.start c.in_ok-start.end c.requires.from).1 found),
+      (report-iff (tree c.args.expr.now) c.args.text.now c.in_ok-start.start c.in_ok-start.end c.report-groups.result found.spans).1 c.report-groups.ensures.report,
+    )

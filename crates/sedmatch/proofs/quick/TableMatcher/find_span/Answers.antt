@@ -20,4 +20,4 @@ returns-in-Some-clause-cost_of_none c =
 
 pub returns-clause-computed : goal.returns-clause-computed
 returns-clause-computed c =
-    span_of_same c.self.inside.expr c.args.self.now c.args.text.now c.args.from c.leftmost_by.result c.self.view_is c.requires.from c.leftmost_by.ensures.found c.leftmost_by.ensures.none
+    span_of_same c.self.inside.expr c.args.self.now c.args.text.now c.args.from c.leftmost_by.result c.self.view_is c.requires.from c.leftmost_by.ensures.answer.0 c.leftmost_by.ensures.answer.1
