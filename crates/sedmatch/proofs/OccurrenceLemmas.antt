@@ -10,7 +10,7 @@ use Rattle.sedmatch.specs.Matching.{found}
 use Rattle.sedmatch.proofs.MatchingLemmas.{found-iff}
 use Rattle.sedmatch.specs.declared.occurrences.Occurrences.{Occurrences}
 use Rattle.sedmatch.specs.Meet.{blocks_cost, end_to}
-use Rattle.sedmatch.specs.Occurrences.{EndsWithin, Keeps, Serves, next_span, unless_null_at, owed_met, owed_apart, owed_together, owed_behind, owed_after}
+use Rattle.sedmatch.specs.Occurrences.{EndsWithin, Keeps, LiesOn, Occurs, Serves, next_span, unless_null_at, owed_met, owed_apart, owed_together, owed_behind, owed_after}
 
 -- what is owed after an answer, where c is what the blocks may cost
 abbrev pub owed_end : ℕ → ℕ → ℕ → Option (ℕ × ℕ) → ℕ
@@ -120,10 +120,10 @@ next_spans e w (Some q) f inside next = unless_spans e w q (found e w q) _ f ins
     on true fits is = ((found-iff e w (q + 1) f.0 f.1 (fits refl)).0 is).spans
     on false fits is = let none : None ≡ Some f = is in cc
 
-pub if_spans : (e : Tree) (w : List ℕ) (last : Option ℕ) (r : Option (ℕ × ℕ)) → EndsWithin (length w) last →
-    r ≡ next_span (found e w) (length w) last → IfSome r (λ f. Spans e w f.0 f.1)
-if_spans e w last None inside is = tt
-if_spans e w last (Some f) inside is = next_spans e w last f inside (sym is)
+pub if_occurs : (e : Tree) (w : List ℕ) (last : Option ℕ) (r : Option (ℕ × ℕ)) → EndsWithin (length w) last →
+    r ≡ next_span (found e w) (length w) last → IfSome r (LiesOn (length w) last) → IfSome r (Occurs e w last)
+if_occurs e w last None inside is lies = tt
+if_occurs e w last (Some f) inside is lies = (next_spans e w last f inside (sym is), lies)
 
 -- what is kept serves where no steps are left
 pub if_serves : (e : Written) (w : List ℕ) (r : Option (ℕ × ℕ)) (o : Occurrences) → o.left ≡ 0 →

@@ -1,9 +1,10 @@
 -- All occurrences in one text, one after another (XCU sed, "s/BRE/replacement/flags").
-use Rattle.std.specs.Prelude.{◌≡◌, ℕ, ◌+◌, ◌-◌, ◌*◌, ◌≤◌, false, ◌&&◌, List, length, Option, Some, None, IsTrue, nat_eq, nat_lt, if◌then◌else◌}
-use Rattle.std.specs.Prelude.{◌<◌}
+use Rattle.std.specs.Prelude.{◌≡◌, ℕ, ◌+◌, ◌-◌, ◌*◌, ◌<◌, ◌≤◌, false, ◌&&◌, List, length, Option, Some, None, IfSome, IsTrue, nat_eq, nat_lt, if◌then◌else◌}
 use Rattle.sedre.specs.Arena.{Written}
+use Rattle.sedre.specs.Tree.{Tree}
+use Rattle.sedmatch.specs.Spans.{Spans}
 use Rattle.sedmatch.specs.declared.occurrences.Occurrences.{Occurrences}
-use Rattle.sedmatch.specs.Meet.{HasBehind, IsKept, Reaches, blocks_cost}
+use Rattle.sedmatch.specs.Meet.{HasBehind, Served, blocks_cost}
 
 -- the match of the null string at a place is passed over for another one
 abbrev pub unless_null_at : ℕ → Option (ℕ × ℕ) → Option (ℕ × ℕ) → Option (ℕ × ℕ)
@@ -28,6 +29,14 @@ LiesBehind last None = Unit {0}
 LiesBehind None (Some f) = Unit {0}
 LiesBehind (Some q) (Some f) = (q ≤ f.0) × (q + 1 ≤ f.1)
 
+-- the span lies in a text of n bytes, behind the last occurrence
+abbrev pub LiesOn : ℕ → Option ℕ → ℕ × ℕ → Type 0
+LiesOn n last f = (f.0 ≤ f.1) × (f.1 ≤ n) × LiesBehind last (Some f)
+
+-- the span is one that the expression matches, and lies in the text, behind the last occurrence
+abbrev pub Occurs : Tree → List ℕ → Option ℕ → ℕ × ℕ → Type 0
+Occurs e w last f = Spans e w f.0 f.1 × LiesOn (length w) last f
+
 -- there is room for texts of so many bytes and expressions of so many nodes
 abbrev pub RoomFor : ℕ → ℕ → Occurrences → Type 0
 RoomFor text nodes o = HasBehind text nodes o.behind
@@ -38,13 +47,21 @@ KeepsRoom old new = (text nodes : ℕ) → RoomFor text nodes old → RoomFor te
 
 -- where a pass from the end was made, what is kept is of this text and expression, and serves behind the place
 abbrev pub Keeps : Written → List ℕ → ℕ → Occurrences → Type 0
-Keeps e w q o = IsTrue o.met → IsKept e w (length e.nodes - 1) o.behind × Reaches (length w) q o.behind
+Keeps e w q o = IsTrue o.met → Served e w (length e.nodes - 1) q o.behind
 
 -- What is kept serves to search behind an occurrence that ended at the place, if there is one. No pass from the end was made
 -- while some steps are left.
 abbrev pub Serves : Written → List ℕ → Option ℕ → Occurrences → Type 0
 Serves e w None o = (o.met ≡ false) × (0 < o.left)
 Serves e w (Some q) o = (0 < o.left → o.met ≡ false) × Keeps e w q o
+
+-- there is as much room as before, and what is kept serves to search behind the occurrence found, if there is one
+abbrev pub ServesOn : Written → List ℕ → Option (ℕ × ℕ) → Occurrences → Occurrences → Type 0
+ServesOn e w r old new = KeepsRoom old new × IfSome r (λ f. Serves e w (Some f.1) new)
+
+-- the same where no steps are left
+abbrev pub KeepsOn : Written → List ℕ → Option (ℕ × ℕ) → Occurrences → Occurrences → Type 0
+KeepsOn e w r old new = KeepsRoom old new × (new.left ≡ old.left) × IfSome r (λ f. Keeps e w f.1 new)
 
 -- The steps that the searches may still take behind an occurrence that ended at the place q, with m nodes in a text of n bytes:
 -- after the pass from the end; and before it, where so many are left, or none and the pass is due.

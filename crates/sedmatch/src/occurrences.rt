@@ -2,10 +2,12 @@
 ghost use Rattle.std.specs.Prelude.{◌≡◌, ℕ, false, ◌+◌, ◌*◌, ◌^◌, ◌<◌, ◌≤◌, length, nat_lt, if◌then◌else◌, None, Some, IfOk, IfSome, IsTrue};
 ghost use Rattle.sedre.specs.Arena.{Written, tree};
 ghost use Rattle.sedmatch.specs.Matching.{found, report};
-ghost use Rattle.sedmatch.specs.Meet.{HasBehind, IsKept, KeepsBehind, Reaches};
-ghost use Rattle.sedmatch.specs.Occurrences.{EndsWithin, Keeps, KeepsRoom, LiesBehind, RoomFor, Serves, next_span, owed, owed_after, owed_apart, owed_met, owed_together};
+ghost use Rattle.sedmatch.specs.Meet.{FitsBehind, KeepsBehind, Served};
+ghost use Rattle.sedmatch.specs.Occurrences.{EndsWithin, Keeps, KeepsOn, KeepsRoom, LiesOn, Occurs, RoomFor, Serves, ServesOn};
+ghost use Rattle.sedmatch.specs.Occurrences.{next_span, owed, owed_after, owed_apart, owed_met, owed_together};
 ghost use Rattle.sedmatch.specs.Parts.{SpanIn, span_of};
 ghost use Rattle.sedmatch.specs.Spans.{Spans};
+ghost use Rattle.sedmatch.specs.Costs.{Pays, Takes};
 ghost use Rattle.sedmatch.specs.Room.{FitInto};
 
 use crate::counted::Text;
@@ -64,8 +66,7 @@ impl Occurrences {
 
     /// Begins anew, for this expression and text.
     pub fn begin(&mut self, matcher: &TableMatcher, text: &Text, scratch: &Scratch)
-        requires text_fits { length text.now ≤ scratch.now.text }
-        requires expr_fits { length matcher.now.nodes ≤ scratch.now.nodes }
+        requires fits { FitInto (length text.now) (length matcher.now.nodes) scratch.now }
         ensures room { KeepsRoom self.old self.new }
         ensures serves { Serves matcher.now text.now None self.new }
         ensures owed { let m = length matcher.now.nodes in let n = length text.now in
@@ -87,21 +88,16 @@ fn see_met(
     steps: &mut Steps,
 )
     requires root { root + 1 ≡ length expr.now.nodes }
-    requires few { length expr.now.nodes ≤ 65536 }
-    requires short { length text.now ≤ 2 ^ 30 }
     requires at { at ≤ length text.now }
-    requires fits { HasBehind (length text.now) (length expr.now.nodes) occurrences.old.behind }
-    requires serves { IsTrue occurrences.old.met → IsKept expr.now text.now root occurrences.old.behind × Reaches (length text.now) at occurrences.old.behind }
+    requires fits { FitsBehind (length expr.now.nodes) (length text.now) occurrences.old.behind }
+    requires serves { IsTrue occurrences.old.met → Served expr.now text.now root at occurrences.old.behind }
     requires room { steps.old ≤ 2 ^ 100 }
     ensures kept { KeepsBehind occurrences.old.behind occurrences.new.behind }
-    ensures met { IsTrue occurrences.new.met }
-    ensures left { occurrences.new.left ≡ occurrences.old.left }
-    ensures all { IsKept expr.now text.now root occurrences.new.behind }
-    ensures reaches { Reaches (length text.now) at occurrences.new.behind }
-    ensures grows { steps.old ≤ steps.new }
+    ensures met { IsTrue occurrences.new.met × (occurrences.new.left ≡ occurrences.old.left) }
+    ensures served { Served expr.now text.now root at occurrences.new.behind }
     ensures small { steps.new < 2 ^ 108 }
     ensures cost { let m = length expr.now.nodes in let n = length text.now in
-        steps.new + owed_met m n at occurrences.new ≤ steps.old + owed_together m n at occurrences.old }
+        Pays steps.old steps.new (owed_together m n at occurrences.old) (owed_met m n at occurrences.new) }
 {
     if occurrences.met {
         return;
@@ -133,15 +129,13 @@ impl TableMatcher {
         steps: &mut Steps,
     ) -> Option<(usize, usize)>
         requires at { at ≤ length text.now }
-        requires text_fits { length text.now ≤ scratch.old.text }
-        requires expr_fits { length self.old.nodes ≤ scratch.old.nodes }
+        requires fits { FitInto (length text.now) (length self.old.nodes) scratch.old }
         requires room { steps.old ≤ 2 ^ 101 }
         ensures same { self.new ≡ self.old }
         ensures scratch { scratch.new ≡ scratch.old }
         ensures next { result ≡ if nat_lt at (length text.now) then found (tree self.old) text.now (at + 1) else None }
         ensures lies { IfSome result (λ f. (at < f.0) × (f.0 ≤ f.1) × (f.1 ≤ length text.now)) }
-        ensures grows { steps.old ≤ steps.new }
-        ensures cost { steps.new ≤ steps.old + 128 * length self.old.nodes * (length text.now + 1) }
+        ensures cost { Takes steps.old steps.new (128 * length self.old.nodes * (length text.now + 1)) }
     {
         if at >= text.len() {
             return None;
@@ -159,16 +153,13 @@ impl TableMatcher {
         steps: &mut Steps,
     ) -> Option<(usize, usize)>
         requires last { EndsWithin (length text.now) last }
-        requires text_fits { length text.now ≤ scratch.old.text }
-        requires expr_fits { length self.old.nodes ≤ scratch.old.nodes }
+        requires fits { FitInto (length text.now) (length self.old.nodes) scratch.old }
         requires room { steps.old ≤ 2 ^ 100 }
         ensures same { self.new ≡ self.old }
         ensures scratch { scratch.new ≡ scratch.old }
         ensures next { result ≡ next_span (found (tree self.old) text.now) (length text.now) last }
-        ensures lies { IfSome result (λ f. (f.0 ≤ f.1) × (f.1 ≤ length text.now)) }
-        ensures behind { LiesBehind last result }
-        ensures grows { steps.old ≤ steps.new }
-        ensures cost { steps.new ≤ steps.old + 256 * length self.old.nodes * (length text.now + 1) }
+        ensures lies { IfSome result (LiesOn (length text.now) last) }
+        ensures cost { Takes steps.old steps.new (256 * length self.old.nodes * (length text.now + 1)) }
     {
         scratch.bounds();
         let at = place_of(last);
@@ -190,21 +181,16 @@ impl TableMatcher {
         steps: &mut Steps,
     ) -> Option<(usize, usize)>
         requires last { EndsWithin (length text.now) last }
-        requires text_fits { length text.now ≤ scratch.old.text }
-        requires expr_fits { length self.old.nodes ≤ scratch.old.nodes }
-        requires met { occurrences.old.met ≡ false }
-        requires left { 0 < occurrences.old.left }
+        requires fits { FitInto (length text.now) (length self.old.nodes) scratch.old }
+        requires left { (occurrences.old.met ≡ false) × (0 < occurrences.old.left) }
         requires room { steps.old ≤ 2 ^ 100 }
         ensures same { self.new ≡ self.old }
         ensures scratch { scratch.new ≡ scratch.old }
-        ensures met { occurrences.new.met ≡ false }
-        ensures kept { occurrences.new.behind ≡ occurrences.old.behind }
+        ensures kept { (occurrences.new.met ≡ false) × (occurrences.new.behind ≡ occurrences.old.behind) }
         ensures next { result ≡ next_span (found (tree self.old) text.now) (length text.now) last }
-        ensures lies { IfSome result (λ f. (f.0 ≤ f.1) × (f.1 ≤ length text.now)) }
-        ensures behind { LiesBehind last result }
-        ensures grows { steps.old ≤ steps.new }
+        ensures lies { IfSome result (LiesOn (length text.now) last) }
         ensures cost { let m = length self.old.nodes in let n = length text.now in
-            steps.new + owed_apart m n occurrences.new.left ≤ steps.old + owed_apart m n occurrences.old.left }
+            Pays steps.old steps.new (owed_apart m n occurrences.old.left) (owed_apart m n occurrences.new.left) }
     {
         scratch.bounds();
         let before = steps.count();
@@ -225,22 +211,17 @@ impl TableMatcher {
         steps: &mut Steps,
     ) -> Option<(usize, usize)>
         requires at { at ≤ length text.now }
-        requires text_fits { length text.now ≤ scratch.old.text }
-        requires expr_fits { length self.old.nodes ≤ scratch.old.nodes }
+        requires fits { FitInto (length text.now) (length self.old.nodes) scratch.old }
         requires room_fits { RoomFor (length text.now) (length self.old.nodes) occurrences.old }
         requires keeps { Keeps self.old text.now at occurrences.old }
         requires room { steps.old ≤ 2 ^ 100 }
         ensures same { self.new ≡ self.old }
         ensures scratch { scratch.new ≡ scratch.old }
-        ensures room_kept { KeepsRoom occurrences.old occurrences.new }
         ensures next { result ≡ next_span (found (tree self.old) text.now) (length text.now) (Some at) }
-        ensures lies { IfSome result (λ f. (f.0 ≤ f.1) × (f.1 ≤ length text.now)) }
-        ensures behind { LiesBehind (Some at) result }
-        ensures keeps { IfSome result (λ f. Keeps self.old text.now f.1 occurrences.new) }
-        ensures left { occurrences.new.left ≡ occurrences.old.left }
-        ensures grows { steps.old ≤ steps.new }
+        ensures lies { IfSome result (LiesOn (length text.now) (Some at)) }
+        ensures keeps { KeepsOn self.old text.now result occurrences.old occurrences.new }
         ensures cost { let m = length self.old.nodes in let n = length text.now in
-            steps.new + owed_after m n result occurrences.new ≤ steps.old + owed_together m n at occurrences.old }
+            Pays steps.old steps.new (owed_together m n at occurrences.old) (owed_after m n result occurrences.new) }
     {
         scratch.bounds();
         see_met(&self.expr, self.root, text, at, occurrences, steps);
@@ -268,22 +249,17 @@ impl TableMatcher {
         steps: &mut Steps,
     ) -> Option<(usize, usize)>
         requires last { EndsWithin (length text.now) last }
-        requires text_fits { length text.now ≤ scratch.old.text }
-        requires expr_fits { length self.old.nodes ≤ scratch.old.nodes }
+        requires fits { FitInto (length text.now) (length self.old.nodes) scratch.old }
         requires room_fits { IfSome last (λ _. RoomFor (length text.now) (length self.old.nodes) occurrences.old) }
         requires serves { Serves self.old text.now last occurrences.old }
         requires room { steps.old ≤ 2 ^ 100 }
         ensures same { self.new ≡ self.old }
         ensures scratch { scratch.new ≡ scratch.old }
-        ensures room_kept { KeepsRoom occurrences.old occurrences.new }
         ensures next { result ≡ next_span (found (tree self.old) text.now) (length text.now) last }
-        ensures spans { IfSome result (λ f. Spans (tree self.old) text.now f.0 f.1) }
-        ensures lies { IfSome result (λ f. (f.0 ≤ f.1) × (f.1 ≤ length text.now)) }
-        ensures behind { LiesBehind last result }
-        ensures serves { IfSome result (λ f. Serves self.old text.now (Some f.1) occurrences.new) }
-        ensures grows { steps.old ≤ steps.new }
+        ensures occurs { IfSome result (Occurs (tree self.old) text.now last) }
+        ensures serves { ServesOn self.old text.now result occurrences.old occurrences.new }
         ensures cost { let m = length self.old.nodes in let n = length text.now in
-            steps.new + owed_after m n result occurrences.new ≤ steps.old + owed m n last occurrences.old }
+            Pays steps.old steps.new (owed m n last occurrences.old) (owed_after m n result occurrences.new) }
     {
         scratch.bounds();
         if let Some(at) = last {

@@ -12,8 +12,12 @@ next_behind-requires-clause-fits c = (
       (c.see_met.ensures.kept (length c.args.text.now) (length c.args.self.now.nodes) c.requires.room_fits),
 )
 
-pub returns-clause-room_kept : goal.returns-clause-room_kept
-returns-clause-room_kept c text nodes has = c.next_behind.ensures.kept.1 text nodes (c.see_met.ensures.kept text nodes has)
+pub returns-clause-keeps : goal.returns-clause-keeps
+returns-clause-keeps c = (
+  (λ text nodes has. c.next_behind.ensures.kept.1 text nodes (c.see_met.ensures.kept text nodes has)),
+  search rules,
+  search rules,
+)
 
 pub returns-clause-cost : goal.returns-clause-cost
 returns-clause-cost c =
@@ -22,7 +26,7 @@ returns-clause-cost c =
     let met = c.see_met.new.occurrences in
     let new : Occurrences = record { behind = c.next_behind.new.behind; left = met.left; met = met.met } in
     let paid = search_paid m n c.args.at (blocks_cost m met.behind) (blocks_cost m new.behind) c.see_met.new.steps c.next_behind.new.steps c.next_behind.result c.requires.at c.next_behind.ensures.lies c.next_behind.ensures.cost in
-    let before = c.see_met.ensures.cost in
+    let before = c.see_met.ensures.cost.1 in
     let both : c.next_behind.new.steps + owed_after m n c.next_behind.result new ≤ c.args.steps.now + owed_together m n c.args.at c.args.occurrences.now =
-    subst (λ v. c.next_behind.new.steps + v ≤ c.args.steps.now + owed_together m n c.args.at c.args.occurrences.now) (sym (after_is_met m n c.next_behind.result new c.see_met.ensures.met)) (omega (arith, paid, before)) in
-    subst (λ e. c.next_behind.new.steps + owed_after (length e.nodes) n c.next_behind.result new ≤ c.args.steps.now + owed_together (length e.nodes) n c.args.at c.args.occurrences.now) c.self.view_is both
+    subst (λ v. c.next_behind.new.steps + v ≤ c.args.steps.now + owed_together m n c.args.at c.args.occurrences.now) (sym (after_is_met m n c.next_behind.result new c.see_met.ensures.met.0)) (omega (arith, paid, before)) in
+    (omega (arith, c.see_met.ensures.cost.0), subst (λ e. c.next_behind.new.steps + owed_after (length e.nodes) n c.next_behind.result new ≤ c.args.steps.now + owed_together (length e.nodes) n c.args.at c.args.occurrences.now) c.self.view_is both)
