@@ -1,15 +1,16 @@
-use Rattle.std.proofs.Common.{◌≡◌, ◌∙◌, arith, get_or}
+use Rattle.std.proofs.Common.{◌≡◌, ◌∙◌, length, ap, arith, get_or}
 use Rattle.std.proofs.lemmas.Grind.{elements}
 use Rattle.sedengine.proofs.Choices.{finds_as}
 use Rattle.sedengine.proofs.Fitting.{fits_at}
 use Rattle.sedengine.proofs.select.finds.Goals as goal
 
-pub is_match-requires-clause-expr_fits : goal.is_match-requires-clause-expr_fits
-is_match-requires-clause-expr_fits c =
+pub is_match-requires-clause-fits : goal.is_match-requires-clause-fits
+is_match-requires-clause-fits c =
     let e = c.index_mut-matcher.result.now in
     let h = c.index_mut-matcher.ensures.value in
     let is : e ≡ get_or c.args.matchers.now.items c.args.k e = grind (arith, elements) in
-    fits_at c.args.scratch.now.nodes c.args.matchers.now.items c.args.k e c.requires.number is c.requires.fit
+    let same = ap length (c.new-text.ensures ∙ c.bytes.ensures.value) in
+    (omega (arith, same, c.requires.text), fits_at c.args.scratch.now.nodes c.args.matchers.now.items c.args.k e c.requires.number is c.requires.fit)
 
 pub returns-clause-finds : goal.returns-clause-finds
 returns-clause-finds c =
