@@ -174,6 +174,8 @@ fn needs_groups(parts: &[Part]) -> bool
 
 /// The next occurrence, behind the one that ended at a place, where there was one. Its groups are told where they are
 /// wanted.
+// Where a line has many occurrences, a call's own cost counts.
+#[inline(always)]
 fn next_occurrence(
     matcher: &mut TableMatcher,
     text: &[u8],

@@ -240,6 +240,7 @@ impl TableMatcher {
     /// match from there on, or one byte further where that is the null string at `last`.
     ///
     /// All calls for one text, from [`Occurrences::begin`] on, take at most 416 steps for each node and place together.
+    #[inline(always)]
     pub fn next_occurrence(
         &mut self,
         text: &Text,
