@@ -1,6 +1,6 @@
 //! What can be looked at only by calls that count.
 ghost use Rattle.std.specs.Prelude.{◌≡◌, ℕ, Bool, false, true, List, ◌+◌, ◌-◌, ◌^◌, ◌<◌, ◌≤◌, length, slice_index};
-ghost use Rattle.std.specs.Prelude.{slice_index_or, slice_set, slice_get, Some, IfOk, replicate, eqb, ◌≢◌, ◌*◌};
+ghost use Rattle.std.specs.Prelude.{slice_index_or, slice_set, slice_get, Some, IfOk, IfSome, replicate, eqb, ◌≢◌, ◌*◌};
 ghost use Rattle.std.specs.Prelude.{vec_len};
 ghost use Rattle.std.specs.Int.{bit_at};
 ghost use Rattle.std.specs.Prelude.{reverse};
@@ -8,17 +8,21 @@ ghost use Rattle.sedmatch.specs.Bytes.{FirstAt, looked_at, in_order};
 ghost use Rattle.sedmatch.specs.Few.{AreBytes, FirstFew};
 ghost use Rattle.sedmatch.specs.Needed.{FirstLiteral, LastLiteral, passed_to};
 ghost use Rattle.sedmatch.specs.Rare.{ApartIn};
+ghost use Rattle.sedmatch.specs.Runs.{IsRun};
+ghost use Rattle.sedmatch.specs.Skip.{CanBegin, NextStart, skip_cost};
+ghost use Rattle.sedmatch.specs.declared.skip.Begins.TheVariants.{WithSet};
 ghost use Rattle.sedmatch.specs.Words.{marks_of};
 
 mod rows;
 
 use crate::apart::apart_to;
 use crate::few::Few;
+use crate::members::{first_member, run_to};
 use crate::rare::Fixed;
 use memchr::memchr;
 use memchr::memmem::{Finder, FinderRev};
 pub use rows::Rows;
-use sedre::Steps;
+use sedre::{ByteSet, Steps};
 use std::alloc::{AllocError, Global};
 use std::marker::Model;
 
@@ -193,6 +197,49 @@ impl<'a> Text<'a> {
                 Some(from + place)
             }
         }
+    }
+
+    /// The first place from `from` on whose byte is in the set.
+    /// Counts a look for each byte from `from` to that place, or to the end where there is none.
+    #[inline(always)]
+    pub(crate) fn find_member(&self, set: &ByteSet, from: usize, steps: &mut Steps) -> Option<usize>
+        requires from { from ≤ length self.now }
+        requires short { length self.now ≤ 2 ^ 30 }
+        requires room { steps.old < 2 ^ 117 }
+        ensures next { NextStart (WithSet set.now) self.now from result }
+        ensures here { IfSome result (λ k. CanBegin (WithSet set.now) self.now k) }
+        ensures grows { steps.old ≤ steps.new }
+        ensures cost { steps.new + from ≤ steps.old + skip_cost (length self.now) result }
+    {
+        match first_member(set, self.bytes, from) {
+            None => {
+                steps.add(self.bytes.len() - from);
+                None
+            }
+            Some(place) => {
+                steps.add(place - from + 1);
+                Some(place)
+            }
+        }
+    }
+
+    /// The end of the run of bytes of the set that begins at the place.
+    /// Counts a look for each byte from `from` to the one that ends the run, or to the end where none does.
+    #[inline(always)]
+    pub(crate) fn run_end(&self, set: &ByteSet, from: usize, steps: &mut Steps) -> usize
+        requires from { from ≤ length self.now }
+        requires short { length self.now ≤ 2 ^ 30 }
+        requires room { steps.old < 2 ^ 119 }
+        ensures run { IsRun set.now self.now from result }
+        ensures grows { steps.old ≤ steps.new }
+        ensures cost { steps.new ≤ steps.old + length self.now }
+    {
+        let end = run_to(set, self.bytes, from);
+        steps.add(end - from);
+        if end < self.bytes.len() {
+            steps.add(1);
+        }
+        end
     }
 }
 

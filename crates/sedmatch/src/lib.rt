@@ -30,6 +30,7 @@ mod laws;
 mod linear;
 mod matcher;
 mod meet;
+mod members;
 mod needed;
 mod occurrences;
 mod passes;

@@ -115,26 +115,7 @@ fn near_first(expr: &Expr, index: usize, steps: &mut Steps) -> Node
     expr.look(expr.id(deeper), steps)
 }
 
-/// The end of the run of bytes of the set that begins at the place.
-#[inline(always)]
-pub fn run_end(set: &ByteSet, text: &Text, from: usize, steps: &mut Steps) -> usize
-    requires from { from ≤ length text.now }
-    requires short { length text.now ≤ 2 ^ 30 }
-    requires room { steps.old < 2 ^ 119 }
-    ensures run { IsRun set.now text.now from result }
-    ensures grows { steps.old ≤ steps.new }
-    ensures cost { steps.new ≤ steps.old + length text.now }
-{
-    for place in from..text.len() {
-        let byte = text.byte(place, steps);
-        if !set.has(byte) {
-            return place;
-        }
-    }
-    text.len()
-}
-
-/// The same, where no byte of the run is in the set `next`.
+/// The end of the run of bytes of the set that begins at the place, where no byte of the run is in the set `next`.
 fn run_apart(
     set: &ByteSet,
     next: &ByteSet,
@@ -183,7 +164,7 @@ fn run_before(
     let _count = expr.nodes();
     match near_first(expr, index, steps) {
         Node::Set(next) => run_apart(set, &next, text, from, steps),
-        Node::End => Some(run_end(set, text, from, steps)),
+        Node::End => Some(text.run_end(set, from, steps)),
         _ => None,
     }
 }
@@ -222,7 +203,7 @@ fn star_end(
     ensures cost { steps.new ≤ steps.old + 1 + length text.now }
 {
     match star_set_of(expr, index, node, steps) {
-        Some(set) => Far::To(run_end(&set, text, place, steps)),
+        Some(set) => Far::To(text.run_end(&set, place, steps)),
         None => Far::Unknown,
     }
 }

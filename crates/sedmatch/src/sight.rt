@@ -17,9 +17,8 @@ use crate::counted::Text;
 use crate::few::{Few, members_of};
 use crate::groups::report;
 use crate::matcher::Found;
-use crate::runs::{run_end, star_set};
+use crate::runs::star_set;
 use crate::scratch::Scratch;
-use crate::skip::find_member;
 use crate::times::{find_times, times_of};
 use sedre::{ByteSet, Expr, Node, Steps};
 use std::alloc::{AllocError, Global};
@@ -103,6 +102,7 @@ pub fn sight_of(alloc: Global, expr: &Expr, steps: &mut Steps) -> Result<Option<
 }
 
 /// The first place from `from` on whose byte can come first.
+#[inline(always)]
 fn find_first(first: &First, text: &Text, from: usize, steps: &mut Steps) -> Option<usize>
     requires from { from ≤ length text.now }
     requires short { length text.now ≤ 2 ^ 30 }
@@ -113,11 +113,13 @@ fn find_first(first: &First, text: &Text, from: usize, steps: &mut Steps) -> Opt
 {
     match first {
         First::Among(few) => text.find_few(few, from, steps),
-        First::Member(set) => find_member(set, text, from, steps),
+        First::Member(set) => text.find_member(set, from, steps),
     }
 }
 
 /// The first place from `from` on at which a match begins.
+// On short texts a call of its own costs as much as the search.
+#[inline(always)]
 pub fn sight_start(sight: &Sight, text: &Text, from: usize, steps: &mut Steps) -> Option<usize>
     requires from { from ≤ length text.now }
     requires short { length text.now ≤ 2 ^ 30 }
@@ -161,8 +163,8 @@ fn sight_end(sight: &Sight, text: &Text, start: usize, steps: &mut Steps) -> usi
 {
     match sight {
         Sight::One(_) => start + 1,
-        Sight::Led(_, members) => run_end(members, text, start + 1, steps),
-        Sight::Run(members) => run_end(members, text, start, steps),
+        Sight::Led(_, members) => text.run_end(members, start + 1, steps),
+        Sight::Run(members) => text.run_end(members, start, steps),
         Sight::Times(_, count) => start + *count,
         Sight::Between(between) => between.end(text, start, steps),
     }

@@ -191,26 +191,6 @@ pub fn how_begins(expr: &Expr, steps: &mut Steps) -> Begins
     }
 }
 
-/// The first place from `from` on whose byte is in the set. Counts one look for each byte.
-#[inline(always)]
-pub fn find_member(set: &ByteSet, text: &Text, from: usize, steps: &mut Steps) -> Option<usize>
-    requires from { from ≤ length text.now }
-    requires short { length text.now ≤ 2 ^ 30 }
-    requires room { steps.old < 2 ^ 117 }
-    ensures next { NextStart (WithSet set.now) text.now from result }
-    ensures here { IfSome result (λ k. CanBegin (WithSet set.now) text.now k) }
-    ensures grows { steps.old ≤ steps.new }
-    ensures cost { steps.new + from ≤ steps.old + skip_cost (length text.now) result }
-{
-    for place in from..text.len() {
-        let byte = text.byte(place, steps);
-        if set.has(byte) {
-            return Some(place);
-        }
-    }
-    None
-}
-
 /// The first place from `from` on whose byte is in one of the sets. Counts one look for each byte.
 fn find_either(sets: &Either, text: &Text, from: usize, steps: &mut Steps) -> Option<usize>
     requires from { from ≤ length text.now }
@@ -242,7 +222,7 @@ pub fn next_start(begins: &Begins, text: &Text, from: usize, steps: &mut Steps) 
         Begins::Anyhow => Some(from),
         Begins::AtStart => if from == 0 { Some(0) } else { None },
         Begins::WithByte(byte) => text.find_byte(*byte, from, steps),
-        Begins::WithSet(set) => find_member(set, text, from, steps),
+        Begins::WithSet(set) => text.find_member(set, from, steps),
         Begins::WithEither(sets) => find_either(sets, text, from, steps),
     }
 }

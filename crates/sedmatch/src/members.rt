@@ -1,0 +1,49 @@
+//! Bytes of a set in a slice: the first one, and how far a run of them goes. Nothing is counted here, but by what calls it.
+ghost use Rattle.std.specs.Prelude.{◌≡◌, ◌<◌, ◌≤◌, length, slice_get, Some, IfSome};
+ghost use Rattle.sedmatch.specs.Runs.{IsRun};
+ghost use Rattle.sedmatch.specs.Skip.{CanBegin, NextStart};
+ghost use Rattle.sedmatch.specs.declared.skip.Begins.TheVariants.{WithSet};
+
+use sedre::ByteSet;
+
+/// The byte at a place.
+#[inline(always)]
+fn byte_at(bytes: &[u8], i: usize) -> u8
+    requires { i < length bytes.now }
+    ensures byte { slice_get bytes.now i ≡ Some result }
+{
+    bytes[i]
+}
+
+/// The first place from `from` on whose byte is in the set.
+#[inline(always)]
+pub fn first_member(set: &ByteSet, bytes: &[u8], from: usize) -> Option<usize>
+    requires { from ≤ length bytes.now }
+    ensures next { NextStart (WithSet set.now) bytes.now from result }
+    ensures here { IfSome result (λ k. CanBegin (WithSet set.now) bytes.now k) }
+    ensures inside { IfSome result (λ k. (from ≤ k) × (k < length bytes.now)) }
+{
+    for place in from..bytes.len() {
+        let byte = byte_at(bytes, place);
+        if set.has(byte) {
+            return Some(place);
+        }
+    }
+    None
+}
+
+/// The end of the run of bytes of the set that begins at the place.
+#[inline(always)]
+pub fn run_to(set: &ByteSet, bytes: &[u8], from: usize) -> usize
+    requires { from ≤ length bytes.now }
+    ensures run { IsRun set.now bytes.now from result }
+    ensures inside { (from ≤ result) × (result ≤ length bytes.now) }
+{
+    for place in from..bytes.len() {
+        let byte = byte_at(bytes, place);
+        if !set.has(byte) {
+            return place;
+        }
+    }
+    bytes.len()
+}
