@@ -180,6 +180,7 @@ impl<'a> Text<'a> {
 
     /// The first place from `from` on at which one of the few bytes stands.
     /// Counts a look for each byte from `from` to that place, or to the end where there is none.
+    #[inline(always)]
     pub fn find_few(&self, few: &Few, from: usize, steps: &mut Steps) -> Option<usize>
         requires from { from ≤ length self.now }
         requires room { steps.old < 2 ^ 120 }

@@ -16,7 +16,8 @@ fn byte_at(bytes: &[u8], i: usize) -> u8
 }
 
 /// The first place from `from` on whose byte is in the set.
-#[inline(always)]
+// As a part of a large function it would be slower by the byte.
+#[inline(never)]
 pub fn first_member(set: &ByteSet, bytes: &[u8], from: usize) -> Option<usize>
     requires { from ≤ length bytes.now }
     ensures next { NextStart (WithSet set.now) bytes.now from result }
@@ -33,7 +34,8 @@ pub fn first_member(set: &ByteSet, bytes: &[u8], from: usize) -> Option<usize>
 }
 
 /// The end of the run of bytes of the set that begins at the place.
-#[inline(always)]
+// As a part of a large function it would be slower by the byte.
+#[inline(never)]
 pub fn run_to(set: &ByteSet, bytes: &[u8], from: usize) -> usize
     requires { from ≤ length bytes.now }
     ensures run { IsRun set.now bytes.now from result }
