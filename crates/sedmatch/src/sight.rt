@@ -103,6 +103,7 @@ pub fn sight_of(alloc: Global, expr: &Expr, steps: &mut Steps) -> Result<Option<
 }
 
 /// The first place from `from` on whose byte can come first.
+#[inline(always)]
 fn find_first(first: &First, text: &Text, from: usize, steps: &mut Steps) -> Option<usize>
     requires from { from ≤ length text.now }
     requires short { length text.now ≤ 2 ^ 30 }
@@ -118,6 +119,8 @@ fn find_first(first: &First, text: &Text, from: usize, steps: &mut Steps) -> Opt
 }
 
 /// The first place from `from` on at which a match begins.
+// On short texts a call of its own costs as much as the search.
+#[inline(always)]
 pub fn sight_start(sight: &Sight, text: &Text, from: usize, steps: &mut Steps) -> Option<usize>
     requires from { from ≤ length text.now }
     requires short { length text.now ≤ 2 ^ 30 }
