@@ -45,6 +45,7 @@ mod skip;
 mod states;
 mod tables;
 mod times;
+mod word;
 
 pub use counted::{Marks, Text};
 pub use laws::{found_law, groups_law, spans_law};
