@@ -15,12 +15,15 @@ use Rattle.sedmatch.specs.Skip.{CanBegin, NextStart}
 use Rattle.sedmatch.specs.declared.skip.Begins.TheVariants.{WithSet}
 use Rattle.sedmatch.specs.Times.{AllTimes, FirstTimes}
 use Rattle.sedmatch.specs.Between.{Parted, AllParted, FirstParted}
+use Rattle.sedmatch.specs.Needed.{IsLiteral, GoesOnAs, FirstLiteral}
+use Rattle.sedmatch.specs.declared.needed.Literal.{Literal}
+use Rattle.sedmatch.specs.Word.{WordSpans, AllWord}
 use Rattle.sedmatch.specs.Runs.{Repeated, AllRepeat, IsRun}
 use Rattle.sedmatch.specs.Sight.{IsFirst, StartsWith, SightSpans, IsSight, CanStart, FirstWith, FirstStart, EndsAt}
 use Rattle.sedmatch.specs.declared.sight.First.{First}
 use Rattle.sedmatch.specs.declared.sight.First.TheVariants.{Among, Member}
 use Rattle.sedmatch.specs.declared.sight.Sight.{Sight}
-use Rattle.sedmatch.specs.declared.sight.Sight.TheVariants.{One, Run, Led, Times, Between}
+use Rattle.sedmatch.specs.declared.sight.Sight.TheVariants.{One, Run, Led, Times, Between, Word}
 use Rattle.sedmatch.proofs.ReachLemmas.{open_at, close_at}
 use Rattle.sedmatch.proofs.RunLemmas.{run_far}
 use Rattle.sedmatch.proofs.TimesLemmas.{repeated_within}
@@ -79,6 +82,18 @@ module _ (nodes : List Node) (arena : IsArena nodes) (x last : ℕ) (whole : las
   pub sight_between : (b : Parted) → AllParted nodes last b → IsSight (tree_at nodes last) (Between b)
   sight_between b parted = parted
 
+  -- a literal
+  pub sight_word : (literal : List ℕ) → AllWord nodes last literal → IsSight (tree_at nodes last) (Word literal)
+  sight_word literal all w bytes i j within = all w i j within
+
+-- a literal behind which nothing is left
+pub all_word : (nodes : List Node) (x last : ℕ) (l : Literal) (literal : List ℕ) → last ≡ x → literal ≡ l.bytes.items → IsLiteral nodes x l → l.rest ≡ None → AllWord nodes last literal
+all_word nodes x last l literal whole same is none w i j within =
+    subst (λ v. At nodes w last i j ↔ WordSpans v w i j) (sym same) (subst (λ v. At nodes w v i j ↔ WordSpans l.bytes.items w i j) (sym whole) (
+      (λ at. let h = (is w i j within).0 at in (h.0, sym (subst (GoesOnAs nodes w (i + length l.bytes.items) j) none h.1))),
+      (λ h. (is w i j within).1 (h.0, subst (GoesOnAs nodes w (i + length l.bytes.items) j) (sym none) (sym h.1))),
+    ))
+
 -- the byte that is sought
 pub first_few : (few : Few) (w : List ℕ) (p : ℕ) (r : Option ℕ) → FirstFew few w p r → FirstWith (Among few) w p r
 first_few few w p None none = none
@@ -105,6 +120,10 @@ pub start_between : (b : Parted) (w : List ℕ) (p : ℕ) (r : Option ℕ) → F
 start_between b w p None none = λ k low within can. none k can.0 low can.1
 start_between b w p (Some k) here = (here.0, here.1, here.2, λ h low lt can. here.3 h can.0 low lt can.1)
 
+pub start_word : (literal w : List ℕ) (p : ℕ) (r : Option ℕ) → FirstLiteral w literal p r → FirstStart (Word literal) w p r
+start_word literal w p None none = λ k low within can. none k low can
+start_word literal w p (Some k) here = (here.0, (let fits = here.1.fits in omega arith), here.1, here.2)
+
 pub starts_inside : (first : First) (w : List ℕ) (i : ℕ) → StartsWith first w i → i < length w
 starts_inside first w i starts = slice_get_within w i starts.0 starts.1
 
@@ -121,6 +140,9 @@ end_led first members w i k starts run = let far = run_far members w (i + 1) k r
 pub end_times : (members : List Bool) (count : ℕ) (w : List ℕ) (i : ℕ) → i ≤ length w → CanStart (Times members count) w i → EndsAt (Times members count) w i (i + count)
 end_times members count w i within can = ((can, refl), repeated_within members w i (i + count) within can, λ k h. omega (arith, h.1))
 
+pub end_word : (literal w : List ℕ) (i j : ℕ) → CanStart (Word literal) w i → j ≡ i + length literal → EndsAt (Word literal) w i j
+end_word literal w i j can is = ((can, is), (let fits = can.fits in omega (arith, is)), λ k h. omega (arith, is, h.1))
+
 -- a match begins where it can
 spans_start : (sight : Sight) (w : List ℕ) (i j : ℕ) → SightSpans sight w i j → CanStart sight w i
 spans_start (One first) w i j s = s.0
@@ -128,6 +150,7 @@ spans_start (Run members) w i j s = tt
 spans_start (Led first members) w i j s = s.0
 spans_start (Times members count) w i j s = subst (Repeated members w i) s.1 s.0
 spans_start (Between b) w i j s = (s.0, s.1)
+spans_start (Word literal) w i j s = s.0
 
 -- and where it can, one does
 start_spans : (sight : Sight) (w : List ℕ) (i : ℕ) → CanStart sight w i → (j : ℕ) × SightSpans sight w i j
@@ -136,6 +159,7 @@ start_spans (Run members) w i can = (i, no_copy)
 start_spans (Led first members) w i can = (i + 1, (can, no_copy))
 start_spans (Times members count) w i can = (i + count, (can, refl))
 start_spans (Between b) w i can = (can.0 + length b.tail, (can.0, can.1, refl))
+start_spans (Word literal) w i can = (i + length literal, (can, refl))
 
 module _ (e : Tree) (sight : Sight) (is : IsSight e sight) (w : List ℕ) (bytes : AreBytes w) (p : ℕ) where
   pub sight_found : (i j : ℕ) → FirstStart sight w p (Some i) → EndsAt sight w i j → Found e w p i j
@@ -163,6 +187,7 @@ ends_on (One first) w i j s = omega (arith, s.1)
 ends_on (Run members) w i j s = Copies-forward (Spans (set members) w) j i s
 ends_on (Times members count) w i j s = omega (arith, s.1)
 ends_on (Between b) w i j s = let on = s.1.1.0 in omega (arith, s.2, on)
+ends_on (Word literal) w i j s = omega (arith, s.1)
 ends_on (Led first members) w i j s = omega (arith, Copies-forward (Spans (set members) w) j (i + 1) s.1)
 
 -- the longest from a place ends there or behind it

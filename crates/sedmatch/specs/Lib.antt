@@ -21,6 +21,7 @@ pub mod Ahead
 pub mod Runs
 pub mod Times
 pub mod Between
+pub mod Word
 pub mod Sight
 pub mod Few
 pub mod Rare

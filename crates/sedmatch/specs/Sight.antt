@@ -1,16 +1,18 @@
 -- Private to the proofs: no contract of a public item cites what stands here.
 -- Expressions whose matches are seen at the first look.
 use Rattle.std.specs.Prelude.{◌≡◌, ℕ, ◌+◌, ◌<◌, ◌≤◌, ◌↔◌, List, length, slice_get, Option, Some, None}
+use Rattle.memchr.specs.Find.{OccursAt}
 use Rattle.sedre.specs.Tree.{Tree}
 use Rattle.sedmatch.specs.Spans.{Spans, IsIn}
 use Rattle.sedmatch.specs.Runs.{Repeated}
 use Rattle.sedmatch.specs.Times.{HasTimes}
 use Rattle.sedmatch.specs.Between.{PartedSpans, CanPart}
+use Rattle.sedmatch.specs.Word.{WordSpans}
 use Rattle.sedmatch.specs.Few.{HasFew, AreBytes}
 use Rattle.sedmatch.specs.declared.sight.First.{First}
 use Rattle.sedmatch.specs.declared.sight.First.TheVariants.{Among, Member}
 use Rattle.sedmatch.specs.declared.sight.Sight.{Sight}
-use Rattle.sedmatch.specs.declared.sight.Sight.TheVariants.{One, Run, Led, Times, Between}
+use Rattle.sedmatch.specs.declared.sight.Sight.TheVariants.{One, Run, Led, Times, Between, Word}
 
 -- the byte can come first
 abbrev pub IsFirst : First → ℕ → Type 0
@@ -28,6 +30,7 @@ SightSpans (Run members) w i j = Repeated members w i j
 SightSpans (Led first members) w i j = StartsWith first w i × Repeated members w (i + 1) j
 SightSpans (Times members count) w i j = HasTimes members count w i j
 SightSpans (Between b) w i j = PartedSpans b w i j
+SightSpans (Word literal) w i j = WordSpans literal w i j
 
 -- the spans of the expression in a text of bytes are these
 abbrev pub IsSight : Tree → Sight → Type 0
@@ -45,6 +48,7 @@ CanStart (Run members) w i = Unit {0}
 CanStart (Led first members) w i = StartsWith first w i
 CanStart (Times members count) w i = Repeated members w i (i + count)
 CanStart (Between b) w i = CanPart b w i
+CanStart (Word literal) w i = OccursAt w literal i
 
 -- the first place from p on at which the byte can come first
 abbrev pub FirstWith : First → List ℕ → ℕ → Option ℕ → Type 0

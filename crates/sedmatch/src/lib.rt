@@ -46,6 +46,7 @@ mod skip;
 mod states;
 mod tables;
 mod times;
+mod word;
 
 pub use counted::{Marks, Text};
 pub use laws::{found_law, groups_law, spans_law};

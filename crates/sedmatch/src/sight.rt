@@ -1,5 +1,5 @@
 //! Expressions whose matches are seen at the first look: a set, a run of its bytes, one byte and a run, always as many
-//! bytes of a set, or two literals and what stands between.
+//! bytes of a set, a literal, or two literals and what stands between.
 //!
 //! Where such a match begins is told by its bytes, and where the longest ends by those that follow, so that nothing
 //! has to be found out of the expression in a search.
@@ -20,6 +20,7 @@ use crate::matcher::Found;
 use crate::runs::star_set;
 use crate::scratch::Scratch;
 use crate::times::{find_times, times_of};
+use crate::word::{Word, word_of};
 use sedre::{ByteSet, Expr, Node, Steps};
 use std::alloc::{AllocError, Global};
 
@@ -45,6 +46,8 @@ pub enum Sight {
     Times(ByteSet, usize),
     /// A literal, bytes of a set, and another literal.
     Between(Between),
+    /// A literal of two bytes or more.
+    Word(Word),
 }
 
 /// A member of a set, as it is sought.
@@ -87,10 +90,13 @@ pub fn sight_of(alloc: Global, expr: &Expr, steps: &mut Steps) -> Result<Option<
     requires few { length expr.now.nodes ≤ 65536 }
     requires room { steps.old < 2 ^ 107 }
     ensures sight { IfOk result (IsSightOf (tree expr.now)) }
-    ensures cost { steps.new ≤ steps.old + 327694 }
+    ensures cost { steps.new ≤ steps.old + 458768 }
 {
     if let Some(sight) = run_sight(expr, steps) {
         return Ok(Some(sight));
+    }
+    if let Some(word) = word_of(alloc, expr, steps)? {
+        return Ok(Some(Sight::Word(word)));
     }
     if let Some(between) = between_of(alloc, expr, steps)? {
         return Ok(Some(Sight::Between(between)));
@@ -134,6 +140,7 @@ pub fn sight_start(sight: &Sight, text: &Text, from: usize, steps: &mut Steps) -
         Sight::Run(_) => Some(from),
         Sight::Times(set, count) => find_times(set, *count, text, from, steps),
         Sight::Between(between) => between.start(text, from, steps),
+        Sight::Word(word) => word.start(text, from, steps),
     }
 }
 
@@ -167,6 +174,7 @@ fn sight_end(sight: &Sight, text: &Text, start: usize, steps: &mut Steps) -> usi
         Sight::Run(members) => text.run_end(members, start, steps),
         Sight::Times(_, count) => start + *count,
         Sight::Between(between) => between.end(text, start, steps),
+        Sight::Word(word) => word.end(start),
     }
 }
 

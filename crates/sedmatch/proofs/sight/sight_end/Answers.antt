@@ -1,6 +1,6 @@
 use Rattle.std.proofs.Common.{◌+◌, sym, subst, arith}
 use Rattle.sedmatch.specs.Sight.{CanStart, EndsAt}
-use Rattle.sedmatch.proofs.SightLemmas.{end_one, end_run, end_led, end_times}
+use Rattle.sedmatch.proofs.SightLemmas.{end_one, end_run, end_led, end_times, end_word}
 use Rattle.sedmatch.proofs.sight.sight_end.Goals as goal
 
 pub returns-in-Led-clause-end : goal.returns-in-Led-clause-end
@@ -35,3 +35,15 @@ returns-in-Times-clause-end c =
 pub returns-in-Between-clause-end : goal.returns-in-Between-clause-end
 returns-in-Between-clause-end c =
     subst (λ s. EndsAt s c.args.text.now c.args.start c.end.result) (sym c.in-Between.is) c.end.ensures.end
+
+pub end-requires-in-Word : goal.end-requires-in-Word
+end-requires-in-Word c =
+    let can = subst (λ s. CanStart s c.args.text.now c.args.start) c.in-Word.is c.requires.can in
+    let fits = can.fits in
+    omega (arith, fits)
+
+pub returns-in-Word-clause-end : goal.returns-in-Word-clause-end
+returns-in-Word-clause-end c =
+    let can = subst (λ s. CanStart s c.args.text.now c.args.start) c.in-Word.is c.requires.can in
+    subst (λ s. EndsAt s c.args.text.now c.args.start c.end-in-Word.result) (sym c.in-Word.is)
+    (end_word c.in-Word.word c.args.text.now c.args.start c.end-in-Word.result can c.end-in-Word.ensures)

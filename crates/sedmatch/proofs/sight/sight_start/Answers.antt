@@ -1,6 +1,6 @@
 use Rattle.std.proofs.Common.{sym, subst}
 use Rattle.sedmatch.specs.Sight.{FirstStart}
-use Rattle.sedmatch.proofs.SightLemmas.{start_one, start_led, start_times, start_between}
+use Rattle.sedmatch.proofs.SightLemmas.{start_one, start_led, start_times, start_between, start_word}
 use Rattle.sedmatch.proofs.sight.sight_start.Goals as goal
 
 pub returns-in-One-clause-start : goal.returns-in-One-clause-start
@@ -22,3 +22,8 @@ pub returns-in-Between-clause-start : goal.returns-in-Between-clause-start
 returns-in-Between-clause-start c =
     subst (λ s. FirstStart s c.args.text.now c.args.from c.start.result) (sym c.in-Between.is)
     (start_between c.in-Between.between c.args.text.now c.args.from c.start.result c.start.ensures.first)
+
+pub returns-in-Word-clause-start : goal.returns-in-Word-clause-start
+returns-in-Word-clause-start c =
+    subst (λ s. FirstStart s c.args.text.now c.args.from c.start-in-Word.result) (sym c.in-Word.is)
+    (start_word c.in-Word.word c.args.text.now c.args.from c.start-in-Word.result c.start-in-Word.ensures.first)

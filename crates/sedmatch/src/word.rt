@@ -1,0 +1,73 @@
+//! A literal, as in `green barley`: a match begins where it stands, and ends behind it.
+//!
+//! The search for it tells the whole match, so that no table is looked at.
+ghost use Rattle.std.specs.Prelude.{◌≡◌, ℕ, List, ◌+◌, ◌^◌, ◌<◌, ◌≤◌, ◌-◌, length, IfOk, IfSome};
+ghost use Rattle.sedmatch.specs.Needed.{FirstLiteral};
+ghost use Rattle.sedmatch.specs.Word.{AllWord};
+
+use crate::counted::Text;
+use crate::needed::{Literal, literal_from};
+use memchr::memmem::Finder;
+use sedre::{Expr, Steps};
+use std::alloc::{AllocError, Global};
+use std::marker::Model;
+
+/// A literal that is a whole expression, as it is sought.
+#[derive(Drop)]
+pub struct Word {
+    finder: Finder<'static>,
+}
+
+impl Model for Word {
+    ghost Value = { List ℕ };
+
+    ghost view = { λ w. w.finder };
+}
+
+/// A search for the bytes.
+fn new_word(alloc: Global, bytes: &[u8]) -> Result<Word, AllocError>
+    ensures { IfOk result (λ w. w ≡ bytes.now) }
+{
+    Ok(Word {
+        finder: Finder::new(bytes).into_owned(alloc)?,
+    })
+}
+
+/// The literal that the matches are, where it has two bytes or more. A single byte is sought faster as one.
+pub fn word_of(alloc: Global, expr: &Expr, steps: &mut Steps) -> Result<Option<Word>, AllocError>
+    requires few { length expr.now.nodes ≤ 65536 }
+    requires room { steps.old < 2 ^ 117 }
+    ensures word { IfOk result (λ r. IfSome r (λ w. AllWord expr.now.nodes (length expr.now.nodes - 1) w)) }
+    ensures grows { steps.old ≤ steps.new }
+    ensures cost { steps.new ≤ steps.old + 131074 }
+{
+    let _count = expr.nodes();
+    let root = expr.root().index();
+    let Literal { bytes, rest } = literal_from(alloc, expr, root, steps)?;
+    if rest.is_some() || bytes.len() < 2 {
+        return Ok(None);
+    }
+    Ok(Some(new_word(alloc, &bytes)?))
+}
+
+impl Word {
+    /// The first place from `from` on at which a match begins.
+    #[inline(never)]
+    pub fn start(&self, text: &Text, from: usize, steps: &mut Steps) -> Option<usize>
+        requires from { from ≤ length text.now }
+        requires room { steps.old < 2 ^ 117 }
+        ensures first { FirstLiteral text.now self.now from result }
+        ensures grows { steps.old ≤ steps.new }
+        ensures cost { steps.new + from ≤ steps.old + length text.now }
+    {
+        text.find_literal(&self.finder, from, steps)
+    }
+
+    /// Where the match ends that begins at `start`.
+    pub fn end(&self, start: usize) -> usize
+        requires short { start + length self.now ≤ 2 ^ 30 }
+        ensures { result ≡ start + length self.now }
+    {
+        start + self.finder.needle().len()
+    }
+}
