@@ -94,7 +94,8 @@ impl Engine {
         ensures again { IfSome self.old.ended (λ end. (result ≡ Progress.Ended end) × (self.new ≡ self.old)
             × (lines.new ≡ lines.old) × (outputs.new ≡ outputs.old) × (texts.new ≡ texts.old)) }
         ensures same_run { SameRun self.old self.new }
-        ensures same_devices { SameLines R.reference lines.old lines.new × SameSinks O.count O.names outputs.old outputs.new }
+        ensures same_devices { SameLines R.reference lines.old lines.new
+            × SameSinks O.count O.names outputs.old outputs.new }
         ensures same_texts { (k : ℕ) → Keeps (T.text texts.old k) (T.text texts.new k) }
     {
         let mut sinks = Metered {
@@ -135,7 +136,8 @@ impl Engine {
         ensures again { IfSome self.old.ended (λ end. (result ≡ end) × (self.new ≡ self.old)
             × (lines.new ≡ lines.old) × (outputs.new ≡ outputs.old) × (texts.new ≡ texts.old)) }
         ensures same_run { SameRun self.old self.new }
-        ensures same_devices { SameLines R.reference lines.old lines.new × SameSinks O.count O.names outputs.old outputs.new }
+        ensures same_devices { SameLines R.reference lines.old lines.new
+            × SameSinks O.count O.names outputs.old outputs.new }
         ensures same_texts { (k : ℕ) → Keeps (T.text texts.old k) (T.text texts.new k) }
     {
         let mut sinks = Metered {
