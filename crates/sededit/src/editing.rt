@@ -5,7 +5,7 @@ ghost use Rattle.std.specs.Io.KnownBytes.{Keeps};
 ghost use Rattle.sedspace.specs.Failures.{Rose};
 ghost use Rattle.sedscript.specs.Script.{Faulty, Means};
 ghost use Rattle.sedscript.specs.declared.types.ScriptFault.{ScriptFault};
-ghost use Rattle.sedengine.specs.Devices.{Gained, GainedWithin};
+ghost use Rattle.sedengine.specs.Devices.{Gained, GainedWithin, SameSinks};
 ghost use Rattle.sedengine.specs.Run.{TellsFiles, setting_of};
 ghost use Rattle.sededit.specs.Editing.{Edits, GainsAll, GainsBeginning, nothing_before, start_over};
 
@@ -71,8 +71,7 @@ pub fn edit<R: ByteSource, O: Outputs, T: Texts>(
     ensures input { result ≡ Ok Ended.InputBroken → Rose (R.failures source.old) (R.failures source.new) }
     ensures failed { (k : ℕ) → result ≡ Ok (Ended.OutputBroken k) →
         Rose (O.failures outputs.old k) (O.failures outputs.new k) }
-    ensures sinks { O.count outputs.new ≡ O.count outputs.old }
-    ensures names { O.names outputs.new ≡ O.names outputs.old }
+    ensures same_sinks { SameSinks O.count O.names outputs.old outputs.new }
     ensures same_reference { R.reference source.new ≡ R.reference source.old }
     // The texts are only read.
     ensures same_texts { (k : ℕ) → Keeps (T.text texts.old k) (T.text texts.new k) }

@@ -1,8 +1,10 @@
 -- What a run does to its devices: the bytes that sinks gain, and the failures, whether devices tell their bytes or not
 -- (this project's own).
 use Rattle.std.specs.Prelude.{◌≡◌, ℕ, ◌+◌, ◌≤◌, Option, Some, Result, Ok, Err, IfSome, List, [], ◌∷◌, length, nat_eq, if◌then◌else◌}
+use Rattle.std.specs.Borrow.{GName}
 use Rattle.std.specs.Io.KnownBytes.{Appends}
 use Rattle.sedspace.specs.Failures.{Rose}
+use Rattle.sedspace.specs.Stream.{Stream}
 use Rattle.sedengine.specs.declared.ends.Ended.{Ended}
 use Rattle.sedengine.specs.declared.ends.Ended.TheVariants.{InputBroken, OutputBroken, OutputFull}
 
@@ -41,3 +43,11 @@ abbrev pub FailedSource : {T : Type 0} → ℕ → ℕ → Result T Ended → Ty
 FailedSource old new (Ok x) = new ≡ old
 FailedSource old new (Err InputBroken) = Rose old new
 FailedSource old new (Err _) = Unit {0}
+
+-- Lines are read ahead as far as before, and the source holds the same references.
+abbrev pub SameLines : {R : Type 0} → (R → List GName) → Stream R → Stream R → Type 0
+SameLines reference old new = (new.look ≡ old.look) × (reference new.source ≡ reference old.source)
+
+-- There are as many sinks as before, and the files among them have the same names.
+abbrev pub SameSinks : {O : Type 0} → (O → ℕ) → (O → List (List ℕ)) → O → O → Type 0
+SameSinks count names old new = (count new ≡ count old) × (names new ≡ names old)

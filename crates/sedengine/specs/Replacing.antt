@@ -1,17 +1,20 @@
 -- Private to the proofs: no contract of a public item cites what stands here.
 -- What the parts of a substitution tell.
-use Rattle.std.specs.Prelude.{◌≡◌, ℕ, ◌+◌, ◌-◌, ◌<◌, ◌≤◌, List, [], ◌∷◌, ◌++◌, length, drop, Bool, true, false}
-use Rattle.std.specs.Prelude.{Option, Some, None, Result, Ok, Err, if◌then◌else◌}
+use Rattle.std.specs.Prelude.{◌≡◌, ℕ, ◌+◌, ◌*◌, ◌-◌, ◌<◌, ◌≤◌, List, [], ◌∷◌, ◌++◌, length, drop, slice_get, Bool, true, false}
+use Rattle.std.specs.Prelude.{Option, Some, None, IfSome, Result, Ok, Err, if◌then◌else◌}
 use Rattle.sedre.specs.Arena.{Written, tree}
 use Rattle.sedmatch.specs.Caps.{Groups}
 use Rattle.sedmatch.specs.Matching.{report}
+use Rattle.sedmatch.specs.Occurrences.{KeepsRoom, Serves, owed}
 use Rattle.sedmatch.specs.Parts.{SpanIn, span_of}
+use Rattle.sedmatch.specs.Room.{Room}
+use Rattle.sedmatch.specs.declared.occurrences.Occurrences.{Occurrences}
 use Rattle.sedscript.specs.declared.substitution.Piece.{Piece}
 use Rattle.sedscript.specs.declared.substitution.Piece.TheVariants.{Literal as literal, Whole as whole, Group as group}
 use Rattle.sedspace.specs.Spaces.{Contents}
 use Rattle.sedspace.specs.declared.errors.Full.{Full}
-use Rattle.sedengine.specs.Substitute.{Match, occurrences_from, occurrences, replaced_from}
-use Rattle.sedengine.specs.Run.{search_for}
+use Rattle.sedengine.specs.Substitute.{Match, next_occurrence, occurrences_from, occurrences, replaced_from}
+use Rattle.sedengine.specs.Run.{match_at, search_for}
 
 -- what a substitution answers where these occurrences are to be replaced in the text w: whether there are any, and then
 -- the text made; Full where that would be longer than the space
@@ -54,6 +57,12 @@ abbrev pub LiesBehind : ℕ → Option ℕ → ℕ × ℕ → Type 0
 LiesBehind n None span = (span.0 ≤ span.1) × (span.1 ≤ n)
 LiesBehind n (Some q) span = (q ≤ span.0) × (q < span.1) × (span.0 ≤ span.1) × (span.1 ≤ n)
 
+-- what was found is the next occurrence in the text w behind the one that ended at a place, or none where there is none; its
+-- span lies behind that place
+abbrev pub IsNext : Written → List ℕ → Option ℕ → Option (ℕ × ℕ) → Type 0
+IsNext e w last found =
+    (match_at e w found ≡ next_occurrence (search_for (Some e) w) (length w) last) × IfSome found (LiesBehind (length w) last)
+
 -- the place lies in a text of n bytes
 abbrev pub EndsIn : ℕ → Option ℕ → Type 0
 EndsIn n None = Unit {0}
@@ -75,3 +84,21 @@ Skips e w count (Some last) =
 abbrev pub pending : Written → List ℕ → Bool → Option (ℕ × ℕ) → List Match
 pending e w global None = []
 pending e w global (Some span) = occurrence e w span ∷ (if global then occurrences_behind e w (Some span.1) else [])
+
+-- what seeks, and the room for its searches, are as before
+abbrev pub SeeksAsBefore : {T : Type 0} → T → T → Room → Room → Type 0
+SeeksAsBefore old new before after = (new ≡ old) × (after ≡ before)
+
+-- there is as much room as before, and what is kept serves to search behind the occurrences skipped, if there are so many
+abbrev pub ServesBehind : Written → List ℕ → Option (Option ℕ) → Occurrences → Occurrences → Type 0
+ServesBehind e w skipped old new = KeepsRoom old new × IfSome skipped (λ last. Serves e w last new)
+
+-- the steps that the searches may still take behind the occurrences skipped: none where there are fewer
+abbrev pub owed_skipped : ℕ → ℕ → Option (Option ℕ) → Occurrences → ℕ
+owed_skipped m n None o = 0
+owed_skipped m n (Some last) o = owed m n last o
+
+-- the steps grew from s to t, by no more than all occurrences of the expression of number k take in a text of n bytes
+abbrev pub TakesFor : List Written → ℕ → ℕ → ℕ → ℕ → Type 0
+TakesFor es k n s t =
+    (s ≤ t) × ((e : Written) → slice_get es k ≡ Some e → t ≤ s + 416 * length e.nodes * (n + 1))

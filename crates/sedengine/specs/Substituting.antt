@@ -1,6 +1,6 @@
 -- Private to the proofs: no contract of a public item cites what stands here.
 -- What the engine's calls for a substitution promise one another.
-use Rattle.std.specs.Prelude.{◌≡◌, ◌<◌, Bool, true, false, Option, None, Result, Ok, Err, List, [], length}
+use Rattle.std.specs.Prelude.{◌≡◌, ◌<◌, ◌≤◌, Bool, true, false, Option, None, Result, Ok, Err, OnErr, List, [], length}
 use Rattle.sedscript.specs.declared.substitution.Substitution.{Substitution}
 use Rattle.sedspace.specs.declared.errors.Full.{Full}
 use Rattle.sedspace.specs.Spaces.{Contents}
@@ -21,6 +21,12 @@ ReplacesIn t ms old new (Ok true) =
     (0 < length ms) × (new ≡ record old { bytes = replaced_from old.bytes t.replacement 0 ms })
 ReplacesIn t ms old new (Err f) =
     (0 < length ms) × (old.limit < length (replaced_from old.bytes t.replacement 0 ms))
+
+-- The limits of the two spaces are as before, and the first holds no more than its own; it stays as it was where the second
+-- has no room for what would be made.
+abbrev pub KeepsSpaces : Contents → Contents → Contents → Contents → Result Bool Full → Type 0
+KeepsSpaces old new build build' r =
+    (new.limit ≡ old.limit) × (build'.limit ≡ build.limit) × (length new.bytes ≤ new.limit) × OnErr r (new ≡ old)
 
 -- What a call answers that makes the move o of a substitution, but for its writing: whether anything was replaced.
 abbrev pub Makes : Limits → Option Move → Substitution → State → State → Result Bool Ended → Type 0

@@ -5,7 +5,7 @@ ghost use Rattle.std.specs.Io.KnownBytes.{Keeps};
 ghost use Rattle.sedspace.specs.Failures.{Rose};
 ghost use Rattle.sedspace.specs.Stream.{lines_left};
 ghost use Rattle.sedengine.specs.Move.{start};
-ghost use Rattle.sedengine.specs.Devices.{FailedSink, FailedSource};
+ghost use Rattle.sedengine.specs.Devices.{FailedSink, FailedSource, SameLines, SameSinks};
 ghost use Rattle.sedengine.specs.Held.{total_of, bound_of};
 ghost use Rattle.sedengine.specs.Run.{outcome, Cycles, Ending, SameRun, Sends, TellsFiles, at_lines, end_of, setting};
 
@@ -94,10 +94,8 @@ impl Engine {
         ensures again { IfSome self.old.ended (λ end. (result ≡ Progress.Ended end) × (self.new ≡ self.old)
             × (lines.new ≡ lines.old) × (outputs.new ≡ outputs.old) × (texts.new ≡ texts.old)) }
         ensures same_run { SameRun self.old self.new }
-        ensures same_look { lines.new.look ≡ lines.old.look }
-        ensures same_reference { R.reference lines.new.source ≡ R.reference lines.old.source }
-        ensures same_count { O.count outputs.new ≡ O.count outputs.old }
-        ensures same_names { O.names outputs.new ≡ O.names outputs.old }
+        ensures same_devices { SameLines R.reference lines.old lines.new
+            × SameSinks O.count O.names outputs.old outputs.new }
         ensures same_texts { (k : ℕ) → Keeps (T.text texts.old k) (T.text texts.new k) }
     {
         let mut sinks = Metered {
@@ -138,10 +136,8 @@ impl Engine {
         ensures again { IfSome self.old.ended (λ end. (result ≡ end) × (self.new ≡ self.old)
             × (lines.new ≡ lines.old) × (outputs.new ≡ outputs.old) × (texts.new ≡ texts.old)) }
         ensures same_run { SameRun self.old self.new }
-        ensures same_look { lines.new.look ≡ lines.old.look }
-        ensures same_reference { R.reference lines.new.source ≡ R.reference lines.old.source }
-        ensures same_count { O.count outputs.new ≡ O.count outputs.old }
-        ensures same_names { O.names outputs.new ≡ O.names outputs.old }
+        ensures same_devices { SameLines R.reference lines.old lines.new
+            × SameSinks O.count O.names outputs.old outputs.new }
         ensures same_texts { (k : ℕ) → Keeps (T.text texts.old k) (T.text texts.new k) }
     {
         let mut sinks = Metered {

@@ -5,7 +5,7 @@ ghost use Rattle.std.specs.Io.KnownBytes.{Keeps};
 ghost use Rattle.sedspace.specs.Failures.{Rose};
 ghost use Rattle.sedspace.specs.Stream.{lines_left};
 ghost use Rattle.sedengine.specs.Move.{start};
-ghost use Rattle.sedengine.specs.Devices.{FailedSource};
+ghost use Rattle.sedengine.specs.Devices.{FailedSource, SameLines};
 ghost use Rattle.sedengine.specs.Calls.{Delivers};
 ghost use Rattle.sedengine.specs.Meters.{Sent};
 ghost use Rattle.sedengine.specs.Held.{total_of, bound_of};
@@ -188,9 +188,8 @@ impl Machine {
         ensures again { IfSome self.old.ended (λ end. (result ≡ Progress.Ended end) × (self.new ≡ self.old)
             × (lines.new ≡ lines.old) × (outputs.new ≡ outputs.old) × (texts.new ≡ texts.old)) }
         ensures same_run { SameRun self.old self.new }
-        ensures same_look { lines.new.look ≡ lines.old.look }
-        ensures same_reference { R.reference lines.new.source ≡ R.reference lines.old.source }
-        ensures same_frame { (O.tally outputs.new).frame ≡ (O.tally outputs.old).frame }
+        ensures same_devices { SameLines R.reference lines.old lines.new
+            × ((O.tally outputs.new).frame ≡ (O.tally outputs.old).frame) }
         ensures same_texts { (k : ℕ) → Keeps (T.text texts.old k) (T.text texts.new k) }
     {
         if let Some(end) = self.ended {
@@ -225,9 +224,8 @@ impl Machine {
         ensures again { IfSome self.old.ended (λ end. (result ≡ end) × (self.new ≡ self.old)
             × (lines.new ≡ lines.old) × (outputs.new ≡ outputs.old) × (texts.new ≡ texts.old)) }
         ensures same_run { SameRun self.old self.new }
-        ensures same_look { lines.new.look ≡ lines.old.look }
-        ensures same_reference { R.reference lines.new.source ≡ R.reference lines.old.source }
-        ensures same_frame { (O.tally outputs.new).frame ≡ (O.tally outputs.old).frame }
+        ensures same_devices { SameLines R.reference lines.old lines.new
+            × ((O.tally outputs.new).frame ≡ (O.tally outputs.old).frame) }
         ensures same_texts { (k : ℕ) → Keeps (T.text texts.old k) (T.text texts.new k) }
     {
         if let Some(end) = self.ended {

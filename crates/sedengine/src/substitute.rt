@@ -1,16 +1,18 @@
 //! The command `s` (XCU sed, "Editing Commands in sed"): which occurrences it replaces, and the text that it makes.
-ghost use Rattle.std.specs.Prelude.{◌≡◌, ℕ, ◌+◌, ◌*◌, ◌^◌, ◌<◌, ◌≤◌, List, [], ◌∷◌, length, true, Some, None, IfSome, IfNone, IsTrue, slice_get};
+ghost use Rattle.std.specs.Prelude.{◌≡◌, ℕ, ◌+◌, ◌*◌, ◌^◌, ◌<◌, ◌≤◌, List, [], ◌∷◌, length, true, Some, None, IfSome, IsTrue, slice_get};
 ghost use Rattle.sedre.specs.Arena.{Written, tree};
-ghost use Rattle.sedmatch.specs.Occurrences.{KeepsRoom, RoomFor, Serves, owed, owed_after};
+ghost use Rattle.sedmatch.specs.Costs.{Pays, Takes};
+ghost use Rattle.sedmatch.specs.Occurrences.{KeepsRoom, RoomFor, Serves, ServesOn, owed, owed_after};
+ghost use Rattle.sedmatch.specs.Room.{FitInto};
 ghost use Rattle.sedmatch.specs.Matching.{report};
 ghost use Rattle.sedmatch.specs.Parts.{part_of, span_of};
 ghost use Rattle.sedmatch.specs.Spans.{Spans};
 ghost use Rattle.sedscript.specs.Replacement.{GroupsWithin, pieces_in};
-ghost use Rattle.sedengine.specs.Substitute.{chosen, next_occurrence, occurrences, put_for, replaced_from};
-ghost use Rattle.sedengine.specs.Fitting.{AllFit, seeks_more};
-ghost use Rattle.sedengine.specs.Run.{match_at, search_for, search_in};
-ghost use Rattle.sedengine.specs.Replacing.{Appends, EndsIn, GroupsIn, GroupsOf, LiesBehind, Replaces, Skips};
-ghost use Rattle.sedengine.specs.Replacing.{has_group, pending, with_groups};
+ghost use Rattle.sedengine.specs.Substitute.{chosen, occurrences, put_for, replaced_from};
+ghost use Rattle.sedengine.specs.Fitting.{AllFitInto, seeks_more};
+ghost use Rattle.sedengine.specs.Run.{search_for, search_in};
+ghost use Rattle.sedengine.specs.Replacing.{Appends, EndsIn, GroupsIn, GroupsOf, IsNext, LiesBehind, Replaces};
+ghost use Rattle.sedengine.specs.Replacing.{SeeksAsBefore, ServesBehind, Skips, TakesFor, has_group, owed_skipped, pending, with_groups};
 
 use sedmatch::{Occurrences, Scratch, TableMatcher, Text};
 use sedre::Steps;
@@ -36,9 +38,8 @@ pub(crate) fn substitute_by(
     steps: &mut Steps,
 ) -> Result<bool, Full>
     requires expression { e < length matchers.old.items }
-    requires text { length text.now ≤ scratch.old.text }
+    requires fit { AllFitInto (length text.now) matchers.old.items scratch.old }
     requires short { length text.now ≤ build.old.limit }
-    requires fit { AllFit scratch.old.nodes matchers.old.items }
     requires number { 1 ≤ substitution.now.number }
     requires more { IsTrue (seeks_more substitution.now) → (x : Written) → slice_get matchers.old.items e ≡ Some x →
         RoomFor (length text.now) (length x.nodes) seeking.old }
@@ -49,12 +50,9 @@ pub(crate) fn substitute_by(
         (occurrences (search_in matchers.old.items e text.now) (length text.now)))
         build.old.limit build.new.bytes result }
     ensures limit { build.new.limit ≡ build.old.limit }
-    ensures same { matchers.new.items ≡ matchers.old.items }
-    ensures scratch { scratch.new ≡ scratch.old }
+    ensures same { SeeksAsBefore matchers.old.items matchers.new.items scratch.old scratch.new }
     ensures kept { KeepsRoom seeking.old seeking.new }
-    ensures grows { steps.old ≤ steps.new }
-    ensures cost { (x : Written) → slice_get matchers.old.items e ≡ Some x →
-        steps.new ≤ steps.old + 416 * length x.nodes * (length text.now + 1) }
+    ensures cost { TakesFor matchers.old.items e (length text.now) steps.old steps.new }
 {
     let matcher = &mut matchers[e];
     substitute(substitution, matcher, text, build, seeking, scratch, steps)
@@ -70,9 +68,8 @@ fn substitute(
     scratch: &mut Scratch,
     steps: &mut Steps,
 ) -> Result<bool, Full>
-    requires text { length text.now ≤ scratch.old.text }
+    requires fits { FitInto (length text.now) (length matcher.old.nodes) scratch.old }
     requires short { length text.now ≤ build.old.limit }
-    requires nodes { length matcher.old.nodes ≤ scratch.old.nodes }
     requires number { 1 ≤ substitution.now.number }
     requires more { IsTrue (seeks_more substitution.now) →
         RoomFor (length text.now) (length matcher.old.nodes) seeking.old }
@@ -82,11 +79,9 @@ fn substitute(
         (occurrences (search_for (Some matcher.old) text.now) (length text.now)))
         build.old.limit build.new.bytes result }
     ensures limit { build.new.limit ≡ build.old.limit }
-    ensures same { matcher.new ≡ matcher.old }
-    ensures scratch { scratch.new ≡ scratch.old }
+    ensures same { SeeksAsBefore matcher.old matcher.new scratch.old scratch.new }
     ensures kept { KeepsRoom seeking.old seeking.new }
-    ensures grows { steps.old ≤ steps.new }
-    ensures cost { steps.new ≤ steps.old + 416 * length matcher.old.nodes * (length text.now + 1) }
+    ensures cost { Takes steps.old steps.new (416 * length matcher.old.nodes * (length text.now + 1)) }
 {
     seeking.begin(matcher, &Text::new(text), scratch);
     let skipped = substitution.number - 1;
@@ -131,8 +126,7 @@ fn skip(
     scratch: &mut Scratch,
     steps: &mut Steps,
 ) -> Option<Option<usize>>
-    requires text { length text.now ≤ scratch.old.text }
-    requires nodes { length matcher.old.nodes ≤ scratch.old.nodes }
+    requires fits { FitInto (length text.now) (length matcher.old.nodes) scratch.old }
     requires more { 0 < count → RoomFor (length text.now) (length matcher.old.nodes) seeking.old }
     requires serves { Serves matcher.old text.now None seeking.old }
     requires owed { owed (length matcher.old.nodes) (length text.now) None seeking.old
@@ -140,14 +134,10 @@ fn skip(
     requires room { steps.old + 416 * length matcher.old.nodes * (length text.now + 1) ≤ 2 ^ 100 }
     ensures skips { Skips matcher.old text.now count result }
     ensures none { count ≡ 0 → result ≡ Some None }
-    ensures same { matcher.new ≡ matcher.old }
-    ensures scratch { scratch.new ≡ scratch.old }
-    ensures kept { KeepsRoom seeking.old seeking.new }
-    ensures serves { IfSome result (λ last. Serves matcher.old text.now last seeking.new) }
-    ensures grows { steps.old ≤ steps.new }
+    ensures same { SeeksAsBefore matcher.old matcher.new scratch.old scratch.new }
+    ensures serves { ServesBehind matcher.old text.now result seeking.old seeking.new }
     ensures cost { let m = length matcher.old.nodes in let n = length text.now in
-        IfSome result (λ last. steps.new + owed m n last seeking.new ≤ steps.old + 416 * m * (n + 1)) }
-    ensures cost_of_none { IfNone result (steps.new ≤ steps.old + 416 * length matcher.old.nodes * (length text.now + 1)) }
+        Pays steps.old steps.new (416 * m * (n + 1)) (owed_skipped m n result seeking.new) }
 {
     let mut last = None;
     'occurrences: for _ in 0..count {
@@ -187,23 +177,17 @@ fn next_occurrence(
     steps: &mut Steps,
 ) -> Option<(usize, usize)>
     requires last { EndsIn (length text.now) last }
-    requires text { length text.now ≤ scratch.old.text }
-    requires nodes { length matcher.old.nodes ≤ scratch.old.nodes }
+    requires fits { FitInto (length text.now) (length matcher.old.nodes) scratch.old }
     requires more { IfSome last (λ _. RoomFor (length text.now) (length matcher.old.nodes) seeking.old) }
     requires serves { Serves matcher.old text.now last seeking.old }
     requires room { steps.old ≤ 2 ^ 100 }
-    ensures next { match_at matcher.old text.now result
-        ≡ next_occurrence (search_for (Some matcher.old) text.now) (length text.now) last }
-    ensures lies { IfSome result (LiesBehind (length text.now) last) }
+    ensures next { IsNext matcher.old text.now last result }
     ensures groups { GroupsOf matcher.old text.now wanted result groups.new }
     ensures groups_in { GroupsIn (length text.now) groups.old → GroupsIn (length text.now) groups.new }
-    ensures same { matcher.new ≡ matcher.old }
-    ensures scratch { scratch.new ≡ scratch.old }
-    ensures kept { KeepsRoom seeking.old seeking.new }
-    ensures serves { IfSome result (λ f. Serves matcher.old text.now (Some f.1) seeking.new) }
-    ensures grows { steps.old ≤ steps.new }
+    ensures same { SeeksAsBefore matcher.old matcher.new scratch.old scratch.new }
+    ensures serves { ServesOn matcher.old text.now result seeking.old seeking.new }
     ensures cost { let m = length matcher.old.nodes in let n = length text.now in
-        steps.new + owed_after m n result seeking.new ≤ steps.old + owed m n last seeking.old }
+        Pays steps.old steps.new (owed m n last seeking.old) (owed_after m n result seeking.new) }
 {
     let span = matcher.next_occurrence(&Text::new(text), last, seeking, scratch, steps)?;
     if wanted {
@@ -246,8 +230,7 @@ fn replace(
     scratch: &mut Scratch,
     steps: &mut Steps,
 ) -> Result<(), Full>
-    requires text { length text.now ≤ scratch.old.text }
-    requires nodes { length matcher.old.nodes ≤ scratch.old.nodes }
+    requires fits { FitInto (length text.now) (length matcher.old.nodes) scratch.old }
     requires lies { LiesBehind (length text.now) None first }
     requires groups { GroupsOf matcher.old text.now (has_group substitution.now.replacement) (Some first) groups.old }
     requires groups_in { GroupsIn (length text.now) groups.old }
@@ -259,12 +242,10 @@ fn replace(
     ensures appends { Appends build.old build.new
         (replaced_from text.now substitution.now.replacement 0
         (pending matcher.old text.now substitution.now.global (Some first))) result }
-    ensures same { matcher.new ≡ matcher.old }
-    ensures scratch { scratch.new ≡ scratch.old }
+    ensures same { SeeksAsBefore matcher.old matcher.new scratch.old scratch.new }
     ensures kept { KeepsRoom seeking.old seeking.new }
-    ensures grows { steps.old ≤ steps.new }
     ensures cost { let m = length matcher.old.nodes in let n = length text.now in
-        steps.new ≤ steps.old + owed m n (Some first.1) seeking.old }
+        Takes steps.old steps.new (owed m n (Some first.1) seeking.old) }
 {
     let parts = substitution.replacement.parts();
     let wanted = needs_groups(parts);

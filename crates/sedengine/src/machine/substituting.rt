@@ -10,10 +10,11 @@ ghost use Rattle.sedengine.specs.Meters.{Sent};
 ghost use Rattle.sedengine.specs.Calls.{NoSinkFailed, Puts, Delivers};
 ghost use Rattle.sedre.specs.Arena.{Written};
 ghost use Rattle.sedmatch.specs.Occurrences.{KeepsRoom, RoomFor};
-ghost use Rattle.sedengine.specs.Fitting.{AllFit, seeks_more};
+ghost use Rattle.sedengine.specs.Fitting.{AllFitInto, seeks_more};
+ghost use Rattle.sedengine.specs.Replacing.{SeeksAsBefore, TakesFor};
 ghost use Rattle.sedengine.specs.Run.{at_lines, search_in, setting};
 ghost use Rattle.sedengine.specs.Steps.{KeepsRun, Performs, weight};
-ghost use Rattle.sedengine.specs.Substituting.{Makes, ReplacesIn, same_but_replaced};
+ghost use Rattle.sedengine.specs.Substituting.{KeepsSpaces, Makes, ReplacesIn, same_but_replaced};
 
 use super::Machine;
 use crate::ends::Ended;
@@ -40,8 +41,7 @@ fn replace_in(
 ) -> Result<bool, Full>
     requires number { k < length script.now.substitutions }
     requires expression { e < length matchers.old.items }
-    requires text { length pattern.old.bytes ≤ scratch.old.text }
-    requires fit { AllFit scratch.old.nodes matchers.old.items }
+    requires fit { AllFitInto (length pattern.old.bytes) matchers.old.items scratch.old }
     requires limits { pattern.old.limit ≡ build.old.limit }
     requires more { (t : Substitution) → slice_get script.now.substitutions k ≡ Some t → IsTrue (seeks_more t) →
         (x : Written) → slice_get matchers.old.items e ≡ Some x →
@@ -52,15 +52,10 @@ fn replace_in(
         ReplacesIn t (chosen t.number t.global
         (occurrences (search_in matchers.old.items e pattern.old.bytes) (length pattern.old.bytes)))
         pattern.old pattern.new result }
-    ensures err { OnErr result (pattern.new ≡ pattern.old) }
-    ensures pattern { pattern.new.limit ≡ pattern.old.limit }
-    ensures fits { length pattern.new.bytes ≤ pattern.new.limit }
-    ensures build { build.new.limit ≡ build.old.limit }
-    ensures same { matchers.new.items ≡ matchers.old.items }
-    ensures scratch { scratch.new ≡ scratch.old }
+    ensures spaces { KeepsSpaces pattern.old pattern.new build.old build.new result }
+    ensures same { SeeksAsBefore matchers.old.items matchers.new.items scratch.old scratch.new }
     ensures kept { KeepsRoom seeking.old seeking.new }
-    ensures cost { (x : Written) → slice_get matchers.old.items e ≡ Some x →
-        steps.new ≤ steps.old + 416 * length x.nodes * (length pattern.old.bytes + 1) }
+    ensures cost { TakesFor matchers.old.items e (length pattern.old.bytes) steps.old steps.new }
 {
     let substitution = script.substitution(k);
     let replaced = substitute_by(

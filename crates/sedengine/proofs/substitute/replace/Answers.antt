@@ -41,24 +41,24 @@ occurrences-preserved-then-substitution c =
     let span = c.in-Some.span in
     let lies = rw c.in-Some.is at i.lies in
     let next = c.next_occurrence-occurrence in
-    let more = more_pending e w s.global span.1 next.result c.if-substitution.true lies.2 (rw i.matcher at next.ensures.next) in
+    let more = more_pending e w s.global span.1 next.result c.if-substitution.true lies.2 (rw i.matcher at next.ensures.next.0) in
     let due = due_behind c.args.build.now l.build c.append.new.self c.put.new.build _ e w s.replacement _ s.global
     l.copied l.groups l.occurrence span _ c.in-Some.is i.groups c.parts-parts.ensures.pieces (i.limit, i.made)
     c.in_ok-append.ensures.ok c.in_ok-put.ensures more in
     let wanted = c.needs_groups-wanted.ensures ∙ ap has_group c.parts-parts.ensures.pieces in
     record {
-      matcher = next.ensures.same ∙ i.matcher;
-      scratch = next.ensures.scratch ∙ i.scratch;
-      kept = λ text nodes has. next.ensures.kept text nodes (i.kept text nodes has);
-      serves = rw i.matcher at next.ensures.serves;
-      grows = omega (arith, i.grows, next.ensures.grows);
+      matcher = next.ensures.same.0 ∙ i.matcher;
+      scratch = next.ensures.same.1 ∙ i.scratch;
+      kept = λ text nodes has. next.ensures.serves.0 text nodes (i.kept text nodes has);
+      serves = rw i.matcher at next.ensures.serves.1;
+      grows = omega (arith, i.grows, next.ensures.cost.0);
       cost =
-          let paid = rw i.matcher at next.ensures.cost in
+          let paid = rw i.matcher at next.ensures.cost.1 in
           let before = rw c.in-Some.is at i.cost in
           omega (arith, paid, before);
       limit = due.0;
       copied = lies.2;
-      lies = lies_on (length w) span.1 next.result next.ensures.lies;
+      lies = lies_on (length w) span.1 next.result next.ensures.next.1;
       groups = subst (λ (b : Bool). GroupsOf e w b next.result next.new.groups) wanted (rw i.matcher at next.ensures.groups);
       groups_in = next.ensures.groups_in i.groups_in;
       made = due.1;

@@ -8,7 +8,7 @@ returns-in_err-end-clause-skips c =
     let none : c.from_residual.result ≡ None = cc in
     let l = c.occurrences in
     skips_none c.args.matcher.now c.args.text.now l.last l.counter c.args.count c.from_residual.result none (omega arith)
-    l.invariant.last l.invariant.behind (rw l.invariant.matcher at c.in_err-end.ensures.next)
+    l.invariant.last l.invariant.behind (rw l.invariant.matcher at c.in_err-end.ensures.next.0)
 
 pub occurrences-preserved : goal.occurrences-preserved
 occurrences-preserved c =
@@ -18,13 +18,13 @@ occurrences-preserved c =
       matcher = cc;
       scratch = cc;
       none = λ zero. absurd (omega (arith, zero));
-      kept = λ text nodes has. c.in_ok-end.ensures.kept text nodes (l.invariant.kept text nodes has);
-      serves = rw l.invariant.matcher at c.in_ok-end.ensures.serves;
-      grows = omega (arith, l.invariant.grows, c.in_ok-end.ensures.grows);
-      cost = (let paid = rw l.invariant.matcher at c.in_ok-end.ensures.cost in omega (arith, paid, l.invariant.cost));
-      last = ends_in _ l.last span c.in_ok-end.ensures.lies;
+      kept = λ text nodes has. c.in_ok-end.ensures.serves.0 text nodes (l.invariant.kept text nodes has);
+      serves = rw l.invariant.matcher at c.in_ok-end.ensures.serves.1;
+      grows = omega (arith, l.invariant.grows, c.in_ok-end.ensures.cost.0);
+      cost = (let paid = rw l.invariant.matcher at c.in_ok-end.ensures.cost.1 in omega (arith, paid, l.invariant.cost));
+      last = ends_in _ l.last span c.in_ok-end.ensures.next.1;
       behind = skips_one c.args.matcher.now c.args.text.now l.last l.counter span l.invariant.last l.invariant.behind
-          (rw l.invariant.matcher at c.in_ok-end.ensures.next);
+          (rw l.invariant.matcher at c.in_ok-end.ensures.next.0);
     }
 
 pub next_occurrence-requires-clause-more : goal.next_occurrence-requires-clause-more
@@ -34,6 +34,7 @@ next_occurrence-requires-clause-more c =
     rw l.invariant.matcher
     (room_if (length w) (length c.args.matcher.now.nodes) l.last l.seeking (l.invariant.kept _ _ (c.requires.more (omega arith))))
 
-pub returns-in_err-end-clause-kept : goal.returns-in_err-end-clause-kept
-returns-in_err-end-clause-kept c = λ text nodes has.
-    c.in_err-end.ensures.kept text nodes (c.occurrences.invariant.kept text nodes has)
+pub returns-in_err-end-clause-serves : goal.returns-in_err-end-clause-serves
+returns-in_err-end-clause-serves c =
+    let none : c.from_residual.result ≡ None = cc in
+    (λ text nodes has. c.in_err-end.ensures.serves.0 text nodes (c.occurrences.invariant.kept text nodes has), rw none tt)

@@ -8,7 +8,7 @@ pub returns-in_default-next_occurrence-clause-replaces : goal.returns-in_default
 returns-in_default-next_occurrence-clause-replaces c =
     let s = c.args.substitution.now in
     chosen_is c.args.matcher.now c.args.text.now s.number s.global c.in-Some.last None c.in-Some.ensures.skips
-    (rw c.in-Some.ensures.same at c.in_default-next_occurrence.ensures.next)
+    (rw c.in-Some.ensures.same.0 at c.in_default-next_occurrence.ensures.next.0)
 
 pub returns-in_err-replace-clause-replaces : goal.returns-in_err-replace-clause-replaces
 returns-in_err-replace-clause-replaces c =
@@ -17,10 +17,10 @@ returns-in_err-replace-clause-replaces c =
     let w = c.args.text.now in
     let first = Some c.in-Some-next_occurrence.first in
     let same = chosen_is e w s.number s.global c.in-Some.last first c.in-Some.ensures.skips
-    (rw c.in-Some.ensures.same at c.in-Some-next_occurrence.ensures.next) in
+    (rw c.in-Some.ensures.same.0 at c.in-Some-next_occurrence.ensures.next.0) in
     replaces_full w s.replacement _ (pending e w s.global first) c.args.build.now c.clear.new.self c.replace.new.build
     c.in_err-replace.field-0.0 c.from_residual.result c.from_residual.ensures.0 same (omega arith) c.clear.ensures
-    (rw (c.in-Some-next_occurrence.ensures.same, c.in-Some.ensures.same) at c.in_err-replace.ensures.appends)
+    (rw (c.in-Some-next_occurrence.ensures.same.0, c.in-Some.ensures.same.0) at c.in_err-replace.ensures.appends)
 
 pub returns-clause-replaces : goal.returns-clause-replaces
 returns-clause-replaces c =
@@ -29,9 +29,9 @@ returns-clause-replaces c =
     let w = c.args.text.now in
     let first = Some c.in-Some-next_occurrence.first in
     let same = chosen_is e w s.number s.global c.in-Some.last first c.in-Some.ensures.skips
-    (rw c.in-Some.ensures.same at c.in-Some-next_occurrence.ensures.next) in
+    (rw c.in-Some.ensures.same.0 at c.in-Some-next_occurrence.ensures.next.0) in
     replaces_made w s.replacement _ (pending e w s.global first) c.args.build.now c.clear.new.self c.replace.new.build
-    same (omega arith) c.clear.ensures (rw (c.in-Some-next_occurrence.ensures.same, c.in-Some.ensures.same) at c.in_ok-replace.ensures.appends)
+    same (omega arith) c.clear.ensures (rw (c.in-Some-next_occurrence.ensures.same.0, c.in-Some.ensures.same.0) at c.in_ok-replace.ensures.appends)
 
 pub skip-requires-clause-more : goal.skip-requires-clause-more
 skip-requires-clause-more c = λ some.
@@ -39,31 +39,31 @@ skip-requires-clause-more c = λ some.
 
 pub returns-in_default-clause-kept : goal.returns-in_default-clause-kept
 returns-in_default-clause-kept c = λ text nodes has.
-    c.in_default.ensures.kept text nodes (c.begin.ensures.room text nodes has)
+    c.in_default.ensures.serves.0 text nodes (c.begin.ensures.room text nodes has)
 
 pub next_occurrence-requires-clause-more : goal.next_occurrence-requires-clause-more
 next_occurrence-requires-clause-more c =
-    rw c.in-Some.ensures.same
+    rw c.in-Some.ensures.same.0
     (room_later c.args.substitution.now (length c.args.text.now) (length c.args.matcher.now.nodes) c.in-Some.last c.skip.new.seeking
     (λ first. let none = c.in-Some.ensures.none first in cc)
-    (λ more. c.in-Some.ensures.kept _ _ (c.begin.ensures.room _ _ (c.requires.more more))))
+    (λ more. c.in-Some.ensures.serves.0 _ _ (c.begin.ensures.room _ _ (c.requires.more more))))
 
 pub returns-in_default-next_occurrence-clause-kept : goal.returns-in_default-next_occurrence-clause-kept
 returns-in_default-next_occurrence-clause-kept c = λ text nodes has.
-    c.in_default-next_occurrence.ensures.kept text nodes (c.in-Some.ensures.kept text nodes (c.begin.ensures.room text nodes has))
+    c.in_default-next_occurrence.ensures.serves.0 text nodes (c.in-Some.ensures.serves.0 text nodes (c.begin.ensures.room text nodes has))
 
 pub replace-requires-clause-more : goal.replace-requires-clause-more
 replace-requires-clause-more c = λ all.
-    rw (c.in-Some-next_occurrence.ensures.same, c.in-Some.ensures.same)
-    (c.in-Some-next_occurrence.ensures.kept _ _ (c.in-Some.ensures.kept _ _ (c.begin.ensures.room _ _
+    rw (c.in-Some-next_occurrence.ensures.same.0, c.in-Some.ensures.same.0)
+    (c.in-Some-next_occurrence.ensures.serves.0 _ _ (c.in-Some.ensures.serves.0 _ _ (c.begin.ensures.room _ _
     (c.requires.more (more_of_all c.args.substitution.now all)))))
 
 pub returns-in_err-replace-clause-kept : goal.returns-in_err-replace-clause-kept
 returns-in_err-replace-clause-kept c = λ text nodes has.
-    c.in_err-replace.ensures.kept text nodes (c.in-Some-next_occurrence.ensures.kept text nodes
-    (c.in-Some.ensures.kept text nodes (c.begin.ensures.room text nodes has)))
+    c.in_err-replace.ensures.kept text nodes (c.in-Some-next_occurrence.ensures.serves.0 text nodes
+    (c.in-Some.ensures.serves.0 text nodes (c.begin.ensures.room text nodes has)))
 
 pub returns-clause-kept : goal.returns-clause-kept
 returns-clause-kept c = λ text nodes has.
-    c.in_ok-replace.ensures.kept text nodes (c.in-Some-next_occurrence.ensures.kept text nodes
-    (c.in-Some.ensures.kept text nodes (c.begin.ensures.room text nodes has)))
+    c.in_ok-replace.ensures.kept text nodes (c.in-Some-next_occurrence.ensures.serves.0 text nodes
+    (c.in-Some.ensures.serves.0 text nodes (c.begin.ensures.room text nodes has)))

@@ -4,12 +4,12 @@ use Rattle.sedengine.proofs.Fitting.{fits_at}
 use Rattle.sedengine.proofs.Tried.{replaces_by}
 use Rattle.sedengine.proofs.substitute.substitute_by.Goals as goal
 
-pub substitute-requires-clause-nodes : goal.substitute-requires-clause-nodes
-substitute-requires-clause-nodes c =
+pub substitute-requires-clause-fits : goal.substitute-requires-clause-fits
+substitute-requires-clause-fits c =
     let e = c.index_mut-matcher.result.now in
     let h = c.index_mut-matcher.ensures.value in
     let is : e ≡ get_or c.args.matchers.now.items c.args.e e = grind (arith, elements) in
-    fits_at c.args.scratch.now.nodes c.args.matchers.now.items c.args.e e c.requires.expression is c.requires.fit
+    (c.requires.fit.0, fits_at c.args.scratch.now.nodes c.args.matchers.now.items c.args.e e c.requires.expression is c.requires.fit.1)
 
 pub returns-clause-replaces : goal.returns-clause-replaces
 returns-clause-replaces c =

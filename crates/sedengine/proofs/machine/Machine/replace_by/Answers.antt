@@ -13,19 +13,19 @@ pub invariant_of-self : goal.invariant_of-self
 invariant_of-self c =
     let w = c.replace_in.ensures in
     replaced_is_run c.self.inside c.replace_in.new.pattern c.replace_in.new.build c.replace_in.new.scratch c.replace_in.new.seeking c.replace_in.new.matchers c.args.e true c.self.invariant
-    (ap (λ (e : Run). comes e.state.tasks) c.self.view_is ∙ c.requires.at) (let same = ap (λ (e : Run). e.script) c.self.view_is in rw same c.requires.expression) w.pattern w.fits w.build w.scratch w.kept w.same
+    (ap (λ (e : Run). comes e.state.tasks) c.self.view_is ∙ c.requires.at) (let same = ap (λ (e : Run). e.script) c.self.view_is in rw same c.requires.expression) w.spaces.0 w.spaces.2 w.spaces.1 w.same.1 w.kept w.same.0
 
 pub invariant_of-self-in-Ok-false : goal.invariant_of-self-in-Ok-false
 invariant_of-self-in-Ok-false c =
     let w = c.replace_in.ensures in
     replaced_is_run c.self.inside c.replace_in.new.pattern c.replace_in.new.build c.replace_in.new.scratch c.replace_in.new.seeking c.replace_in.new.matchers c.args.e c.self.inside.replaced c.self.invariant
-    (ap (λ (e : Run). comes e.state.tasks) c.self.view_is ∙ c.requires.at) (let same = ap (λ (e : Run). e.script) c.self.view_is in rw same c.requires.expression) w.pattern w.fits w.build w.scratch w.kept w.same
+    (ap (λ (e : Run). comes e.state.tasks) c.self.view_is ∙ c.requires.at) (let same = ap (λ (e : Run). e.script) c.self.view_is in rw same c.requires.expression) w.spaces.0 w.spaces.2 w.spaces.1 w.same.1 w.kept w.same.0
 
 pub invariant_of-self-in-Err : goal.invariant_of-self-in-Err
 invariant_of-self-in-Err c =
     let w = c.replace_in.ensures in
     replaced_is_run c.self.inside c.replace_in.new.pattern c.replace_in.new.build c.replace_in.new.scratch c.replace_in.new.seeking c.replace_in.new.matchers c.args.e c.self.inside.replaced c.self.invariant
-    (ap (λ (e : Run). comes e.state.tasks) c.self.view_is ∙ c.requires.at) (let same = ap (λ (e : Run). e.script) c.self.view_is in rw same c.requires.expression) w.pattern w.fits w.build w.scratch w.kept w.same
+    (ap (λ (e : Run). comes e.state.tasks) c.self.view_is ∙ c.requires.at) (let same = ap (λ (e : Run). e.script) c.self.view_is in rw same c.requires.expression) w.spaces.0 w.spaces.2 w.spaces.1 w.same.1 w.kept w.same.0
 
 pub replace_in-requires-clause-more : goal.replace_in-requires-clause-more
 replace_in-requires-clause-more c = λ t is more x at.
@@ -59,7 +59,13 @@ replace_in-requires-clause-expression c =
 pub replace_in-requires-clause-fit : goal.replace_in-requires-clause-fit
 replace_in-requires-clause-fit c =
     let a = c.self.inside in
-    rw c.self.invariant.scratch_nodes (sought_fit a.script.expressions a.limits.nodes a.matchers.items c.self.invariant.matchers)
+    let same = ap (λ (e : Run). e.script) c.self.view_is in
+    let inside : c.args.e < length a.script.expressions = rw same c.requires.expression in
+    let text = c.self.invariant.scratch_text (omega arith) in
+    let short = c.self.invariant.pattern in (
+      omega (arith, text, short),
+      rw c.self.invariant.scratch_nodes (sought_fit a.script.expressions a.limits.nodes a.matchers.items c.self.invariant.matchers),
+    )
 
 pub returns-in-Ok-true-clause-makes : goal.returns-in-Ok-true-clause-makes
 returns-in-Ok-true-clause-makes c = λ t is files ls.
