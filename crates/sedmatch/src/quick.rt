@@ -295,10 +295,13 @@ impl TableMatcher {
         ensures { IfOk result (λ m. m ≡ expr.now) }
     {
         let root = expr.root().index();
-        let tables = new_tables(alloc, expr, root, states)?;
         let mut steps = Steps::new();
         let sight = sight_of(alloc, expr, &mut steps)?;
-        let known = find_known(alloc, expr, &mut steps)?;
+        let seen = sight.is_some();
+        let known = find_known(alloc, expr, seen, &mut steps)?;
+        // Tables that no search comes to have no states.
+        let states = if seen { 0 } else { states };
+        let tables = new_tables(alloc, expr, root, states)?;
         Ok(TableMatcher {
             expr: expr.copy(alloc)?,
             root,

@@ -419,7 +419,7 @@ fn rare_place(
 pub fn first_place(
     expr: &Expr,
     begins: &Begins,
-    few: &Option<Rare>,
+    rare: &Option<Rare>,
     text: &Text,
     from: usize,
     steps: &mut Steps,
@@ -428,7 +428,7 @@ pub fn first_place(
     requires short { length text.now ≤ 2 ^ 30 }
     requires from { from ≤ length text.now }
     requires begins { AllBegin (tree expr.now) begins.now }
-    requires begins_few { AllRare (tree expr.now) few.now }
+    requires rare { AllRare (tree expr.now) rare.now }
     requires room { steps.old < 2 ^ 116 }
     ensures sought { Sought (tree expr.now) text.now from result }
     ensures grows { steps.old ≤ steps.new }
@@ -436,7 +436,7 @@ pub fn first_place(
         steps.new + 8 * m * from ≤ steps.old + 8 * m * sought_to n result + m * n + 1 }
 {
     let _count = expr.nodes();
-    match few {
+    match rare {
         Some(rare) => rare_place(expr, rare, text, from, steps),
         None => match next_start(begins, text, from, steps) {
             None => None,

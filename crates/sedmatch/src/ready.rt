@@ -35,12 +35,24 @@ pub struct Tables {
     pub back: Table,
 }
 
-/// Finds out what all matches of the expression have in common.
-pub fn find_known(alloc: Global, expr: &Expr, steps: &mut Steps) -> Result<Known, AllocError>
+/// Finds out what all matches of the expression have in common. Nothing is sought where they are seen at the first look.
+pub fn find_known(
+    alloc: Global,
+    expr: &Expr,
+    seen: bool,
+    steps: &mut Steps,
+) -> Result<Known, AllocError>
     requires nodes { length expr.now.nodes ≤ 65536 }
     requires room { steps.old < 2 ^ 80 }
     ensures { IfOk result (λ k. IsKnown (tree expr.now) k) }
 {
+    if seen {
+        return Ok(Known {
+            begins: Begins::Anyhow,
+            needed: None,
+            rare: None,
+        });
+    }
     let begins = how_begins(expr, steps);
     let rare = rare_of(expr, &begins, steps);
     let needed = find_needed(alloc, expr, steps)?;
