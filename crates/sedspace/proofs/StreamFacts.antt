@@ -103,11 +103,11 @@ module _ {R : Type 0} (remaining : R → Option (List ℕ)) (failures : R → �
   line_gathered (Ok End) h e = cc
   line_gathered (Err f) h e = cc
 
-  pub end_gathered : (r : Result Got LineFault) → Gathers remaining failures old new before after r → r ≡ Ok End → (after ≡ before) × NoneLeft (lines_left remaining old) × NoneLeft (lines_left remaining new)
+  pub end_gathered : (r : Result Got LineFault) → Gathers remaining failures old new before after r → r ≡ Ok End → (after ≡ before) × NoneLeft (lines_left remaining old) × NoneLeft (lines_left remaining new) × (new.ended ≡ true)
   end_gathered (Ok Line) h e = cc
   end_gathered (Ok End) h e =
       let n = none_left _ _ h.2.left_is h.3 in
-      (h.2.space ∙ ap (λ (z : List ℕ). record before { bytes = z }) (append-nil before.bytes), n.0, n.1)
+      (h.2.space ∙ ap (λ (z : List ℕ). record before { bytes = z }) (append-nil before.bytes), n.0, n.1, h.4)
   end_gathered (Err f) h e = cc
 
   pub too_long_gathered : (r : Result Got LineFault) → Gathers remaining failures old new before after r → r ≡ Err TooLong → length before.bytes ≤ before.limit → FirstIsLonger (lines_left remaining old) (before.limit - length before.bytes)

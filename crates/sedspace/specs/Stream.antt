@@ -1,6 +1,7 @@
 -- What contracts see of a reader of lines.
-use Rattle.std.specs.Prelude.{◌≡◌, ℕ, ◌<◌, ◌≤◌, ◌⊎◌, ◌↔◌, IsTrue, Bool, List, [], ◌∷◌, ◌++◌, length, Option, None, Some, Result, Ok, Err, ⊤}
+use Rattle.std.specs.Prelude.{◌≡◌, ℕ, ◌<◌, ◌≤◌, ◌⊎◌, ◌↔◌, IsTrue, Bool, List, [], ◌∷◌, ◌++◌, length, Option, None, Some, IfSome, Result, Ok, Err, ⊤}
 use Rattle.std.specs.Option.{option_map}
+use Rattle.std.specs.Result.{result_err}
 use Rattle.std.specs.Io.KnownBytes.{prepend_known}
 use Rattle.sedspace.specs.declared.errors.LineFault.{LineFault}
 use Rattle.sedspace.specs.declared.errors.LineFault.TheVariants.{Broken, TooLong}
@@ -70,3 +71,13 @@ abbrev pub FailsIfBroken : {T : Type 0} → Result T LineFault → ℕ → ℕ �
 FailsIfBroken (Ok x) old new = new ≡ old
 FailsIfBroken (Err TooLong) old new = new ≡ old
 FailsIfBroken (Err Broken) old new = Rises old new
+
+-- it reads from the same source as before, told by what no read changes, looks as far ahead, and no further
+abbrev pub ReadsOn : {R T : Type 0} → (R → T) → Stream R → Stream R → Type 0
+ReadsOn reference old new =
+    (length new.ahead ≤ new.look) × (new.look ≡ old.look) × (reference new.source ≡ reference old.source)
+
+-- a fault that it answers is kept; one that was kept is answered again, and nothing changes
+abbrev pub KeepsFault : {R T : Type 0} → Result T LineFault → Stream R → Stream R → Type 0
+KeepsFault result old new =
+    (new.fault ≡ result_err result) × IfSome old.fault (λ fault. (result ≡ Err fault) × (new ≡ old))

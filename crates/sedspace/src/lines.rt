@@ -84,7 +84,7 @@ impl<R: ByteSource> Model for Lines<R> {
 }
 
 impl<R: ByteSource> Lines<R> {
-    ghost use Rattle.sedspace.specs.Stream.{Stream, left, lines_left, GivesLine, TakesLine, TakesAtMost, FirstIsLonger, NoneLeft, FailsIfBroken, TellsLast, KeepsLines};
+    ghost use Rattle.sedspace.specs.Stream.{Stream, left, lines_left, GivesLine, TakesLine, TakesAtMost, FirstIsLonger, NoneLeft, FailsIfBroken, TellsLast, KeepsLines, KeepsFault, ReadsOn};
     ghost use Rattle.sedspace.specs.Gathering.{Gathers};
 
     /// The lines of the source, read ahead by at most `look` bytes, 1 to 2^30, which are reserved here. It reads
@@ -150,29 +150,25 @@ impl<R: ByteSource> Lines<R> {
             × GivesLine (lines_left R.remaining self.old) (lines_left R.remaining self.new) line }
         ensures fits { OnOk result (length space.new.bytes ≤ space.new.limit) }
         ensures end { result ≡ Ok Got.End → (space.new ≡ space.old)
-            × NoneLeft (lines_left R.remaining self.old) × NoneLeft (lines_left R.remaining self.new) }
+            × NoneLeft (lines_left R.remaining self.old) × NoneLeft (lines_left R.remaining self.new)
+            × (self.new.ended ≡ true) }
         ensures too_long { result ≡ Err LineFault.TooLong → self.old.fault ≡ None
             → FirstIsLonger (lines_left R.remaining self.old) (space.old.limit - length space.old.bytes) }
         ensures failed { self.old.fault ≡ None
             → FailsIfBroken result (R.failures self.old.source) (R.failures self.new.source) }
 
         // A fault loses at most the space's limit of the bytes still to come, is kept, and is answered again.
-        ensures err { OnErr result (space.new ≡ space.old) }
-        ensures gone { OnErr result
-            (TakesAtMost (left R.remaining self.old) (left R.remaining self.new) space.old.limit) }
-        ensures fault { self.new.fault ≡ result_err result }
-        ensures again { IfSome self.old.fault (λ fault. (result ≡ Err fault) × (self.new ≡ self.old)) }
+        ensures err { OnErr result ((space.new ≡ space.old)
+            × TakesAtMost (left R.remaining self.old) (left R.remaining self.new) space.old.limit) }
+        ensures fault { KeepsFault result self.old self.new }
 
         // How much is read, and when.
-        ensures ahead { length self.new.ahead ≤ self.new.look }
-        ensures look { self.new.look ≡ self.old.look }
-        ensures same_reference { R.reference self.new.source ≡ R.reference self.old.source }
+        ensures reads { ReadsOn R.reference self.old self.new }
         ensures taken { TakesAtMost (R.remaining self.old.source) (R.remaining self.new.source)
             (self.old.look
             + (if is_ok result then length space.new.bytes - length space.old.bytes + 1 else space.old.limit)) }
         ensures whole_ahead { Contains self.old.ahead 10 → self.new.source ≡ self.old.source }
         ensures ended { self.old.ended ≡ true → (self.new.source ≡ self.old.source) × (self.new.ended ≡ true) }
-        ensures end_known { result ≡ Ok Got.End → self.new.ended ≡ true }
     {
         if let Some(fault) = self.answered {
             return Err(fault);
@@ -197,13 +193,10 @@ impl<R: ByteSource> Lines<R> {
         ensures too_long { result ≡ Err LineFault.TooLong → self.old.fault ≡ Some LineFault.TooLong }
 
         // A fault is kept, and answered again.
-        ensures fault { self.new.fault ≡ result_err result }
-        ensures again { IfSome self.old.fault (λ fault. (result ≡ Err fault) × (self.new ≡ self.old)) }
+        ensures fault { KeepsFault result self.old self.new }
 
         // How much is read, and when.
-        ensures ahead { length self.new.ahead ≤ self.new.look }
-        ensures look { self.new.look ≡ self.old.look }
-        ensures same_reference { R.reference self.new.source ≡ R.reference self.old.source }
+        ensures reads { ReadsOn R.reference self.old self.new }
         ensures taken { TakesAtMost (R.remaining self.old.source) (R.remaining self.new.source) self.old.look }
         ensures bytes_ahead { 0 < length self.old.ahead → self.new ≡ self.old }
         ensures ended { self.old.ended ≡ true → self.new ≡ self.old }
@@ -241,10 +234,8 @@ impl<R: ByteSource> Lines<R> {
         ensures taken { Consumes (R.remaining self.old.source) (R.remaining self.new.source) self.new.ahead }
         ensures failed { FailsAtErr result (R.failures self.old.source) (R.failures self.new.source) }
         ensures unread { self.old.ended ≡ true → (result ≡ Ok false) × (self.new ≡ self.old) }
-        ensures bound { length self.new.ahead ≤ self.new.look }
-        ensures look { self.new.look ≡ self.old.look }
+        ensures reads { ReadsOn R.reference self.old self.new }
         ensures fault { self.new.fault ≡ self.old.fault }
-        ensures same_reference { R.reference self.new.source ≡ R.reference self.old.source }
     {
         if self.is_ended {
             return Ok(false);

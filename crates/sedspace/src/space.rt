@@ -346,15 +346,13 @@ fn put_behind(
     count: usize,
 ) -> (usize, usize)
     requires inside_text { count ≤ length text.now }
-    requires order { front ≤ end }
-    requires inside { end < vec_len held.old }
+    requires lies { (front ≤ end) × (end < vec_len held.old) }
     requires held_within { vec_len held.old ≤ most + 1 }
     requires reserved { most < vec_capacity held.old }
     requires fits { end - front + count ≤ most }
     ensures bytes { between result.0 result.1 held.new.items ≡ between front end held.old.items ++ take count text.now }
     ensures ended { EndsAt result.1 held.new.items }
-    ensures order { result.0 ≤ result.1 }
-    ensures inside { result.1 < vec_len held.new }
+    ensures lies { (result.0 ≤ result.1) × (result.1 < vec_len held.new) }
     ensures within { vec_len held.new ≤ most + 1 }
     ensures capacity { vec_capacity held.old ≤ vec_capacity held.new }
 {
@@ -475,8 +473,7 @@ fn make_room(
     most: usize,
     count: usize,
 ) -> (usize, usize)
-    requires order { front ≤ end }
-    requires inside { end < vec_len held.old }
+    requires lies { (front ≤ end) × (end < vec_len held.old) }
     requires held_within { vec_len held.old ≤ most + 1 }
     requires reserved { most < vec_capacity held.old }
     requires fits { end - front + count ≤ most }

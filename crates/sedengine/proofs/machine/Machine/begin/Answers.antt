@@ -41,10 +41,10 @@ pub returns-in-Err-TooLong-clause-steps : goal.returns-in-Err-TooLong-clause-ste
 returns-in-Err-TooLong-clause-steps g c = λ sound ls known files sinks.
     let w = c.in-Err-TooLong.ensures in
     begins_stops g.R.ByteSource.remaining c.args.lines.now c.next_into.new.self c.self.inside _ c.self.view_is c.self.invariant c.requires ls known files sinks
-    c.next_into.new.space w.err (λ e. c.if-self-turns.false (e ∙ sym c.turns.ensures)) (w.too_long (ap Err c.in-Err-TooLong.field-0-is) sound) w.gone
+    c.next_into.new.space w.err.0 (λ e. c.if-self-turns.false (e ∙ sym c.turns.ensures)) (w.too_long (ap Err c.in-Err-TooLong.field-0-is) sound) w.err.1
 
 pub returns-in-Err-Broken-clause-steps : goal.returns-in-Err-Broken-clause-steps
 returns-in-Err-Broken-clause-steps g c = λ sound ls known files sinks.
     let w = c.in-Err-Broken.ensures in
     begins_broken g.R.ByteSource.remaining c.args.lines.now c.next_into.new.self c.self.inside _ c.self.view_is c.self.invariant c.requires ls known files sinks
-    c.next_into.new.space w.err (rw c.self.invariant.pattern_limit at w.gone)
+    c.next_into.new.space w.err.0 (rw c.self.invariant.pattern_limit at w.err.1)

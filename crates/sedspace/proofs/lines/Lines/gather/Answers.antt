@@ -39,7 +39,7 @@ loop-self-preserved g c =
     let a = m.all (ap Ok c.in-Ok-false.field-0-test) in
     let r = c.in-Ok-true-refill.ensures in
     let moved = Gathered-moved _ _ _ _ _ _ _ h.3 h.4 h.5 a.0 a.1 m.rest a.2 in
-    (r.failed ∙ (same_source g.R.ByteSource.failures c.loop-self.self c.move_ahead.new.self m.rest ∙ h.0), m.fits, r.same_reference ∙ (same_source g.R.ByteSource.reference c.loop-self.self c.move_ahead.new.self m.rest ∙ h.2), _, _, Gathered-refilled _ _ _ _ _ _ _ _ moved a.1 r.left r.taken r.look r.fault (λ e. (r.unread e).1))
+    (r.failed ∙ (same_source g.R.ByteSource.failures c.loop-self.self c.move_ahead.new.self m.rest ∙ h.0), m.fits, r.reads.2 ∙ (same_source g.R.ByteSource.reference c.loop-self.self c.move_ahead.new.self m.rest ∙ h.2), _, _, Gathered-refilled _ _ _ _ _ _ _ _ moved a.1 r.left r.taken r.reads.1 r.fault (λ e. (r.unread e).1))
 
 pub returns-in-Ok-false-refill-clause-gathers : goal.returns-in-Ok-false-refill-clause-gathers
 returns-in-Ok-false-refill-clause-gathers g c =
@@ -54,7 +54,7 @@ returns-in-Ok-false-refill-clause-gathers g c =
       r.failed ∙ (same_source g.R.ByteSource.failures c.loop-self.self c.move_ahead.new.self m.rest ∙ h.0),
       h.3 ++ c.loop-self.self.ahead,
       _,
-      inr (Gathered-refilled _ _ _ _ _ _ _ _ moved a.1 r.left r.taken r.look r.fault (λ e. (r.unread e).1), some, e.1),
+      inr (Gathered-refilled _ _ _ _ _ _ _ _ moved a.1 r.left r.taken r.reads.1 r.fault (λ e. (r.unread e).1), some, e.1),
     )
 
 pub returns-in-Err-refill-clause-gathers : goal.returns-in-Err-refill-clause-gathers
@@ -68,7 +68,7 @@ returns-in-Err-refill-clause-gathers g c =
       rw (← quiet) r.failed,
       _,
       _,
-      Gathered-refilled _ _ _ _ _ _ _ _ moved a.1 r.left r.taken r.look r.fault (λ e. (r.unread e).1),
+      Gathered-refilled _ _ _ _ _ _ _ _ moved a.1 r.left r.taken r.reads.1 r.fault (λ e. (r.unread e).1),
       m.fits,
       r.err.0,
     )
@@ -81,7 +81,7 @@ returns-in-Ok-false-2-clause-gathers g c =
     let r = c.in-Ok-false-refill.ensures in
     let moved = Gathered-moved _ _ _ _ _ _ _ h.3 h.4 h.5 a.0 a.1 m.rest a.2 in
     let e = r.end (ap Ok c.in-Ok-false-refill.field-0-test) in
-    let gathered = Gathered-refilled _ _ _ _ _ _ _ _ moved a.1 r.left r.taken r.look r.fault (λ e. (r.unread e).1) in
+    let gathered = Gathered-refilled _ _ _ _ _ _ _ _ moved a.1 r.left r.taken r.reads.1 r.fault (λ e. (r.unread e).1) in
     let grown : c.move_ahead.new.space.bytes ≡ c.args.space.now.bytes ++ (h.3 ++ c.loop-self.self.ahead) = ap (λ (z : Contents). z.bytes) moved.space in
     let none : h.3 ++ c.loop-self.self.ahead ≡ [] = empty (h.3 ++ c.loop-self.self.ahead) (omega (arith, ap length grown, length-append c.args.space.now.bytes (h.3 ++ c.loop-self.self.ahead), c.len-start.ensures.value, c.len.ensures.value, c.if-len-start.false)) in (
       r.failed ∙ (same_source g.R.ByteSource.failures c.loop-self.self c.move_ahead.new.self m.rest ∙ h.0),

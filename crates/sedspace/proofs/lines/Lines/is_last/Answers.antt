@@ -1,4 +1,4 @@
-use Rattle.std.proofs.Common.{◌<◌, ◌≤◌, Ok, ap, subst, arith, length}
+use Rattle.std.proofs.Common.{◌<◌, ◌≤◌, Ok, ap, subst, arith, rules, length}
 use Rattle.std.proofs.lemmas.Bool.Decides.{nat_tests}
 use Rattle.sedspace.proofs.StreamFacts.{ahead_within, tells_more, tells_read}
 use Rattle.sedspace.proofs.lines.Lines.is_last.Goals as goal
@@ -14,7 +14,10 @@ returns-in-Ok-clause-last g c =
     let r = c.in-Ok.ensures in
     tells_read _ (g.R.ByteSource.remaining c.refill.new.self.source) c.refill.new.self.ahead c.in-Ok.more r.left r.given (λ e. (r.end (ap Ok e)).1)
 
-pub returns-in-Some-clause-ahead : goal.returns-in-Some-clause-ahead
-returns-in-Some-clause-ahead g c =
-    let s = c.self.inside in
-    subst (λ z. length z.ahead ≤ z.look) c.self.view_is (ahead_within s.front s.filled _ s.buffer.items (omega arith))
+pub returns-in-Some-clause-reads : goal.returns-in-Some-clause-reads
+returns-in-Some-clause-reads g c =
+    let s = c.self.inside in (
+      subst (λ z. length z.ahead ≤ z.look) c.self.view_is (ahead_within s.front s.filled _ s.buffer.items (omega arith)),
+      search rules,
+      search rules,
+    )

@@ -11,4 +11,4 @@ invariant_of-self c =
     let size : c.len-len.result ≡ length bytes = c.len-len.ensures.value ∙ ap (λ z. length z.bytes) (sym c.self.view_is) in
     let more = length-take-le c.args.count c.args.text.now c.requires.inside in
     let clear = clear_with_count s.clear_first s.clear_last c.len-len.result c.args.count bytes (take c.args.count c.args.text.now) size (sym more) c.self.invariant.5 c.requires.clear in
-    (p.order, p.inside, p.within, omega (arith, p.capacity, c.self.invariant), p.ended, rw (p.bytes, c.clear_with-self-inside.ensures) clear)
+    (p.lies.0, p.lies.1, p.within, omega (arith, p.capacity, c.self.invariant), p.ended, rw (p.bytes, c.clear_with-self-inside.ensures) clear)
