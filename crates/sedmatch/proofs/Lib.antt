@@ -15,7 +15,9 @@ pub mod RegionLemmas
 pub mod SkipLemmas
 pub mod NeededLemmas
 pub mod NarrowLemmas
+pub mod ChoiceLemmas
 pub mod SightLemmas
+pub mod TrailLemmas
 pub mod FewLemmas
 pub mod RareLemmas
 pub mod LaneLemmas

@@ -18,12 +18,13 @@ use Rattle.sedmatch.specs.Between.{Parted, AllParted, FirstParted}
 use Rattle.sedmatch.specs.Needed.{IsLiteral, GoesOnAs, FirstLiteral}
 use Rattle.sedmatch.specs.declared.needed.Literal.{Literal}
 use Rattle.sedmatch.specs.Word.{WordSpans, AllWord}
+use Rattle.sedmatch.specs.Choice.{AllChoice, FirstChoice}
 use Rattle.sedmatch.specs.Runs.{Repeated, AllRepeat, IsRun}
 use Rattle.sedmatch.specs.Sight.{IsFirst, StartsWith, SightSpans, IsSight, CanStart, FirstWith, FirstStart, EndsAt}
 use Rattle.sedmatch.specs.declared.sight.First.{First}
 use Rattle.sedmatch.specs.declared.sight.First.TheVariants.{Among, Member}
 use Rattle.sedmatch.specs.declared.sight.Sight.{Sight}
-use Rattle.sedmatch.specs.declared.sight.Sight.TheVariants.{One, Run, Led, Times, Between, Word}
+use Rattle.sedmatch.specs.declared.sight.Sight.TheVariants.{One, Run, Led, Trail, Times, Between, Word, Choice}
 use Rattle.sedmatch.proofs.ReachLemmas.{open_at, close_at}
 use Rattle.sedmatch.proofs.RunLemmas.{run_far}
 use Rattle.sedmatch.proofs.TimesLemmas.{repeated_within}
@@ -74,6 +75,20 @@ module _ (nodes : List Node) (arena : IsArena nodes) (x last : ℕ) (whole : las
         from_node w i j (close_at nodes w x (Seq a b) arena is i j (i + 1, left, right))),
   )
 
+  -- a run, and a byte of a set
+  pub sight_trail : (a b : NodeId) (y : ℕ) (members these : List Bool) (first : First) → slice_get nodes x ≡ Some (Seq a b) → y ≡ a.index → slice_get nodes b.index ≡ Some (Set these) →
+      AllRepeat nodes y members → AreFirst first these → IsSight (tree_at nodes last) (Trail members first)
+  sight_trail a b y members these first is y_is there repeats same w bytes i j within = (
+    (λ s.
+        let f = open_at nodes w x (Seq a b) arena is i j (to_node w i j s) in
+        let h = (set_spans these first same w bytes f.0 j).0 (open_at nodes w b.index (Set these) arena there f.0 j f.2) in
+        (f.0, (repeats w i f.0).0 (subst (λ v. At nodes w v i f.0) (sym y_is) f.1), h.0, h.1)),
+    (λ h.
+        let left : At nodes w a.index i h.0 = subst (λ v. At nodes w v i h.0) y_is ((repeats w i h.0).1 h.1) in
+        let right : At nodes w b.index h.0 j = close_at nodes w b.index (Set these) arena there h.0 j ((set_spans these first same w bytes h.0 j).1 (h.2, h.3)) in
+        from_node w i j (close_at nodes w x (Seq a b) arena is i j (h.0, left, right))),
+  )
+
   -- so many bytes of a set
   pub sight_times : (members : List Bool) (count : ℕ) → AllTimes nodes last members count → IsSight (tree_at nodes last) (Times members count)
   sight_times members count times w bytes i j within = times w bytes i j
@@ -85,6 +100,10 @@ module _ (nodes : List Node) (arena : IsArena nodes) (x last : ℕ) (whole : las
   -- a literal
   pub sight_word : (literal : List ℕ) → AllWord nodes last literal → IsSight (tree_at nodes last) (Word literal)
   sight_word literal all w bytes i j within = all w i j within
+
+  -- one of a few literals
+  pub sight_choice : (literals : List (List ℕ)) → AllChoice nodes last literals → IsSight (tree_at nodes last) (Choice literals)
+  sight_choice literals all w bytes i j within = all w i j within
 
 -- a literal behind which nothing is left
 pub all_word : (nodes : List Node) (x last : ℕ) (l : Literal) (literal : List ℕ) → last ≡ x → literal ≡ l.bytes.items → IsLiteral nodes x l → l.rest ≡ None → AllWord nodes last literal
@@ -124,6 +143,10 @@ pub start_word : (literal w : List ℕ) (p : ℕ) (r : Option ℕ) → FirstLite
 start_word literal w p None none = λ k low within can. none k low can
 start_word literal w p (Some k) here = (here.0, (let fits = here.1.fits in omega arith), here.1, here.2)
 
+pub start_choice : (literals : List (List ℕ)) (w : List ℕ) (p : ℕ) (r : Option ℕ) → FirstChoice literals w p r → FirstStart (Choice literals) w p r
+start_choice literals w p None none = λ k low within can. none k low can
+start_choice literals w p (Some k) here = (here.0, (let inside = here.1 in omega arith), here.2, here.3)
+
 pub starts_inside : (first : First) (w : List ℕ) (i : ℕ) → StartsWith first w i → i < length w
 starts_inside first w i starts = slice_get_within w i starts.0 starts.1
 
@@ -148,18 +171,22 @@ spans_start : (sight : Sight) (w : List ℕ) (i j : ℕ) → SightSpans sight w 
 spans_start (One first) w i j s = s.0
 spans_start (Run members) w i j s = tt
 spans_start (Led first members) w i j s = s.0
+spans_start (Trail members last) w i j s = (s.0, s.1, s.2)
 spans_start (Times members count) w i j s = subst (Repeated members w i) s.1 s.0
 spans_start (Between b) w i j s = (s.0, s.1)
 spans_start (Word literal) w i j s = s.0
+spans_start (Choice literals) w i j s = (s.0, s.1, s.2, s.3)
 
 -- and where it can, one does
 start_spans : (sight : Sight) (w : List ℕ) (i : ℕ) → CanStart sight w i → (j : ℕ) × SightSpans sight w i j
 start_spans (One first) w i can = (i + 1, (can, refl))
 start_spans (Run members) w i can = (i, no_copy)
 start_spans (Led first members) w i can = (i + 1, (can, no_copy))
+start_spans (Trail members last) w i can = (can.0 + 1, (can.0, can.1, can.2, refl))
 start_spans (Times members count) w i can = (i + count, (can, refl))
 start_spans (Between b) w i can = (can.0 + length b.tail, (can.0, can.1, refl))
 start_spans (Word literal) w i can = (i + length literal, (can, refl))
+start_spans (Choice literals) w i can = (i + length can.0, (can.0, can.1, can.2, can.3, refl))
 
 module _ (e : Tree) (sight : Sight) (is : IsSight e sight) (w : List ℕ) (bytes : AreBytes w) (p : ℕ) where
   pub sight_found : (i j : ℕ) → FirstStart sight w p (Some i) → EndsAt sight w i j → Found e w p i j
@@ -185,9 +212,11 @@ module _ (e : Tree) (sight : Sight) (is : IsSight e sight) (w : List ℕ) (bytes
 ends_on : (sight : Sight) (w : List ℕ) (i j : ℕ) → SightSpans sight w i j → i ≤ j
 ends_on (One first) w i j s = omega (arith, s.1)
 ends_on (Run members) w i j s = Copies-forward (Spans (set members) w) j i s
+ends_on (Trail members last) w i j s = let on = Copies-forward (Spans (set members) w) s.0 i s.1 in omega (arith, s.3)
 ends_on (Times members count) w i j s = omega (arith, s.1)
 ends_on (Between b) w i j s = let on = s.1.1.0 in omega (arith, s.2, on)
 ends_on (Word literal) w i j s = omega (arith, s.1)
+ends_on (Choice literals) w i j s = let long = s.4 in omega (arith, long)
 ends_on (Led first members) w i j s = omega (arith, Copies-forward (Spans (set members) w) j (i + 1) s.1)
 
 -- the longest from a place ends there or behind it

@@ -22,6 +22,8 @@ pub mod Runs
 pub mod Times
 pub mod Between
 pub mod Word
+pub mod Trail
+pub mod Choice
 pub mod Sight
 pub mod Few
 pub mod Rare

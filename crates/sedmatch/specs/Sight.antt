@@ -8,11 +8,12 @@ use Rattle.sedmatch.specs.Runs.{Repeated}
 use Rattle.sedmatch.specs.Times.{HasTimes}
 use Rattle.sedmatch.specs.Between.{PartedSpans, CanPart}
 use Rattle.sedmatch.specs.Word.{WordSpans}
+use Rattle.sedmatch.specs.Choice.{ChoiceAt, ChoiceSpans}
 use Rattle.sedmatch.specs.Few.{HasFew, AreBytes}
 use Rattle.sedmatch.specs.declared.sight.First.{First}
 use Rattle.sedmatch.specs.declared.sight.First.TheVariants.{Among, Member}
 use Rattle.sedmatch.specs.declared.sight.Sight.{Sight}
-use Rattle.sedmatch.specs.declared.sight.Sight.TheVariants.{One, Run, Led, Times, Between, Word}
+use Rattle.sedmatch.specs.declared.sight.Sight.TheVariants.{One, Run, Led, Trail, Times, Between, Word, Choice}
 
 -- the byte can come first
 abbrev pub IsFirst : First → ℕ → Type 0
@@ -28,9 +29,11 @@ abbrev pub SightSpans : Sight → List ℕ → ℕ → ℕ → Type 0
 SightSpans (One first) w i j = StartsWith first w i × (j ≡ i + 1)
 SightSpans (Run members) w i j = Repeated members w i j
 SightSpans (Led first members) w i j = StartsWith first w i × Repeated members w (i + 1) j
+SightSpans (Trail members last) w i j = (k : ℕ) × Repeated members w i k × StartsWith last w k × (j ≡ k + 1)
 SightSpans (Times members count) w i j = HasTimes members count w i j
 SightSpans (Between b) w i j = PartedSpans b w i j
 SightSpans (Word literal) w i j = WordSpans literal w i j
+SightSpans (Choice literals) w i j = ChoiceSpans literals w i j
 
 -- the spans of the expression in a text of bytes are these
 abbrev pub IsSight : Tree → Sight → Type 0
@@ -46,9 +49,11 @@ abbrev pub CanStart : Sight → List ℕ → ℕ → Type 0
 CanStart (One first) w i = StartsWith first w i
 CanStart (Run members) w i = Unit {0}
 CanStart (Led first members) w i = StartsWith first w i
+CanStart (Trail members last) w i = (k : ℕ) × Repeated members w i k × StartsWith last w k
 CanStart (Times members count) w i = Repeated members w i (i + count)
 CanStart (Between b) w i = CanPart b w i
 CanStart (Word literal) w i = OccursAt w literal i
+CanStart (Choice literals) w i = ChoiceAt literals w i
 
 -- the first place from p on at which the byte can come first
 abbrev pub FirstWith : First → List ℕ → ℕ → Option ℕ → Type 0

@@ -5,20 +5,24 @@ ghost use Rattle.std.specs.Prelude.{vec_len};
 ghost use Rattle.std.specs.Int.{bit_at};
 ghost use Rattle.std.specs.Prelude.{reverse};
 ghost use Rattle.sedmatch.specs.Bytes.{FirstAt, looked_at, in_order};
+ghost use Rattle.sedmatch.specs.Choice.{AreHeads, AreShort, FirstChoice, LongestAt};
 ghost use Rattle.sedmatch.specs.Few.{AreBytes, FirstFew};
 ghost use Rattle.sedmatch.specs.Needed.{FirstLiteral, LastLiteral, passed_to};
 ghost use Rattle.sedmatch.specs.Rare.{ApartIn};
 ghost use Rattle.sedmatch.specs.Runs.{IsRun};
 ghost use Rattle.sedmatch.specs.Skip.{CanBegin, NextStart, skip_cost};
 ghost use Rattle.sedmatch.specs.declared.skip.Begins.TheVariants.{WithSet};
+ghost use Rattle.sedmatch.specs.Trail.{RunBegins, LastWith};
 ghost use Rattle.sedmatch.specs.Words.{marks_of};
 
 mod rows;
 
 use crate::apart::apart_to;
+use crate::choice::{Alternative, MAX_BYTES, first_choice, longest_at};
 use crate::few::Few;
-use crate::members::{first_member, run_to};
+use crate::members::{first_member, last_with, run_back, run_to};
 use crate::rare::Fixed;
+use crate::sight::First;
 use memchr::memchr;
 use memchr::memmem::{Finder, FinderRev};
 pub use rows::Rows;
@@ -224,6 +228,55 @@ impl<'a> Text<'a> {
         }
     }
 
+    /// The first place from `from` on at which one of the literals stands.
+    /// Counts a look and the most bytes of all literals for each byte from `from` to that place, or to the end where there
+    /// is none.
+    pub(crate) fn find_choice(
+        &self,
+        heads: &[bool],
+        literals: &[Alternative],
+        from: usize,
+        steps: &mut Steps,
+    ) -> Option<usize>
+        requires heads { AreHeads heads.now literals.now }
+        requires literals { AreShort literals.now }
+        requires from { from ≤ length self.now }
+        requires short { length self.now ≤ 2 ^ 30 }
+        requires room { steps.old < 2 ^ 117 }
+        ensures first { FirstChoice literals.now self.now from result }
+        ensures grows { steps.old ≤ steps.new }
+        ensures cost { steps.new ≤ steps.old + 21 * (length self.now + 1) }
+    {
+        match first_choice(heads, literals, self.bytes, from) {
+            None => {
+                steps.add((1 + MAX_BYTES) * (self.bytes.len() - from));
+                None
+            }
+            Some(place) => {
+                steps.add((1 + MAX_BYTES) * (place - from + 1));
+                Some(place)
+            }
+        }
+    }
+
+    /// How long the longest of the literals is that stand at the place, if one does.
+    /// Counts the most bytes of all literals.
+    pub(crate) fn longest_choice(
+        &self,
+        literals: &[Alternative],
+        at: usize,
+        steps: &mut Steps,
+    ) -> Option<usize>
+        requires literals { AreShort literals.now }
+        requires at { at ≤ length self.now }
+        requires room { steps.old < 2 ^ 117 }
+        ensures longest { LongestAt literals.now self.now at (length literals.now) result }
+        ensures cost { steps.new ≡ steps.old + 20 }
+    {
+        steps.add(MAX_BYTES);
+        longest_at(literals, self.bytes, at)
+    }
+
     /// The end of the run of bytes of the set that begins at the place.
     /// Counts a look for each byte from `from` to the one that ends the run, or to the end where none does.
     #[inline(always)]
@@ -241,6 +294,60 @@ impl<'a> Text<'a> {
             steps.add(1);
         }
         end
+    }
+
+    /// The begin of the run of bytes of the set that ends before `to`, not before `from`.
+    /// Counts a look for each byte from `to` down to the one that ends the run, or to `from` where none does.
+    #[inline(always)]
+    pub(crate) fn run_begin(
+        &self,
+        set: &ByteSet,
+        from: usize,
+        to: usize,
+        steps: &mut Steps,
+    ) -> usize
+        requires from { from ≤ to }
+        requires to { to ≤ length self.now }
+        requires room { steps.old < 2 ^ 119 }
+        ensures begins { RunBegins set.now self.now from to result }
+        ensures grows { steps.old ≤ steps.new }
+        ensures cost { steps.new + from ≤ steps.old + to }
+    {
+        let begin = run_back(set, self.bytes, from, to);
+        steps.add(to - begin);
+        if from < begin {
+            steps.add(1);
+        }
+        begin
+    }
+
+    /// The last place from `from` on and before `to` at which the byte stands.
+    /// Counts a look for each byte from `to` down to that place, or to `from` where there is none.
+    #[inline(always)]
+    pub(crate) fn last_with(
+        &self,
+        sought: &First,
+        from: usize,
+        to: usize,
+        steps: &mut Steps,
+    ) -> Option<usize>
+        requires from { from ≤ to }
+        requires to { to ≤ length self.now }
+        requires room { steps.old < 2 ^ 119 }
+        ensures last { LastWith sought.now self.now from to result }
+        ensures grows { steps.old ≤ steps.new }
+        ensures cost { steps.new + from ≤ steps.old + to }
+    {
+        match last_with(sought, self.bytes, from, to) {
+            None => {
+                steps.add(to - from);
+                None
+            }
+            Some(place) => {
+                steps.add(to - place);
+                Some(place)
+            }
+        }
     }
 }
 

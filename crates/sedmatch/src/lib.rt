@@ -21,6 +21,7 @@ mod ahead;
 mod anywhere;
 mod apart;
 mod between;
+mod choice;
 mod classes;
 mod counted;
 mod cuts;
@@ -46,6 +47,7 @@ mod skip;
 mod states;
 mod tables;
 mod times;
+mod trail;
 mod word;
 
 pub use counted::{Marks, Text};

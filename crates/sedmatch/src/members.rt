@@ -1,9 +1,12 @@
-//! Bytes of a set in a slice: the first one, and how far a run of them goes. Nothing is counted here, but by what calls it.
+//! Bytes of a set in a slice: the first one, the last one, and how far a run of them goes, forwards and backwards. Nothing
+//! is counted here, but by what calls it.
 ghost use Rattle.std.specs.Prelude.{◌≡◌, ◌<◌, ◌≤◌, length, slice_get, Some, IfSome};
 ghost use Rattle.sedmatch.specs.Runs.{IsRun};
 ghost use Rattle.sedmatch.specs.Skip.{CanBegin, NextStart};
+ghost use Rattle.sedmatch.specs.Trail.{RunBegins, LastWith};
 ghost use Rattle.sedmatch.specs.declared.skip.Begins.TheVariants.{WithSet};
 
+use crate::sight::First;
 use sedre::ByteSet;
 
 /// The byte at a place.
@@ -48,4 +51,38 @@ pub fn run_to(set: &ByteSet, bytes: &[u8], from: usize) -> usize
         }
     }
     bytes.len()
+}
+
+/// The begin of the run of bytes of the set that ends before `to`, not before `from`.
+// As a part of a large function it would be slower by the byte.
+#[inline(never)]
+pub fn run_back(set: &ByteSet, bytes: &[u8], from: usize, to: usize) -> usize
+    requires from { from ≤ to }
+    requires to { to ≤ length bytes.now }
+    ensures begins { RunBegins set.now bytes.now from to result }
+{
+    for place in (from..to).rev() {
+        let byte = byte_at(bytes, place);
+        if !set.has(byte) {
+            return place + 1;
+        }
+    }
+    from
+}
+
+/// The last place from `from` on and before `to` at which the byte stands.
+// As a part of a large function it would be slower by the byte.
+#[inline(never)]
+pub fn last_with(sought: &First, bytes: &[u8], from: usize, to: usize) -> Option<usize>
+    requires from { from ≤ to }
+    requires to { to ≤ length bytes.now }
+    ensures last { LastWith sought.now bytes.now from to result }
+{
+    for place in (from..to).rev() {
+        let byte = byte_at(bytes, place);
+        if sought.has(byte) {
+            return Some(place);
+        }
+    }
+    None
 }

@@ -1,11 +1,13 @@
-//! Expressions whose matches are seen at the first look: a set, a run of its bytes, one byte and a run, always as many
-//! bytes of a set, a literal, or two literals and what stands between.
+//! Expressions whose matches are seen at the first look: a set, a run of its bytes, one byte and a run, a run and one
+//! byte, always as many bytes of a set, a literal, one of a few literals, or two literals and what stands between.
 //!
 //! Where such a match begins is told by its bytes, and where the longest ends by those that follow, so that nothing
 //! has to be found out of the expression in a search.
-ghost use Rattle.std.specs.Prelude.{◌≡◌, ℕ, ◌+◌, ◌*◌, ◌^◌, ◌<◌, ◌≤◌, ◌↔◌, length, IfOk, IfSome, IfNone, IsTrue};
+ghost use Rattle.std.specs.Prelude.{◌≡◌, ℕ, ◌+◌, ◌-◌, ◌*◌, ◌^◌, ◌<◌, ◌≤◌, ◌↔◌, length, slice_get, Some};
+ghost use Rattle.std.specs.Prelude.{IfOk, IfSome, IfNone, IsTrue};
 ghost use Rattle.sedre.specs.Arena.{tree};
 ghost use Rattle.sedre.specs.Tree.{Tree};
+ghost use Rattle.sedre.specs.declared.types.Node.TheVariants.{Seq};
 ghost use Rattle.sedmatch.specs.Spans.{Found as IsFound, NotFound, SomeFound, IsIn};
 ghost use Rattle.sedmatch.specs.Answer.{IsComputed, MatchAnswer};
 ghost use Rattle.sedmatch.specs.Sight.{IsFirst, FirstWith, IsSight, IsSightOf, CanStart, FirstStart, EndsAt};
@@ -13,6 +15,7 @@ ghost use Rattle.sedmatch.specs.Costs.{Takes};
 ghost use Rattle.sedmatch.specs.Room.{FitInto};
 
 use crate::between::{Between, between_of};
+use crate::choice::{Choice, choice_of};
 use crate::counted::Text;
 use crate::few::{Few, members_of};
 use crate::groups::report;
@@ -20,17 +23,30 @@ use crate::matcher::Found;
 use crate::runs::star_set;
 use crate::scratch::Scratch;
 use crate::times::{find_times, times_of};
+use crate::trail::{trail_end, trail_start};
 use crate::word::{Word, word_of};
-use sedre::{ByteSet, Expr, Node, Steps};
+use sedre::{ByteSet, Expr, Node, NodeId, Steps};
 use std::alloc::{AllocError, Global};
 
-/// The byte that comes first in a match.
+/// The byte that comes first in a match, or another byte of it that is sought alike.
 #[derive(Clone, Copy)]
 pub enum First {
     /// One of these few.
     Among(Few),
     /// One of this set.
     Member(ByteSet),
+}
+
+impl First {
+    /// Whether it can be this byte.
+    pub fn has(&self, byte: u8) -> bool
+        ensures { IsTrue result ↔ IsFirst self.now byte }
+    {
+        match self {
+            First::Among(few) => few.has(byte),
+            First::Member(set) => set.has(byte),
+        }
+    }
 }
 
 /// How the matches of an expression look.
@@ -42,12 +58,16 @@ pub enum Sight {
     Run(ByteSet),
     /// One byte, and bytes of the set, any number of them.
     Led(First, ByteSet),
+    /// Bytes of the set, any number of them, and one byte.
+    Trail(ByteSet, First),
     /// So many bytes of the set.
     Times(ByteSet, usize),
     /// A literal, bytes of a set, and another literal.
     Between(Between),
     /// A literal of two bytes or more.
     Word(Word),
+    /// One of a few literals.
+    Choice(Choice),
 }
 
 /// A member of a set, as it is sought.
@@ -60,12 +80,30 @@ fn first_of(set: &ByteSet) -> First
     }
 }
 
+/// How the matches of the expression look, a concatenation of these parts, if they are of a run and one byte behind it.
+fn trail_sight(expr: &Expr, a: NodeId, b: NodeId, steps: &mut Steps) -> Option<Sight>
+    requires root { slice_get expr.now.nodes (length expr.now.nodes - 1) ≡ Some (Seq a b) }
+    requires room { steps.old < 2 ^ 111 }
+    ensures sight { IfSome result (λ s. IsSight (tree expr.now) s) }
+    ensures grows { steps.old ≤ steps.new }
+    ensures cost { steps.new ≤ steps.old + 4 }
+{
+    let _count = expr.nodes();
+    match star_set(expr, a.index(), steps) {
+        Some(members) => match expr.look(b, steps) {
+            Node::Set(set) => Some(Sight::Trail(members, first_of(&set))),
+            _ => None,
+        },
+        None => None,
+    }
+}
+
 /// How the matches of the expression look, if they are of one byte, a run or both.
 fn run_sight(expr: &Expr, steps: &mut Steps) -> Option<Sight>
     requires few { length expr.now.nodes ≤ 65536 }
     requires room { steps.old < 2 ^ 110 }
     ensures sight { IfSome result (λ s. IsSight (tree expr.now) s) }
-    ensures cost { steps.new ≤ steps.old + 5 }
+    ensures cost { steps.new ≤ steps.old + 6 }
 {
     let _count = expr.nodes();
     let root = expr.root().index();
@@ -76,7 +114,7 @@ fn run_sight(expr: &Expr, steps: &mut Steps) -> Option<Sight>
                 Some(members) => Some(Sight::Led(first_of(&set), members)),
                 None => None,
             },
-            _ => None,
+            _ => trail_sight(expr, a, b, steps),
         },
         _ => match star_set(expr, root, steps) {
             Some(members) => Some(Sight::Run(members)),
@@ -90,13 +128,16 @@ pub fn sight_of(alloc: Global, expr: &Expr, steps: &mut Steps) -> Result<Option<
     requires few { length expr.now.nodes ≤ 65536 }
     requires room { steps.old < 2 ^ 107 }
     ensures sight { IfOk result (IsSightOf (tree expr.now)) }
-    ensures cost { steps.new ≤ steps.old + 458768 }
+    ensures cost { steps.new ≤ steps.old + 1572913 }
 {
     if let Some(sight) = run_sight(expr, steps) {
         return Ok(Some(sight));
     }
     if let Some(word) = word_of(alloc, expr, steps)? {
         return Ok(Some(Sight::Word(word)));
+    }
+    if let Some(choice) = choice_of(alloc, expr, steps)? {
+        return Ok(Some(Sight::Choice(choice)));
     }
     if let Some(between) = between_of(alloc, expr, steps)? {
         return Ok(Some(Sight::Between(between)));
@@ -109,7 +150,7 @@ pub fn sight_of(alloc: Global, expr: &Expr, steps: &mut Steps) -> Result<Option<
 
 /// The first place from `from` on whose byte can come first.
 #[inline(always)]
-fn find_first(first: &First, text: &Text, from: usize, steps: &mut Steps) -> Option<usize>
+pub fn find_first(first: &First, text: &Text, from: usize, steps: &mut Steps) -> Option<usize>
     requires from { from ≤ length text.now }
     requires short { length text.now ≤ 2 ^ 30 }
     requires room { steps.old < 2 ^ 117 }
@@ -138,9 +179,11 @@ pub fn sight_start(sight: &Sight, text: &Text, from: usize, steps: &mut Steps) -
         Sight::One(first) => find_first(first, text, from, steps),
         Sight::Led(first, _) => find_first(first, text, from, steps),
         Sight::Run(_) => Some(from),
+        Sight::Trail(members, last) => trail_start(members, last, text, from, steps),
         Sight::Times(set, count) => find_times(set, *count, text, from, steps),
         Sight::Between(between) => between.start(text, from, steps),
         Sight::Word(word) => word.start(text, from, steps),
+        Sight::Choice(choice) => choice.start(text, from, steps),
     }
 }
 
@@ -172,9 +215,11 @@ fn sight_end(sight: &Sight, text: &Text, start: usize, steps: &mut Steps) -> usi
         Sight::One(_) => start + 1,
         Sight::Led(_, members) => text.run_end(members, start + 1, steps),
         Sight::Run(members) => text.run_end(members, start, steps),
+        Sight::Trail(members, last) => trail_end(members, last, text, start, steps),
         Sight::Times(_, count) => start + *count,
         Sight::Between(between) => between.end(text, start, steps),
         Sight::Word(word) => word.end(start),
+        Sight::Choice(choice) => choice.end(text, start, steps),
     }
 }
 

@@ -47,3 +47,17 @@ returns-in-Word-clause-end c =
     let can = subst (λ s. CanStart s c.args.text.now c.args.start) c.in-Word.is c.requires.can in
     subst (λ s. EndsAt s c.args.text.now c.args.start c.end-in-Word.result) (sym c.in-Word.is)
     (end_word c.in-Word.word c.args.text.now c.args.start c.end-in-Word.result can c.end-in-Word.ensures)
+
+pub trail_end-requires-clause-can : goal.trail_end-requires-clause-can
+trail_end-requires-clause-can c = subst (λ s. CanStart s c.args.text.now c.args.start) c.in-Trail.is c.requires.can
+
+pub returns-in-Trail-clause-end : goal.returns-in-Trail-clause-end
+returns-in-Trail-clause-end c =
+    subst (λ s. EndsAt s c.args.text.now c.args.start c.trail_end.result) (sym c.in-Trail.is) c.trail_end.ensures.end
+
+pub end-requires-in-Choice-clause-can : goal.end-requires-in-Choice-clause-can
+end-requires-in-Choice-clause-can c = subst (λ s. CanStart s c.args.text.now c.args.start) c.in-Choice.is c.requires.can
+
+pub returns-in-Choice-clause-end : goal.returns-in-Choice-clause-end
+returns-in-Choice-clause-end c =
+    subst (λ s. EndsAt s c.args.text.now c.args.start c.end-in-Choice.result) (sym c.in-Choice.is) c.end-in-Choice.ensures.end

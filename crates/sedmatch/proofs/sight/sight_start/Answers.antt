@@ -1,6 +1,6 @@
 use Rattle.std.proofs.Common.{sym, subst}
 use Rattle.sedmatch.specs.Sight.{FirstStart}
-use Rattle.sedmatch.proofs.SightLemmas.{start_one, start_led, start_times, start_between, start_word}
+use Rattle.sedmatch.proofs.SightLemmas.{start_one, start_led, start_times, start_between, start_word, start_choice}
 use Rattle.sedmatch.proofs.sight.sight_start.Goals as goal
 
 pub returns-in-One-clause-start : goal.returns-in-One-clause-start
@@ -27,3 +27,12 @@ pub returns-in-Word-clause-start : goal.returns-in-Word-clause-start
 returns-in-Word-clause-start c =
     subst (λ s. FirstStart s c.args.text.now c.args.from c.start-in-Word.result) (sym c.in-Word.is)
     (start_word c.in-Word.word c.args.text.now c.args.from c.start-in-Word.result c.start-in-Word.ensures.first)
+
+pub returns-in-Trail-clause-start : goal.returns-in-Trail-clause-start
+returns-in-Trail-clause-start c =
+    subst (λ s. FirstStart s c.args.text.now c.args.from c.trail_start.result) (sym c.in-Trail.is) c.trail_start.ensures.start
+
+pub returns-in-Choice-clause-start : goal.returns-in-Choice-clause-start
+returns-in-Choice-clause-start c =
+    subst (λ s. FirstStart s c.args.text.now c.args.from c.start-in-Choice.result) (sym c.in-Choice.is)
+    (start_choice c.in-Choice.choice c.args.text.now c.args.from c.start-in-Choice.result c.start-in-Choice.ensures.first)
