@@ -1,5 +1,5 @@
 -- Cuts that what comes first in the parts tells.
-use Rattle.std.proofs.Common.{◌≡◌, ℕ, ◌+◌, ◌-◌, ◌*◌, ◌<◌, ◌≤◌, ◌↔◌, List, Bool, Some, refl, subst, ⊎_elim, arith, mul-le-mul_left}
+use Rattle.std.proofs.Common.{◌≡◌, ℕ, ◌+◌, ◌-◌, ◌*◌, ◌^◌, ◌<◌, ◌≤◌, ◌↔◌, List, Bool, Some, refl, subst, ⊎_elim, arith, mul-le-mul_left, mul-le-mul}
 use Rattle.std.specs.Prelude.{slice_get}
 use Rattle.std.proofs.lemmas.Bool.{cases_lt}
 use Rattle.sedre.specs.Arena.{IsArena, tree_at}
@@ -54,6 +54,18 @@ module _ (nodes : List Node) (w : List ℕ) (left right start stop : ℕ) (spans
         greatest = λ l a b. most l a;
       }
 
+-- of a right part of one byte, the cut is before it
+pub cut_last : (nodes : List Node) (w : List ℕ) (left right start stop : ℕ) (members : List Bool) → IsArena nodes → slice_get nodes right ≡ Some (Set members) →
+    (k : ℕ) × At nodes w left start k × At nodes w right k stop → LastCut (At nodes w left) (At nodes w right) start stop (stop - 1)
+cut_last nodes w left right start stop members arena is spans =
+    let before : (k : ℕ) → At nodes w right k stop → k ≡ stop - 1 = λ k at. let s = open_at nodes w right (Set members) arena is k stop at in let next = s.3 in omega arith in
+    let here = before spans.0 spans.2 in
+    record {
+      left = subst (λ v. At nodes w left start v) here spans.1;
+      right = subst (λ v. At nodes w right v stop) here spans.2;
+      greatest = λ l a b. let same = before l b in omega arith;
+    }
+
 -- of copies of one byte the last one begins a byte before the end
 last_single : (R : ℕ → ℕ → Type 0) (j : ℕ) → ((p q : ℕ) → R p q → q ≡ p + 1) → (i : ℕ) → i < j → Copies R j i → LastCopy R j i (j - 1)
 last_single R j one i lt no_copy = absurd (omega arith)
@@ -74,14 +86,14 @@ last_byte nodes w x start stop members arena is lt copies =
     last_single (At nodes w x) stop (λ p q at. let s = open_at nodes w x (Set members) arena is p q at in s.3) start lt copies
 
 -- the steps of a cut at sight
-pub sight_cost : (m n s t : ℕ) → 0 < m → t ≤ s + (n + 15) * m + 3 + n → t ≤ s + 23 * m * (n + 1) * (n + 2)
+pub sight_cost : (m n s t : ℕ) → 0 < m → t ≤ s + (n + 15) * m + 4 + n → t ≤ s + 23 * m * (n + 1) * (n + 2)
 sight_cost m n s t some first =
     let one : 1 ≤ m = omega arith in
     let all = mul-le-mul_left n one in
     omega (arith, first, all)
 
 -- and of passes after it
-pub passes_cost : (m n s t u : ℕ) → 0 < m → 0 < n → t ≤ s + (n + 15) * m + 3 + n → u ≤ t + 44 * m * (n + 1) → u ≤ s + 23 * m * (n + 1) * (n + 2)
+pub passes_cost : (m n s t u : ℕ) → 0 < m → 0 < n → t ≤ s + (n + 15) * m + 4 + n → u ≤ t + 44 * m * (n + 1) → u ≤ s + 23 * m * (n + 1) * (n + 2)
 passes_cost m n s t u some byte first rest =
     let one : 1 ≤ m = omega arith in
     let some_n : 1 ≤ n = omega arith in
@@ -89,3 +101,19 @@ passes_cost m n s t u some byte first rest =
     let square = mul-le-mul_left (m * n) some_n in
     let low = mul-le-mul_left m some_n in
     omega (arith, first, rest, all, square, low)
+
+-- the steps of a walk over copies, each of which takes some bytes: there is room to count them
+pub walk_room : (m n copy start s0 s : ℕ) → m ≤ 65536 → n ≤ 2 ^ 30 → copy ≤ n → s0 ≤ 2 ^ 114 + 1 → s + (n + 8) * m * start ≤ s0 + (n + 8) * m * copy → s < 2 ^ 115
+walk_room m n copy start s0 s few short inside room cost =
+    let up : n + 8 ≤ 2 ^ 30 + 8 = omega arith in
+    let line : (n + 8) * m ≤ (2 ^ 30 + 8) * 65536 = mul-le-mul up few in
+    let within : copy ≤ 2 ^ 30 = omega arith in
+    let all : (n + 8) * m * copy ≤ (2 ^ 30 + 8) * 65536 * 2 ^ 30 = mul-le-mul line within in
+    omega (arith, all, room, cost)
+
+-- one more copy
+pub walk_step : (k copy end start s0 s t : ℕ) → copy < end → s + k * start ≤ s0 + k * copy → t ≤ s + k → t + k * start ≤ s0 + k * end
+walk_step k copy end start s0 s t up cost one =
+    let next : copy + 1 ≤ end = omega arith in
+    let all : k * (copy + 1) ≤ k * end = mul-le-mul_left k next in
+    omega (arith, all, cost, one)

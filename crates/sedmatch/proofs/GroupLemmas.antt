@@ -1,6 +1,6 @@
 -- An expression without groups leaves all groups as they are.
-use Rattle.std.proofs.Common.{◌≡◌, ℕ, zero, suc, ◌+◌, ◌*◌, ◌<◌, ◌≤◌, ◌^◌, Bool, true, false, List, length, Some, refl, sym, ap, ◌∙◌, subst, inl, inr, arith, mul-le-mul_left, mul-le-mul}
-use Rattle.std.specs.Prelude.{slice_get, cond}
+use Rattle.std.proofs.Common.{◌≡◌, ℕ, zero, suc, ◌+◌, ◌*◌, ◌<◌, ◌≤◌, ◌^◌, Bool, true, false, List, [], ◌∷◌, length, None, Some, refl, sym, ap, ◌∙◌, subst, inl, inr, arith, mul-le-mul_left, mul-le-mul}
+use Rattle.std.specs.Prelude.{slice_get, slice_set, cond}
 use Rattle.sedre.specs.Tree.{Tree, empty, set, begin, end, seq, alt, group, star, opt, size}
 use Rattle.sedmatch.specs.Spans.{Spans}
 use Rattle.sedre.specs.Arena.{IsExpr, tree_at, tree_of}
@@ -8,20 +8,10 @@ use Rattle.sedre.specs.declared.types.Node.{Node}
 use Rattle.sedre.specs.declared.types.Node.TheVariants.{Empty, Set, Begin, End, Seq, Alt, Group, Star, Opt}
 use Rattle.sedre.proofs.TreeLemmas.{tree_at-node}
 use Rattle.sedmatch.specs.Caps.{Groups, Caps, forget}
+use Rattle.sedmatch.specs.Work.{NoGroups, has_span}
 use Rattle.sedmatch.specs.Matching.{caps, cut, last_start, spans}
 use Rattle.sedmatch.proofs.OpenLemmas.{node_at}
 use Rattle.sedmatch.proofs.MatchingLemmas.{caps-is}
-
-abbrev pub NoGroups : Tree → Type 0
-NoGroups empty = Unit {0}
-NoGroups (set has) = Unit {0}
-NoGroups begin = Unit {0}
-NoGroups end = Unit {0}
-NoGroups (seq a b) = NoGroups a × NoGroups b
-NoGroups (alt a b) = NoGroups a × NoGroups b
-NoGroups (group k a) = ⊥
-NoGroups (star a first) = NoGroups a
-NoGroups (opt a first) = NoGroups a
 
 forget-none : (e : Tree) → NoGroups e → (g : Groups) → forget e g ≡ g
 forget-none empty none g = refl
@@ -33,6 +23,24 @@ forget-none (alt a b) none g = ap (forget b) (forget-none a none.0 g) ∙ forget
 forget-none (group k a) none g = absurd none
 forget-none (star a first) none g = forget-none a none g
 forget-none (opt a first) none g = forget-none a none g
+
+-- where no group has a span, there is nothing to forget
+none_set : (g : Groups) (k : ℕ) → has_span g ≡ false → slice_set g k None ≡ g
+none_set [] k is = refl
+none_set (None ∷ gs) zero is = refl
+none_set (None ∷ gs) (suc k) is = ap (λ v. None ∷ v) (none_set gs k is)
+none_set (Some span ∷ gs) k is = cc
+
+pub forget-nothing : (e : Tree) (g : Groups) → has_span g ≡ false → forget e g ≡ g
+forget-nothing empty g is = refl
+forget-nothing (set has) g is = refl
+forget-nothing begin g is = refl
+forget-nothing end g is = refl
+forget-nothing (seq a b) g is = ap (forget b) (forget-nothing a g is) ∙ forget-nothing b g is
+forget-nothing (alt a b) g is = ap (forget b) (forget-nothing a g is) ∙ forget-nothing b g is
+forget-nothing (group k a) g is = ap (forget a) (none_set g k is) ∙ forget-nothing a g is
+forget-nothing (star a first) g is = forget-nothing a g is
+forget-nothing (opt a first) g is = forget-nothing a g is
 
 cond-same : (b : Bool) (x y g : Groups) → x ≡ g → y ≡ g → cond b x y ≡ g
 cond-same true x y g left right = left
@@ -87,7 +95,7 @@ sizes_fit nodes groups expr x inside = let fits = expr.sizes x inside in omega a
 
 -- there is room to count the steps of a report
 pub report_room : (m n s t : ℕ) → m ≤ 65536 → n ≤ 2 ^ 30 → s ≤ 2 ^ 100 → t ≤ s + 48 * m * (n + 1) * (n + 1) →
-    t + (23 * m * (n + 1) * (n + 2) + 1 + m) * m + 3 * m < 2 ^ 114
+    t + (46 * m * (n + 1) * (n + 1) + 1 + m) * m + 3 * m < 2 ^ 114
 report_room m n s t few short low first =
     let mn : m * n ≤ 65536 * 2 ^ 30 = mul-le-mul few short in
     let mm : m * m ≤ 65536 * 65536 = mul-le-mul few few in
@@ -105,7 +113,7 @@ miss_cost m n s t some first =
 
 -- the same bounds for a search by tables
 pub by_room : (m n s t : ℕ) → m ≤ 65536 → n ≤ 2 ^ 30 → s ≤ 2 ^ 100 → t ≤ s + 64 * m * (n + 1) * (n + 1) →
-    t + (23 * m * (n + 1) * (n + 2) + 1 + m) * m + 3 * m < 2 ^ 114
+    t + (46 * m * (n + 1) * (n + 1) + 1 + m) * m + 3 * m < 2 ^ 114
 by_room m n s t few short low first =
     let mn : m * n ≤ 65536 * 2 ^ 30 = mul-le-mul few short in
     let mm : m * m ≤ 65536 * 65536 = mul-le-mul few few in

@@ -9,11 +9,12 @@ use Rattle.sedre.specs.declared.types.Node.TheVariants.{Empty, Set, Begin, End, 
 use Rattle.sedre.proofs.TreeLemmas.{tree_at-node}
 use Rattle.sedmatch.specs.Reach.{At}
 use Rattle.sedmatch.proofs.ReachLemmas.{open_at}
+use Rattle.sedmatch.proofs.GroupLemmas.{Caps-none}
 use Rattle.sedmatch.proofs.SpanLemmas.{Spans-forward}
 use Rattle.sedmatch.specs.Caps.{Groups, forget, Caps, LastCut, LastCopy, only, then}
 use Rattle.sedmatch.specs.declared.scratch.Task.{Task}
 use Rattle.sedmatch.specs.declared.scratch.Task.TheVariants.{Enter, Close}
-use Rattle.sedmatch.specs.Work.{inner, inners, wholes, node_cost, IsStep, IsReady, weights, Run, forget_all, sizes, InRange, parts_of, forget_node}
+use Rattle.sedmatch.specs.Work.{inner, inners, wholes, node_cost, IsStep, IsReady, weights, Run, forget_all, sizes, InRange, parts_of, forget_node, is_group, AllWithout, NoGroups}
 
 module _ (nodes : List Node) (w : List ℕ) (arena : IsArena nodes) (x : ℕ) where
   close_caps : (node : Node) → slice_get nodes x ≡ Some node → (i j : ℕ) (old new : Groups) → Caps (tree_of (tree_at nodes) node) w i j old new → Caps (tree_at nodes x) w i j old new
@@ -143,6 +144,27 @@ stack_after nodes arena x node is inside old new pushed g h forgot range = (
   subst (λ xs. InRange (length nodes) xs) (sym pushed) (InRange-append (length nodes) (parts_of node) (reverse old) (InRange-parts nodes arena x node is inside) range),
 )
 
+-- a group has one node more than what is in it
+pub group_size : (nodes : List Node) (arena : IsArena nodes) (x k : ℕ) (a : NodeId) → slice_get nodes x ≡ Some (Group k a) →
+    size (tree_at nodes a.index) + 1 ≡ size (tree_at nodes x)
+group_size nodes arena x k a is = omega (arith, size-parts nodes arena x (Group k a) is)
+
+-- a node whose parts have no groups has none, unless it is one itself
+pub without_after : (nodes : List Node) (arena : IsArena nodes) (x : ℕ) (node : Node) → slice_get nodes x ≡ Some node → is_group node ≡ false →
+    (old new : List ℕ) → reverse new ≡ parts_of node ++ reverse old → AllWithout nodes (reverse new) → AllWithout nodes (x ∷ reverse old)
+without_after nodes arena x node is plain old new pushed all = by node is plain (subst (AllWithout nodes) pushed all)
+  where
+    by : (n : Node) → slice_get nodes x ≡ Some n → is_group n ≡ false → AllWithout nodes (parts_of n ++ reverse old) → AllWithout nodes (x ∷ reverse old)
+    by Empty is plain all = (subst NoGroups (sym (tree_at-node nodes x Empty arena is)) tt, all)
+    by (Set s) is plain all = (subst NoGroups (sym (tree_at-node nodes x (Set s) arena is)) tt, all)
+    by Begin is plain all = (subst NoGroups (sym (tree_at-node nodes x Begin arena is)) tt, all)
+    by End is plain all = (subst NoGroups (sym (tree_at-node nodes x End arena is)) tt, all)
+    by (Seq a b) is plain all = (subst NoGroups (sym (tree_at-node nodes x (Seq a b) arena is)) (all.0, all.1.0), all.1.1)
+    by (Alt a b) is plain all = (subst NoGroups (sym (tree_at-node nodes x (Alt a b) arena is)) (all.0, all.1.0), all.1.1)
+    by (Group k a) is plain all = cc
+    by (Star a first) is plain all = (subst NoGroups (sym (tree_at-node nodes x (Star a first) arena is)) all.0, all.1)
+    by (Opt a first) is plain all = (subst NoGroups (sym (tree_at-node nodes x (Opt a first) arena is)) all.0, all.1)
+
 LastCopy-spans : (R : ℕ → ℕ → Type 0) (j i c : ℕ) → LastCopy R j i c → (c < j) × R c j
 LastCopy-spans R j i c (only _ lt r) = (lt, r)
 LastCopy-spans R j i c (then _ k _ up low r rest most last) = LastCopy-spans R j k c last
@@ -206,6 +228,21 @@ module _ (nodes : List Node) (w : List ℕ) (arena : IsArena nodes) (x : ℕ) (i
         less = omega (arith, size-parts nodes arena x (Group k a) is);
         fewer = rw (tree_at-node nodes x (Group k a) arena is) (omega arith);
         smaller = omega (arith, size-parts nodes arena x (Group k a) is);
+      }
+
+  -- nothing inside has a group
+  pub step_group_alone : (k : ℕ) (a : NodeId) → slice_get nodes x ≡ Some (Group k a) → NoGroups (tree_at nodes a.index) → (i j : ℕ) → At nodes w x i j →
+      IsStep nodes w x i j true (Close k i j ∷ [])
+  step_group_alone k a is none i j whole =
+      let inner = open_at nodes w x (Group k a) arena is i j whole in
+      record {
+        run = λ rest g f run. run_group nodes w arena x k a is i j rest g f
+            (subst (λ h. Run nodes w (Enter a.index i j ∷ Close k i j ∷ rest) h f) (forget-parts nodes arena x (Group k a) is g)
+            (_, Caps-none (tree_at nodes a.index) none w i j _ inner, run));
+        ready = tt;
+        less = omega (arith, size-parts nodes arena x (Group k a) is, size-pos (tree_at nodes a.index));
+        fewer = rw (tree_at-node nodes x (Group k a) arena is) (omega arith);
+        smaller = omega (arith, size-parts nodes arena x (Group k a) is, size-pos (tree_at nodes a.index));
       }
 
   pub step_star : (a : NodeId) (first : Bool) → slice_get nodes x ≡ Some (Star a first) → (i c j : ℕ) → i < j → i ≤ c → j ≤ length w →
@@ -399,7 +436,7 @@ two_le_square zero = omega arith
 two_le_square (suc k) = omega arith
 
 -- the steps of a report, and of the search before it
-pub report_cost : (m n s t : ℕ) → 1 ≤ m → t + (23 * m * (n + 1) * (n + 2) + 1 + m) ≤ s + (23 * m * (n + 1) * (n + 2) + 1 + m) * m + 3 * m →
+pub report_cost : (m n s t : ℕ) → 1 ≤ m → t + (46 * m * (n + 1) * (n + 1) + 1 + m) ≤ s + (46 * m * (n + 1) * (n + 1) + 1 + m) * m + 3 * m →
     t + 48 * m * (n + 1) * (n + 1) ≤ s + 51 * m * m * (n + 1) * (n + 1)
 report_cost m n s t some decided =
     let line = mul-le-mul_left (m * n) some in

@@ -1,6 +1,6 @@
 -- Private to the proofs: no contract of a public item cites what stands here.
 -- What fits into the room for a search.
-use Rattle.std.specs.Prelude.{◌≡◌, ℕ, ◌+◌, ◌*◌, ◌^◌, ◌<◌, ◌≤◌, [], length, vec_len, vec_capacity}
+use Rattle.std.specs.Prelude.{◌≡◌, ℕ, ◌+◌, ◌*◌, ◌^◌, ◌<◌, ◌≤◌, [], length, Vec, vec_len, vec_capacity}
 use Rattle.sedmatch.specs.declared.scratch.Sets.{Sets}
 use Rattle.sedmatch.specs.declared.scratch.Notes.{Notes}
 use Rattle.sedmatch.specs.declared.scratch.Plan.{Plan}
@@ -65,9 +65,13 @@ HasGroups m n s t p = Fits m n s × HasPlaces (n + 1) t × FitsWork m p
 abbrev pub KeepsGroups : Sets → Sets → Notes → Notes → Plan → Plan → Type 0
 KeepsGroups old new before after from to = SameMarks old new × KeepsPlaces before after × AllDone from to
 
--- no nodes are left on the stack, and there is room for n of them
-abbrev pub HasStack : ℕ → Plan → Type 0
-HasStack n p = (p.stack.items ≡ []) × (n < vec_capacity p.stack)
+-- no nodes are left on the stack, and there is room for more than n of them
+abbrev pub HasStack : {A : Type 0} → ℕ → Vec ℕ A → Type 0
+HasStack n s = (s.items ≡ []) × (n < vec_capacity s)
+
+-- no nodes are left on the stack, and there is as much room as before
+abbrev pub KeepsStack : {A : Type 0} → Vec ℕ A → Vec ℕ A → Type 0
+KeepsStack old new = (new.items ≡ []) × (vec_capacity old ≤ vec_capacity new)
 
 -- no nodes are left on the stack, and there is as much room as before
 abbrev pub KeepsPlan : Plan → Plan → Type 0

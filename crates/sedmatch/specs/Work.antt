@@ -1,6 +1,6 @@
 -- Private to the proofs: no contract of a public item cites what stands here.
 -- What is left to do while the groups of a match are decided.
-use Rattle.std.specs.Prelude.{◌≡◌, ℕ, ◌+◌, ◌-◌, ◌*◌, ◌<◌, ◌≤◌, Bool, false, if◌then◌else◌, List, [], ◌∷◌, ◌++◌, length, slice_set, Some, None}
+use Rattle.std.specs.Prelude.{◌≡◌, ℕ, ◌+◌, ◌-◌, ◌*◌, ◌<◌, ◌≤◌, Bool, true, false, if◌then◌else◌, List, [], ◌∷◌, ◌++◌, length, slice_set, Some, None}
 use Rattle.sedre.specs.Arena.{tree_at}
 use Rattle.sedre.specs.Tree.{Tree, empty, set, begin, end, seq, alt, group, star, opt, size}
 use Rattle.sedre.specs.declared.types.Node.{Node}
@@ -64,6 +64,41 @@ forget_node (Alt a b) g = g
 forget_node (Group k a) g = slice_set g k None
 forget_node (Star a first) g = g
 forget_node (Opt a first) g = g
+
+-- the node is a group
+abbrev pub is_group : Node → Bool
+is_group Empty = false
+is_group (Set s) = false
+is_group Begin = false
+is_group End = false
+is_group (Seq a b) = false
+is_group (Alt a b) = false
+is_group (Group k a) = true
+is_group (Star a first) = false
+is_group (Opt a first) = false
+
+-- whether any of the groups has a span
+abbrev pub has_span : Groups → Bool
+has_span [] = false
+has_span (None ∷ gs) = has_span gs
+has_span (Some span ∷ gs) = true
+
+-- there is no group in the tree
+abbrev pub NoGroups : Tree → Type 0
+NoGroups empty = Unit {0}
+NoGroups (set has) = Unit {0}
+NoGroups begin = Unit {0}
+NoGroups end = Unit {0}
+NoGroups (seq a b) = NoGroups a × NoGroups b
+NoGroups (alt a b) = NoGroups a × NoGroups b
+NoGroups (group k a) = ⊥
+NoGroups (star a first) = NoGroups a
+NoGroups (opt a first) = NoGroups a
+
+-- there is none in the trees at the nodes
+abbrev pub AllWithout : List Node → List ℕ → Type 0
+AllWithout nodes [] = Unit {0}
+AllWithout nodes (x ∷ xs) = NoGroups (tree_at nodes x) × AllWithout nodes xs
 
 -- how many tasks can still come of these
 abbrev pub weights : List Node → List Task → ℕ

@@ -217,7 +217,8 @@ fn far_cut(
     }
 }
 
-/// The cut of a span into those of two parts, where it can be told by what comes first in them.
+/// The cut of a span into those of two parts, where it can be told by what comes first in them, or where the right one
+/// is a byte.
 fn cut_at_sight(
     expr: &Expr,
     left: usize,
@@ -238,11 +239,14 @@ fn cut_at_sight(
     ensures some_byte { IfNone result (start < stop) }
     ensures grows { steps.old ≤ steps.new }
     ensures cost { let m = length expr.now.nodes in let n = length text.now in
-        steps.new ≤ steps.old + (n + 15) * m + 3 + n }
+        steps.new ≤ steps.old + (n + 15) * m + 4 + n }
 {
     let _count = expr.nodes();
     if start == stop {
         return Some(start);
+    }
+    if let Node::Set(_) = expr.look(expr.id(right), steps) {
+        return Some(stop - 1);
     }
     match lead_from(expr, left, text, start, steps) {
         Lead::Nowhere => None,
@@ -414,12 +418,50 @@ pub fn last_copy(
     ensures last { LastCopyIn (At expr.now.nodes text.now root) stop start result }
     ensures grows { steps.old ≤ steps.new }
     ensures cost { let m = length expr.now.nodes in let n = length text.now in
-        steps.new ≤ steps.old + 23 * m * (n + 1) * (n + 1) + 2 }
+        steps.new ≤ steps.old + 31 * m * (n + 1) * (n + 1) + 2 }
 {
     let _count = expr.nodes();
     match expr.look(expr.id(root), steps) {
         Node::Set(_) => stop - 1,
-        _ => copy_by_passes(expr, root, text, start, stop, sets, notes, steps),
+        _ => match copy_at_sight(expr, root, text, start, stop, steps) {
+            Some(copy) => copy,
+            None => copy_by_passes(expr, root, text, start, stop, sets, notes, steps),
+        },
+    }
+}
+
+/// The same, where runs of single bytes tell the longest copy from each place on, and the last of these ends at `stop`:
+/// then each is as long as it can be.
+fn copy_at_sight(
+    expr: &Expr,
+    root: usize,
+    text: &Text,
+    start: usize,
+    stop: usize,
+    steps: &mut Steps,
+) -> Option<usize>
+    requires root { root < length expr.now.nodes }
+    requires few { length expr.now.nodes ≤ 65536 }
+    requires short { length text.now ≤ 2 ^ 30 }
+    requires order { (start < stop) × (stop ≤ length text.now) }
+    requires room { steps.old ≤ 2 ^ 114 + 1 }
+    ensures last { IfSome result (LastCopyIn (At expr.now.nodes text.now root) stop start) }
+    ensures grows { steps.old ≤ steps.new }
+    ensures cost { let m = length expr.now.nodes in let n = length text.now in
+        steps.new ≤ steps.old + (n + 8) * m * n }
+{
+    let mut copy = start;
+    'copies: loop {
+        let Far::To(end) = far_from(expr, root, text, copy, steps) else {
+            return None;
+        };
+        if end == stop {
+            return Some(copy);
+        }
+        if end <= copy || end > stop {
+            return None;
+        }
+        copy = end;
     }
 }
 

@@ -1,17 +1,18 @@
 //! Which span each group of a match has.
 //!
 //! The tasks of a plan take the place of a recursion over the expression, so that its depth costs no stack.
-ghost use Rattle.std.specs.Prelude.{◌≡◌, ℕ, [], ◌∷◌, ◌++◌, reverse, ◌+◌, ◌-◌, ◌*◌, ◌^◌, ◌<◌, ◌≤◌, length};
+ghost use Rattle.std.specs.Prelude.{◌≡◌, ℕ, false, [], ◌∷◌, ◌++◌, reverse, ◌+◌, ◌-◌, ◌*◌, ◌^◌, ◌<◌, ◌≤◌, length};
 ghost use Rattle.std.specs.Prelude.{vec_len, vec_capacity, slice_get, Some, None, slice_set, IsTrue, ◌↔◌};
 ghost use Rattle.sedre.specs.Tree.{size};
 ghost use Rattle.sedre.specs.Arena.{tree_at, tree};
 ghost use Rattle.sedmatch.specs.Spans.{Spans};
 ghost use Rattle.sedmatch.specs.Caps.{Caps, forget, IsReport};
-ghost use Rattle.sedmatch.specs.Fits.{AllDone, Fits, FitsCuts, FitsGroups, HasGroups, HasStack, KeepsGroups, KeepsPlan, SameMarks, SameRoom};
+ghost use Rattle.sedmatch.specs.Fits.{AllDone, Fits, FitsCuts, FitsGroups, HasGroups, HasStack, KeepsGroups, KeepsPlan, KeepsStack, SameMarks, SameRoom};
 ghost use Rattle.sedmatch.specs.Places.{InOrder};
 ghost use Rattle.sedmatch.specs.Reach.{At};
 ghost use Rattle.sedmatch.specs.Work.{IsStep, IsReady, LeavesLess, weights, inners, wholes, node_cost, forget_if};
-ghost use Rattle.sedmatch.specs.Work.{tasks_of, forgets_of, sizes, parts_of, forget_node};
+ghost use Rattle.sedmatch.specs.Work.{tasks_of, forgets_of, has_span, is_group, sizes, parts_of, forget_node, NoGroups};
+ghost use Rattle.sedmatch.specs.Costs.{Takes};
 
 use crate::counted::Text;
 use crate::cuts::{last_copy, last_cut, reaches};
@@ -95,6 +96,38 @@ fn forget_inside(
     }
 }
 
+/// Whether the node is a group.
+fn is_group(node: &Node) -> bool
+    ensures { result ≡ is_group node.now }
+{
+    matches!(node, Node::Group(_, _))
+}
+
+/// Whether there is a group in a node: itself, or within it.
+fn has_group(expr: &Expr, root: usize, stack: &mut Vec<usize>, steps: &mut Steps) -> bool
+    requires inside { root < length expr.now.nodes }
+    requires empty { stack.old.items ≡ [] }
+    requires room { size (tree_at expr.now.nodes root) < vec_capacity stack.old }
+    requires few { size (tree_at expr.now.nodes root) ≤ 65536 }
+    requires steps { steps.old < 2 ^ 119 }
+    ensures none { result ≡ false → NoGroups (tree_at expr.now.nodes root) }
+    ensures empty { stack.new.items ≡ [] }
+    ensures room { vec_capacity stack.old ≤ vec_capacity stack.new }
+    ensures cost { Takes steps.old steps.new (size (tree_at expr.now.nodes root)) }
+{
+    let _count = expr.nodes();
+    put(stack, root);
+    while let Some(x) = stack.pop() {
+        let node = expr.look(expr.id(x), steps);
+        if is_group(&node) {
+            stack.clear();
+            return true;
+        }
+        put_parts(&node, stack);
+    }
+    false
+}
+
 /// Whether a repetition that matches the null string takes one empty copy of its part: the first one it could have.
 fn has_empty_copy(
     expr: &Expr,
@@ -127,6 +160,7 @@ fn split_node(
     text: &Text,
     sets: &mut Sets,
     notes: &mut Notes,
+    stack: &mut Vec<usize>,
     steps: &mut Steps,
 ) -> Split
     requires inside { x < length expr.now.nodes }
@@ -134,12 +168,14 @@ fn split_node(
     requires fits { FitsCuts (length expr.now.nodes) (length text.now) sets.old notes.old }
     requires node { slice_get expr.now.nodes x ≡ Some node.now }
     requires spans { At expr.now.nodes text.now x start stop }
+    requires stack { HasStack (size (tree_at expr.now.nodes x)) stack.old }
+    requires few { size (tree_at expr.now.nodes x) ≤ length expr.now.nodes }
     requires room { steps.old ≤ 2 ^ 114 }
     ensures same { SameRoom sets.old sets.new notes.old notes.new }
+    ensures stack { KeepsStack stack.old stack.new }
     ensures step { IsStep expr.now.nodes text.now x start stop (forgets_of result) (tasks_of result) }
-    ensures grows { steps.old ≤ steps.new }
     ensures cost { let m = length expr.now.nodes in let n = length text.now in
-        steps.new ≤ steps.old + node_cost (23 * m * (n + 1) * (n + 2) + 1) node.now }
+        Takes steps.old steps.new (node_cost (46 * m * (n + 1) * (n + 1) + 1) node.now) }
 {
     let _count = expr.nodes();
     match node {
@@ -177,11 +213,12 @@ fn split_node(
         }
         Node::Group(k, a) => {
             let inner = a.index();
-            Split::Two(
-                true,
-                Task::Enter(inner, start, stop),
-                Task::Close(*k, start, stop),
-            )
+            let close = Task::Close(*k, start, stop);
+            if has_group(expr, inner, stack, steps) {
+                Split::Two(true, Task::Enter(inner, start, stop), close)
+            } else {
+                Split::One(true, close)
+            }
         }
         Node::Star(a, first) => {
             let inner = a.index();
@@ -254,7 +291,20 @@ fn close_group(groups: &mut [Option<(usize, usize)>], k: usize, start: usize, st
     }
 }
 
+/// Whether any group has a span.
+fn has_span(groups: &[Option<(usize, usize)>]) -> bool
+    ensures { result ≡ has_span groups.now }
+{
+    for group in groups {
+        if group.is_some() {
+            return true;
+        }
+    }
+    false
+}
+
 /// Forgets the groups inside a node, if it is to be done.
+// Most often there is nothing to forget, and that is seen faster than which groups are inside.
 fn forget_first(
     expr: &Expr,
     x: usize,
@@ -274,7 +324,7 @@ fn forget_first(
     ensures grows { steps.old ≤ steps.new }
     ensures cost { steps.new ≤ steps.old + size (tree_at expr.now.nodes x) }
 {
-    if before {
+    if before && has_span(groups) {
         forget_inside(expr, x, stack, groups, steps);
     }
 }
@@ -292,7 +342,7 @@ fn work(
 )
     requires sizes { (x : ℕ) → x < length expr.now.nodes → size (tree_at expr.now.nodes x) ≤ length expr.now.nodes }
     requires fits { FitsCuts (length expr.now.nodes) (length text.now) sets.old notes.old }
-    requires stack { HasStack (length expr.now.nodes) plan.old }
+    requires stack { HasStack (length expr.now.nodes) plan.old.stack }
     requires ready { IsReady expr.now.nodes text.now (task.now ∷ reverse plan.old.tasks.items) }
     requires tasks_room { weights expr.now.nodes (task.now ∷ reverse plan.old.tasks.items) < vec_capacity plan.old.tasks }
     requires room { steps.old < 2 ^ 114 }
@@ -300,8 +350,8 @@ fn work(
     ensures plan { KeepsPlan plan.old plan.new }
     ensures less { LeavesLess expr.now.nodes text.now (task.now ∷ reverse plan.old.tasks.items) groups.old (reverse plan.new.tasks.items) groups.new }
     ensures grows { steps.old ≤ steps.new }
-    ensures cost { steps.new + (23 * length expr.now.nodes * (length text.now + 1) * (length text.now + 2) + 1 + length expr.now.nodes) * inners expr.now.nodes (reverse plan.new.tasks.items) + 3 * wholes expr.now.nodes (reverse plan.new.tasks.items)
-        ≤ steps.old + (23 * length expr.now.nodes * (length text.now + 1) * (length text.now + 2) + 1 + length expr.now.nodes) * inners expr.now.nodes (task.now ∷ reverse plan.old.tasks.items) + 3 * wholes expr.now.nodes (task.now ∷ reverse plan.old.tasks.items) }
+    ensures cost { steps.new + (46 * length expr.now.nodes * (length text.now + 1) * (length text.now + 1) + 1 + length expr.now.nodes) * inners expr.now.nodes (reverse plan.new.tasks.items) + 3 * wholes expr.now.nodes (reverse plan.new.tasks.items)
+        ≤ steps.old + (46 * length expr.now.nodes * (length text.now + 1) * (length text.now + 1) + 1 + length expr.now.nodes) * inners expr.now.nodes (task.now ∷ reverse plan.old.tasks.items) + 3 * wholes expr.now.nodes (task.now ∷ reverse plan.old.tasks.items) }
 {
     match task {
         Task::Close(k, start, stop) => close_group(groups, *k, *start, *stop),
@@ -309,7 +359,8 @@ fn work(
             let (x, start, stop) = (*x, *start, *stop);
             let _count = expr.nodes();
             let node = expr.look(expr.id(x), steps);
-            let parts = split_node(expr, x, &node, start, stop, text, sets, notes, steps);
+            let stack = &mut plan.stack;
+            let parts = split_node(expr, x, &node, start, stop, text, sets, notes, stack, steps);
             forget_first(expr, x, forgets(&parts), &mut plan.stack, groups, steps);
             put_split(&parts, &mut plan.tasks);
         }
@@ -335,13 +386,13 @@ pub fn decide(
     requires sizes { (x : ℕ) → x < length expr.now.nodes → size (tree_at expr.now.nodes x) ≤ length expr.now.nodes }
     requires fits { FitsGroups (length expr.now.nodes) (length text.now) sets.old notes.old plan.old }
     requires room { let m = length expr.now.nodes in let n = length text.now in
-        steps.old + (23 * m * (n + 1) * (n + 2) + 1 + m) * m + 3 * m < 2 ^ 114 }
+        steps.old + (46 * m * (n + 1) * (n + 1) + 1 + m) * m + 3 * m < 2 ^ 114 }
     ensures same { SameRoom sets.old sets.new notes.old notes.new }
     ensures done { AllDone plan.old plan.new }
     ensures caps { Caps (tree_at expr.now.nodes root) text.now start stop groups.old groups.new }
     ensures grows { steps.old ≤ steps.new }
     ensures cost { let m = length expr.now.nodes in let n = length text.now in
-        steps.new + (23 * m * (n + 1) * (n + 2) + 1 + m) ≤ steps.old + (23 * m * (n + 1) * (n + 2) + 1 + m) * m + 3 * m }
+        steps.new + (46 * m * (n + 1) * (n + 1) + 1 + m) ≤ steps.old + (46 * m * (n + 1) * (n + 1) + 1 + m) * m + 3 * m }
 {
     put_task(&mut plan.tasks, Task::Enter(root, start, stop));
     while let Some(task) = plan.tasks.pop() {
@@ -365,7 +416,7 @@ pub fn report(
     requires spans { Spans (tree expr.now) text.now start stop }
     requires fits { HasGroups (length expr.now.nodes) (length text.now) sets.old notes.old plan.old }
     requires room { let m = length expr.now.nodes in let n = length text.now in
-        steps.old + (23 * m * (n + 1) * (n + 2) + 1 + m) * m + 3 * m < 2 ^ 114 }
+        steps.old + (46 * m * (n + 1) * (n + 1) + 1 + m) * m + 3 * m < 2 ^ 114 }
     ensures done { KeepsGroups sets.old sets.new notes.old notes.new plan.old plan.new }
     ensures report { IsReport (tree expr.now) text.now start stop result }
     ensures grows { steps.old ≤ steps.new }

@@ -26,7 +26,7 @@ loop-task-init c =
       tasks_room = omega arith;
       ready = subst (λ ts. IsReady nodes w ts) (sym begun) (c.requires.root, c.requires.order.0, c.requires.order.1, c.requires.spans, tt);
       grows = omega arith;
-      cost = decide_start nodes (23 * length nodes * (length w + 1) * (length w + 2) + 1 + length nodes) (length nodes) c.args.steps.now c.args.root c.args.start c.args.stop
+      cost = decide_start nodes (46 * length nodes * (length w + 1) * (length w + 1) + 1 + length nodes) (length nodes) c.args.steps.now c.args.root c.args.start c.args.stop
           (reverse c.put_task.new.tasks.items) begun small;
       less = low;
       caps = λ f run.
@@ -49,7 +49,7 @@ loop-task-preserved c =
       tasks_room = omega (arith, c.pop.ensures.capacity);
       ready = c.work.ensures.less.1;
       grows = omega arith;
-      cost = decide_next nodes (23 * length nodes * (length w + 1) * (length w + 2) + 1 + length nodes) (length nodes) c.args.steps.now c.loop-task.steps c.work.new.steps
+      cost = decide_next nodes (46 * length nodes * (length w + 1) * (length w + 1) + 1 + length nodes) (length nodes) c.args.steps.now c.loop-task.steps c.work.new.steps
           (reverse c.work.new.plan.tasks.items) (reverse c.loop-task.plan.tasks.items) (c.in-Some.task ∷ reverse old) popped c.work.ensures.cost c.loop-task.invariant.cost;
       less = omega (arith, less);
       caps = λ f run. c.loop-task.invariant.caps f (subst (λ ts. Run nodes w ts c.loop-task.groups f) (sym popped) (c.work.ensures.less.0 f run));

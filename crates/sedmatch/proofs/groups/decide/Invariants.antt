@@ -14,8 +14,8 @@ invariant-loop-task l = record {
   tasks_room : vec_capacity l.initial.plan.tasks ≤ vec_capacity l.plan.tasks;
   ready : IsReady l.expr.nodes l.text (reverse l.plan.tasks.items);
   grows : l.initial.steps ≤ l.steps;
-  cost : l.steps + (23 * length l.expr.nodes * (length l.text + 1) * (length l.text + 2) + 1 + length l.expr.nodes) * inners l.expr.nodes (reverse l.plan.tasks.items) + 3 * wholes l.expr.nodes (reverse l.plan.tasks.items) + (23 * length l.expr.nodes * (length l.text + 1) * (length l.text + 2) + 1 + length l.expr.nodes)
-      ≤ l.initial.steps + (23 * length l.expr.nodes * (length l.text + 1) * (length l.text + 2) + 1 + length l.expr.nodes) * length l.expr.nodes + 3 * length l.expr.nodes;
+  cost : l.steps + (46 * length l.expr.nodes * (length l.text + 1) * (length l.text + 1) + 1 + length l.expr.nodes) * inners l.expr.nodes (reverse l.plan.tasks.items) + 3 * wholes l.expr.nodes (reverse l.plan.tasks.items) + (46 * length l.expr.nodes * (length l.text + 1) * (length l.text + 1) + 1 + length l.expr.nodes)
+      ≤ l.initial.steps + (46 * length l.expr.nodes * (length l.text + 1) * (length l.text + 1) + 1 + length l.expr.nodes) * length l.expr.nodes + 3 * length l.expr.nodes;
   less : weights l.expr.nodes (reverse l.plan.tasks.items) ≤ 2 * length l.expr.nodes;
   caps : (f : Groups) → Run l.expr.nodes l.text (reverse l.plan.tasks.items) l.groups f → Caps (tree_at l.expr.nodes l.root) l.text l.start l.stop l.initial.groups f;
 }

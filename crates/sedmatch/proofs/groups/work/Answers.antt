@@ -22,7 +22,7 @@ returns-in-Enter-clause-cost c =
     let nodes = c.args.expr.now.nodes in
     let w = c.args.text.now in
     let m = length nodes in
-    let k = 23 * m * (length w + 1) * (length w + 2) + 1 in
+    let k = 46 * m * (length w + 1) * (length w + 1) + 1 in
     let rest = reverse c.args.plan.now.tasks.items in
     let new = reverse c.put_split.new.tasks.items in
     let ready : IsReady nodes w (Enter c.in-Enter.x c.in-Enter.start c.in-Enter.stop ∷ rest) = subst (λ t. IsReady nodes w (t ∷ rest)) c.in-Enter.is c.requires.ready in
@@ -31,4 +31,4 @@ returns-in-Enter-clause-cost c =
     (sym c.in-Enter.is)
     (enter_cost nodes w c.nodes-count.ensures.arena c.in-Enter.x c.in-Enter.start c.in-Enter.stop c.look-node.result is k m c.args.steps.now c.look-node.new.steps c.split_node-parts.new.steps c.forget_first.new.steps
     (forgets_of c.split_node-parts.result) (tasks_of c.split_node-parts.result) new rest c.put_split.ensures.items c.split_node-parts.ensures.step
-    c.look-node.ensures.cost c.split_node-parts.ensures.cost c.forget_first.ensures.cost (c.requires.sizes c.in-Enter.x ready.0))
+    c.look-node.ensures.cost c.split_node-parts.ensures.cost.1 c.forget_first.ensures.cost (c.requires.sizes c.in-Enter.x ready.0))
