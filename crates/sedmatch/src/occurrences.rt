@@ -170,7 +170,7 @@ impl TableMatcher {
         self.past_null(text, at, scratch, steps)
     }
 
-    /// The same, and counts what it took.
+    /// The same, and counts what it took to find one: where there is none, no search follows.
     #[inline(always)]
     fn next_counted(
         &mut self,
@@ -190,14 +190,14 @@ impl TableMatcher {
         ensures next { result ≡ next_span (found (tree self.old) text.now) (length text.now) last }
         ensures lies { IfSome result (LiesOn (length text.now) last) }
         ensures cost { let m = length self.old.nodes in let n = length text.now in
-            Pays steps.old steps.new (owed_apart m n occurrences.old.left) (owed_apart m n occurrences.new.left) }
+            Pays steps.old steps.new (owed_apart m n occurrences.old.left) (owed_after m n result occurrences.new) }
     {
         scratch.bounds();
         let before = steps.count();
-        let next = self.next_apart(text, last, scratch, steps);
+        let (start, end) = self.next_apart(text, last, scratch, steps)?;
         let taken = (steps.count() - before) as usize;
         occurrences.left = occurrences.left.saturating_sub(taken);
-        next
+        Some((start, end))
     }
 
     /// The next occurrence by a pass from the text's end.

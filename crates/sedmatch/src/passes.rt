@@ -156,7 +156,7 @@ pub fn ascend(
         ComesAfter expr.now.nodes w place sets.old.entered byte →
         TellEntered expr.now.nodes w root s place sets.old.entered →
         TellEnded expr.now.nodes w root s place sets.new.ended }
-    ensures grows { steps.old ≤ steps.new }
+    ensures counts { steps.old + 4 * (root + 1) ≤ steps.new }
     ensures cost { steps.new ≤ steps.old + 9 * (root + 1) }
 {
     let _count = expr.nodes();
@@ -300,7 +300,7 @@ pub fn advance(
     ensures entered { TellBegun expr.now.nodes text.now root starts place sets.new.entered }
     ensures spans { IsTrue result.matched ↔ SomeSpan expr.now.nodes text.now root starts place }
     ensures opens { OpenAt expr.now.nodes text.now root starts place result.more }
-    ensures grows { steps.old ≤ steps.new }
+    ensures counts { steps.old + 4 * (root + 1) ≤ steps.new }
     ensures cost { steps.new ≤ steps.old + 15 * length expr.now.nodes + 5 }
 {
     let _count = expr.nodes();

@@ -73,7 +73,7 @@ pub fn step(
         ComesAfter expr.now.nodes w place sets.old.entered byte →
         TellEntered expr.now.nodes w root s place sets.old.entered →
         IsAt expr.now.nodes w root s place sets.new.entered result }
-    ensures grows { steps.old ≤ steps.new }
+    ensures counts { steps.old + 8 * (root + 1) ≤ steps.new }
     ensures cost { steps.new ≤ steps.old + 26 * length expr.now.nodes + 5 }
 {
     let _count = expr.nodes();

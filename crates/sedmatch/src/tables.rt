@@ -488,7 +488,7 @@ pub fn follow_to(
     ensures after { from ≤ result.place }
     ensures within { result.place ≤ to }
     ensures follows { Follows expr.now.nodes root table.now text.now from state result.place result.state }
-    ensures grows { steps.old ≤ steps.new }
+    ensures counts { steps.old + 2 * result.place ≤ steps.new + 2 * from }
     ensures cost { steps.new + 2 * from ≤ steps.old + 2 * result.place + 2 }
 {
     let mut own = Steps::new();
@@ -592,7 +592,7 @@ fn stay_on(
     ensures after { from ≤ result }
     ensures within { result ≤ to }
     ensures stays { Stays expr.now.nodes root table.now text.now from state result }
-    ensures grows { steps.old ≤ steps.new }
+    ensures counts { steps.old + 2 * result ≤ steps.new + 2 * from }
     ensures cost { steps.new + 2 * from ≤ steps.old + 2 * result + 2 }
 {
     let mut own = Steps::new();

@@ -30,7 +30,7 @@ loop-x-preserved c =
     record {
       marks = (omega arith, omega arith, omega arith);
       kept = c.loop-x.invariant.kept;
-      grows = omega arith;
+      counts = omega arith;
       cost = omega arith;
       null = λ w place there. ascend_null nodes w arena place x c.look-node.result is c.args.begin c.args.end there
           c.loop-x.sets.null c.set.new.self c.marks_here-here.result.0 (omega arith) c.marks_here-here.ensures.null c.set.ensures.marks (c.loop-x.invariant.null w place there);

@@ -9,7 +9,7 @@ abbrev pub invariant-loop-x : goal.invariant-loop-x
 invariant-loop-x l = record {
   marks : SameMarks l.initial.sets l.sets;
   kept : l.sets.entered ≡ l.initial.sets.entered;
-  grows : l.initial.steps ≤ l.steps;
+  counts : l.initial.steps + 4 * l.x ≤ l.steps;
   cost : l.steps ≤ l.initial.steps + 9 * l.x;
   null : (w : List ℕ) (place : ℕ) → IsPlace w place l.begin l.end → Marked l.sets.null (Below l.x) (λ c. At l.expr.nodes w c place place);
   ended : (w : List ℕ) (s : Starts) (place : ℕ) → IsPlace w place l.begin l.end → ComesAfter l.expr.nodes w place l.initial.sets.entered l.byte →

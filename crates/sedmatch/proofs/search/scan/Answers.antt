@@ -27,6 +27,8 @@ loop-start-preserved c =
     let swept = c.in-Miss.ensures.swept in
     let e = tree c.args.expr.now in
     let w = c.args.text.now in
+    let missed = none_join e w c.args.from c.loop-start.at (c.in-Miss.stop + 1) c.loop-start.invariant.missed
+    (none_join e w c.loop-start.at c.in-Some.start (c.in-Miss.stop + 1) next.2 swept.2) in
     record {
       marks = (omega arith, omega arith, omega arith);
       grows = omega arith;
@@ -34,8 +36,8 @@ loop-start-preserved c =
       within = omega arith;
       cost = sweep_step (length c.args.expr.now.nodes) c.args.from c.loop-start.at c.in-Some.start c.in-Miss.stop c.args.steps.now c.loop-start.steps c.next_place.new.steps c.sweep_from.new.steps
           next.0 swept.0 c.loop-start.invariant.cost c.in-Some.ensures.cost c.in-Miss.ensures.cost;
-      missed = none_join e w c.args.from c.loop-start.at (c.in-Miss.stop + 1) c.loop-start.invariant.missed
-          (none_join e w c.loop-start.at c.in-Some.start (c.in-Miss.stop + 1) next.2 swept.2);
+      -- so it is proved for every place to go on at up to there: one that goes back is refused by what it costs
+      missed = λ i k low high. missed i k low (omega (arith, high, swept.0));
     }
 
 pub returns-clause-cost : goal.returns-clause-cost
