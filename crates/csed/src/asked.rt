@@ -24,7 +24,7 @@ pub struct SedLimits {
     pub look: usize,
     /// The nodes of an expression written out, 1 to 65,536.
     pub nodes: usize,
-    /// The turns of a run: starts of cycles and commands come to.
+    /// The turns of a run: starts of cycles and commands reached.
     pub turns: u64,
 }
 

@@ -44,7 +44,7 @@ fn by_lines(alloc: Global, input: &[u8]) -> Option<MemorySource> {
     Some(MemorySource::new(bytes, cuts))
 }
 
-/// The places behind the newlines.
+/// The places after the newlines.
 fn line_ends(alloc: Global, input: &[u8]) -> Option<Vec<usize>> {
     let mut ends = Vec::new(alloc);
     let mut place = 0usize;

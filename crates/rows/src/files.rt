@@ -80,7 +80,7 @@ pub(crate) fn check_read(names: &[Vec<u8>], options: &[Vec<u8>], report: &mut Re
     }
 }
 
-/// The names behind this one.
+/// The names after this one.
 fn behind<'a>(names: &'a [Vec<u8>], wanted: &[u8]) -> Option<&'a [Vec<u8>]> {
     match names.iter().position(|name| name.as_slice() == wanted) {
         Some(k) if k < names.len() => Some(&names[k + 1..]),

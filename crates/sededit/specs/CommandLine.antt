@@ -30,7 +30,7 @@ file_rule = record (new_rule (codes "file")) { short = Some 102; action = Some A
 abbrev pub operand_rule : Rule
 operand_rule = record (new_rule (codes "operand")) { action = Some Append }
 
--- a command's words begin behind its name
+-- a command's words begin after its name
 abbrev pub without_name : App → App
 without_name a = record a { top = record a.top { no_binary_name = true } }
 
@@ -42,7 +42,7 @@ sed_command =
 abbrev pub IsCommandLine : List Text → Type 0
 IsCommandLine words = fault_of sed_command words ≡ []
 
--- the words are refused for a fault that clap finds in them, or memory was wanting
+-- the words are refused for a fault that clap finds in them, or there was no memory
 abbrev pub IsRefusal : List Text → Refused → Type 0
 IsRefusal words (Words e) = IsAmong (kind_of e) (fault_of sed_command words)
 IsRefusal words NoMemory = Unit {0}

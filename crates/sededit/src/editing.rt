@@ -27,7 +27,7 @@ pub fn script(alloc: Global, text: &[u8], kind: Kind, nodes: usize) -> Result<Sc
     ensures means { IfOk result (λ s. Means text.now kind nodes s) }
     // No fault is passed over.
     ensures no_fault { OnOk result ((f : ScriptFault) → Faulty text.now kind nodes f → ⊥) }
-    // A fault is the first one of the text, or memory was wanting.
+    // A fault is the first one of the text, or there was no memory.
     ensures fault { IfErr result (λ f. Faulty text.now kind nodes f ⊎ (f ≡ NO_MEMORY)) }
 {
     sedscript::read(alloc, text, kind, nodes)

@@ -37,7 +37,7 @@ acts_here {R} remaining old ls l g o asks e e' P r known h = λ s c asked first.
 abbrev pub going : Run → List Task → Run
 going e ts = record e { state = record e.state { tasks = ts } }
 
--- the engine behind a `t` that goes to the target, or doesn't
+-- the engine after a `t` that goes to the target, or doesn't
 abbrev pub tested : Run → ℕ → Bool → Run
 tested e target goes = record e { state = cond goes (record e.state { tasks = do_at target ∷ []; replaced = false }) e.state }
 

@@ -62,11 +62,11 @@ due_last old mid new all part (Err f) due full =
     simp length-append at (ap length due.1) in
     (omega arith, full.1 ∙ due.0)
 
--- what comes behind an occurrence that is replaced
+-- what comes after an occurrence that is replaced
 abbrev pub behind_it : Written → List ℕ → Bool → ℕ → List Match
 behind_it e w global q = if global then occurrences_behind e w (Some q) else []
 
--- for an occurrence the text before it is due, what stands for it, and what comes behind it
+-- for an occurrence the text before it is due, what stands for it, and what comes after it
 pub due_next : (old mid : Contents) (all : List ℕ) (e : Written) (w : List ℕ) (ps : List Piece) (global : Bool)
     (at : ℕ) (groups : Groups) (o : Option (ℕ × ℕ)) (span : ℕ × ℕ) → o ≡ Some span →
     GroupsOf e w (has_group ps) o groups → Due old mid all (replaced_from w ps at (pending e w global o)) →
@@ -82,7 +82,7 @@ due_next old mid all e w ps global at groups (Some this) span is told due =
     subst (λ (s : ℕ × ℕ). Parts s (put_for w (with_groups s groups) ps)) same
     (subst (Parts this) (sym (put_same w this groups (report (tree e) w this.0 this.1) ps told)) flat)
 
--- behind the text before it, what stands for it is due
+-- after the text before it, what stands for it is due
 pub due_cut : (old mid cut : Contents) (all : List ℕ) (e : Written) (w : List ℕ) (ps qs : List Piece) (global : Bool)
     (at : ℕ) (groups : Groups) (o : Option (ℕ × ℕ)) (span : ℕ × ℕ) → o ≡ Some span →
     GroupsOf e w (has_group ps) o groups → qs ≡ ps → Due old mid all (replaced_from w ps at (pending e w global o)) →
@@ -94,7 +94,7 @@ due_cut old mid cut all e w ps qs global at groups o span is told same due befor
     let rest = replaced_from w ps span.1 (behind_it e w global span.1) in
     subst (λ (qs : List Piece). Due old cut all (put_for w (with_groups span groups) qs ++ rest)) (sym same) left
 
--- and behind that what comes behind it
+-- and after that what comes after it
 pub due_behind : (old mid cut new : Contents) (all : List ℕ) (e : Written) (w : List ℕ) (ps qs : List Piece)
     (global : Bool) (at : ℕ) (groups : Groups) (o : Option (ℕ × ℕ)) (span : ℕ × ℕ) (ms : List Match) → o ≡ Some span →
     GroupsOf e w (has_group ps) o groups → qs ≡ ps → Due old mid all (replaced_from w ps at (pending e w global o)) →
@@ -118,7 +118,7 @@ due_rest old mid new all e w ps global at None r is due rest =
     due_last old mid new all (drop at w) r due (subst (λ (bytes : List ℕ). Appends mid new bytes r) (to_end w at) rest)
 due_rest old mid new all e w ps global at (Some span) r is due rest = let never : Some span ≡ None = is in cc
 
--- behind an occurrence that is replaced the next one is, with the flag `g`
+-- after an occurrence that is replaced the next one is, with the flag `g`
 pub more_pending : (e : Written) (w : List ℕ) (global : Bool) (q : ℕ) (r : Option (ℕ × ℕ)) → global ≡ true →
     q ≤ length w → match_at e w r ≡ next_occurrence (search_for (Some e) w) (length w) (Some q) →
     behind_it e w global q ≡ pending e w global r
@@ -129,7 +129,7 @@ pub none_pending : (e : Written) (w : List ℕ) (global : Bool) (q : ℕ) → gl
 none_pending e w true q is = absurd (false≢true (sym is))
 none_pending e w false q is = refl
 
--- where an occurrence lies behind which another was
+-- where an occurrence lies after which another was
 pub lies_on : (n q : ℕ) (r : Option (ℕ × ℕ)) → IfSome r (LiesBehind n (Some q)) →
     IfSome r (λ span. (q ≤ span.0) × (span.0 ≤ span.1) × (span.1 ≤ n))
 lies_on n q None lies = tt

@@ -127,7 +127,7 @@ neither true b none other = absurd (true≢false none)
 pub not_more : (s : Substitution) → s.global ≡ false → s.number ≤ 1 → seeks_more s ≡ false
 not_more s one first = neither s.global (nat_lt 1 s.number) one (grind (arith, nat_tests))
 
--- there is room behind an occurrence, where the substitution is for a later one than the first
+-- there is room after an occurrence, where the substitution is for a later one than the first
 pub room_later : (s : Substitution) (text nodes : ℕ) (last : Option ℕ) (o : Occurrences) → (s.number - 1 ≡ 0 → last ≡ None) →
     (IsTrue (seeks_more s) → RoomFor text nodes o) → IfSome last (λ (q : ℕ). RoomFor text nodes o)
 room_later s text nodes None o none has = tt

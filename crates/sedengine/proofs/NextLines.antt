@@ -80,7 +80,7 @@ abbrev pub AfterBringing : Run → Contents → Run → Result Got Ended → Typ
 AfterBringing e c e' (Ok got) = e' ≡ brought (with_pattern e c.bytes) got
 AfterBringing e c e' (Err end) = e' ≡ with_pattern e c.bytes
 
--- The next line is brought to the pattern space of the engine e, in place of it or behind it and a newline; s is the state
+-- The next line is brought to the pattern space of the engine e, in place of it or after it and a newline; s is the state
 -- at which this is due. Its move is `one` where a line is left, and `none` where there is none.
 module _ {R : Type 0} (remaining : R → Option (List ℕ)) (old new : Stream R) (ls : List (List ℕ)) (g : Setting) (e e' : Run) (sinks : Tally) (before : List ℕ) (c c' : Contents)
     (f : Fits e.limits (at_lines e ls)) (limit : c.limit ≡ e.limits.space) (pattern : c.bytes ≡ e.state.pattern) (s : State) (same_lines : s.lines ≡ ls) (fits : Fits e.limits s)
@@ -140,7 +140,7 @@ fetch_steps {R} remaining old new ls files e e' sinks c c' r f limit none after 
     (brings_steps remaining old new ls g e1 e' sinks [] c c' f1 limit none s refl fs refl refl refl refl refl refl
     (λ line rest are. rw are (move_at _ _ _ refl)) (λ are. rw are (move_at _ _ _ refl)) r after (subst B none brings))
 
--- `N`, `join`: a newline and the next line come behind the pattern space.
+-- `N`, `join`: a newline and the next line come after the pattern space.
 pub join_steps : {R : Type 0} (remaining : R → Option (List ℕ)) (old new : Stream R) (ls : List (List ℕ)) (files : ℕ → List ℕ) (e e' : Run) (sinks : Tally) (c c' : Contents) (r : Result Got Ended) →
     Fits e.limits (at_lines e ls) → c.limit ≡ e.limits.space → c.bytes ≡ e.state.pattern → AfterBringing e c' e' r → Brings remaining old new ls (c.bytes ++ newline ∷ []) (e.state.number + 1) c c' r →
     StepsFrom remaining old new ls e.limits (setting e files) (then_do (join ∷ e.state.tasks) (at_lines e ls)) e' (Sent sinks sinks) (told r)

@@ -31,7 +31,7 @@ example_later : replaced_from (97 ∷ 98 ∷ 99 ∷ []) (literal 120 ∷ []) 0 (
 unfolding occurrences_from
 example_later = refl
 
--- s/b*/-/g on abc is -a-c-: no occurrence is the null string behind b
+-- s/b*/-/g on abc is -a-c-: no occurrence is the null string after b
 example_null : replaced_from (97 ∷ 98 ∷ 99 ∷ []) (literal 45 ∷ []) 0 (chosen 1 true (occurrences any_b 3))
     ≡ 45 ∷ 97 ∷ 45 ∷ 99 ∷ 45 ∷ []
 unfolding occurrences_from

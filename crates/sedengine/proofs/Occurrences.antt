@@ -14,7 +14,7 @@ use Rattle.sedengine.specs.Substitute.{Match, unless_empty_at, next_occurrence, 
 use Rattle.sedengine.specs.Run.{match_at, search_for}
 use Rattle.sedengine.specs.Replacing.{EndsIn, LiesBehind, Skips, occurrence, occurrences_behind, pending}
 
--- a match lies in the text, behind the place from which it is sought
+-- a match lies in the text, after the place from which it is sought
 pub found_lies : (e : Written) (w : List ℕ) (p i j : ℕ) → p ≤ length w → found (tree e) w p ≡ Some (i, j) →
     (p ≤ i) × (i ≤ j) × (j ≤ length w)
 found_lies e w p i j fits is =
@@ -59,7 +59,7 @@ later_match n q (Some k) other m here there is =
     let at = here k refl in
     later_test n q (nat_eq k.start q && nat_eq k.end q) other k m at (not_empty k.start k.end q at.0 at.1) there is
 
--- an occurrence behind another ends behind it
+-- an occurrence after another ends after it
 later : (sought : ℕ → Option Match) (n q : ℕ) (m : Match) → Ordered sought n → q ≤ n →
     next_occurrence sought n (Some q) ≡ Some m → (q < m.end) × (m.end ≤ n)
 later sought n q m o fits is =
@@ -82,7 +82,7 @@ then_behind_same : (o : Option Match) (f g : Match → List Match) → ((m : Mat
 then_behind_same None f g same = refl
 then_behind_same (Some m) f g same = ap (λ (ms : List Match). m ∷ ms) (same m refl)
 
--- no occurrence behind the last place
+-- no occurrence after the last place
 none_left : (o : Option Match) (n q : ℕ) → n ≤ q → ((m : Match) → o ≡ Some m → (q < m.end) × (m.end ≤ n)) →
     (f : Match → List Match) → then_behind o f ≡ []
 none_left None n q over lies f = refl
@@ -113,7 +113,7 @@ from_none sought n zero last none = refl
 from_none sought n (suc most) last none =
     then_behind_none (next_occurrence sought n last) (λ m. occurrences_from sought n most (Some m.end)) none
 
--- the one that comes next, and those behind it
+-- the one that comes next, and those after it
 from_some : (sought : ℕ → Option Match) (n most : ℕ) (last : Option ℕ) (m : Match) → Ordered sought n → m.end ≤ n →
     n ≤ most + m.end → next_occurrence sought n last ≡ Some m →
     occurrences_from sought n (suc most) last ≡ m ∷ occurrences_from sought n (n - m.end) (Some m.end)
@@ -122,7 +122,7 @@ from_some sought n most last m o fits some is =
     then_behind_some (next_occurrence sought n last) (λ m. occurrences_from sought n most (Some m.end)) m is
     ∙ ap (λ (ms : List Match). m ∷ ms) (enough sought n o most (n - m.end) m.end fits some (omega arith))
 
--- the occurrences behind a place are the one that comes next and those behind it
+-- the occurrences after a place are the one that comes next and those after it
 pub behind_is : (e : Written) (w : List ℕ) (last : Option ℕ) (r : Option (ℕ × ℕ)) → EndsIn (length w) last →
     match_at e w r ≡ next_occurrence (search_for (Some e) w) (length w) last →
     occurrences_behind e w last ≡ pending e w true r

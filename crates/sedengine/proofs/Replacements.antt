@@ -12,7 +12,7 @@ use Rattle.sedscript.specs.declared.substitution.Part.TheVariants.{Literal, Whol
 use Rattle.sedengine.specs.Substitute.{Match, put_for}
 use Rattle.sedengine.specs.Replacing.{has_group, with_groups}
 
--- the parts from a place on are the one there and those behind it
+-- the parts from a place on are the one there and those after it
 drop_next : {A : Type 0} (xs : List A) (k : ℕ) (x : A) → k < length xs → x ≡ get_or xs k x →
     drop k xs ≡ x ∷ drop (k + 1) xs
 drop_next xs k x inside is = rw add-one (drop-cons xs k x inside ∙ ap (λ y. y ∷ drop (suc k) xs) (sym is))
@@ -52,7 +52,7 @@ none_here parts k p inside is other before =
     sym (no_group p (drop (k + 1) parts) other)
     ∙ ap (λ (ps : List Part). has_group (pieces_in ps)) (sym (drop_next parts k p inside is)) ∙ before
 
--- the groups of a part, and of those behind it
+-- the groups of a part, and of those after it
 within_parts : (p : Part) (ps : List Part) → GroupsWithin 9 (pieces_in (p ∷ ps)) →
     GroupsWithin 9 (pieces_in (p ∷ [])) × GroupsWithin 9 (pieces_in ps)
 within_parts (Literal bytes) ps within = (literals_alone bytes.items, literals_within bytes.items (pieces_in ps) within)
@@ -66,7 +66,7 @@ within_next parts k p inside is within =
     within_parts p (drop (k + 1) parts)
     (subst (λ (ps : List Part). GroupsWithin 9 (pieces_in ps)) (drop_next parts k p inside is) within)
 
--- what stands for a part, and for those behind it
+-- what stands for a part, and for those after it
 put_parts : (w : List ℕ) (m : Match) (p : Part) (ps : List Part) →
     put_for w m (pieces_in (p ∷ ps)) ≡ put_for w m (pieces_in (p ∷ [])) ++ put_for w m (pieces_in ps)
 put_parts w m (Literal bytes) ps = simp (put_literals, append_assoc)

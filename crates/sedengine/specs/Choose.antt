@@ -99,7 +99,7 @@ Judges c active command used (Err (NoPrevious n)) = (selects c active command �
 Judges c active command used (Err InputBroken) = names_last command ≡ true
 Judges c active command used (Err _) = ⊥
 
--- the engine that has come to command k, with these ranges and this expression last used
+-- the engine that has reached command k, with these ranges and this expression last used
 abbrev pub come_with : Run → ℕ → List Bool → Option ℕ → Run
 come_with e k ranges used = record e {
   state = record e.state {

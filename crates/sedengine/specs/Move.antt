@@ -132,7 +132,7 @@ abbrev pub queueing : Entry → State → State
 queueing entry s = record s { queue = s.queue ++ entry ∷ [] }
 
 -- What a command does that applies (XCU sed, "Editing Commands in sed"). The state has taken the turn, and goes on
--- behind the command unless a case says otherwise. `tells` says whether `c` writes its text here.
+-- after the command unless a case says otherwise. `tells` says whether `c` writes its text here.
 abbrev pub acts : Setting → State → Bool → Action → Option Move
 -- `{`: "Execute a list of sed editing commands only when the pattern space is selected", so they come next
 acts g s tells (Block behind) = quietly s
@@ -216,7 +216,7 @@ current_of g s = record {
 abbrev pub is_active : State → ℕ → Bool
 is_active s k = slice_index_or s.ranges k false
 
--- the state that has come to command k: the turn is taken, its addresses are judged, and the next task is the next command
+-- the state that has reached command k: the turn is taken, its addresses are judged, and the next task is the next command
 abbrev pub come : State → ℕ → Choice → State
 come s k choice = record s {
   ranges = slice_set s.ranges k choice.active;

@@ -13,7 +13,7 @@ pub data Entry : Type 0 where
 pub data Task : Type 0 where
   begin : Task  -- start a cycle with the next line
   rebegin : Task  -- start a cycle with the pattern space as it is
-  do_at : ℕ → Task  -- come to the command of this number
+  do_at : ℕ → Task  -- reach the command of this number
   print_pattern : Task  -- write the pattern space, unless default output is suppressed
   empty_pattern : Task  -- empty the pattern space
   flush : Task  -- write the queue

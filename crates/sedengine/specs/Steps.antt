@@ -36,7 +36,7 @@ abbrev pub Moves : Limits → Setting → State → State → (List (ℕ × ℕ)
 Moves l g s now gained (Ok u) = Ran l g s now gained
 Moves l g s now gained (Err end) = Stopped l g s now gained end
 
--- A state in which a command is come to with a turn left. In the state `there` the turn is taken, and the command acts.
+-- A state in which a command is reached with a turn left. In the state `there` the turn is taken, and the command acts.
 pub record ComesTo (l : Limits) (g : Setting) (s there : State) : Type 0 where
   pub fits : Fits l s
   pub comes : comes s.tasks ≡ true

@@ -17,9 +17,9 @@ abbrev pub unless_empty_at : ℕ → Option Match → Option Match → Option Ma
 unless_empty_at q None other = None
 unless_empty_at q (Some m) other = if nat_eq m.start q && nat_eq m.end q then other else Some m
 
--- The next occurrence in a text of n bytes, behind one that ended at a place, where there was one; `search` tells the match
--- sought from a place. Occurrences don't overlap, and a match of the null string directly behind one is none (this
--- project's own): then the search goes on one byte further, as long as that is no place behind the end.
+-- The next occurrence in a text of n bytes, after one that ended at a place, where there was one; `search` tells the match
+-- sought from a place. Occurrences don't overlap, and a match of the null string directly after one is none (this
+-- project's own): then the search goes on one byte further, as long as that is no place after the end.
 abbrev pub next_occurrence : (ℕ → Option Match) → ℕ → Option ℕ → Option Match
 next_occurrence search n None = search 0
 next_occurrence search n (Some q) = unless_empty_at q (search q) (if nat_lt q n then search (q + 1) else None)
@@ -28,13 +28,13 @@ abbrev pub then_behind : Option Match → (Match → List Match) → List Match
 then_behind None rest = []
 then_behind (Some m) rest = m ∷ rest m
 
--- at most so many of the occurrences behind a place
+-- at most so many of the occurrences after a place
 unfoldable pub occurrences_from : (ℕ → Option Match) → ℕ → ℕ → Option ℕ → List Match
 occurrences_from search n zero last = []
 occurrences_from search n (suc most) last =
     then_behind (next_occurrence search n last) (λ m. occurrences_from search n most (Some m.end))
 
--- all occurrences in a text of n bytes, from left to right. Each but the first ends behind the one before
+-- all occurrences in a text of n bytes, from left to right. Each but the first ends after the one before
 abbrev pub occurrences : (ℕ → Option Match) → ℕ → List Match
 occurrences search n = occurrences_from search n (n + 1) None
 

@@ -42,7 +42,7 @@ impl Limits {
     /// * `space`: the bytes that the pattern space, the hold space and the build space may hold each, 1 to 2^30
     /// * `queue`: the entries that wait for the end of a cycle, 0 to 2^24
     /// * `look`: the bytes that are read ahead, 1 to 2^30
-    /// * `turns`: the turns that a run may take: starts of cycles, commands come to, bytes of files copied
+    /// * `turns`: the turns that a run may take: starts of cycles, commands reached, bytes of files copied
     /// * `nodes`: the nodes of an expression written out, 1 to 65,536
     pub fn new(space: usize, queue: usize, look: usize, turns: u64, nodes: usize) -> Option<Limits>
         ensures given { IfSome result (λ l. (l ≡ limits_of space queue look turns nodes) × AreLimits l) }

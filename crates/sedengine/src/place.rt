@@ -7,7 +7,7 @@ pub(crate) enum Place {
     Begin,
     /// A cycle starts with the pattern space as it is.
     Rebegin,
-    /// The command of this number is come to, or the end of the script.
+    /// The command of this number is reached, or the end of the script.
     Do(usize),
     /// The pattern space and the queue are written for the last time.
     Quit,

@@ -117,7 +117,7 @@ fn substitute(
     Ok(true)
 }
 
-/// Where the last of the first `count` occurrences ended, for no occurrence None. None alone where there are fewer.
+/// Where the last of the first `count` occurrences ended: `Some(None)` if `count` is 0, and None if there are fewer.
 fn skip(
     matcher: &mut TableMatcher,
     text: &[u8],
@@ -162,7 +162,7 @@ fn needs_groups(parts: &[Part]) -> bool
     false
 }
 
-/// The next occurrence, behind the one that ended at a place, where there was one. Its groups are told where they are
+/// The next occurrence, after the one that ended at a place, where there was one. Its groups are told where they are
 /// wanted.
 // Where a line has many occurrences, a call's own cost counts.
 #[inline(always)]
@@ -218,7 +218,7 @@ fn tell_groups(
     *groups = told;
 }
 
-/// Appends the text with the first occurrence and, with the flag `g`, all behind it replaced.
+/// Appends the text with the first occurrence and, with the flag `g`, all after it replaced.
 fn replace(
     substitution: &Substitution,
     matcher: &mut TableMatcher,

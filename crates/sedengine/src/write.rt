@@ -26,7 +26,7 @@ pub(crate) fn write_all<O: Sinks>(outputs: &mut O, sink: usize, bytes: &[u8]) ->
 /// The most bytes that are copied, so that they are written with their newline at once.
 const SHORT: usize = 127;
 
-/// The bytes and newlines behind them.
+/// The bytes and newlines after them.
 fn with_newline(bytes: &[u8]) -> [u8; 128]
     requires { length bytes.now ≤ 127 }
     ensures { take (length bytes.now + 1) result ≡ bytes.now ++ 10 ∷ [] }

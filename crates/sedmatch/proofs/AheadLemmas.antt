@@ -1,4 +1,4 @@
--- What comes first in a span of a node, and what is left behind it.
+-- What comes first in a span of a node, and what is left after it.
 use Rattle.std.proofs.Common.{◌≡◌, ℕ, ◌<◌, ◌↔◌, List, length, Some, refl, subst, inl, inr, ⊎_elim}
 use Rattle.std.specs.Prelude.{slice_get}
 use Rattle.sedre.specs.Tree.{Tree}

@@ -74,7 +74,7 @@ module _ (b : Parted) (w : List ℕ) (start behind stop : ℕ) (opens : behind �
       (λ (le : k ≤ stop). le)
       (cases_lt stop k)
 
-  -- where the first literal stands with the second behind it
+  -- where the first literal stands with the second after it
   tail_at : OccursAt w b.head start → (k : ℕ) → LastTail b.tail w behind stop (Some k) → PartedAt b w start k
   tail_at head k last = (head, (let low = last.0 in omega (arith, opens), λ p low high at. clear.0.1 p (omega (arith, opens)) (let le = last.1 in omega arith) at), last.2)
 

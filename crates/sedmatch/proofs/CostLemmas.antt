@@ -96,7 +96,7 @@ turns_cost m turn s0 s1 s few first before =
     let all = mul-le-mul_left (2 * m) few in
     omega (arith, all)
 
--- a longer look ahead, and a pass behind it
+-- a longer look ahead, and a pass after it
 pub far_cost : (m n s0 s1 s2 : ℕ) → s1 ≤ s0 + (n + 8) * m → s2 ≤ s1 + m + 20 * m * (n + 1) → s2 ≤ s0 + 8 * m + 21 * m * (n + 1)
 far_cost m n s0 s1 s2 look pass = omega (arith, look, pass)
 

@@ -60,7 +60,7 @@ module _ (P Q : ℕ → Type 0) (lanes a b : List ℕ) where
             (⊎_elim (λ (p : P (slice_index lanes k)). inl (first.1 k lt p)) (λ (q : Q (slice_index lanes k)). inr (second.1 k lt q)) has),
       )
 
--- two vectors of bytes from two distances behind a place on, and lanes that are 0 where the bytes stand in them
+-- two vectors of bytes from two distances after a place on, and lanes that are 0 where the bytes stand in them
 module _ (w v u : List ℕ) (p : ℕ) (f g : Fixed) (a b : List ℕ) where
   pub lanes_apart : ((k : ℕ) → k < 32 → slice_index v k ≡ slice_index w (p + f.offset + k)) → ((k : ℕ) → k < 32 → slice_index u k ≡ slice_index w (p + g.offset + k)) →
       HasZeros (HasFew f.few) v a → HasZeros (HasFew g.few) u b → mask_l (map (λ x. eqb x 0) (zip2 bit_or a b)) ≡ 0 → ApartIn f g w p (p + 32)
@@ -80,7 +80,7 @@ module _ (w v u : List ℕ) (p : ℕ) (f g : Fixed) (a b : List ℕ) where
 pub then_apart : (f g : Fixed) (w : List ℕ) (p q r : ℕ) → ApartIn f g w p q → ApartIn f g w q r → ApartIn f g w p r
 then_apart f g w p q r before after h low high = ⊎_elim (λ (early : h < q). before h low early) (λ (late : q ≤ h). after h late high) (cases_lt h q)
 
--- one of them stands behind no place of so short a text
+-- one of them stands after no place of so short a text
 pub far_apart : (f g : Fixed) (w : List ℕ) (p q : ℕ) → length w ≤ max f.offset g.offset → ApartIn f g w p q
 far_apart f g w p q far h low high one two =
     let first = slice_get_within w (h + f.offset) one.0 one.1 in

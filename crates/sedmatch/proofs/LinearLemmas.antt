@@ -58,7 +58,7 @@ line_stop m k j n from place s0 s1 s2 enough low before more =
     let all = mul-le-mul_left (42 * m) low in
     omega (arith, all)
 
--- what is told of the last place holds with no starts behind it
+-- what is told of the last place holds with no starts after it
 pub restart_at : (nodes : List Node) (w : List ℕ) (r start last : ℕ) (row : List Bool) (ends : Ends) → last < length w →
     IsAt nodes w r (starts_from start w) last row ends → IsAt nodes w r (starts_to start last) last row ends
 restart_at nodes w r start last row ends inside at =
@@ -73,16 +73,16 @@ restart_at nodes w r start last row ends inside at =
       goes = λ lt i k st low late s. let high = st.1 in at.goes lt i k (st.0, omega arith) low late s;
     }
 
--- no place behind the last is a start
+-- no place after the last is a start
 pub to_are : (t : Table) (w : List ℕ) (start last place : ℕ) → t.sweeps ≡ false → last ≤ place → StartsAre t w (starts_to start last) place
 to_are t w start last place none low p after within = (λ h. absurd (true≢false (sym h ∙ none)), λ h. absurd (omega (arith, h.0, h.1)))
 
 module _ (nodes : List Node) (w : List ℕ) (r start last : ℕ) (root : r + 1 ≡ length nodes) where
-  -- none goes on behind the place
+  -- none goes on after the place
   pub bound_closed : (place : ℕ) (more : Bool) → last ≤ place → place ≤ length w → more ≡ false → OpenAt nodes w r (starts_to start last) place more → IsBound nodes w r start last place
   bound_closed place more low high is_no opens = (low, high, λ i k lo hi at. closed_at nodes w r root start last last place i k low (omega arith) more is_no opens lo hi at)
 
-  -- nor behind the end of the text
+  -- nor after the end of the text
   pub bound_end : (place : ℕ) → place ≡ length w → last ≤ place → IsBound nodes w r start last place
   bound_end place end low = (low, omega arith, λ i k lo hi at. closed_end nodes w r root place last i k end low hi at)
 

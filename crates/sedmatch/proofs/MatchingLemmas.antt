@@ -216,7 +216,7 @@ found-is : (e : Tree) (w : List ℕ) (p : ℕ) → p ≤ length w → IsAnswer e
 unfolding found
 found-is e w p fits = found_from-is e w (length w + 1 - p) p (omega arith)
 
--- what is spanned behind the text is spanned at each place
+-- what is spanned after the text is spanned at each place
 Copies-behind : (R : ℕ → ℕ → Type 0) (h : ℕ) → (j i : ℕ) → ((k : ℕ) → R i k → k ≡ i) → Copies R j i → j ≡ i
 Copies-behind R h j i still no_copy = refl
 Copies-behind R h j i still (one_more _ k lt r rest) = let same = still k r in absurd (omega arith)
@@ -248,7 +248,7 @@ behind-everywhere (group n a) w i k high s h = behind-everywhere a w i k high s 
 behind-everywhere (star a first) w i k high s h = no_copy
 behind-everywhere (opt a first) w i k high s h = inl refl
 
--- a match that begins in the text or behind it begins in the text
+-- a match that begins in the text or after it begins in the text
 pub Found-within : (e : Tree) (w : List ℕ) (p i j : ℕ) → p ≤ length w → Found e w p i j → i ≤ length w
 Found-within e w p i j fits f =
     ⊎_elim

@@ -34,7 +34,7 @@ Copies-cross R P G j k each next l (one_more _ m lt r rest) p low high =
     (λ (later : m ≤ j). Copies-cross R P G j k each next m rest (next l m lt p r) later high)
     (cases_lt j m)
 
--- copies, and copies behind them
+-- copies, and copies after them
 Copies-join : (R : ℕ → ℕ → Type 0) (k p i : ℕ) → Copies R p i → Copies R k p → Copies R k i
 Copies-join R k p i no_copy rest = rest
 Copies-join R k p i (one_more _ m lt r on) rest = one_more i m lt r (Copies-join R k p m on rest)
@@ -61,7 +61,7 @@ module _ (e back : Written) (w bytes : List ℕ) (r : ℕ) (s t : Starts) (is_ba
   arena_there : IsArena back.nodes
   arena_there = subst (λ (v : Written). IsArena v.nodes) (sym is_back) (seen-arena true e arena)
 
-  -- a node that takes the byte at j begins there, and from the other end it begins behind the byte
+  -- a node that takes the byte at j begins there, and from the other end it begins after the byte
   abbrev pub Crossed : ℕ → ℕ → Option ℕ → Type 0
   Crossed j q next =
       (c : ℕ) × (set : List Bool) × (slice_get e.nodes c ≡ Some (Set set)) × Enters e.nodes w r s c j × Enters back.nodes bytes r t c q × IsTrue (takes next set)
@@ -410,7 +410,7 @@ pub best_miss : (nodes : List Node) (w : List ℕ) (r start place : ℕ) (matche
 best_miss nodes w r start place matched best root tells is old =
     LongestBelow-no (tree_at nodes (length nodes - 1)) w start place best (λ s. true≢false (sym (tells.1 (from_tree nodes w r root start place s)) ∙ is)) old
 
--- no match goes on behind the last place that was looked at
+-- no match goes on after the last place that was looked at
 pub best_all : (nodes : List Node) (w : List ℕ) (r start place : ℕ) (best : Option ℕ) → r + 1 ≡ length nodes → (GoesOnFrom nodes w r start place → ⊥) →
     LongestBelow (tree_at nodes (length nodes - 1)) w start (place + 1) best → Longest (tree_at nodes (length nodes - 1)) w start best
 best_all nodes w r start place None root over old =
@@ -426,7 +426,7 @@ best_all nodes w r start place (Some j) root over old = (
       (cases_lt place k),
 )
 
--- a match from a place on that isn't the null string there ends behind it
+-- a match from a place on that isn't the null string there ends after it
 pub lies_behind : (at n : ℕ) (r : Option (ℕ × ℕ)) → IfSome r (λ f. (at ≤ f.0) × (f.0 ≤ f.1) × (f.1 ≤ n)) → IfSome r (λ f. at ≤ f.0 → f.0 ≤ f.1 → at < f.1) →
     IfSome r (λ f. (at ≤ f.0) × (at < f.1) × (f.0 ≤ f.1) × (f.1 ≤ n))
 lies_behind at n None lies behind = lies

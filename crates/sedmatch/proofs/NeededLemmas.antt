@@ -55,7 +55,7 @@ module _ (nodes : List Node) (arena : IsArena nodes) (x : ℕ) where
   pub seq_below : (a b : NodeId) → slice_get nodes x ≡ Some (Seq a b) → (a.index < x) × (b.index < x)
   seq_below a b is = (arena.below x a.index (Seq a b) is (inl refl), arena.below x b.index (Seq a b) is (inr refl))
 
-  -- a byte of a set, and what stands behind it
+  -- a byte of a set, and what stands after it
   pub set_links : (a b : NodeId) (y left : ℕ) (s : List Bool) → slice_get nodes x ≡ Some (Seq a b) → left ≡ a.index → y ≡ b.index → IsOfSet nodes left s → LinksTo nodes x (OneOf s y)
   set_links a b y left s is left_is y_is first =
       let below = seq_below a b is in (
@@ -164,7 +164,7 @@ module _ (nodes : List Node) (x : ℕ) where
       subst (AllHold nodes x) (sym e) (λ w i j within at. let f = ends w i j within at in (f.0, f.1, ((literal w f.0 j f.2).0 f.3).0)))
       which
 
-  -- a part of the rest behind a literal
+  -- a part of the rest after a literal
   pub ends_behind : (y r z : ℕ) (l : Literal) → l.rest ≡ Some r → AllEndWith nodes x y → IsLiteral nodes y l → AllEndWith nodes r z → AllEndWith nodes x z
   ends_behind y r z l rest ends literal second w i j within at =
       let f = ends w i j within at in

@@ -71,7 +71,7 @@ counted_paid m n left s t some grows cost =
 none_paid : (m at k b c s t : ℕ) → t + 25 * m * at + c ≤ s + 54 * m + 25 * m * (at + k) + b → t ≤ s + (79 * m * (k + 1) + b)
 none_paid m at k b c s t cost = omega (arith, cost)
 
--- and one that finds a match that ends behind the place
+-- and one that finds a match that ends after the place
 some_paid : (m at k d b c s t : ℕ) → t + 25 * m * at + c ≤ s + 54 * m + 25 * m * (at + (k + 1)) + b → t + (79 * m * d + c) ≤ s + (79 * m * (d + k + 1) + b)
 some_paid m at k d b c s t cost = omega (arith, cost)
 

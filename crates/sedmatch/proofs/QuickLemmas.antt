@@ -73,7 +73,7 @@ pub next_map : (P Q : List Bool → Ends → Type 0) (t : Table) (entered : List
 next_map P Q t entered (To q) up is = (is.0, up (row_of t.rows q) (ends_of t.ends.items q) is.1)
 next_map P Q t entered (Full ends) up is = up entered ends is
 
--- every place behind is a start
+-- every place after is a start
 pub starts_are : (t : Table) (w : List ℕ) (from place : ℕ) → IsTrue t.sweeps → from ≤ place → StartsAre t w (starts_from from w) place
 starts_are t w from place sweeps low p after within = (λ h. (omega arith, within), λ h. sweeps)
 

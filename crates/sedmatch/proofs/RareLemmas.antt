@@ -1,4 +1,4 @@
--- Few bytes of which one stands at a fixed distance behind the beginning of every match.
+-- Few bytes of which one stands at a fixed distance after the beginning of every match.
 use Rattle.std.proofs.Common.{◌≡◌, ℕ, ◌+◌, ◌-◌, ◌*◌, ◌<◌, ◌≤◌, ◌↔◌, ◌⊎◌, Bool, List, length, Option, Some, None, sym, ap, subst, inl, inr, ⊎_elim, arith, mul-le-mul_left}
 use Rattle.std.specs.Prelude.{IfSome, slice_get}
 use Rattle.std.proofs.lemmas.Bool.{cases_lt}
@@ -23,7 +23,7 @@ use Rattle.sedmatch.specs.Spans.{Spans, NotFound, IsIn}
 use Rattle.sedmatch.proofs.FewLemmas.{few_inside}
 use Rattle.sedmatch.proofs.ReachLemmas.{open_at}
 
--- a place behind which one stands is in the text
+-- a place after which one stands is in the text
 pub fixed_inside : (f : Fixed) (w : List ℕ) (i : ℕ) → StandsAt f w i → i + f.offset < length w
 fixed_inside f w i at = few_inside f.few w (i + f.offset) at
 
@@ -83,7 +83,7 @@ pub have_few : (e : Tree) (offset : ℕ) (s : List Bool) (few : Few) → AllHave
 have_few e offset s few all same w bytes i j spans =
     let h = all w i j spans in (h.0, h.1, (same h.0 (bytes (i + offset) h.0 h.1)).1 h.2)
 
--- the spans of the node x go on as those of the node y so far behind their beginning
+-- the spans of the node x go on as those of the node y so far after their beginning
 abbrev pub GoOnAs : List Node → ℕ → ℕ → ℕ → Type 0
 GoOnAs nodes x offset y = (w : List ℕ) (i j : ℕ) → At nodes w x i j → At nodes w y (i + offset) j
 
@@ -123,7 +123,7 @@ module _ (e : Tree) (w : List ℕ) (bytes : AreBytes w) (from p : ℕ) (r : Rare
   rare_nowhere none i k low within s =
       ⊎_elim (λ (early : i < p). before i k low early s) (λ (late : p ≤ i). none i late (rare_at i k s)) (cases_lt i p)
 
-  -- they stand behind a place at which a match may begin
+  -- they stand after a place at which a match may begin
   pub rare_sought : (start : ℕ) (lead : Lead) → FirstRare r w p (Some start) → from ≤ p → LeadsTo (length w) (Spans e w start) lead → Sought e w from (Some (start, lead))
   rare_sought start lead first low leads =
       let inside = fixed_inside r.sought w start first.1.0 in (

@@ -136,7 +136,7 @@ module _ (nodes : List Node) (w : List ℕ) (r : ℕ) (root : r + 1 ≡ length n
         all = λ is_whole i k lo hi s. all i k is_whole lo hi (from_tree i k s);
       }
 
-  -- none goes on behind the place
+  -- none goes on after the place
   pub closed_at : (start last top place i k : ℕ) → last ≤ place → last ≤ top → (more : Bool) → more ≡ false → OpenAt nodes w r (record { first = start; last = top }) place more →
       start ≤ i → i ≤ last → At nodes w r i k → k ≤ place
   closed_at start last top place i k low under more is_no opens lo hi at =
@@ -145,7 +145,7 @@ module _ (nodes : List Node) (w : List ℕ) (r : ℕ) (root : r + 1 ≡ length n
       (λ (ge : k ≤ place). ge)
       (cases_lt place k)
 
-  -- nor behind the end of the text
+  -- nor after the end of the text
   pub closed_end : (len last i k : ℕ) → len ≡ length w → last ≤ len → i ≤ last → At nodes w r i k → k ≤ len
   closed_end len last i k end low hi at =
       let within = Spans-within (tree_at nodes r) w i k (omega arith) at in
@@ -191,7 +191,7 @@ Enters-restart nodes w r s t place same x j low (again y _ i _ a first is inner 
     let on = Spans-forward (tree_at nodes y) w i j at in
     again y x i j a first is inner (Enters-restart nodes w r s t place same y i (omega arith) e) at
 
--- the marks at a place are the same with no starts behind it
+-- the marks at a place are the same with no starts after it
 pub begun_restart : (nodes : List Node) (w : List ℕ) (r start last len : ℕ) (marks : List Bool) → last ≤ len →
     Marked marks (Below (r + 1)) (λ c. Enters nodes w r (record { first = start; last = len }) c last) →
     Marked marks (Below (r + 1)) (λ c. Enters nodes w r (record { first = start; last = last }) c last)

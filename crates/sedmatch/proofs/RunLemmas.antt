@@ -1,4 +1,4 @@
--- Runs of bytes of a set, and what is left behind one.
+-- Runs of bytes of a set, and what is left after one.
 use Rattle.std.proofs.Common.{◌≡◌, ℕ, ◌+◌, ◌<◌, ◌≤◌, ◌⊎◌, ◌↔◌, Bool, false, List, length, Some, IsTrue, refl, sym, ◌∙◌, subst, inl, inr, ⊎_elim, arith}
 use Rattle.std.specs.Prelude.{slice_get, slice_index_or}
 use Rattle.std.proofs.lemmas.Bool.{cases_lt}

@@ -105,7 +105,7 @@ module _ (nodes : List Node) (arena : IsArena nodes) (x last : ℕ) (whole : las
   pub sight_choice : (literals : List (List ℕ)) → AllChoice nodes last literals → IsSight (tree_at nodes last) (Choice literals)
   sight_choice literals all w bytes i j within = all w i j within
 
--- a literal behind which nothing is left
+-- a literal after which nothing is left
 pub all_word : (nodes : List Node) (x last : ℕ) (l : Literal) (literal : List ℕ) → last ≡ x → literal ≡ l.bytes.items → IsLiteral nodes x l → l.rest ≡ None → AllWord nodes last literal
 all_word nodes x last l literal whole same is none w i j within =
     subst (λ v. At nodes w last i j ↔ WordSpans v w i j) (sym same) (subst (λ v. At nodes w v i j ↔ WordSpans l.bytes.items w i j) (sym whole) (
@@ -219,7 +219,7 @@ ends_on (Word literal) w i j s = omega (arith, s.1)
 ends_on (Choice literals) w i j s = let long = s.4 in omega (arith, long)
 ends_on (Led first members) w i j s = omega (arith, Copies-forward (Spans (set members) w) j (i + 1) s.1)
 
--- the longest from a place ends there or behind it
+-- the longest from a place ends there or after it
 pub ends_after : (sight : Sight) (w : List ℕ) (i j : ℕ) → EndsAt sight w i j → i ≤ j
 ends_after sight w i j end = ends_on sight w i j end.0
 

@@ -18,7 +18,7 @@ some_at e w p start end lead low within is leads =
     let h = subst (LeadsTo (length w) (Spans e w start)) is leads in
     ((λ yes. (start, end, low, within, (h.1 end).1 refl)), (λ some. refl))
 
--- a pass ends at its start or behind it
+-- a pass ends at its start or after it
 pub ended_after : (nodes : List Node) (w : List ℕ) (r start : ℕ) (marks : List Bool) (o : Option FirstEnd) → start ≤ length w → IsFirstEnd nodes w r start marks o → start ≤ ended_to (length w) o
 ended_after nodes w r start marks None within none = within
 ended_after nodes w r start marks (Some f) within told = told.0

@@ -17,7 +17,7 @@ use Rattle.sedmatch.proofs.SpanLemmas.{Spans-within}
 use Rattle.sedmatch.proofs.TableLemmas.{default_same}
 use Rattle.sedmatch.proofs.ReachLemmas.{open_at, close_at}
 
--- copies and more copies behind them
+-- copies and more copies after them
 pub Copies-join : (R : ℕ → ℕ → Type 0) (j k i : ℕ) → Copies R k i → Copies R j k → Copies R j i
 Copies-join R j k i no_copy more = more
 Copies-join R j k i (one_more _ l lt r rest) more = one_more i l lt r (Copies-join R j k l rest more)

@@ -1,4 +1,4 @@
--- A run of bytes of a set and one byte behind it.
+-- A run of bytes of a set and one byte after it.
 use Rattle.std.proofs.Common.{◌≡◌, ℕ, ◌+◌, ◌<◌, ◌≤◌, ◌↔◌, true≢false, Bool, false, List, length, Some, None, IsTrue, min, refl, sym, subst, ◌∙◌, ⊎_elim, arith}
 use Rattle.std.specs.Prelude.{slice_get, slice_index_or}
 use Rattle.std.proofs.lemmas.Bool.{cases_lt}
@@ -16,7 +16,7 @@ use Rattle.sedmatch.proofs.SkipLemmas.{member_step}
 use Rattle.sedmatch.proofs.SightLemmas.{starts_inside}
 
 module _ (members : List Bool) (last : First) (w : List ℕ) where
-  -- the byte behind the run stands at the first place at which it does, or later
+  -- the byte after the run stands at the first place at which it does, or later
   behind_first : (p q h k : ℕ) → FirstWith last w p (Some q) → p ≤ h → Repeated members w h k → StartsWith last w k → q ≤ k
   behind_first p q h k first low run stands =
       let on = Copies-forward (Spans (set members) w) k h run in
@@ -50,7 +50,7 @@ module _ (members : List Bool) (last : First) (w : List ℕ) where
         let most = in_run members w e k i (run_forward members w i e run) run.2 copies in
         omega arith
 
-    -- the longest match ends behind the last of them
+    -- the longest match ends after the last of them
     pub trail_last : (k : ℕ) → LastWith last w i to (Some k) → EndsAt (Trail members last) w i (k + 1)
     trail_last k found = (
       (k, (repeated_cut members w k e i found.0 (let lt = found.1 in omega arith) run.1).0, found.2, refl),
@@ -68,7 +68,7 @@ module _ (members : List Bool) (last : First) (w : List ℕ) where
     trail_some can none =
         none can.0 (Copies-forward (Spans (set members) w) can.0 i can.1) (led_to can.0 can.1 can.2) can.2
 
--- behind a byte that isn't in the set the run begins
+-- after a byte that isn't in the set the run begins
 pub run_stops : (members : List Bool) (w : List ℕ) (p q before place byte : ℕ) (has : Bool) → before + 1 ≡ place → p ≤ before → place ≤ q → slice_get w before ≡ Some byte →
     has ≡ slice_index_or members byte false → has ≡ false → Repeated members w place q → RunBegins members w p q (before + 1)
 run_stops members w p q before place byte has next low high is value missing copies = (

@@ -34,7 +34,7 @@ PartedSpans b w i j = (k : ℕ) × PartedAt b w i k × (j ≡ k + length b.tail)
 abbrev pub AllParted : List Node → ℕ → Parted → Type 0
 AllParted nodes x b = (w : List ℕ) → AreBytes w → (i j : ℕ) → i ≤ length w → At nodes w x i j ↔ PartedSpans b w i j
 
--- the spans of the node x are bytes none of which is one of the few, and a span of the node y behind them
+-- the spans of the node x are bytes none of which is one of the few, and a span of the node y after them
 abbrev pub GoesClear : List Node → ℕ → Few → ℕ → Type 0
 GoesClear nodes x few y = (y < x) × ((w : List ℕ) → AreBytes w → (i j : ℕ) → i ≤ length w →
     At nodes w x i j ↔ ((k : ℕ) × IsClear few w i k × (k ≤ length w) × At nodes w y k j))

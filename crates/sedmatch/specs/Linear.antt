@@ -24,7 +24,7 @@ abbrev pub ended_to : ℕ → Option FirstEnd → ℕ
 ended_to n None = n
 ended_to n (Some f) = f.place
 
--- no match that begins at one of these places ends behind the bound
+-- no match that begins at one of these places ends after the bound
 abbrev pub IsBound : List Node → List ℕ → ℕ → ℕ → ℕ → ℕ → Type 0
 IsBound nodes w r start last bound = (last ≤ bound) × (bound ≤ length w) × ((i k : ℕ) → start ≤ i → i ≤ last → At nodes w r i k → k ≤ bound)
 

@@ -53,11 +53,11 @@ MarkTells nodes w r marks q = IsTrue (slice_index_or marks q false) ↔ SomeSpan
 abbrev pub MarksGrow : List Node → List ℕ → ℕ → ℕ → ℕ → List Bool → List Bool → Type 0
 MarksGrow nodes w r from to old new = ((q : ℕ) → from ≤ q → q < to → q ≤ length w → MarkTells nodes w r new q) × ((q : ℕ) → MarkTells nodes w r old q → MarkTells nodes w r new q)
 
--- behind a pass over the places from one up to another, rows and marks tell of them
+-- after a pass over the places from one up to another, rows and marks tell of them
 abbrev pub PassTells : List Node → List ℕ → ℕ → ℕ → ℕ → List (List Bool) → List Bool → List Bool → Type 0
 PassTells nodes w r from to rows old new = RowsTell nodes w r from to rows × MarksGrow nodes w r from to old new
 
--- a pass has come to the block: edges and marks tell of the blocks before it, and the marks of the pass tell of its first place
+-- a pass has reached the block: edges and marks tell of the blocks before it, and the marks of the pass tell of its first place
 abbrev pub CameTo : List Node → List ℕ → ℕ → ℕ → Behind → Type 0
 CameTo nodes w r block b =
     EdgesTell nodes w r b.width block b.edges × ((q : ℕ) → q < b.width * block → q ≤ length w → MarkTells nodes w r b.begins q) × (b.width * block ≤ length w → TellEntered nodes w r (starts_to 0 (length w)) (b.width * block) b.sets.entered)
@@ -85,7 +85,7 @@ pub record HasKept (nodes : List Node) (w : List ℕ) (r : ℕ) (b : Behind) : T
 abbrev pub IsKept : Written → List ℕ → ℕ → Behind → Type 0
 IsKept e w r b = HasKept (seen true e).nodes (reverse w) r b
 
--- in a text of n bytes, the block has the place, counted from the beginning, or lies behind it
+-- in a text of n bytes, the block has the place, counted from the beginning, or lies after it
 abbrev pub Reaches : ℕ → ℕ → Behind → Type 0
 Reaches n place b = n ≤ place + low_of b + b.width
 
@@ -93,7 +93,7 @@ Reaches n place b = n ≤ place + low_of b + b.width
 abbrev pub Served : Written → List ℕ → ℕ → ℕ → Behind → Type 0
 Served e w r place b = IsKept e w r b × Reaches (length w) place b
 
--- it is kept, and serves to search behind the match found, if there is one
+-- it is kept, and serves to search after the match found, if there is one
 abbrev pub ServedBehind : Written → List ℕ → ℕ → Option (ℕ × ℕ) → Behind → Type 0
 ServedBehind e w r found b = IsKept e w r b × IfSome found (λ f. Reaches (length w) f.1 b)
 

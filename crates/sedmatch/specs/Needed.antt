@@ -29,11 +29,11 @@ abbrev pub GoesOnAs : List Node → List ℕ → ℕ → ℕ → Option ℕ → 
 GoesOnAs nodes w i j None = i ≡ j
 GoesOnAs nodes w i j (Some y) = At nodes w y i j
 
--- the spans of the node x are those that begin with the bytes, and go on behind them as those of the node y
+-- the spans of the node x are those that begin with the bytes, and go on after them as those of the node y
 abbrev pub BeginsAs : List Node → ℕ → List ℕ → ℕ → Type 0
 BeginsAs nodes x bytes y = (w : List ℕ) (i j : ℕ) → i ≤ length w → At nodes w x i j ↔ (OccursAt w bytes i × At nodes w y (i + length bytes) j)
 
--- the spans of the node x are those that begin with the literal, and go on behind it as the spans of the rest
+-- the spans of the node x are those that begin with the literal, and go on after it as the spans of the rest
 abbrev pub IsLiteral : List Node → ℕ → Literal → Type 0
 IsLiteral nodes x l = (w : List ℕ) (i j : ℕ) → i ≤ length w → At nodes w x i j ↔ (OccursAt w l.bytes.items i × GoesOnAs nodes w (i + length l.bytes.items) j l.rest)
 

@@ -11,9 +11,9 @@ abbrev pub unless_null_at : ℕ → Option (ℕ × ℕ) → Option (ℕ × ℕ) 
 unless_null_at q None other = None
 unless_null_at q (Some m) other = if nat_eq m.0 q && nat_eq m.1 q then other else Some m
 
--- The next occurrence in a text of n bytes, behind one that ended at a place, where there was one; `search` tells the
--- match sought from a place. Occurrences don't overlap, and a match of the null string directly behind one is none
--- (this project's own): then the search goes on one byte further, as long as that is no place behind the end.
+-- The next occurrence in a text of n bytes, after one that ended at a place, where there was one; `search` tells the
+-- match sought from a place. Occurrences don't overlap, and a match of the null string directly after one is none
+-- (this project's own): then the search goes on one byte further, as long as that is no place after the end.
 abbrev pub next_span : (ℕ → Option (ℕ × ℕ)) → ℕ → Option ℕ → Option (ℕ × ℕ)
 next_span search n None = search 0
 next_span search n (Some q) = unless_null_at q (search q) (if nat_lt q n then search (q + 1) else None)
@@ -23,17 +23,17 @@ abbrev pub EndsWithin : ℕ → Option ℕ → Type 0
 EndsWithin n None = Unit {0}
 EndsWithin n (Some q) = q ≤ n
 
--- the span, if there is one, ends behind the place, if there is one, and begins there or later
+-- the span, if there is one, ends after the place, if there is one, and begins there or later
 abbrev pub LiesBehind : Option ℕ → Option (ℕ × ℕ) → Type 0
 LiesBehind last None = Unit {0}
 LiesBehind None (Some f) = Unit {0}
 LiesBehind (Some q) (Some f) = (q ≤ f.0) × (q + 1 ≤ f.1)
 
--- the span lies in a text of n bytes, behind the last occurrence
+-- the span lies in a text of n bytes, after the last occurrence
 abbrev pub LiesOn : ℕ → Option ℕ → ℕ × ℕ → Type 0
 LiesOn n last f = (f.0 ≤ f.1) × (f.1 ≤ n) × LiesBehind last (Some f)
 
--- the span is one that the expression matches, and lies in the text, behind the last occurrence
+-- the span is one that the expression matches, and lies in the text, after the last occurrence
 abbrev pub Occurs : Tree → List ℕ → Option ℕ → ℕ × ℕ → Type 0
 Occurs e w last f = Spans e w f.0 f.1 × LiesOn (length w) last f
 
@@ -45,17 +45,17 @@ RoomFor text nodes o = HasBehind text nodes o.behind
 abbrev pub KeepsRoom : Occurrences → Occurrences → Type 0
 KeepsRoom old new = (text nodes : ℕ) → RoomFor text nodes old → RoomFor text nodes new
 
--- where a pass from the end was made, what is kept is of this text and expression, and serves behind the place
+-- where a pass from the end was made, what is kept is of this text and expression, and serves after the place
 abbrev pub Keeps : Written → List ℕ → ℕ → Occurrences → Type 0
 Keeps e w q o = IsTrue o.met → Served e w (length e.nodes - 1) q o.behind
 
--- What is kept serves to search behind an occurrence that ended at the place, if there is one. No pass from the end was made
+-- What is kept serves to search after an occurrence that ended at the place, if there is one. No pass from the end was made
 -- while some steps are left.
 abbrev pub Serves : Written → List ℕ → Option ℕ → Occurrences → Type 0
 Serves e w None o = (o.met ≡ false) × (0 < o.left)
 Serves e w (Some q) o = (0 < o.left → o.met ≡ false) × Keeps e w q o
 
--- there is as much room as before, and what is kept serves to search behind the occurrence found, if there is one
+-- there is as much room as before, and what is kept serves to search after the occurrence found, if there is one
 abbrev pub ServesOn : Written → List ℕ → Option (ℕ × ℕ) → Occurrences → Occurrences → Type 0
 ServesOn e w r old new = KeepsRoom old new × IfSome r (λ f. Serves e w (Some f.1) new)
 
@@ -63,7 +63,7 @@ ServesOn e w r old new = KeepsRoom old new × IfSome r (λ f. Serves e w (Some f
 abbrev pub KeepsOn : Written → List ℕ → Option (ℕ × ℕ) → Occurrences → Occurrences → Type 0
 KeepsOn e w r old new = KeepsRoom old new × (new.left ≡ old.left) × IfSome r (λ f. Keeps e w f.1 new)
 
--- The steps that the searches may still take behind an occurrence that ended at the place q, with m nodes in a text of n bytes:
+-- The steps that the searches may still take after an occurrence that ended at the place q, with m nodes in a text of n bytes:
 -- after the pass from the end; and before it, where so many are left, or none and the pass is due.
 abbrev pub owed_met : ℕ → ℕ → ℕ → Occurrences → ℕ
 owed_met m n q o = 79 * m * (n + 1 - q) + blocks_cost m o.behind

@@ -1,4 +1,4 @@
--- Private to this crate: few bytes of which one stands at a fixed distance behind the beginning of every match.
+-- Private to this crate: few bytes of which one stands at a fixed distance after the beginning of every match.
 use Rattle.std.specs.Prelude.{ℕ, ◌+◌, ◌<◌, ◌≤◌, Bool, List, Option, Some, None}
 use Rattle.sedre.specs.Tree.{Tree}
 use Rattle.sedre.specs.declared.types.Node.{Node}
@@ -10,7 +10,7 @@ use Rattle.sedmatch.specs.declared.skip.Begins.TheVariants.{WithSet}
 use Rattle.sedmatch.specs.declared.rare.Fixed.{Fixed}
 use Rattle.sedmatch.specs.declared.rare.Rare.{Rare}
 
--- one of the bytes stands so far behind the place
+-- one of the bytes stands so far after the place
 abbrev pub StandsAt : Fixed → List ℕ → ℕ → Type 0
 StandsAt f w i = FewAt f.few w (i + f.offset)
 
@@ -19,29 +19,29 @@ abbrev pub HeldAt : Option Fixed → List ℕ → ℕ → Type 0
 HeldAt None w i = Unit {0}
 HeldAt (Some f) w i = StandsAt f w i
 
--- what is sought and what is held stand behind the place
+-- what is sought and what is held stand after the place
 abbrev pub RareAt : Rare → List ℕ → ℕ → Type 0
 RareAt r w i = StandsAt r.sought w i × HeldAt r.held w i
 
--- the first place from p on behind which one of the bytes stands
+-- the first place from p on after which one of the bytes stands
 abbrev pub FirstFixed : Fixed → List ℕ → ℕ → Option ℕ → Type 0
 FirstFixed f w p None = (k : ℕ) → p ≤ k → StandsAt f w k → ⊥
 FirstFixed f w p (Some k) = (p ≤ k) × StandsAt f w k × ((h : ℕ) → p ≤ h → h < k → StandsAt f w h → ⊥)
 
--- behind no place from p up to but not including q both stand
+-- after no place from p up to but not including q both stand
 abbrev pub ApartIn : Fixed → Fixed → List ℕ → ℕ → ℕ → Type 0
 ApartIn f g w p q = (h : ℕ) → p ≤ h → h < q → StandsAt f w h → StandsAt g w h → ⊥
 
--- behind no place from p up to but not including q all of it stands
+-- after no place from p up to but not including q all of it stands
 abbrev pub RareNowhere : Rare → List ℕ → ℕ → ℕ → Type 0
 RareNowhere r w p q = (h : ℕ) → p ≤ h → h < q → RareAt r w h → ⊥
 
--- the first place from p on behind which all of it stands
+-- the first place from p on after which all of it stands
 abbrev pub FirstRare : Rare → List ℕ → ℕ → Option ℕ → Type 0
 FirstRare r w p None = (k : ℕ) → p ≤ k → RareAt r w k → ⊥
 FirstRare r w p (Some k) = (p ≤ k) × RareAt r w k × RareNowhere r w p k
 
--- one of the bytes stands so far behind the beginning of each span of the expression
+-- one of the bytes stands so far after the beginning of each span of the expression
 abbrev pub AllStand : Tree → Fixed → Type 0
 AllStand e f = (w : List ℕ) → AreBytes w → (i j : ℕ) → Spans e w i j → StandsAt f w i
 
@@ -50,11 +50,11 @@ abbrev pub AllHeld : Tree → Option Fixed → Type 0
 AllHeld e None = Unit {0}
 AllHeld e (Some f) = AllStand e f
 
--- a byte of the set stands so far behind the beginning of each span of the expression
+-- a byte of the set stands so far after the beginning of each span of the expression
 abbrev pub AllHave : Tree → ℕ → List Bool → Type 0
 AllHave e offset s = (w : List ℕ) (i j : ℕ) → Spans e w i j → CanBegin (WithSet s) w (i + offset)
 
--- what is sought and what is held stand behind the beginning of each span of the expression, where they are known
+-- what is sought and what is held stand after the beginning of each span of the expression, where they are known
 abbrev pub AllRare : Tree → Option Rare → Type 0
 AllRare e None = Unit {0}
 AllRare e (Some r) = AllStand e r.sought × AllHeld e r.held

@@ -48,7 +48,7 @@ pub record IsEarliest (e : Tree) (w : List ℕ) (r : Region) (i : ℕ) : Type 0 
   pub some : (k : ℕ) × Spans e w i k
   pub none : NoneIn e w r.start i
 
--- the last place below n at which a match ends that begins at the place first or behind it, if there is one
+-- the last place below n at which a match ends that begins at the place first or after it, if there is one
 abbrev pub LastEnd : Tree → List ℕ → ℕ → ℕ → Option ℕ → Type 0
 LastEnd e w first n None = (i k : ℕ) → first ≤ i → k < n → Spans e w i k → ⊥
 LastEnd e w first n (Some p) = (p < n) × ((i : ℕ) × (first ≤ i) × Spans e w i p) × ((i k : ℕ) → first ≤ i → k < n → Spans e w i k → k ≤ p)

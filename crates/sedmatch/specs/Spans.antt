@@ -15,7 +15,7 @@ pub data Copies (R : ℕ → ℕ → Type 0) (j : ℕ) : ℕ → Type 0 where
 abbrev pub Spans : Tree → List ℕ → ℕ → ℕ → Type 0
 -- the null string
 Spans empty w i j = i ≡ j
--- one byte of a set: an ordinary character, a special one behind a backslash, a period, a bracket expression (XBD 9.3.2 to 9.3.5)
+-- one byte of a set: an ordinary character, a special one after a backslash, a period, a bracket expression (XBD 9.3.2 to 9.3.5)
 Spans (set members) w i j = (byte : ℕ) × (slice_get w i ≡ Some byte) × IsIn byte members × (j ≡ i + 1)
 -- the anchors hold at the beginning and at the end of the whole text alone (XBD 9.3.8)
 Spans begin w i j = (i ≡ 0) × (j ≡ 0)

@@ -121,7 +121,7 @@ pub record Grows (old new : Table) : Type 0 where
   pub at_begin : new.at_begin ≡ old.at_begin
   pub later : new.later ≡ old.later
 
--- of the places behind `from` up to the text's end, the table takes the starts to be what they are
+-- of the places after `from` up to the text's end, the table takes the starts to be what they are
 abbrev pub StartsAre : Table → List ℕ → Starts → ℕ → Type 0
 StartsAre t w s from = (p : ℕ) → from < p → p ≤ length w → IsTrue t.sweeps ↔ IsStart s p
 

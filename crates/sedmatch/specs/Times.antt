@@ -1,5 +1,5 @@
 -- Private to the proofs: no contract of a public item cites what stands here.
--- A set repeated so many times: bytes of it one behind another, always as many.
+-- A set repeated so many times: bytes of it one after another, always as many.
 use Rattle.std.specs.Prelude.{◌≡◌, ℕ, ◌+◌, ◌<◌, ◌≤◌, ◌↔◌, Bool, List, length, slice_index, Option, Some, None}
 use Rattle.sedre.specs.declared.types.Node.{Node}
 use Rattle.sedmatch.specs.Reach.{At}

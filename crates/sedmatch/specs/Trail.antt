@@ -1,5 +1,5 @@
 -- Private to the proofs: no contract of a public item cites what stands here.
--- A run of bytes of a set and one byte behind it.
+-- A run of bytes of a set and one byte after it.
 use Rattle.std.specs.Prelude.{ℕ, ◌<◌, ◌≤◌, Bool, List, Option, Some, None}
 use Rattle.sedmatch.specs.Runs.{Repeated}
 use Rattle.sedmatch.specs.Sight.{StartsWith}

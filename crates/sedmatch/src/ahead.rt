@@ -75,7 +75,7 @@ pub enum Rest {
     End(Lead),
 }
 
-/// What is left of the spans of the node, which stands at the index, behind its first part.
+/// What is left of the spans of the node, which stands at the index, after its first part.
 #[inline(always)]
 pub fn rest_of_node(
     expr: &Expr,
@@ -109,7 +109,7 @@ pub fn rest_of_node(
     }
 }
 
-/// Whether the first part of a node tells that no span of it begins at the place, or what is left behind that part.
+/// Whether the first part of a node tells that no span of it begins at the place, or what is left after that part.
 fn fails_early(expr: &Expr, index: usize, text: &Text, place: usize, steps: &mut Steps) -> bool
     requires inside { index < length expr.now.nodes }
     requires place { place ≤ length text.now }
@@ -132,7 +132,7 @@ fn fails_early(expr: &Expr, index: usize, text: &Text, place: usize, steps: &mut
     }
 }
 
-/// What is left of the spans of the node at the index that begin at the place, behind its first part. An alternative
+/// What is left of the spans of the node at the index that begin at the place, after its first part. An alternative
 /// that fails early is left out.
 pub fn rest_behind(expr: &Expr, index: usize, text: &Text, place: usize, steps: &mut Steps) -> Rest
     requires inside { index < length expr.now.nodes }

@@ -1,5 +1,5 @@
 //! A literal, bytes of a set that lacks few, and another literal, as in `GET .* HTTP`: a match begins at the first literal
-//! behind which the second stands, and ends with the last of the second.
+//! after which the second stands, and ends with the last of the second.
 //!
 //! Both are sought by their own searches, the last one from the end, and the few bytes that can't stand between by a third:
 //! a match ends before the first of them.
@@ -75,7 +75,7 @@ fn outside_of(set: &ByteSet) -> Option<Few>
 }
 
 /// The bytes that don't stand where the spans of the node begin with any number of others, and the node that is spanned
-/// behind them.
+/// after them.
 fn middle_of(expr: &Expr, index: usize, steps: &mut Steps) -> Option<(Few, usize)>
     requires inside { index < length expr.now.nodes }
     requires room { steps.old < 2 ^ 117 }
@@ -138,7 +138,7 @@ pub fn between_of(
     Ok(Some(new_between(alloc, &head, outside, &tail)?))
 }
 
-/// The place behind the literal that stands at `start`.
+/// The place after the literal that stands at `start`.
 fn place_behind(head: &Finder, text: &Text, start: usize) -> usize
     requires short { length text.now ≤ 2 ^ 30 }
     requires stands { start + length head.now ≤ length text.now }

@@ -1,4 +1,4 @@
-//! A choice of a few literals, as in `cat\|dog\|bird`: a match begins where one of them stands, and ends behind the longest
+//! A choice of a few literals, as in `cat\|dog\|bird`: a match begins where one of them stands, and ends after the longest
 //! that does.
 //!
 //! Each byte is looked up in a table of those with which a literal begins. Where it is one, the literals are compared.

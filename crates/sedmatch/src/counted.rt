@@ -411,7 +411,7 @@ impl Model for Marks {
 }
 
 impl Marks {
-    /// So many marks, none of them set. Memory is wanting only where a request was refused.
+    /// So many marks, none of them set. Fails only where a request for memory was refused.
     pub fn new(alloc: Global, len: usize) -> Result<Marks, AllocError>
         ensures { IfOk result (λ m. m ≡ replicate len false) }
     {
@@ -451,7 +451,7 @@ impl Marks {
         self.words[i / 64] = word;
     }
 
-    /// Takes the first `count` marks away, a word at a time; those behind them may go too.
+    /// Takes the first `count` marks away, a word at a time; those after them may go too.
     /// Counts a look for each of the `count`.
     pub fn clear(&mut self, count: usize, steps: &mut Steps)
         requires inside { count ≤ length self.old }

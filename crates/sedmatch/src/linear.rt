@@ -46,7 +46,7 @@ fn at_last(place: usize, ends: Ends) -> Option<FirstEnd>
     }
 }
 
-/// Where the first match ends, at the place or behind it, given what is told of the place.
+/// Where the first match ends, at the place or after it, given what is told of the place.
 fn first_end_on(
     expr: &Nodes,
     root: usize,
@@ -220,7 +220,7 @@ fn enter(
     }
 }
 
-/// Up to where matches can end that begin from `start` to `last`, by a table in which no place behind the first is a
+/// Up to where matches can end that begin from `start` to `last`, by a table in which no place after the first is a
 /// start, given what is told of the last.
 fn bound_by(
     expr: &Nodes,
@@ -308,7 +308,7 @@ fn ends_at(place: usize, len: usize, ends: Ends) -> bool
     if place < len { ends.inner } else { ends.last }
 }
 
-/// The last place up to `stop` at which a match ends that begins at `first` or behind it, given what is told of a
+/// The last place up to `stop` at which a match ends that begins at `first` or after it, given what is told of a
 /// place and the last one before it.
 fn last_on(
     nodes: &Nodes,
@@ -351,7 +351,7 @@ fn last_on(
     best
 }
 
-/// The last place up to `stop` at which a match ends that begins at `first` or behind it, by a table in which every
+/// The last place up to `stop` at which a match ends that begins at `first` or after it, by a table in which every
 /// place is a start.
 fn last_by(
     nodes: &Nodes,

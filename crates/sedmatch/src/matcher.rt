@@ -20,7 +20,7 @@ use sedre::{Expr, Steps};
 pub struct Found {
     /// Where the match begins.
     pub start: usize,
-    /// Where it ends: the place behind its last byte.
+    /// Where it ends: the place after its last byte.
     pub end: usize,
     /// Entry 0 is the whole match, entry k the span of group k; None where the group has no match.
     pub groups: [Option<(usize, usize)>; 10],

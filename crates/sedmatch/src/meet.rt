@@ -75,7 +75,7 @@ pub fn new_behind(alloc: Global, max_text: usize, max_nodes: usize) -> Result<Be
     })
 }
 
-/// The place behind the last one of a block, in a text of so many bytes.
+/// The place after the last one of a block, in a text of so many bytes.
 fn block_end(from: usize, width: usize, len: usize) -> usize
     requires inside { from ≤ len }
     requires short { len ≤ 2 ^ 30 }
@@ -471,7 +471,7 @@ fn next_met(
     }
 }
 
-/// The next occurrence behind one that ended at `at`: the null string at `at` is none.
+/// The next occurrence after one that ended at `at`: the null string at `at` is none.
 pub fn next_behind(
     expr: &Expr,
     root: usize,

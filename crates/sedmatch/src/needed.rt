@@ -1,6 +1,6 @@
 //! A literal that every match of an expression holds: a text without it has no match.
 //!
-//! A concatenation is followed from part to part, and single bytes that stand one behind another in it are a literal.
+//! A concatenation is followed from part to part, and single bytes that stand one after another in it are a literal.
 ghost use Rattle.std.specs.Prelude.{◌≡◌, ℕ, ◌+◌, ◌*◌, ◌^◌, ◌<◌, ◌≤◌, ◌⊎◌, length, IfOk, IfSome};
 ghost use Rattle.sedre.specs.Arena.{tree};
 ghost use Rattle.sedre.specs.Tree.{Tree};
@@ -17,7 +17,7 @@ const MAX_LITERAL: usize = 32;
 /// How the spans of a node begin.
 #[derive(Clone, Copy)]
 pub enum Link {
-    /// With a byte of this set, behind which they go on as the spans of this node.
+    /// With a byte of this set, after which they go on as the spans of this node.
     OneOf(ByteSet, usize),
     /// They are of one byte of this set.
     Last(ByteSet),
@@ -32,7 +32,7 @@ pub enum Link {
 pub struct Literal {
     /// The bytes.
     pub bytes: Vec<u8>,
-    /// The node as whose spans they go on behind these.
+    /// The node as whose spans they go on after these.
     pub rest: Option<usize>,
 }
 
@@ -163,7 +163,7 @@ fn longer(first: Vec<u8>, second: Vec<u8>) -> Vec<u8>
     }
 }
 
-/// The longest of the literals that the spans of the node hold one behind another.
+/// The longest of the literals that the spans of the node hold one after another.
 fn longest_literal(
     alloc: Global,
     expr: &Expr,

@@ -50,7 +50,7 @@ fn allowance(nodes: usize, len: usize) -> usize
 
 impl Occurrences {
     /// Room for texts of at most `max_text` bytes and expressions of at most `max_nodes` nodes.
-    /// Memory is wanting only where a request was refused.
+    /// Fails only where a request for memory was refused.
     pub fn new(alloc: Global, max_text: usize, max_nodes: usize) -> Result<Occurrences, AllocError>
         requires text { max_text ≤ 2 ^ 30 }
         requires some_node { 1 ≤ max_nodes }
@@ -236,7 +236,7 @@ impl TableMatcher {
         )
     }
 
-    /// The next occurrence in the text behind the one that ended at `last`, where there was one: the leftmost-longest
+    /// The next occurrence in the text after the one that ended at `last`, where there was one: the leftmost-longest
     /// match from there on, or one byte further where that is the null string at `last`.
     ///
     /// All calls for one text, from [`Occurrences::begin`] on, take at most 416 steps for each node and place together.

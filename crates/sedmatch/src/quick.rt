@@ -110,7 +110,7 @@ fn some_anywhere(
     }
 }
 
-/// The end of the longest match that begins at `start`, by a table in which no place behind it is a start.
+/// The end of the longest match that begins at `start`, by a table in which no place after it is a start.
 fn longest_by(
     expr: &Nodes,
     root: usize,
@@ -245,7 +245,7 @@ fn find_by(
 /// How many states a table has room for, where no other number is asked for.
 const STATES: usize = 64;
 
-/// An expression with tables of the states that its searches come to: what was found out at one place of a text serves
+/// An expression with tables of the states that its searches reach: what was found out at one place of a text serves
 /// at all others, and in later texts, so that a byte mostly costs a few looks, whatever the expression.
 ///
 /// It holds a copy of the expression and three tables: for a pass in which every place is a start, for one from a
@@ -275,7 +275,7 @@ impl Model for TableMatcher {
 }
 
 impl TableMatcher {
-    /// The expression with empty tables. Memory is wanting only where a request was refused.
+    /// The expression with empty tables. Fails only where a request for memory was refused.
     pub fn new(alloc: Global, expr: &Expr) -> Result<TableMatcher, AllocError>
         requires nodes { length expr.now.nodes ≤ 65536 }
         ensures { IfOk result (λ m. m ≡ expr.now) }

@@ -1,4 +1,4 @@
-//! Few bytes of which one stands at a fixed distance behind the beginning of every match: the rarest are sought, the
+//! Few bytes of which one stands at a fixed distance after the beginning of every match: the rarest are sought, the
 //! next rarest are held against what stands there, and after them the nodes that come first in a match.
 ghost use Rattle.std.specs.Prelude.{◌≡◌, ℕ, ◌+◌, ◌*◌, ◌^◌, ◌<◌, ◌≤◌, ◌↔◌, ◌⊎◌, Some, length, IfSome, IsTrue};
 ghost use Rattle.sedre.specs.Arena.{tree, tree_at};
@@ -26,7 +26,7 @@ const SPARE: usize = 4;
 /// How often bytes stand in a thousand that are sought one by one in less time than by vectors.
 const RARE: usize = 21;
 
-/// How many bytes behind its beginning a match is followed.
+/// How many bytes after its beginning a match is followed.
 const MAX_OFFSET: usize = 32;
 
 /// How often each letter stands in a thousand bytes of ordinary text, that is prose, logs and programs.
@@ -49,7 +49,7 @@ fn weight(byte: u8) -> usize
     }
 }
 
-/// A few bytes of which one stands at a fixed distance behind the beginning of every match.
+/// A few bytes of which one stands at a fixed distance after the beginning of every match.
 #[derive(Clone, Copy)]
 pub struct Fixed {
     /// The distance.
@@ -68,7 +68,7 @@ impl Fixed {
         }
     }
 
-    /// Whether one of them stands so far behind the place. Counts one look.
+    /// Whether one of them stands so far after the place. Counts one look.
     fn stands(&self, text: &Text, place: usize, steps: &mut Steps) -> bool
         requires place { place ≤ length text.now }
         requires room { steps.old < 2 ^ 119 }
@@ -84,7 +84,7 @@ impl Fixed {
         }
     }
 
-    /// The first place from `from` on behind which one of them stands so far.
+    /// The first place from `from` on after which one of them stands so far.
     fn find(&self, text: &Text, from: usize, steps: &mut Steps) -> Option<usize>
         requires from { from ≤ length text.now }
         requires room { steps.old < 2 ^ 119 }
@@ -102,7 +102,7 @@ impl Fixed {
     }
 }
 
-/// What stands behind the beginning of every match.
+/// What stands after the beginning of every match.
 #[derive(Clone, Copy)]
 pub struct Rare {
     /// The rarest bytes, which are sought.
@@ -233,7 +233,7 @@ fn with_fixed(rare: Option<Rare>, more: Fixed) -> Rare
     }
 }
 
-/// The same where a byte of the set stands so far behind the beginning of every match: sets of many bytes are left out.
+/// The same where a byte of the set stands so far after the beginning of every match: sets of many bytes are left out.
 fn with_set(rare: Option<Rare>, offset: usize, set: &ByteSet) -> Option<Rare>
     ensures { (e : Tree) → AllRare e rare → AllHave e offset set.now → AllRare e result }
 {
@@ -243,7 +243,7 @@ fn with_set(rare: Option<Rare>, offset: usize, set: &ByteSet) -> Option<Rare>
     }
 }
 
-/// The rarest bytes that stand behind the beginning of every span of a node, as long as it is a concatenation of sets.
+/// The rarest bytes that stand after the beginning of every span of a node, as long as it is a concatenation of sets.
 fn rare_from(expr: &Expr, from: usize, steps: &mut Steps) -> Option<Rare>
     requires inside { from < length expr.now.nodes }
     requires few { length expr.now.nodes ≤ 65536 }
@@ -351,7 +351,7 @@ fn with_held(rare: Option<Rare>, held: Option<Fixed>) -> Option<Rare>
     }
 }
 
-/// The rarest bytes that stand behind the beginning of every match, where they are few.
+/// The rarest bytes that stand after the beginning of every match, where they are few.
 pub fn rare_of(expr: &Expr, begins: &Begins, steps: &mut Steps) -> Option<Rare>
     requires few { length expr.now.nodes ≤ 65536 }
     requires begins { AllBegin (tree expr.now) begins.now }

@@ -20,7 +20,7 @@ pub struct Known {
     pub begins: Begins,
     /// The literal that they hold, if there is one.
     pub needed: Option<Needed>,
-    /// The rarest bytes at fixed distances behind their beginning, if they are told.
+    /// The rarest bytes at fixed distances after their beginning, if they are told.
     pub rare: Option<Rare>,
 }
 

@@ -23,7 +23,7 @@ pub struct Region {
     pub bound: usize,
 }
 
-/// The last place before `stop` at which a match ends that begins at `first` or behind it.
+/// The last place before `stop` at which a match ends that begins at `first` or after it.
 fn last_end(
     nodes: &Nodes,
     bytes: &Bytes,

@@ -235,7 +235,7 @@ fn opt_end(
     }
 }
 
-/// What is left of the spans of a concatenation, which stands at the index, behind its first part.
+/// What is left of the spans of a concatenation, which stands at the index, after its first part.
 fn seq_behind(
     expr: &Expr,
     index: usize,
@@ -267,7 +267,7 @@ fn seq_behind(
     }
 }
 
-/// What is left of the spans of the node at the index that begin at the place, behind its first part.
+/// What is left of the spans of the node at the index that begin at the place, after its first part.
 fn far_behind(expr: &Expr, index: usize, text: &Text, place: usize, steps: &mut Steps) -> Further
     requires inside { index < length expr.now.nodes }
     requires place { place ≤ length text.now }

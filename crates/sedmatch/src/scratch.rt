@@ -7,7 +7,7 @@ use crate::counted::Marks;
 use std::alloc::{AllocError, Global};
 use std::marker::Model;
 
-/// Marks for the nodes of an expression, at the place that a pass over the text has come to.
+/// Marks for the nodes of an expression, at the place that a pass over the text has reached.
 #[derive(Drop)]
 pub struct Sets {
     /// The node matches the null string here.
@@ -93,7 +93,7 @@ impl Model for Scratch {
 
 impl Scratch {
     /// Room for texts of at most `max_text` bytes and expressions of at most `max_nodes` nodes.
-    /// Memory is wanting only where a request was refused.
+    /// Fails only where a request for memory was refused.
     pub fn new(alloc: Global, max_text: usize, max_nodes: usize) -> Result<Scratch, AllocError>
         requires text { max_text ≤ 2 ^ 30 }
         requires some_node { 1 ≤ max_nodes }

@@ -173,7 +173,7 @@ fn longest_from(
     }
 }
 
-/// How a pass in which every start is entered as it is come to ends.
+/// How a pass ends that takes every place it reaches as a start.
 #[derive(Clone, Copy)]
 pub enum Swept {
     /// A match from one of these starts ends.
@@ -182,7 +182,7 @@ pub enum Swept {
     Miss(usize),
 }
 
-/// The region that a pass from `start` on has come to the last place of, where the first match ends: with its bound,
+/// The region whose last place, where the first match ends, a pass from `start` on has reached: with its bound,
 /// to which the pass goes on with no new starts, if the whole of it is asked for.
 fn region_to(
     expr: &Expr,

@@ -53,7 +53,7 @@ fn any_set(expr: &Nodes, root: usize, marks: &Marks, steps: &mut Steps) -> bool
     false
 }
 
-/// Brings the marks of a pass to a place behind `byte`, which `begin` says to be the text's beginning, and at which a
+/// Brings the marks of a pass to a place after `byte`, which `begin` says to be the text's beginning, and at which a
 /// match may begin if `first` says so.
 pub fn step(
     expr: &Nodes,

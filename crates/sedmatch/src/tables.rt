@@ -51,7 +51,7 @@ pub struct Table {
     pub at_begin: usize,
     /// The same for one from any other place.
     pub later: usize,
-    /// Whether every place behind the first is a start too.
+    /// Whether every place after the first is a start too.
     pub sweeps: bool,
     /// How many bytes were passed by filled cells since the table was last emptied, or near that.
     pub passed: usize,
@@ -277,7 +277,7 @@ pub fn settle(
     }
 }
 
-/// The state that comes behind a state and a byte, where it is known.
+/// The state that comes after a state and a byte, where it is known.
 fn known(
     expr: &Nodes,
     root: usize,
@@ -323,7 +323,7 @@ fn fill_cell(expr: &Nodes, root: usize, table: &mut Table, state: usize, byte: u
     table.cells[table.columns * state + class] = code;
 }
 
-/// Finds out what comes behind a state and a byte, and fills the cell.
+/// Finds out what comes after a state and a byte, and fills the cell.
 fn fill(
     expr: &Nodes,
     root: usize,
@@ -363,7 +363,7 @@ fn fill(
     }
 }
 
-/// What comes behind a state and a byte, after so many bytes that were passed by filled cells.
+/// What comes after a state and a byte, after so many bytes that were passed by filled cells.
 pub fn go(
     expr: &Nodes,
     root: usize,

@@ -1,7 +1,7 @@
-//! Bytes of a set and one byte behind them, as in `[^:]*:`.
+//! Bytes of a set and one byte after them, as in `[^:]*:`.
 //!
 //! The first such byte from a place on ends a match, and the leftmost match begins where the run before that byte does:
-//! one from further left would hold a byte that isn't in the set. The longest from there ends behind the last such byte
+//! one from further left would hold a byte that isn't in the set. The longest from there ends after the last such byte
 //! that the run leads to.
 ghost use Rattle.std.specs.Prelude.{◌+◌, ◌*◌, ◌^◌, ◌<◌, ◌≤◌, length};
 ghost use Rattle.sedmatch.specs.Sight.{CanStart, FirstStart, EndsAt};

@@ -1,4 +1,4 @@
-//! A literal, as in `green barley`: a match begins where it stands, and ends behind it.
+//! A literal, as in `green barley`: a match begins where it stands, and ends after it.
 //!
 //! The search for it tells the whole match, so that no table is looked at.
 ghost use Rattle.std.specs.Prelude.{◌≡◌, ℕ, List, ◌+◌, ◌^◌, ◌<◌, ◌≤◌, ◌-◌, length, IfOk, IfSome};

@@ -60,7 +60,7 @@ mutual
   piece_balanced (repeated least most {is = is} q) n = open-append n is (Repeat least most ∷ []) ∙ ap (λ (o : Option ℕ). go_on o (Repeat least most ∷ [])) (piece_balanced q n)
 
 module _ (kind : Kind) (folded : Bool) (delimiter : Option ℕ) (text : List ℕ) where
-  -- a cut that goes on behind another
+  -- a cut that goes on after another
   record Behind (before : Option Item) (at : ℕ) (is : List Item) (to : ℕ) (js : List Item) (mid : ℕ) : Type 0 where
     pub rest : List Item
     pub whole : is ≡ js ++ rest

@@ -66,7 +66,7 @@ closed d first place b bs is =
     let found : Element × ℕ = item d (b ∷ bs) in
     ap (λ (t : Bool). if t then ([], Some (place + 1)) else OneMore place found.0 (items d false (found.1 - 1) (place + 1) bs)) is
 
--- ---- a - with another item behind it
+-- ---- a - with another item after it
 
 dash_of_choice : (t : Bool) (x y : Element × ℕ) → is_dash x.0 ≡ false → is_dash y.0 ≡ false → is_dash (if t then x else y).0 ≡ false
 dash_of_choice true x y hx hy = hx

@@ -29,7 +29,7 @@ same_depth : {g h : ℕ} {is : List Item} {bs ds : List Tree} → AreAlternative
 same_depth a b = ap (λ (x : List Tree). depth (alternation x)) (one_reading a b)
 
 module _ (kind : Kind) (folded : Bool) (delimiter : Option ℕ) (text : List ℕ) (max_nodes : ℕ) where
-  -- behind the same items stands one fault
+  -- after the same items stands one fault
   same_row : {o mid p q : ℕ} {js : List Item} {r s : Reason} → Row kind folded delimiter text max_nodes js o mid p r → Row kind folded delimiter text max_nodes js o mid q s → Same p q r s
   same_row {p = p} {q = q} {r = r} {s = s} (bad f) (bad g) = same_bad p q r s (sym f ∙ g)
   same_row (bad f) (stray g) = absurd cc
@@ -51,13 +51,13 @@ module _ (kind : Kind) (folded : Bool) (delimiter : Option ℕ) (text : List ℕ
   same_row (large bs f a near far) (deep ds g d more) = absurd (omega (arith, same_depth a d))
   same_row (large bs f a near far) (large ds g d close more) = (refl, refl)
 
-  -- a cut that goes on behind another
+  -- a cut that goes on after another
   record Behind (before : Option Item) (is : List Item) (to : ℕ) (js : List Item) (mid : ℕ) : Type 0 where
     pub rest : List Item
     pub whole : is ≡ js ++ rest
     pub cut : Cut kind folded delimiter text (last_of before js) mid rest to
 
-  -- of two cuts from one place one goes on behind the other
+  -- of two cuts from one place one goes on after the other
   either : {before : Option Item} {at to mid : ℕ} {is js : List Item} → Cut kind folded delimiter text before at is to → Cut kind folded delimiter text before at js mid →
       Behind before is to js mid ⊎ Behind before js mid is to
   either {is = is} c done = inl (record { rest = is; whole = refl; cut = c })
@@ -74,7 +74,7 @@ module _ (kind : Kind) (folded : Bool) (delimiter : Option ℕ) (text : List ℕ
         | inr b ↦ inr (record { rest = b.rest; whole = ap (λ (r : List Item). i ∷ r) b.whole; cut = b.cut })
       ])
 
-  -- no balanced cut goes on behind a fault
+  -- no balanced cut goes on after a fault
   row_ends : {o n mid to p : ℕ} {js rest : List Item} {r : Reason} → Row kind folded delimiter text max_nodes js o mid p r → Cut kind folded delimiter text (last_of None js) mid rest to →
       open_groups o rest ≡ Some n → (rest ≡ []) × (to ≡ mid)
   row_ends w done h = (refl, refl)
@@ -87,7 +87,7 @@ module _ (kind : Kind) (folded : Bool) (delimiter : Option ℕ) (text : List ℕ
   row_ends (deep ds f d far) (item g c) h = absurd cc
   row_ends (large ds f d near far) (item g c) h = absurd cc
 
-  -- the faults behind two cuts, the one behind the other, are one
+  -- the faults after two cuts, the one after the other, are one
   behind_same : {o n mid to p q : ℕ} {is js : List Item} {r s : Reason} → Behind None is to js mid → open_groups 0 is ≡ Some n → open_groups 0 js ≡ Some o →
       Row kind folded delimiter text max_nodes is n to p r → Row kind folded delimiter text max_nodes js o mid q s → Same p q r s
   behind_same {o = o} {n = n} {mid = mid} {to = to} {p = p} {is = is} {js = js} {r = r} b h k v w =

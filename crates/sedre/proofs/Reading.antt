@@ -15,7 +15,7 @@ use Rattle.sedre.proofs.Sound.{Stands, base, only as only_pieces, stands_piece, 
 use Rattle.sedre.proofs.Exclusive.{open-append, go_on}
 use Rattle.sedre.proofs.Repeating.{repeat_follows}
 
--- behind the items up to this place stands this state
+-- after the items up to this place stands this state
 pub record Reading (kind : Kind) (folded : Bool) (delimiter : Option ℕ) (text : List ℕ) (before : Option Item) (at : ℕ) (s : State) : Type 0 where
   pub items : List Item
   pub cut : Cut kind folded delimiter text None 0 items at

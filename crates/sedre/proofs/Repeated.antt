@@ -15,7 +15,7 @@ copies-append : (n : ℕ) (a : Tree) (bs cs : List Tree) → copies n a bs ++ cs
 copies-append zero a bs cs = refl
 copies-append (suc n) a bs cs = ap (λ (r : List Tree). a ∷ r) (copies-append n a bs cs)
 
--- behind some trees and copies
+-- after some trees and copies
 behind : (ts : List Tree) (n : ℕ) (a : Tree) (bs : List Tree) → (ts ++ copies n a []) ++ bs ≡ ts ++ copies n a bs
 behind ts n a bs = append_assoc ts (copies n a []) bs ∙ ap (λ (r : List Tree). ts ++ r) (copies-append n a [] bs)
 
@@ -85,7 +85,7 @@ module _ (limit : ℕ) (ts : List Tree) (a : Tree) where
       let P : List Tree → Type 0 = λ x. Stored limit s x in
       subst P (behind ts less a (a ∷ []) ∙ ap (λ (r : List Tree). ts ++ r) (sym (copies_add less 1 a []) ∙ ap (λ (n : ℕ). copies n a []) e ∙ ap (λ (n : ℕ). copies count a (further n a (nat_eq count 0))) (let h : 0 ≡ count - count = omega arith in h))) st
 
-  -- the optional copies stand behind those that must
+  -- the optional copies stand after those that must
   pub split_copies : (s : Stack) (least more all : ℕ) → all ≡ least + more → Stored limit s ((ts ++ copies all a []) ++ a ∷ []) → Stored limit s (((ts ++ copies least a []) ++ copies more a []) ++ a ∷ [])
   split_copies s least more all e st =
       let P : List Tree → Type 0 = λ x. Stored limit s (x ++ a ∷ []) in

@@ -1,4 +1,4 @@
--- A repetition stands only behind what can be repeated, and its bounds are in order.
+-- A repetition stands only after what can be repeated, and its bounds are in order.
 use Rattle.std.proofs.Common.{◌≡◌, ℕ, ◌+◌, ◌≤◌, if◌then◌else◌, ◌&&◌, drop, Result, Ok, Err, List, Bool, true, false, Option, Some, None, refl, subst, arith}
 use Rattle.std.specs.Prelude.{nat_le}
 use Rattle.std.proofs.lemmas.Bool.Decides.{leb_tells}

@@ -8,7 +8,7 @@ use Rattle.sedre.specs.Grammar.{AreAlternatives, ArePieces, IsPiece, first, anot
 use Rattle.sedre.proofs.Machine.{with_last-append}
 use Rattle.sedre.specs.Stacks.{Level, with_last, with_piece, all_alternatives}
 
--- finished alternatives, and the pieces of the one behind them
+-- finished alternatives, and the pieces of the one after them
 pub data Body : ℕ → List Item → List Tree → List Tree → ℕ → Type 0 where
   only : {g h : ℕ} {is : List Item} {ps : List Tree} → ArePieces g is ps h → Body g is [] ps h
   behind : {g h k : ℕ} {is js : List Item} {bs ps : List Tree} → AreAlternatives g is bs h → ArePieces h js ps k → Body g (is ++ Bar ∷ js) bs ps k

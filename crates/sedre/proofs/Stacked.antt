@@ -154,7 +154,7 @@ stored_drop limit old new ts a p s e el en =
       parts_are = last.0;
     }
 
--- the last tree once more: its nodes are copied behind all others, each part by as many places as the tree has nodes
+-- the last tree once more: its nodes are copied after all others, each part by as many places as the tree has nodes
 pub stored_copy : (limit : ℕ) (old new : Stack) (ts : List Tree) (a : Tree) (ps : List Part) (p one : Part) (count : ℕ) → Stored limit old (ts ++ a ∷ []) → old.parts.items ≡ ps ++ p ∷ [] →
     count ≡ p.end - last_end ps → one.end ≡ min (p.end + count) old.limit → one.depth ≡ p.depth → one.inner ≡ p.inner → new.limit ≡ old.limit → new.parts.items ≡ (ps ++ p ∷ []) ++ one ∷ [] →
     (one.end < old.limit → count ≤ length old.nodes → new.nodes ≡ old.nodes ++ map (shifted count) (drop (length old.nodes - count) old.nodes)) → (old.limit ≤ one.end → new.nodes ≡ old.nodes) →
@@ -204,7 +204,7 @@ chain_one : (alternatives : Bool) (p : Tree) → chain alternatives (p ∷ []) �
 chain_one true p = refl
 chain_one false p = refl
 
--- of the trees behind others the last ones are joined
+-- of the trees after others the last ones are joined
 pub record Partly (alternatives : Bool) (limit : ℕ) (s : Stack) (ts ps : List Tree) : Type 0 where
   pub front : List Tree
   pub first : Tree

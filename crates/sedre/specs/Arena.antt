@@ -1,4 +1,4 @@
--- An expression as a list of nodes, each behind its parts: what contracts see of it.
+-- An expression as a list of nodes, each after its parts: what contracts see of it.
 use Rattle.std.specs.Prelude.{◌≡◌, ◌≢◌, ℕ, zero, suc, ◌+◌, ◌-◌, ◌<◌, ◌≤◌, ◌⊎◌, List, length, slice_get, Option, Some}
 use Rattle.std.specs.Prelude.{None}
 use Rattle.sedre.specs.Tree.{Tree, empty, set, begin, end, seq, alt, group, star, opt, size}

@@ -20,14 +20,14 @@ is_delimiter (Some d) b = d == b
 
 -- ---- the items of a list
 
--- how many bytes stand before the first c with a ] behind it
+-- how many bytes stand before the first c with a ] after it
 abbrev pub before_closing : ℕ → List ℕ → Option ℕ
 before_closing c [] = None
 before_closing c (x ∷ []) = None
 before_closing c (x ∷ y ∷ rest) =
     if x == c && y == 93 then Some 0 else option_map (λ n. n + 1) (before_closing c (y ∷ rest))
 
--- what a form holds, from the bytes behind its opening: at least one byte, so that [.].] and [=]=] name ]
+-- what a form holds, from the bytes after its opening: at least one byte, so that [.].] and [=]=] name ]
 abbrev pub content : ℕ → List ℕ → Option (List ℕ)
 content c [] = None
 content c (x ∷ rest) = option_map (λ n. x ∷ take n rest) (before_closing c rest)
@@ -43,7 +43,7 @@ abbrev pub of_class : Option Class → Element
 of_class None = Wrong UnknownClass
 of_class (Some class) = OfClass class
 
--- a form by the byte behind its [ (XBD 9.3.5, 4 to 6)
+-- a form by the byte after its [ (XBD 9.3.5, 4 to 6)
 abbrev pub form_of : ℕ → List ℕ → Element
 form_of c held =
     if c == 58 then of_class (class_named held) else if c == 61 then of_one held Equivalent else of_one held Collating
@@ -63,7 +63,7 @@ item delimiter (b ∷ c ∷ rest) =
     else if b == 91 && (c == 58 || c == 61 || c == 46) then form c (length rest + 2) (content c rest)
     else (Plain b, 1)
 
--- the items with their places, and the place behind the closing ], None where the text ends before. A ] that stands
+-- the items with their places, and the place after the closing ], None where the text ends before. A ] that stands
 -- first is an item (XBD 9.3.5, 1); `skip` bytes belong to the item before
 abbrev pub items : Option ℕ → (first : Bool) → (skip place : ℕ) → List ℕ → List (ℕ × Element) × Option ℕ
 items delimiter first skip place [] = ([], None)
@@ -77,12 +77,12 @@ items delimiter first zero place (b ∷ bs) =
 
 -- ---- what the items list
 
--- whether an item makes a range where another one stands before and behind it (XBD 9.3.5, 7)
+-- whether an item makes a range where another one stands before and after it (XBD 9.3.5, 7)
 abbrev pub is_dash : Element → Bool
 is_dash (Plain b) = b == 45
 is_dash element = false
 
--- whether what stands behind a range goes on as another one, as in a-c-e
+-- whether what stands after a range goes on as another one, as in a-c-e
 abbrev pub goes_on : List (ℕ × Element) → Bool
 goes_on [] = false
 goes_on (x ∷ []) = false
@@ -157,7 +157,7 @@ listed (x ∷ y ∷ z ∷ rest) =
 
 -- ---- a whole list
 
--- the items from the place behind the opening [ on, where a ^ makes a non-matching list (XBD 9.3.5, 3)
+-- the items from the place after the opening [ on, where a ^ makes a non-matching list (XBD 9.3.5, 3)
 abbrev pub items_behind : Option ℕ → (place : ℕ) → List ℕ → List (ℕ × Element) × Option ℕ
 items_behind delimiter place [] = ([], None)
 items_behind delimiter place (b ∷ bs) =
@@ -171,7 +171,7 @@ is_negated (b ∷ bs) = b == 94
 abbrev pub matched : (folded negated : Bool) → List Bool → List Bool
 matched folded negated set = if negated then complement (matching folded set) else matching folded set
 
--- the set and the place behind the list, or the first fault; that the list isn't closed comes last, at its [
+-- the set and the place after the list, or the first fault; that the list isn't closed comes last, at its [
 abbrev pub judged : (folded negated : Bool) → (at : ℕ) → Listing → Option ℕ → Result (ByteSet × ℕ) ExprFault
 judged folded negated at (Err f) end = Err f
 judged folded negated at (Ok set) None = Err (record { place = at; reason = OpenBracket })
@@ -184,6 +184,6 @@ list_at folded delimiter text at =
     let found = items_behind delimiter (at + 1) bytes in
     judged folded (is_negated bytes) at (listed found.0) found.1
 
--- the place behind a list, whatever it lists, from the place behind its [ on
+-- the place after a list, whatever it lists, from the place after its [ on
 unfoldable pub list_end : Option ℕ → (place : ℕ) → List ℕ → Option ℕ
 list_end delimiter place bytes = (items_behind delimiter place bytes).1

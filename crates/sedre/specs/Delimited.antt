@@ -8,7 +8,7 @@ abbrev pub behind_escape : (place : ℕ) → List ℕ → Option ℕ
 behind_escape place [] = None
 behind_escape place (c ∷ rest) = Some (place + 2)
 
--- the place behind what stands at a place: an escape, a bracket expression or a byte; None where the text ends before
+-- the place after what stands at a place: an escape, a bracket expression or a byte; None where the text ends before
 abbrev pub behind : (delimiter place : ℕ) → List ℕ → Option ℕ
 behind d place [] = None
 behind d place (b ∷ bs) =

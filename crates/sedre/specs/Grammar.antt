@@ -12,7 +12,7 @@ use Rattle.sedre.specs.Tree.{Tree, set, begin, end, group, size, depth}
 use Rattle.sedre.specs.Repeats.{concatenation, alternation, repetition}
 
 -- Groups are numbered by their openings from 1 (XBD 9.3.6): each fact holds from a count of the openings before the
--- items to that behind them.
+-- items to that after them.
 mutual
   -- these items are these alternatives
   pub data AreAlternatives : ℕ → List Item → List Tree → ℕ → Type 0 where
@@ -38,7 +38,7 @@ mutual
     repeated : {g h : ℕ} (least : ℕ) (most : Option ℕ) {is : List Item} {t : Tree} →
         IsPiece g is t h → IsPiece g (is ++ Repeat least most ∷ []) (repetition least most t) h
 
--- the text is cut into these items, from one place, behind an item, up to another, where case counts or is folded
+-- the text is cut into these items, from one place, after an item, up to another, where case counts or is folded
 pub data Cut (kind : Kind) (folded : Bool) (delimiter : Option ℕ) (text : List ℕ) :
     Option Item → ℕ → List Item → ℕ → Type 0 where
   done : {before : Option Item} {at : ℕ} → Cut kind folded delimiter text before at [] at
@@ -51,7 +51,7 @@ abbrev pub last_of : Option Item → List Item → Option Item
 last_of before [] = before
 last_of before (i ∷ is) = last_of (Some i) is
 
--- how many groups are open behind the items, where each closing has its opening
+-- how many groups are open after the items, where each closing has its opening
 abbrev pub open_groups : ℕ → List Item → Option ℕ
 open_groups n [] = Some n
 open_groups n (Byte members ∷ is) = open_groups n is
@@ -74,7 +74,7 @@ pub record ReadsAs (kind : Kind) (folded : Bool) (delimiter : Option ℕ) (text 
   pub grammar : AreAlternatives 0 items alternatives groups
   pub is : alternation alternatives ≡ e
 
--- the fault behind these items, of which so many groups are open
+-- the fault after these items, of which so many groups are open
 pub data Row (kind : Kind) (folded : Bool) (delimiter : Option ℕ) (text : List ℕ) (max_nodes : ℕ) :
     List Item → (opened to place : ℕ) → Reason → Type 0 where
   -- the next item is none

@@ -41,7 +41,7 @@ closing_width Extended = 1
 abbrev pub bounds : ℕ → Option ℕ → ℕ → Option Interval
 bounds least most width = Some (record { least = least; most = most; width = width })
 
--- behind the comma: nothing, or a limit that is no less
+-- after the comma: nothing, or a limit that is no less
 abbrev pub limit : Kind → Option ℕ → (least digits : ℕ) → List ℕ → Option (ℕ × ℕ) → Option Interval
 limit kind delimiter least digits front None =
     if closes kind delimiter front then bounds least None (digits + 1 + closing_width kind) else None
@@ -49,7 +49,7 @@ limit kind delimiter least digits front (Some (most, more)) =
     if closes kind delimiter (drop more front) && nat_le least most
     then bounds least (Some most) (digits + 1 + more + closing_width kind) else None
 
--- behind the first number
+-- after the first number
 abbrev pub behind_least : Kind → Option ℕ → List ℕ → Option (ℕ × ℕ) → Option Interval
 behind_least kind delimiter front None = None
 behind_least kind delimiter front (Some (least, digits)) =

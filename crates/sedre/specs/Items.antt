@@ -21,14 +21,14 @@ use Rattle.sedre.specs.declared.syntax.Item.TheVariants.{Byte, Open, Close, Bar,
 use Rattle.sedre.specs.declared.syntax.Here.{Here}
 use Rattle.sedre.specs.declared.syntax.Here.TheVariants.{Is, Ends, Bad}
 
--- whether an item stands first: at the beginning, behind an opening of a group or behind an alternation symbol
+-- whether an item stands first: at the beginning, after an opening of a group or after an alternation symbol
 abbrev pub is_first : Option Item → Bool
 is_first None = true
 is_first (Some Open) = true
 is_first (Some Bar) = true
 is_first before = false
 
--- whether a repetition may follow: behind an anchor none may (XBD 9.3.6, 9.4.6, 9.4.9)
+-- whether a repetition may follow: after an anchor none may (XBD 9.3.6, 9.4.6, 9.4.9)
 abbrev pub is_repeatable : Option Item → Bool
 is_repeatable (Some (Byte members)) = true
 is_repeatable (Some Close) = true
@@ -68,7 +68,7 @@ star_item Basic true at behind = Is (Repeat 0 None) behind
 star_item Basic false at behind = Is (Byte (only 42)) behind
 star_item Extended may at behind = repeats may at (Is (Repeat 0 None) behind)
 
--- where something stands before it, ? repeats; directly behind a repetition of an extended expression it is left out by
+-- where something stands before it, ? repeats; directly after a repetition of an extended expression it is left out by
 -- name
 abbrev pub question_item : Kind → (may repeated : Bool) → (at behind : ℕ) → Here
 question_item Basic may repeated at behind = repeats may at (Is (Repeat 0 (Some 1)) behind)
@@ -86,7 +86,7 @@ dollar_item Basic true behind = Is AtEnd behind
 dollar_item Basic false behind = Is (Byte (only 36)) behind
 dollar_item Extended last behind = Is AtEnd behind
 
--- what a symbol is, behind an item. Where case is folded, a literal byte stands for both cases of its letter (this
+-- what a symbol is, after an item. Where case is folded, a literal byte stands for both cases of its letter (this
 -- project's own); those of * ^ and $ are no letters
 abbrev pub item_for : Kind → (folded : Bool) → Option ℕ → List ℕ → Option Item → (at : ℕ) → Option (Symbol × ℕ) → Here
 item_for kind folded delimiter text before at None = Ends
@@ -109,12 +109,12 @@ item_for kind folded delimiter text before at (Some (Dollar, n)) =
     dollar_item kind (ends_alternative (symbol kind delimiter (drop (at + n) text))) (at + n)
 item_for kind folded delimiter text before at (Some (Unknown reason, n)) = fault at reason
 
--- what stands at a place of a text behind an item
+-- what stands at a place of a text after an item
 unfoldable pub item_at : Kind → (folded : Bool) → Option ℕ → List ℕ → Option Item → (at : ℕ) → Here
 item_at kind folded delimiter text before at =
     item_for kind folded delimiter text before at (symbol kind delimiter (drop at text))
 
--- an item ends behind its place, and a fault is reported within the text
+-- an item ends after its place, and a fault is reported within the text
 abbrev pub IsBehind : (at len : ℕ) → Here → Type 0
 IsBehind at len (Is i next) = (at < next) × (next ≤ len)
 IsBehind at len Ends = Unit {0}

@@ -12,7 +12,7 @@ is_range [] = false
 is_range (b ∷ []) = false
 is_range (b ∷ c ∷ rest) = b == 45 && not (c == 93)
 
--- what an item or a range lists, and the place behind it
+-- what an item or a range lists, and the place after it
 abbrev pub located : ℕ → Listing → Result (ByteSet × ℕ) ExprFault
 located behind (Err f) = Err f
 located behind (Ok set) = Ok (set, behind)
@@ -28,7 +28,7 @@ members_at delimiter text at =
     located behind (range (at, first.0) (next + 1, last.0) (is_range (drop behind text)))
     else located next (single (at, first.0))
 
--- where the items of a list begin, from the place behind its [
+-- where the items of a list begin, from the place after its [
 abbrev pub items_start : (place : ℕ) → List ℕ → ℕ
 items_start place bytes = if is_negated bytes then place + 1 else place
 

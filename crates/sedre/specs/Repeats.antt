@@ -2,7 +2,7 @@
 use Rattle.std.specs.Prelude.{ℕ, zero, suc, ◌-◌, ◌≤◌, List, [], ◌∷◌, Bool, false, Option, Some, None, nat_eq}
 use Rattle.sedre.specs.Tree.{Tree, empty, seq, alt, star, opt}
 
--- pieces one behind the other
+-- pieces one after the other
 abbrev pub concatenation : List Tree → Tree
 concatenation [] = empty
 concatenation (a ∷ []) = a
@@ -14,7 +14,7 @@ alternation [] = empty
 alternation (a ∷ []) = a
 alternation (a ∷ b ∷ rest) = alt a (alternation (b ∷ rest))
 
--- a number of copies, and what stands behind them
+-- a number of copies, and what stands after them
 abbrev pub copies : ℕ → Tree → List Tree → List Tree
 copies zero e behind = behind
 copies (suc n) e behind = e ∷ copies n e behind

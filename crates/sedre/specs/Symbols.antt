@@ -36,7 +36,7 @@ alone Extended b =
     else if b == 36 then Dollar  -- $
     else Literal b
 
--- a byte behind a backslash that is no symbol there: \n is a newline (XCU sed), \t a tab (this project's own);
+-- a byte after a backslash that is no symbol there: \n is a newline (XCU sed), \t a tab (this project's own);
 -- back-references are left out by name, other letters and digits and < > ' ` are refused (this project's own)
 abbrev pub escaped_literal : ℕ → Symbol
 escaped_literal b =
@@ -46,7 +46,7 @@ escaped_literal b =
     else if is_letter b || b == 48 || b == 60 || b == 62 || b == 39 || b == 96 then Unknown UnknownEscape
     else Literal b
 
--- a byte behind a backslash; in basic expressions \| \+ \? are this project's own
+-- a byte after a backslash; in basic expressions \| \+ \? are this project's own
 abbrev pub escaped : Kind → ℕ → Symbol
 escaped Basic b =
     if b == 40 then Opening  -- (

@@ -9,7 +9,7 @@ pub data Tree : Type 0 where
   -- the anchors ^ and $ (XBD 9.3.8, 9.4.9)
   begin : Tree
   end : Tree
-  -- one behind the other
+  -- one after the other
   seq : Tree → Tree → Tree
   -- either
   alt : Tree → Tree → Tree
@@ -45,7 +45,7 @@ abbrev mutual
   depth (star a first) = 1 + depth a
   depth (opt a first) = 1 + depth a
 
-  -- of the alternatives behind the first
+  -- of the alternatives after the first
   pub alternatives_depth : Tree → ℕ
   alternatives_depth empty = 0
   alternatives_depth (set members) = 0

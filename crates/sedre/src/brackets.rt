@@ -82,7 +82,7 @@ fn is_range_at(text: &[u8], at: usize) -> bool
     matches!(&text[at..], [b'-', b, ..] if *b != b']')
 }
 
-/// The bytes of the item or the range at a place, and the place behind it, or its first fault.
+/// The bytes of the item or the range at a place, and the place after it, or its first fault.
 #[tactic(auto, unfolding(crate::specs::ListReading::members_at))]
 fn members_at(delimiter: Option<u8>, text: &[u8], at: usize) -> Result<(ByteSet, usize), ExprFault>
     requires { at < length text.now }
@@ -109,7 +109,7 @@ fn is_negated(text: &[u8], at: usize) -> bool
     matches!(&text[at..], [b'^', ..])
 }
 
-/// Where the items of a list begin, from the place behind its `[` on.
+/// Where the items of a list begin, from the place after its `[` on.
 fn items_start(text: &[u8], at: usize) -> usize
     requires { at ≤ length text.now }
     ensures is { result ≡ items_start at (drop at text.now) }
@@ -141,7 +141,7 @@ fn matched(folded: bool, negated: bool, set: ByteSet) -> ByteSet
     }
 }
 
-/// Reads the bracket expression whose `[` stands at a place: its bytes, and the place behind its `]`.
+/// Reads the bracket expression whose `[` stands at a place: its bytes, and the place after its `]`.
 /// With a delimiter, a backslash and the delimiter are the delimiter as a literal. Where case is folded, what is
 /// listed is closed under its change, before `^` takes the others.
 ///
@@ -179,7 +179,7 @@ pub fn list_at(
     })
 }
 
-/// The place behind the bracket expression whose `[` stands at a place, whatever it lists; None where
+/// The place after the bracket expression whose `[` stands at a place, whatever it lists; None where
 /// it isn't closed.
 pub fn list_end(delimiter: Option<u8>, text: &[u8], at: usize) -> Option<usize>
     requires { at < length text.now }

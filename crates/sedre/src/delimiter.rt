@@ -6,7 +6,7 @@ ghost use Rattle.sedre.specs.Delimited.{delimiter_at, behind};
 use crate::brackets::list_end;
 
 /// The place of the delimiter that ends the expression which begins at `at`: the first one that is neither
-/// behind a backslash nor in a bracket expression. None where a newline or the end of the text comes first,
+/// after a backslash nor in a bracket expression. None where a newline or the end of the text comes first,
 /// and where `at` is past the text. The delimiter is neither a backslash nor a newline.
 ///
 /// What a bracket expression is follows its own rules, so `[[:x]/` has no end; faults in one are not told
@@ -32,7 +32,7 @@ pub fn delimited(text: &[u8], at: usize, delimiter: u8) -> Option<usize>
     None
 }
 
-/// The place behind what stands at a place: an escape, a bracket expression or a byte; None where the
+/// The place after what stands at a place: an escape, a bracket expression or a byte; None where the
 /// text ends before.
 fn behind(text: &[u8], at: usize, delimiter: u8) -> Option<usize>
     requires { at < length text.now }

@@ -128,7 +128,7 @@ fn dollar_item(kind: Kind, last: bool, next: usize) -> Here
     }
 }
 
-/// What stands at a place of a text behind an item, where case counts or is folded.
+/// What stands at a place of a text after an item, where case counts or is folded.
 #[tactic(auto, unfolding(crate::specs::Items::item_at))]
 pub fn item_at(
     kind: Kind,

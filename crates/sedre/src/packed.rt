@@ -108,7 +108,7 @@ fn entry_seen(entry: Entry, mirrored: bool) -> Entry
     if mirrored { mirror_entry(entry) } else { entry }
 }
 
-/// What is kept of the mirrored node: its two parts are exchanged where they stand one behind the other, and so are
+/// What is kept of the mirrored node: its two parts are exchanged where they stand one after the other, and so are
 /// the two anchors.
 fn mirror_entry(entry: Entry) -> Entry
     ensures { result ≡ entry_seen true entry }
@@ -222,7 +222,7 @@ fn add_again(entries: &mut Vec<Entry>, from: usize) -> Result<(), AllocError>
     Ok(())
 }
 
-/// Nodes, each behind its parts.
+/// Nodes, each after its parts.
 #[derive(Drop)]
 pub struct Packed {
     entries: Vec<Entry>,

@@ -7,7 +7,7 @@ pub struct Part {
     pub end: usize,
     /// how deep it nests, up to 601
     pub depth: usize,
-    /// how deep it nests as an alternative behind the first, up to 601
+    /// how deep it nests as an alternative after the first, up to 601
     pub inner: usize,
 }
 

@@ -140,7 +140,7 @@ pub fn read(
     // No fault is passed over.
     ensures no_fault { OnOk result ((place : ℕ) (reason : Reason) →
         ExprFaulty kind delimiter text.now max_nodes place reason → ⊥) }
-    // A fault is the first one of the text, or memory was wanting.
+    // A fault is the first one of the text, or there was no memory.
     ensures fault { IfErr result (λ f.
         ExprFaulty kind delimiter text.now max_nodes f.place f.reason ⊎ (f ≡ NO_MEMORY)) }
     // A fault is reported in the text or at its end.
@@ -169,7 +169,7 @@ pub fn read_folded(
     // No fault is passed over.
     ensures no_fault { OnOk result ((place : ℕ) (reason : Reason) →
         ExprFaulty kind delimiter text.now max_nodes place reason → ⊥) }
-    // A fault is the first one of the text, or memory was wanting.
+    // A fault is the first one of the text, or there was no memory.
     ensures fault { IfErr result (λ f.
         ExprFaulty kind delimiter text.now max_nodes f.place f.reason ⊎ (f ≡ NO_MEMORY)) }
     // A fault is reported in the text or at its end.

@@ -19,7 +19,7 @@ impl Stack {
     ghost use Rattle.sedre.specs.Repeats.{copies, optional, repetition, IsInterval};
     ghost use Rattle.sedre.specs.Stacks.{Stored, LastBecomes};
 
-    /// Puts so many copies of the last tree behind it.
+    /// Puts so many copies of the last tree after it.
     fn copies(&mut self, count: usize) -> Result<(), AllocError>
         requires { 1 ≤ vec_len self.old.parts }
         ensures trees { OnOk result ((limit : ℕ) (ts : List Tree) (a : Tree) → Stored limit self.old (ts ++ a ∷ []) →

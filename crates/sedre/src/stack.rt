@@ -1,7 +1,7 @@
-//! The trees that were read, written out one behind another.
+//! The trees that were read, written out one after another.
 //!
 //! A tree is kept as its nodes only where the nodes up to it stay below a limit. Of a tree that is too large, and of
-//! all behind it, only the depths are kept: what stands there reads on, and may still go away under `{0}`.
+//! all after it, only the depths are kept: what stands there reads on, and may still go away under `{0}`.
 ghost use Rattle.std.specs.Prelude.{◌≡◌, ◌≤◌, ◌<◌, ◌+◌, ◌-◌, ◌++◌, ◌∷◌, [], ℕ, List, min, max, take, drop, map, length};
 ghost use Rattle.std.specs.Prelude.{OnOk, vec_len, false};
 ghost use Rattle.sedre.specs.Covers.{cover_node};
@@ -169,7 +169,7 @@ impl Stack {
         Ok(())
     }
 
-    /// Puts a copy of the last tree behind it.
+    /// Puts a copy of the last tree after it.
     pub fn copy(&mut self) -> Result<(), AllocError>
         requires { 1 ≤ vec_len self.old.parts }
         ensures trees { OnOk result ((limit : ℕ) (ts : List Tree) (a : Tree) → Stored limit self.old (ts ++ a ∷ []) →

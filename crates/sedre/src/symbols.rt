@@ -35,7 +35,7 @@ fn alone(kind: Kind, b: u8) -> Symbol
     }
 }
 
-/// What a byte means behind a backslash where it is no symbol.
+/// What a byte means after a backslash where it is no symbol.
 fn escaped_literal(b: u8) -> Symbol
     ensures { result ≡ escaped_literal b }
 {
@@ -50,7 +50,7 @@ fn escaped_literal(b: u8) -> Symbol
     }
 }
 
-/// What a byte means behind a backslash.
+/// What a byte means after a backslash.
 fn escaped(kind: Kind, b: u8) -> Symbol
     ensures { result ≡ escaped kind b }
 {

@@ -43,7 +43,7 @@ pub enum Item {
 /// What stands at a place of a text.
 #[derive(Clone, Copy)]
 pub enum Here {
-    /// an item, and the place behind it
+    /// an item, and the place after it
     Is(Item, usize),
     /// nothing: the text ends
     Ends,

@@ -1,4 +1,4 @@
-//! Expressions as callers see them: nodes, each behind its parts.
+//! Expressions as callers see them: nodes, each after its parts.
 ghost use Rattle.std.specs.Prelude.{◌≡◌, ◌<◌, ◌+◌, ◌^◌, Some, IfOk, length, slice_get};
 ghost use Rattle.std.specs.Prelude.{option_map};
 ghost use Rattle.sedre.specs.Arena.{Written, IsArena, IsExpr};
@@ -37,7 +37,7 @@ impl Expr {
         Expr { nodes, groups }
     }
 
-    /// The same expression once more. Memory is wanting only where a request was refused.
+    /// The same expression once more. Fails only where a request for memory was refused.
     pub fn copy(&self, alloc: Global) -> Result<Expr, AllocError>
         ensures { IfOk result (λ e. e ≡ self.now) }
     {

@@ -34,7 +34,7 @@ pub enum Reason {
     NothingToRepeat,
     /// E9: a backslash is the last byte
     LastBackslash,
-    /// E10: this byte has no meaning behind a backslash
+    /// E10: this byte has no meaning after a backslash
     UnknownEscape,
     /// E11: back-references are left out
     BackReference,
@@ -132,7 +132,7 @@ pub enum Node {
     Begin,
     /// the end of the text
     End,
-    /// one behind the other
+    /// one after the other
     Seq(NodeId, NodeId),
     /// either
     Alt(NodeId, NodeId),

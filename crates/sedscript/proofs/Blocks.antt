@@ -27,7 +27,7 @@ close_step Close (suc d) n us c h = let e : suc d - 1 ≡ d = omega arith in rw 
 close_step Open d n us c h = h (suc d) ∙ tail_get us d
 close_step f d n us c h = h d
 
--- a closing brace behind so many inner ones is found in the list of those that close no block
+-- a closing brace after so many inner ones is found in the list of those that close no block
 pub close_is : (d n : ℕ) (is : List Item) → close_in d n is ≡ slice_get (unopened n is) d
 close_is d n [] = refl
 close_is d n (i ∷ is) = close_step i.function d n (unopened (counted n i) is) (λ (e : ℕ). close_in e (counted n i) is) (λ e. close_is e (counted n i) is)
@@ -44,7 +44,7 @@ unopened_step items k n next i at e =
 pub none_behind : (items : List Item) (n : ℕ) → [] ≡ reversed (unopened n (drop (length items) items))
 none_behind items n = let e : drop (length items) items ≡ [] = drop_of_length-le items (omega arith) in rw e refl
 
--- the table behind the last item
+-- the table after the last item
 pub ends_end : (items : List Item) (n : ℕ) (ends : List (Option ℕ)) → drop (length ends) ends ≡ ends_in n (drop (length items) items)
 ends_end items n ends =
     let e : drop (length items) items ≡ [] = drop_of_length-le items (omega arith) in

@@ -192,7 +192,7 @@ abbrev ItemsWithin : ℕ → List Item → Type 0
 ItemsWithin n [] = Unit {0}
 ItemsWithin n (i ∷ is) = ItemWithin n i × ItemsWithin n is
 
--- what is read is bounded by the count of expressions behind it
+-- what is read is bounded by the count of expressions after it
 abbrev Bounds : {A : Type 0} → (ℕ → A → Type 0) → ℕ → Reading A → Type 0
 Bounds P count (plainly r) = IfOk r (P count)
 Bounds P count (expression p k) = (groups : ℕ) → Bounds P (suc count) (k groups)
@@ -203,7 +203,7 @@ bounds_then P Q count (plainly (Ok x)) f h g = g count x (omega arith) h
 bounds_then P Q count (plainly (Err x)) f h g = tt
 bounds_then P Q count (expression p k) f h g = λ groups. bounds_then P Q (suc count) (k groups) f (h groups) (λ n x le. g n x (omega (arith, le)))
 
--- what is given is bounded by the count behind all expressions
+-- what is given is bounded by the count after all expressions
 gives_bounds : {A : Type 0} (P : ℕ → A → Type 0) (text : List ℕ) (kind : Kind) (m count : ℕ) (r : Reading A) (es : List Written) (x : A) → Gives text kind m r es x → Bounds P count r → P (count + length es) x
 gives_bounds P text kind m count _ _ x value h = subst (λ (n : ℕ). P n x) (let e : count ≡ count + 0 = omega arith in e) h
 gives_bounds P text kind m count _ _ x (behind {k = k} {es = es} e is g) h =

@@ -61,7 +61,7 @@ range_more a (suc n) =
     ap (range_with_len a) (let e : suc n + 1 ≡ suc (n + 1) = omega arith in e)
     ∙ ap (λ (l : List ℕ). a ∷ l) (range_more (a + 1) n ∙ ap (λ (k : ℕ). range_with_len (a + 1) n ++ k ∷ []) (omega arith))
 
--- the pair at an index, before those behind it
+-- the pair at an index, before those after it
 pub table_step : (source target : List ℕ) (k d e s t : ℕ) → k < length source → k < length target → s ≡ get_or source k d → t ≡ get_or target k e → s < 256 →
     set (table_of (drop (k + 1) source) (drop (k + 1) target)) s t ≡ table_of (drop k source) (drop k target)
 table_step source target k d e s t h g is as_ lt =
@@ -70,7 +70,7 @@ table_step source target k d e s t h g is as_ lt =
     let those : t ∷ drop (k + 1) target ≡ drop k target = ap (λ (z : ℕ). z ∷ drop (k + 1) target) as_ ∙ (ap (λ (z : ℕ). get_or target k e ∷ drop z target) one ∙ sym (drop-cons target k e g)) in
     table_more s t (drop (k + 1) source) (drop (k + 1) target) lt ∙ (ap (λ (z : List ℕ). table_of z (t ∷ drop (k + 1) target)) these ∙ ap (table_of (drop k source)) those)
 
--- behind the shorter string no pair stands
+-- after the shorter string no pair stands
 pub table_start : (source target : List ℕ) (k : ℕ) → k ≡ min (length source) (length target) → range_with_len 0 256 ≡ table_of (drop k source) (drop k target)
 table_start source target k e = table_none (drop k source) (drop k target) (elim (leb_tells (length source) k)
     [ inl h ↦ inl (drop_of_length-le source h.1) | inr h ↦ inr (drop_of_length-le target (let above = h.1 in omega (arith, e, above))) ])

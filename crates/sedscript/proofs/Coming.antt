@@ -49,13 +49,13 @@ if_false : {A : Type 0} (x y : A) (b : Bool) → b ≡ false → (if b then x el
 if_false x y true e = let bad : true ≡ false = e in cc
 if_false x y false e = refl
 
--- what is read behind what was read
+-- what is read after what was read
 pub gives_then : {A B : Type 0} (text : List ℕ) (kind : Kind) (m : ℕ) (r : Reading A) (f : A → Reading B) (es fs : List Written) (a : A) (b : B) →
     Gives text kind m r es a → Gives text kind m (f a) fs b → Gives text kind m (r >>= f) (es ++ fs) b
 gives_then text kind m _ f _ fs _ b value h = h
 gives_then text kind m _ f _ fs a b (behind {k = k} {es = es} e is g) h = behind e is (gives_then text kind m (k e.groups) f es fs a b g h)
 
--- a fault behind what was read
+-- a fault after what was read
 pub fails_then : {A B : Type 0} (text : List ℕ) (kind : Kind) (m : ℕ) (r : Reading A) (f : A → Reading B) (es : List Written) (a : A) (x : ScriptFault) →
     Gives text kind m r es a → Fails text kind m (f a) x → Fails text kind m (r >>= f) x
 fails_then text kind m _ f _ _ x value h = h
@@ -68,7 +68,7 @@ fails_first text kind m _ f _ own = own
 fails_first text kind m _ f _ (no_expression {f = g} h) = no_expression {f = g} h
 fails_first text kind m _ f x (later {k = k} e is h) = later e is (fails_first text kind m (k e.groups) f x h)
 
--- what one function read, and what another read behind it
+-- what one function read, and what another read after it
 pub comes_then : {A B Y : Type 0} (text : List ℕ) (kind : Kind) (m : ℕ) (old mid new : List Written) (r : Reading A) (f : A → Reading B) (a : A) (w : Y → ℕ → B) (result : Result Y ScriptFault) →
     (es : List Written) × Gives text kind m r es a × (mid ≡ old ++ es) →
     Comes text kind m mid new w result (f a) → Comes text kind m old new w result (r >>= f)
@@ -124,7 +124,7 @@ pub expression_comes : (text : List ℕ) (kind : Kind) (m : ℕ) (p : Pattern) (
 expression_comes text kind m p old new e groups same read grown =
     subst (λ (n : ℕ). Comes text kind m old new as_groups (Ok n) (expression p (λ (groups : ℕ). plainly (Ok groups)))) (sym same) (e ∷ [], behind e read value, grown)
 
--- an address with an expression is what stands behind the expression alone
+-- an address with an expression is what stands after the expression alone
 pub match_is : (text : List ℕ) (count d place to : ℕ) (folded : Bool) → delimiter_at text (place + 1) d ≡ Some to → to ≢ place + 1 → folded ≡ folds_at text (to + 1) →
     match_at text count d place ≡ (expression (record { from = place + 1; to = to; delimiter = d; folded = folded }) (λ (groups : ℕ). plainly (Ok groups)) >>= λ (groups : ℕ). plainly (found (Some (Match (Some count))) (past_flag text (to + 1)) (count + 1)))
 unfolding match_at

@@ -21,7 +21,7 @@ abbrev pub ReadsAsOne : Type 0
 ReadsAsOne = (kind : Kind) (folded : Bool) (delimiter : Option ℕ) (text : List ℕ) (one other : Tree) (groups more : ℕ) →
     ReadsAs kind folded delimiter text one groups → ReadsAs kind folded delimiter text other more → (one ≡ other) × (groups ≡ more)
 
--- what stands behind one reading of a pattern stands behind the other
+-- what stands after one reading of a pattern stands after the other
 pub as_other : (text : List ℕ) (kind : Kind) (m : ℕ) (p : Pattern) (d e : Written) → ReadsAsOne → IsRead text kind m p d → IsRead text kind m p e → d.groups ≡ e.groups
 as_other text kind m p d e one h g = (one kind p.folded (Some p.delimiter) (part text p.from p.to) (tree d) (tree e) d.groups e.groups h.reads g.reads).1
 
@@ -51,7 +51,7 @@ end_gives text kind m n at e = subst (λ (o : Option ℕ). Gives text kind m (it
 pub is_next : (i j : Item) (a b : ℕ) → ◌≡◌ {A = Here} (Is i a) (Is j b) → (i ≡ j) × (a ≡ b)
 is_next i j a b e = (cc, cc)
 
--- no fault stands behind a cut that another cut goes on from
+-- no fault stands after a cut that another cut goes on from
 pub cut_no_fault : (text : List ℕ) (kind : Kind) (m count at to stop : ℕ) (is js : List Item) (es fs : List Written) (f : ScriptFault) (n : ℕ) → ReadsAsOne →
     Cut text kind m count at is es to → IsEnd text to → Cut text kind m count at js fs stop → n ≡ count + length fs → Fails text kind m (item_at text n stop) f → ⊥
 cut_no_fault text kind m count at to stop _ _ _ _ f n one done ends done e bad =

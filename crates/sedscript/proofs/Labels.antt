@@ -70,7 +70,7 @@ counted_some items k n i at e l =
     let g : counted (commands_in (take k items)) i ≡ suc (commands_in (take k items)) = rw l refl in
     omega (arith, f, g)
 
--- the commands before and behind
+-- the commands before and after
 pub counted_in : (n : ℕ) (i : Item) (is : List Item) → counted n i + commands_in is ≡ n + commands_in (i ∷ is)
 counted_in n i is = by_leaf (leaves i.function)
   where

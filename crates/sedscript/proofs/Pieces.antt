@@ -19,7 +19,7 @@ pieces_append (Group k ∷ ps) qs = ap (λ (z : List Piece). group k ∷ z) (pie
 pub run_ended : (old new : List Part) (run : Vec ℕ Global) → new ≡ old ++ Literal run ∷ [] → pieces_in new ≡ pieces_with old run.items
 run_ended old new run e = ap pieces_in e ∙ (pieces_append old (Literal run ∷ []) ∙ ap (λ (z : List Piece). pieces_in old ++ z) (append-nil (map literal run.items)))
 
--- a part of one piece behind them
+-- a part of one piece after them
 pub part_added : (old mid new : List Part) (part : Part) (run behind : List ℕ) (p : Piece) → pieces_in mid ≡ pieces_with old run → new ≡ mid ++ part ∷ [] → pieces_in (part ∷ []) ≡ p ∷ [] → behind ≡ [] →
     pieces_with new behind ≡ pieces_with old run ++ p ∷ []
 part_added old mid new part run behind p e grown is none =

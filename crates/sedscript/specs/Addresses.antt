@@ -13,7 +13,7 @@ use Rattle.sedscript.specs.Between.{own_delimiter}
 use Rattle.sedscript.specs.Reading.{Reading, plainly, expression, ◌>>=◌}
 use Rattle.sedre.specs.Delimited.{delimiter_at}
 
--- an address or none, the place behind it, and how many regular expressions stand before that place
+-- an address or none, the place after it, and how many regular expressions stand before that place
 pub record Addressed : Type 0 where
   pub address : Option Address
   pub at : ℕ
@@ -33,7 +33,7 @@ line_of count from to (Some (suc n)) = found (Some (Line (suc n))) to count
 abbrev pub folds_at : List ℕ → ℕ → Bool
 folds_at text at = is_byte 73 (slice_get text at)
 
--- the place behind the flag `I`, where it stands at a place
+-- the place after the flag `I`, where it stands at a place
 abbrev pub past_flag : List ℕ → ℕ → ℕ
 past_flag text at = if folds_at text at then at + 1 else at
 
@@ -41,8 +41,8 @@ past_flag text at = if folds_at text at then at + 1 else at
 abbrev pub empty_match : List ℕ → ℕ → ℕ → Result Addressed ScriptFault
 empty_match text count at = if folds_at text at then fault FlagOnEmpty at else found (Some (Match None)) at count
 
--- a regular expression behind the delimiter at a place, up to where it ends, with the flag that may stand directly
--- behind it
+-- a regular expression after the delimiter at a place, up to where it ends, with the flag that may stand directly
+-- after it
 abbrev pub match_to : List ℕ → ℕ → ℕ → ℕ → Option ℕ → Reading Addressed
 match_to text count delimiter place None = plainly (fault OpenDelimiter place)
 match_to text count delimiter place (Some to) =
@@ -72,7 +72,7 @@ address_of text count at (Some b) =
 unfoldable pub address_at : List ℕ → ℕ → ℕ → Reading Addressed
 address_at text count at = address_of text count at (slice_get text at)
 
--- the addresses of a command, the place behind them, and how many regular expressions stand before that place
+-- the addresses of a command, the place after them, and how many regular expressions stand before that place
 pub record Headed : Type 0 where
   pub addresses : Addresses
   pub at : ℕ
@@ -105,7 +105,7 @@ unfoldable pub addresses_at : List ℕ → ℕ → ℕ → Reading Headed
 addresses_at text count at = address_at text count at >>= λ x. behind_first text x.count x.at x.address
 
 -- with the `!` that stands there. Several count as one.
--- Blanks round them are passed over (those behind them: this project's own)
+-- Blanks round them are passed over (those after them: this project's own)
 abbrev pub with_bang : List ℕ → Headed → Headed
 with_bang text h =
     if is_byte 33 (slice_get text (past Blank text h.at))

@@ -63,7 +63,7 @@ as_groups groups n = groups
 abbrev pub as_here : Here → ℕ → Here
 as_here x n = x
 
--- the strings stand one behind the other from a place on, within a text of so many bytes
+-- the strings stand one after the other from a place on, within a text of so many bytes
 pub record AreStrings (at len : ℕ) (s : Strings) : Type 0 where
   pub delimiter : (s.delimiter ≢ 92) × (s.delimiter ≢ 10)
   pub from : at ≤ s.from
@@ -76,7 +76,7 @@ abbrev pub IsBehind : ℕ → ℕ → Here → Type 0
 IsBehind at len (Is item next) = (at < next) × (next ≤ len)
 IsBehind at len Ends = ⊥
 
--- what stands at a place: an item that ends behind it, or the end
+-- what stands at a place: an item that ends after it, or the end
 abbrev pub IsHere : List ℕ → ℕ → Here → Type 0
 IsHere text at (Is item next) = (at < next) × (next ≤ length text)
 IsHere text at Ends = IsEnd text at
@@ -95,11 +95,11 @@ pub record IsJudged (text : List ℕ) (kind : Kind) (max_nodes : ℕ) (items : L
   pub to : ℕ
   pub judged : Judged text kind max_nodes items expressions to
 
--- the flags with those that stand behind the place up to which they were read
+-- the flags with those that stand after the place up to which they were read
 abbrev pub with_rest : List ℕ → (empty : Bool) → Result (Flags × ℕ) ScriptFault → Result (Flags × ℕ) ScriptFault
 with_rest text empty read = read >>= λ found. flags_from text empty found.0 0 found.1 (drop found.1 text)
 
--- the pieces of parts, and of bytes behind them
+-- the pieces of parts, and of bytes after them
 abbrev pub pieces_with : List Part → List ℕ → List Piece
 pieces_with parts bytes = pieces_in parts ++ map literal bytes
 

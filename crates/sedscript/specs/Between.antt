@@ -1,4 +1,4 @@
--- What stands between delimiters behind `s` and `y` (XCU sed, "Editing Commands in sed").
+-- What stands between delimiters after `s` and `y` (XCU sed, "Editing Commands in sed").
 use Rattle.std.specs.Prelude.{ℕ, ◌+◌, List, Bool, true, false, not, ◌||◌, Option, Some, None, is_some, drop, slice_get}
 use Rattle.std.specs.Prelude.{if◌then◌else◌, ◌==◌, Result, Ok, Err}
 use Rattle.sedre.specs.Delimited.{delimiter_at}
@@ -25,7 +25,7 @@ abbrev pub strings_to : ℕ → ℕ → ℕ → Option ℕ → Result Strings Sc
 strings_to d from middle None = fault OpenDelimiter middle
 strings_to d from middle (Some to) = Ok (record { delimiter = d; from = from; middle = middle; to = to })
 
--- the two strings behind a delimiter at a place, of which the first ends where another was found. A newline behind a
+-- the two strings after a delimiter at a place, of which the first ends where another was found. A newline after a
 -- backslash may stand in the second, or not
 abbrev pub strings_behind : List ℕ → Bool → ℕ → ℕ → Option ℕ → Result Strings ScriptFault
 strings_behind text breaks d place None = fault OpenDelimiter place
@@ -62,7 +62,7 @@ flags_behind text s empty = flags_from text empty no_flags 0 (s.to + 1) (drop (s
 abbrev pub flagged : List ℕ → Strings → Option ℕ → Result (Function × ℕ) ScriptFault
 flagged text s e = flags_behind text s (not (is_some e)) >>= λ found. ended text (Substitute s e found.0) found.1
 
--- what stands behind the regular expression of `s`, which has this number in the script: a replacement, where no group
+-- what stands after the regular expression of `s`, which has this number in the script: a replacement, where no group
 -- may have a greater number than this, and flags
 unfoldable pub substituted : List ℕ → Strings → Option ℕ → Option ℕ → Result (Function × ℕ) ScriptFault
 substituted text s e limit =

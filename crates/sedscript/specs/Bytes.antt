@@ -36,12 +36,12 @@ past sort text at = at + run_of sort (drop at text)
 abbrev pub part : List ℕ → ℕ → ℕ → List ℕ
 part text from to = take (to - from) (drop from text)
 
--- a number and a digit behind it, as far as it is below 2 ^ 64
+-- a number and a digit after it, as far as it is below 2 ^ 64
 abbrev pub with_digit : Option ℕ → ℕ → Option ℕ
 with_digit None d = None
 with_digit (Some n) d = if nat_lt (n * 10 + (d - 48)) (2 ^ 64) then Some (n * 10 + (d - 48)) else None
 
--- a number and the digits behind it, as far as it is below 2 ^ 64
+-- a number and the digits after it, as far as it is below 2 ^ 64
 abbrev pub with_digits : Option ℕ → List ℕ → Option ℕ
 with_digits n [] = n
 with_digits n (d ∷ ds) = with_digits (with_digit n d) ds

@@ -28,7 +28,7 @@ pub data Gives (text : List ℕ) (kind : Kind) (max_nodes : ℕ) {A : Type 0} : 
       IsRead text kind max_nodes p e → Gives text kind max_nodes (k e.groups) es x →
       Gives text kind max_nodes (expression p k) (e ∷ es) x
 
--- the fault of what is read: that of the first text that is no expression, or the one behind all of them
+-- the fault of what is read: that of the first text that is no expression, or the one after all of them
 pub data Fails (text : List ℕ) (kind : Kind) (max_nodes : ℕ) {A : Type 0} : Reading A → ScriptFault → Type 0 where
   own : {f : ScriptFault} → Fails text kind max_nodes (plainly (Err f)) f
   no_expression : {p : Pattern} {k : ℕ → Reading A} {f : ExprFault} →

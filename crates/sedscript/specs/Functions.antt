@@ -23,7 +23,7 @@ use Rattle.sedscript.specs.Letters.{most_addresses}
 abbrev pub fault : {A : Type 0} → Reason → ℕ → Result A ScriptFault
 fault reason place = Err (record { place = place; reason = reason })
 
--- what is read, and then what is read behind it, or the first fault
+-- what is read, and then what is read after it, or the first fault
 infixl 10 ◌>>=◌
 abbrev pub ◌>>=◌ : {A B : Type 0} → Result A ScriptFault → (A → Result B ScriptFault) → Result B ScriptFault
 (Ok x) >>= f = f x
@@ -47,7 +47,7 @@ stops Escape b = false
 stops InLine b = b == 10
 stops Due b = b == 10
 
--- how far a text is read behind this byte: within a line, behind a backslash in force, or where a further line
+-- how far a text is read after this byte: within a line, after a backslash in force, or where a further line
 -- must stand
 abbrev pub behind : Inside → ℕ → Inside
 behind Escape b = if b == 10 then Due else InLine

@@ -24,7 +24,7 @@ use Rattle.sedscript.specs.Flags.{folds}
 use Rattle.sedscript.specs.Reading.{Reading, plainly, expression, ◌>>=◌}
 use Rattle.sedscript.specs.Addresses.{Headed, addresses_at, with_bang}
 
--- what stands behind the strings of `s`, with so many regular expressions before it. The empty one has no number, and
+-- what stands after the strings of `s`, with so many regular expressions before it. The empty one has no number, and
 -- sets no limit to the groups of the replacement (this project's own). The flags say how the others are read
 abbrev pub substitute_with : List ℕ → ℕ → Strings → Reading (Function × ℕ)
 substitute_with text count s =
@@ -54,12 +54,12 @@ function_of text (NamesFile u) at = file_of u at (name_from text (at + 1))
 function_of text TakesStrings at = transliterate_at text at
 function_of text (Alone s) at = ended text (Plain s) (at + 1)
 
--- the function of a letter that stands at a place, and the place behind it
+-- the function of a letter that stands at a place, and the place after it
 abbrev pub function_with : List ℕ → ℕ → Verb → ℕ → Reading (Function × ℕ)
 function_with text count ReadsExpression at = substitute_at text count at
 function_with text count (Reads shape) at = plainly (function_of text shape at)
 
--- the item of a function that is expected at a place, behind these addresses
+-- the item of a function that is expected at a place, after these addresses
 abbrev pub item_with : List ℕ → ℕ → Addresses → ℕ → Option ℕ → Reading Here
 item_with text count addresses at None = plainly (fault UnknownCommand at)
 item_with text count addresses at (Some letter) =

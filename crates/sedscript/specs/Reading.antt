@@ -1,4 +1,4 @@
--- What is read from a place of a script, where regular expressions may stand in it: what is read behind an expression
+-- What is read from a place of a script, where regular expressions may stand in it: what is read after an expression
 -- may depend on the number of its groups.
 use Rattle.std.specs.Prelude.{ℕ, Bool, Result, Ok, Err}
 use Rattle.sedscript.specs.declared.types.ScriptFault.{ScriptFault}
@@ -11,12 +11,12 @@ pub record Pattern : Type 0 where
   pub delimiter : ℕ
   pub folded : Bool
 
--- what is read: a value or a fault; or a regular expression, and by the number of its groups what is read behind it
+-- what is read: a value or a fault; or a regular expression, and by the number of its groups what is read after it
 pub data Reading (A : Type 0) : Type 0 where
   plainly : Result A ScriptFault → Reading A
   expression : Pattern → (ℕ → Reading A) → Reading A
 
--- what is read, and then what is read behind it
+-- what is read, and then what is read after it
 infixl 10 ◌>>=◌
 abbrev pub ◌>>=◌ : {A B : Type 0} → Reading A → (A → Reading B) → Reading B
 plainly (Ok x) >>= f = f x

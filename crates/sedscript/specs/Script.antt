@@ -66,7 +66,7 @@ pub data Cut (text : List ℕ) (kind : Kind) (max_nodes : ℕ) : ℕ → ℕ →
 abbrev pub IsEnd : List ℕ → ℕ → Type 0
 IsEnd text at = slice_get text (past Separator text at) ≡ None
 
--- a text without its backslashes: the byte behind one in force stands for itself
+-- a text without its backslashes: the byte after one in force stands for itself
 abbrev pub unescaped_from : Bool → List ℕ → List ℕ
 unescaped_from escaped [] = []
 unescaped_from escaped (b ∷ bs) = if not escaped && b == 92 then unescaped_from true bs else b ∷ unescaped_from false bs
@@ -160,7 +160,7 @@ file_action Read k = a.ReadFile k
 file_action Write sink = a.WriteFile sink
 
 -- what a function does among all items, with those before it, which have so many texts, substitutions and tables, and
--- the items behind it
+-- the items after it
 abbrev pub action_of : List ℕ → List Item → List Item → Counts → List Item → Function → Option Action
 action_of text all before n after (Plain s) = Some (simple_action s)
 action_of text all before n after Open = Some (Block (unwrap_or (block_end before after) 0))
@@ -215,7 +215,7 @@ pub record Means (text : List ℕ) (kind : Kind) (max_nodes : ℕ) (s : Program)
 
 -- the first fault of the text
 pub data Faulty (text : List ℕ) (kind : Kind) (max_nodes : ℕ) : ScriptFault → Type 0 where
-  -- behind these items, which have none
+  -- after these items, which have none
   early : {f : ScriptFault} (items : List Item) (es : List Written) (to : ℕ) →
       Cut text kind max_nodes 0 0 items es to → Fails text kind max_nodes (item_at text (length es) to) f →
       Faulty text kind max_nodes f

@@ -6,7 +6,7 @@ abbrev pub escapes : Bool → ℕ → Bool
 escapes escaped b = b == 92 && not escaped
 
 -- where a string ends that stands between delimiters: at the first delimiter that no backslash in force stands before.
--- A newline ends it nowhere. One behind a backslash may stand in a replacement, where it breaks lines, but in no string
+-- A newline ends it nowhere. One after a backslash may stand in a replacement, where it breaks lines, but in no string
 -- of `y`
 abbrev pub string_end : Bool → ℕ → Bool → ℕ → List ℕ → Option ℕ
 string_end breaks delimiter escaped at [] = None

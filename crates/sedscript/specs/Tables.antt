@@ -19,14 +19,14 @@ use Rattle.sedscript.specs.declared.items.Function.{Function}
 use Rattle.sedscript.specs.Files.{files_in}
 use Rattle.sedscript.specs.Targets.{is_label, counted, commands_in, is_open, is_close, close_in}
 
--- the first item with a label of this name, and the number of the command behind it
+-- the first item with a label of this name, and the number of the command after it
 abbrev pub first_label : List ℕ → List ℕ → ℕ → ℕ → List Item → Option FirstLabel
 first_label text name k n [] = None
 first_label text name k n (i ∷ is) =
     if is_label text name i.function then Some (record { item = k; number = n })
     else first_label text name (suc k) (counted n i) is
 
--- the number of the command behind a label
+-- the number of the command after a label
 abbrev pub number : Option FirstLabel → Option ℕ
 number None = None
 number (Some l) = Some l.number
@@ -49,7 +49,7 @@ tail [] = []
 tail (x ∷ xs) = xs
 
 -- where the closing braces lead that close no block within what follows, the first of them first:
--- those from a function on, with so many commands before it, given those behind it
+-- those from a function on, with so many commands before it, given those after it
 abbrev pub unopened_by : ℕ → Function → List ℕ → List ℕ
 unopened_by n f ends = if is_close f then n ∷ ends else if is_open f then tail ends else ends
 

@@ -34,7 +34,7 @@ abbrev pub is_label : List ℕ → List ℕ → Function → Bool
 is_label text name (Label from to) = bytes_eq (part text from to) name
 is_label text name f = false
 
--- the number of the command behind the first label of this name, with so many commands before the items
+-- the number of the command after the first label of this name, with so many commands before the items
 abbrev pub label_in : List ℕ → List ℕ → ℕ → List Item → Option ℕ
 label_in text name n [] = None
 label_in text name n (i ∷ is) = if is_label text name i.function then Some n else label_in text name (counted n i) is
@@ -47,11 +47,11 @@ abbrev pub is_close : Function → Bool
 is_close Close = true
 is_close f = false
 
--- how many blocks are open behind a function, with so many before it
+-- how many blocks are open after a function, with so many before it
 abbrev pub depth_behind : ℕ → Function → ℕ
 depth_behind depth f = if is_open f then suc depth else if is_close f then depth - 1 else depth
 
--- the number of the command behind the brace that closes a block,
+-- the number of the command after the brace that closes a block,
 -- with so many inner blocks open and so many commands before the items
 abbrev pub close_in : ℕ → ℕ → List Item → Option ℕ
 close_in depth n [] = None
@@ -67,7 +67,7 @@ abbrev pub fault_if : Bool → Reason → ℕ → Option ScriptFault
 fault_if wrong reason place = then_some wrong (record { place = place; reason = reason })
 
 -- what is wrong with a function at a place among all items: those before it with so many open blocks, and those
--- behind it
+-- after it
 abbrev pub late_at : List ℕ → List Item → List Item → ℕ → List Item → ℕ → Function → Option ScriptFault
 late_at text all before depth after place Open = fault_if (is_none (block_end before after)) OpenBlock place
 late_at text all before depth after place Close = fault_if (depth == 0) StrayClose place

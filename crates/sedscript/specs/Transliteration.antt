@@ -64,7 +64,7 @@ abbrev pub repeated_fault : Option ℕ → Option ScriptFault
 repeated_fault found = option_map (λ place. record { place = place; reason = RepeatedByte }) found
 
 -- the first fault of the strings of a `y` whose letter stands at a place. The first string stands up to its delimiter
--- in the middle, and the second one behind that (this project's own: the first may have no byte twice, and the strings
+-- in the middle, and the second one after that (this project's own: the first may have no byte twice, and the strings
 -- have the same length)
 abbrev pub strings_fault : List ℕ → ℕ → ℕ → ℕ → ℕ → ℕ → Option ScriptFault
 strings_fault text delimiter letter from middle to =

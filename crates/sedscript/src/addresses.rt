@@ -39,7 +39,7 @@ fn folds_at(text: &[u8], at: usize) -> bool
     is_byte(b'I', byte_at(text, at))
 }
 
-/// The place behind the flag `I`, where it stands at a place.
+/// The place after the flag `I`, where it stands at a place.
 fn past_flag(text: &[u8], at: usize) -> usize
     requires { at ≤ length text.now }
     ensures is { result ≡ past_flag text.now at }
@@ -63,7 +63,7 @@ fn empty_match(text: &[u8], at: usize) -> Result<(Option<Address>, usize), Scrip
     }
 }
 
-/// The expression behind the delimiter at a place, with the flag that may stand behind it.
+/// The expression after the delimiter at a place, with the flag that may stand after it.
 #[tactic(auto, unfolding(crate::specs::Addresses::match_at))]
 fn match_at(
     source: &Source,
@@ -119,7 +119,7 @@ fn own_match(
     }
 }
 
-/// The address at a place, if one stands there, and the place behind it.
+/// The address at a place, if one stands there, and the place after it.
 #[tactic(auto, unfolding(crate::specs::Addresses::address_at))]
 fn address_at(
     source: &Source,
@@ -221,7 +221,7 @@ fn behind_first(
     }
 }
 
-/// The addresses at a place, and the place behind them.
+/// The addresses at a place, and the place after them.
 pub fn addresses_at(
     source: &Source,
     exprs: &mut Vec<Expr>,

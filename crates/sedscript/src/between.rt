@@ -1,4 +1,4 @@
-//! What stands between delimiters behind `s` and `y`.
+//! What stands between delimiters after `s` and `y`.
 
 ghost use Rattle.std.specs.Prelude.{◌≡◌, ◌≢◌, ◌≤◌, ◌<◌, ◌+◌, false, Some, length, slice_get, drop, IfOk, IfSome};
 ghost use Rattle.sedre.specs.Delimited.{delimiter_at};
@@ -34,7 +34,7 @@ pub fn own_delimiter(b: Option<u8>) -> Option<u8>
     }
 }
 
-/// The two strings behind the delimiter at a place, of which the first ends where another was found. A newline behind a
+/// The two strings after the delimiter at a place, of which the first ends where another was found. A newline after a
 /// backslash may stand in the second where it `breaks`.
 fn strings_behind(
     text: &[u8],
@@ -132,7 +132,7 @@ pub fn transliterate_at(text: &[u8], at: usize) -> Result<(Function, usize), Scr
 }
 
 /// Whether the flags of `s`, whose regular expression isn't empty, make letters match without regard to case. They
-/// stand behind the expression and are looked at before it is read; their faults are told after its own.
+/// stand after the expression and are looked at before it is read; their faults are told after its own.
 pub fn folds(text: &[u8], strings: Strings) -> bool
     requires { strings.to < length text.now }
     ensures { result ≡ folds (flags_behind text.now strings false) }
@@ -157,7 +157,7 @@ fn flagged(
     ended(text, Function::Substitute(strings, expression, flags), end)
 }
 
-/// What stands behind the regular expression of `s`, which has this number in the script: a replacement, where no group
+/// What stands after the regular expression of `s`, which has this number in the script: a replacement, where no group
 /// may have a greater number than the limit, and flags.
 #[tactic(auto, unfolding(crate::specs::Between::substituted))]
 pub fn substituted(

@@ -89,7 +89,7 @@ fn with_file(text: &[u8], flags: Flags, at: usize) -> Result<(Flags, usize), Scr
     }
 }
 
-/// The flags with the one that begins at a place, and the place behind it.
+/// The flags with the one that begins at a place, and the place after it.
 fn flag_at(text: &[u8], empty: bool, flags: Flags, at: usize) -> Result<(Flags, usize), ScriptFault>
     requires inside { at < length text.now }
     requires flag { ends_flags (slice_index text.now at) ≡ false }
@@ -107,7 +107,7 @@ fn flag_at(text: &[u8], empty: bool, flags: Flags, at: usize) -> Result<(Flags, 
     }
 }
 
-/// The flags from a place on, where the regular expression is `empty` or not, and the place behind them.
+/// The flags from a place on, where the regular expression is `empty` or not, and the place after them.
 pub fn flags_at(text: &[u8], empty: bool, from: usize) -> Result<(Flags, usize), ScriptFault>
     requires { from ≤ length text.now }
     ensures is { result ≡ flags_from text.now empty no_flags 0 from (drop from text.now) }

@@ -82,7 +82,7 @@ pub enum BranchUse {
 }
 
 /// Two strings between delimiters, as `s` and `y` have them. The first begins at `from` and ends at `middle`, where a
-/// delimiter stands; the second begins behind that and ends at `to`, where the last delimiter stands.
+/// delimiter stands; the second begins after that and ends at `to`, where the last delimiter stands.
 #[derive(Clone, Copy)]
 pub struct Strings {
     pub delimiter: u8,
@@ -133,7 +133,7 @@ pub struct Counts {
     pub tables: usize,
 }
 
-/// What stands at a place: an item and the place behind it, or the end.
+/// What stands at a place: an item and the place after it, or the end.
 #[derive(Clone, Copy)]
 pub enum Here {
     Is(Item, usize),

@@ -85,7 +85,7 @@ pub fn read(alloc: Global, text: &[u8], kind: Kind, max_nodes: usize) -> Result<
     ensures means { IfOk result (λ s. Means text.now kind max_nodes s) }
     // No fault is passed over.
     ensures no_fault { OnOk result ((f : ScriptFault) → Faulty text.now kind max_nodes f → ⊥) }
-    // A fault is the first one of the text, or memory was wanting.
+    // A fault is the first one of the text, or there was no memory.
     ensures fault { IfErr result (λ f. Faulty text.now kind max_nodes f ⊎ (f ≡ NO_MEMORY)) }
 {
     reads_as_one();

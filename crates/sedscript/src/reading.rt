@@ -16,7 +16,7 @@ use crate::letters::{Shape, Verb};
 use crate::types::{Reason, ScriptFault};
 use sedre::Expr;
 
-/// What stands behind the strings of `s`.
+/// What stands after the strings of `s`.
 fn substitute_with(
     source: &Source,
     exprs: &mut Vec<Expr>,
@@ -82,7 +82,7 @@ fn function_of(text: &[u8], shape: Shape, at: usize) -> Result<(Function, usize)
     }
 }
 
-/// The function of a letter that stands at a place, and the place behind it.
+/// The function of a letter that stands at a place, and the place after it.
 fn function_with(
     source: &Source,
     exprs: &mut Vec<Expr>,
@@ -113,7 +113,7 @@ fn item_of(addresses: Addresses, place: usize, function: Function, next: usize) 
     )
 }
 
-/// The item of the function of a letter at a place, where it may stand behind these addresses.
+/// The item of the function of a letter at a place, where it may stand after these addresses.
 fn item_with(
     source: &Source,
     exprs: &mut Vec<Expr>,
@@ -135,7 +135,7 @@ fn item_with(
     }
 }
 
-/// The item of the function that is expected at a place, behind these addresses.
+/// The item of the function that is expected at a place, after these addresses.
 fn function_at(
     source: &Source,
     exprs: &mut Vec<Expr>,
@@ -156,7 +156,7 @@ fn function_at(
     }
 }
 
-/// The item of the function behind its addresses.
+/// The item of the function after its addresses.
 fn function_behind(
     source: &Source,
     exprs: &mut Vec<Expr>,

@@ -116,7 +116,7 @@ pub fn replacement_fault(
     None
 }
 
-/// Adds the bytes behind the parts as a part of their own.
+/// Adds the bytes after the parts as a part of their own.
 fn end_run(parts: &mut Vec<Part>, run: Vec<u8>) -> Result<(), AllocError>
     ensures { OnOk result (pieces_in parts.new.items ≡ pieces_with parts.old.items run.items) }
 {
@@ -126,7 +126,7 @@ fn end_run(parts: &mut Vec<Part>, run: Vec<u8>) -> Result<(), AllocError>
     Ok(())
 }
 
-/// Adds a piece to the parts and the bytes behind them, and gives the bytes that then are behind them.
+/// Adds a piece to the parts and the bytes after them, and gives the bytes that then are after them.
 fn add_piece(
     alloc: Global,
     parts: &mut Vec<Part>,

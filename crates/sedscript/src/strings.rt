@@ -15,7 +15,7 @@ pub fn escapes(escaped: bool, b: u8) -> bool
 }
 
 /// Where the string ends that begins at a place: at a delimiter, none where a newline or the end comes first.
-/// Where it `breaks`, a newline behind a backslash belongs to it.
+/// Where it `breaks`, a newline after a backslash belongs to it.
 pub fn string_end(text: &[u8], breaks: bool, delimiter: u8, from: usize) -> Option<usize>
     requires { from ≤ length text.now }
     ensures is { result ≡ string_end breaks delimiter false from (drop from text.now) }

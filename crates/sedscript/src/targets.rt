@@ -106,7 +106,7 @@ fn blocks_in(items: &Items) -> usize
     n
 }
 
-/// Passes an item from behind, with so many commands before it and the ends of the closing braces behind it that close
+/// Passes an item, from the last one back, with so many commands before it and the ends of the closing braces after it that close
 /// no block there. Answers the end of the block that the item opens, if it opens one.
 fn pass_back(
     ends: &mut Vec<usize>,
@@ -128,7 +128,7 @@ fn pass_back(
     }
 }
 
-/// For each block the number of the command behind its end, none where it isn't closed.
+/// For each block the number of the command after its end, none where it isn't closed.
 fn ends_of(alloc: Global, items: &Items, commands: usize) -> Result<Vec<Option<usize>>, AllocError>
     requires { commands ≡ commands_in items.now }
     ensures { IfOk result (λ ends. ends.items ≡ ends_in 0 items.now) }
@@ -221,7 +221,7 @@ fn labels_of<'a>(
 pub struct Targets<'a> {
     /// The first label of each name.
     pub labels: BTreeMap<&'a [u8], FirstLabel>,
-    /// For each block the number of the command behind its end, none where it isn't closed.
+    /// For each block the number of the command after its end, none where it isn't closed.
     pub ends: Vec<Option<usize>>,
     /// How many commands there are.
     pub commands: usize,
@@ -245,7 +245,7 @@ pub fn targets_of<'a>(
     })
 }
 
-/// The number of the command behind a label.
+/// The number of the command after a label.
 fn number(label: Option<FirstLabel>) -> Option<usize>
     ensures { result ≡ number label }
 {
@@ -273,7 +273,7 @@ impl<'a> Targets<'a> {
         self.labels.get(&name).copied()
     }
 
-    /// The number of the command behind the first label of a name, none where no label has it.
+    /// The number of the command after the first label of a name, none where no label has it.
     pub fn label(&self, name: &'a [u8]) -> Option<usize>
         ensures { (text : List ℕ) (items : List Item) →
             TargetsAre text items self.now.labels self.now.ends.items self.now.commands →
@@ -292,7 +292,7 @@ impl<'a> Targets<'a> {
         is_earlier(k, self.first_label(name))
     }
 
-    /// The number of the command behind the end of the block before which so many were opened, none where it isn't
+    /// The number of the command after the end of the block before which so many were opened, none where it isn't
     /// closed.
     pub fn block_end(&self, blocks: usize) -> Option<usize>
         requires { blocks < length self.now.ends.items }

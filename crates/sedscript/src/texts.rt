@@ -10,7 +10,7 @@ use crate::bytes::{byte_at, is_byte};
 pub enum Inside {
     /// Within a line.
     InLine,
-    /// Behind a backslash that is in force.
+    /// After a backslash that is in force.
     Escape,
     /// Where a further line has to stand.
     Due,
@@ -73,7 +73,7 @@ fn text_end(text: &[u8], start: Inside, from: usize) -> Option<usize>
     }
 }
 
-/// The text from behind the blanks that follow its letter: where it begins and ends, none where it is missing.
+/// The text after the blanks that follow its letter: where it begins and ends, none where it is missing.
 #[tactic(auto, unfolding(crate::specs::Functions::text_from))]
 pub fn text_from(text: &[u8], from: usize) -> Option<(usize, usize)>
     requires { from ≤ length text.now }

@@ -127,7 +127,7 @@ fn count(bytes: &[u8], delimiter: u8, from: usize) -> usize
     count
 }
 
-/// The first fault of the strings of a `y`: one stands between the first two places, the other behind the second.
+/// The first fault of the strings of a `y`: one stands between the first two places, the other after the second.
 pub fn strings_fault(
     text: &[u8],
     delimiter: u8,

@@ -24,7 +24,7 @@ pub enum Action {
     Append(usize),
     /// `N`: appends a newline and the next line to the pattern space.
     AppendNext,
-    /// `{`: where it isn't selected, goes to the command of this number, which stands behind the closing brace.
+    /// `{`: where it isn't selected, goes to the command of this number, which stands after the closing brace.
     Block(usize),
     /// `b`: goes to the command of this number. The number of commands is the end of the script.
     Branch(usize),
@@ -94,7 +94,7 @@ pub enum Reason {
     UnknownCommand,
     /// S2: the function takes fewer addresses.
     TooManyAddresses,
-    /// S3: a line's number isn't from 1 to 2^64 - 1, or no second address stands behind a comma.
+    /// S3: a line's number isn't from 1 to 2^64 - 1, or no second address stands after a comma.
     BadAddress,
     /// S4: a text is missing.
     MissingText,
@@ -124,7 +124,7 @@ pub enum Reason {
     LengthsDiffer,
     /// S17: a byte stands a second time in the first string of `y`.
     RepeatedByte,
-    /// S18: this backslash and the byte behind it stand for nothing.
+    /// S18: this backslash and the byte after it stand for nothing.
     BadEscape,
     /// S19: the name of a file is missing.
     MissingName,
@@ -134,7 +134,7 @@ pub enum Reason {
     Expression(ExprFault),
     /// S22: a request for memory was refused.
     NoMemory,
-    /// S23: the flag `I` stands behind an empty regular expression.
+    /// S23: the flag `I` stands after an empty regular expression.
     FlagOnEmpty,
 }
 

@@ -5,7 +5,7 @@ use Rattle.std.proofs.Math.Seq.{take-append-add}
 use Rattle.std.proofs.lemmas.List.{take-take, get_or_default}
 use Rattle.std.proofs.lemmas.List.Edits.{map_over_more}
 
--- where the first `most` bytes of the text stand behind the first `end`, its first `count` do
+-- where the first `most` bytes of the text stand after the first `end`, its first `count` do
 pub fewer : (now old text : List ℕ) (end count most : ℕ) → end ≤ length old → count ≤ most → take (end + most) now ≡ take end old ++ take most text → take (end + count) now ≡ take end old ++ take count text
 fewer now old text end count most inside less h =
     let front = take end old in

@@ -1,5 +1,5 @@
 -- Private to the proofs: no contract of a public item cites what stands here.
--- How a space holds its bytes: in a list that may be longer, with a newline behind them.
+-- How a space holds its bytes: in a list that may be longer, with a newline after them.
 use Rattle.std.specs.Prelude.{◌≡◌, ℕ, ◌-◌, ◌≤◌, List, Some, length, take, drop, slice_get}
 use Rattle.sedspace.specs.Lines.{HasNoNewline}
 

@@ -1,8 +1,8 @@
 //! A space: a list of bytes with a limit, whose room is reserved when it is made.
 //!
 //! The pattern space and the hold space of XCU sed are spaces. The contents stand from a front on, so that a line is
-//! cut off without moving what stands behind it, and a newline is kept behind them, so that they can be written with
-//! their newline at once. What stands behind that newline is left from longer contents, and is written over. A space
+//! cut off without moving what stands after it, and a newline is kept after them, so that they can be written with
+//! their newline at once. What stands after that newline is left from longer contents, and is written over. A space
 //! knows of some bytes at its beginning and at its end that no newline is among them, so that `N`, `P` and `D` look at a
 //! line no second time.
 ghost use Rattle.std.specs.Prelude.{◌≡◌, ◌==◌, ◌+◌, ◌-◌, ◌<◌, ◌≤◌, [], ◌∷◌, ◌++◌, if◌then◌else◌, length, IfOk, OnOk, OnErr, IfSome, IsTrue, Contains, ℕ, false, map, nat_lt, position, take, slice_get, slice_index_or, vec_len, vec_capacity};
@@ -167,7 +167,7 @@ impl Space {
         self.append_first(bytes, bytes.len())
     }
 
-    /// Appends the first `count` bytes of the text. What the text holds behind them makes a short copy faster.
+    /// Appends the first `count` bytes of the text. What the text holds after them makes a short copy faster.
     fn append_first(&mut self, text: &[u8], count: usize) -> Result<(), Full>
         requires { count ≤ length text.now }
         ensures ok { OnOk result (self.new ≡ record self.old { bytes = self.old.bytes ++ take count text.now }) }
@@ -319,7 +319,7 @@ fn end_line(held: &mut Vec<u8>, end: usize)
     held[end] = b'\n';
 }
 
-// How many of the first bytes hold no newline, with so many more behind all of them.
+// How many of the first bytes hold no newline, with so many more after all of them.
 fn clear_with(first: usize, len: usize, count: usize) -> usize
     requires { len + count ≤ usize.MAX }
     ensures { result ≡ if first == len then len + count else first }
@@ -334,7 +334,7 @@ fn clear_of_rest(last: usize, rest: usize) -> usize
     if last < rest { 0 } else { rest }
 }
 
-// Puts the first `count` bytes of the text behind the contents, and the newline behind them. Says where the contents then
+// Puts the first `count` bytes of the text after the contents, and the newline after them. Says where the contents then
 // begin and end.
 #[inline(always)]
 fn put_behind(
@@ -363,7 +363,7 @@ fn put_behind(
     (front, put(held, end, text, count))
 }
 
-// Puts the first `count` bytes of the text behind the first `end`, and the newline behind them. Says where that stands.
+// Puts the first `count` bytes of the text after the first `end`, and the newline after them. Says where that stands.
 fn put(held: &mut Vec<u8>, end: usize, text: &[u8], count: usize) -> usize
     requires inside { count ≤ length text.now }
     requires room { end + count < vec_len held.old }
@@ -379,8 +379,8 @@ fn put(held: &mut Vec<u8>, end: usize, text: &[u8], count: usize) -> usize
     behind
 }
 
-// Puts the first `count` bytes of the text behind the first `end`. Where there is room for more, few bytes are copied
-// with the ones behind them, which takes no branch on how many they are.
+// Puts the first `count` bytes of the text after the first `end`. Where there is room for more, few bytes are copied
+// with the ones after them, which takes no branch on how many they are.
 fn copy_in(held: &mut [u8], end: usize, text: &[u8], count: usize)
     requires inside { count ≤ length text.now }
     requires room { end + count ≤ length held.old }
@@ -394,7 +394,7 @@ fn copy_in(held: &mut [u8], end: usize, text: &[u8], count: usize)
     }
 }
 
-// Puts the first 128 bytes of the text behind the first `end`.
+// Puts the first 128 bytes of the text after the first `end`.
 fn copy_short(held: &mut [u8], end: usize, text: &[u8])
     requires inside { 128 ≤ length text.now }
     requires room { end + 128 ≤ length held.old }
@@ -405,7 +405,7 @@ fn copy_short(held: &mut [u8], end: usize, text: &[u8])
     copy_block(held, end + 64, &text[64..]);
 }
 
-// Puts the first 64 bytes of the text behind the first `end`.
+// Puts the first 64 bytes of the text after the first `end`.
 fn copy_block(held: &mut [u8], end: usize, text: &[u8])
     requires inside { 64 ≤ length text.now }
     requires room { end + 64 ≤ length held.old }
@@ -415,7 +415,7 @@ fn copy_block(held: &mut [u8], end: usize, text: &[u8])
     Simd::<u8, 64>::from_slice(text).copy_to_slice(&mut held[end..]);
 }
 
-// Puts the bytes behind the first `end`.
+// Puts the bytes after the first `end`.
 fn copy_exactly(held: &mut [u8], end: usize, bytes: &[u8])
     requires room { end + length bytes.now ≤ length held.old }
     ensures bytes { take (end + length bytes.now) held.new ≡ take end held.old ++ bytes.now }
@@ -463,8 +463,8 @@ fn grow(held: &mut Vec<u8>, len: usize)
     }
 }
 
-// Sees that `count` bytes and the newline fit behind the contents, and says where these then begin and end. They are
-// moved to the beginning only where the room behind them is too small. Few lines need this call.
+// Sees that `count` bytes and the newline fit after the contents, and says where these then begin and end. They are
+// moved to the beginning only where the room after them is too small. Few lines need this call.
 #[inline(never)]
 fn make_room(
     held: &mut Vec<u8>,

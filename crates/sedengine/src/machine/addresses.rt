@@ -119,7 +119,7 @@ impl Machine {
         self.ranges[k]
     }
 
-    /// Comes to command `k`: takes the turn, and goes on behind the command.
+    /// Reaches command `k`: takes the turn, and goes on after the command.
     fn come(&mut self, k: usize)
         requires there { k < length self.old.script.commands }
         requires turn { self.old.state.turns < self.old.limits.turns }

@@ -48,7 +48,7 @@ impl Rows {
         self.count
     }
 
-    /// Copies the first `count` marks of a row, a word at a time; those behind them may change too.
+    /// Copies the first `count` marks of a row, a word at a time; those after them may change too.
     /// Counts a look for each of the `count`.
     pub fn load(&self, row: usize, marks: &mut Marks, count: usize, steps: &mut Steps)
         requires row { row < length self.now }
@@ -69,7 +69,7 @@ impl Rows {
         );
     }
 
-    /// Makes the first `count` marks of a row these, a word at a time; those behind them may change too.
+    /// Makes the first `count` marks of a row these, a word at a time; those after them may change too.
     /// Counts a look for each of the `count`.
     pub fn store(&mut self, row: usize, marks: &Marks, count: usize, steps: &mut Steps)
         requires row { row < length self.old }

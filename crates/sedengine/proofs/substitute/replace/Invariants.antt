@@ -25,7 +25,7 @@ invariant-occurrences l = record {
       (pending l.fn.matcher l.text l.substitution.global (Some l.fn.first));
 }
 
--- how many places an occurrence leaves behind it in a text of n bytes
+-- how many places an occurrence leaves after it in a text of n bytes
 abbrev places_left : ℕ → Option (ℕ × ℕ) → ℕ
 places_left n None = 0
 places_left n (Some span) = n + 1 - span.1
