@@ -21,8 +21,8 @@ use std::alloc::{AllocError, Global};
 /// The least code of a state at which a search doesn't stop.
 const PLAIN: u16 = 32768;
 
-/// How many digests are told apart.
-const SLOTS: usize = 128;
+/// How many slots of the index there are for each state, so that few digests share one.
+const SLOTS: usize = 4;
 
 /// How many cells a table has at most.
 const CELLS: usize = 4096;
@@ -661,11 +661,12 @@ fn new_cells(alloc: Global, count: usize) -> Result<Vec<u16>, AllocError>
     vec![in alloc; 0; count]
 }
 
-/// Room to note states.
-fn new_index(alloc: Global) -> Result<Vec<u8>, AllocError>
+/// Room to note so many states. The number of slots is odd: by a power of two only a digest's last bits would count.
+fn new_index(alloc: Global, states: usize) -> Result<Vec<u8>, AllocError>
+    requires few { states ≤ 64 }
     ensures { IfOk result (λ v. 0 < length v.items) }
 {
-    vec![in alloc; 0; SLOTS]
+    vec![in alloc; 0; SLOTS * states + 1]
 }
 
 /// An empty table with room for so many states, for fewer where there are many classes of bytes, and for none where
@@ -699,7 +700,7 @@ pub fn new_table(
         cells: new_cells(alloc, columns * states)?,
         classes: classes.of.clone()?,
         columns,
-        index: new_index(alloc)?,
+        index: new_index(alloc, states)?,
         at_begin: 0,
         later: 0,
         sweeps,
