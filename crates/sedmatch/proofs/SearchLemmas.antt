@@ -102,20 +102,6 @@ cut_square m n s0 s cost =
     let all = mul-le-mul_left (22 * m * (n + 1)) two in
     omega (arith, all)
 
--- one step of a loop downwards, at most 23 steps a node and place each
-pub down_step : (m n j k s t bound : ℕ) → 0 < m → j + 1 ≡ k → s + 23 * m * (n + 1) * k ≤ bound → t ≤ s + 22 * m * (n + 1) + 1 →
-    t + 23 * m * (n + 1) * j ≤ bound
-down_step m n j k s t bound some next loop here =
-    let e : 23 * m * (n + 1) * (j + 1) ≡ 23 * m * (n + 1) * k = ap (λ v. 23 * m * (n + 1) * v) next in
-    omega (arith, e)
-
-pub down_cost : (m n stop k s0 s : ℕ) → stop ≤ n → s + 23 * m * (n + 1) * k ≤ (s0 + 1) + 23 * m * (n + 1) * stop →
-    s ≤ s0 + 23 * m * (n + 1) * (n + 1) + 1
-down_cost m n stop k s0 s low loop =
-    let up : stop ≤ n + 1 = omega arith in
-    let all = mul-le-mul_left (23 * m * (n + 1)) up in
-    omega (arith, all)
-
 -- one task is done, at most C steps each
 pub task_cost : (C s t v w bound : ℕ) → t ≤ s + C → v + 1 ≤ w → s + C * w ≤ bound → t + C * v ≤ bound
 task_cost C s t v w bound here less loop =
