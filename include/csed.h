@@ -15,7 +15,7 @@
  *
  * Memory. A call asks malloc and realloc of the C library (or of the allocator that stands for them), and gives back by
  * free. The three must be those of one allocator. A run asks for 3 * space + look + 8 * queue + room bytes, for searches
- * 8 * space bytes more where the script has an expression and about 73 * nodes, and for what the script takes. None of it
+ * space / 8 bytes more where the script has an expression and about 73 * nodes, and for what the script takes. None of it
  * grows with the input.
  *
  * Threads. There is no state that calls share: any number of threads may call at once, each with its own output and report.

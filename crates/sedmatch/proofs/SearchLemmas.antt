@@ -1,5 +1,5 @@
 -- The search from one start, and from one after another.
-use Rattle.std.proofs.Common.{◌≡◌, ℕ, ◌+◌, ◌*◌, ◌<◌, ◌≤◌, ◌↔◌, Bool, true, false, ◌&&◌, ◌||◌, List, length, Option, Some, None, IsTrue, refl, sym, ap, ◌∙◌, subst, ⊎_elim, true≢false, arith, mul-le-mul_left}
+use Rattle.std.proofs.Common.{◌≡◌, ℕ, ◌+◌, ◌*◌, ◌<◌, ◌≤◌, ◌↔◌, Bool, true, false, ◌&&◌, ◌||◌, List, length, Option, Some, None, IsTrue, refl, sym, ◌∙◌, subst, ⊎_elim, true≢false, arith, mul-le-mul_left}
 use Rattle.std.specs.Prelude.{slice_index_or, eqb}
 use Rattle.std.proofs.lemmas.Bool.{eqb-true, eq-eqb, and_parts, and_from, or_cases, or_left, or_right, cases_lt}
 use Rattle.sedre.specs.Arena.{IsArena, tree_at}
@@ -100,20 +100,6 @@ pub cut_square : (m n s0 s : ℕ) → s ≤ s0 + 44 * m * (n + 1) → s ≤ s0 +
 cut_square m n s0 s cost =
     let two : 2 ≤ n + 2 = omega arith in
     let all = mul-le-mul_left (22 * m * (n + 1)) two in
-    omega (arith, all)
-
--- one step of a loop downwards, at most 23 steps a node and place each
-pub down_step : (m n j k s t bound : ℕ) → 0 < m → j + 1 ≡ k → s + 23 * m * (n + 1) * k ≤ bound → t ≤ s + 22 * m * (n + 1) + 1 →
-    t + 23 * m * (n + 1) * j ≤ bound
-down_step m n j k s t bound some next loop here =
-    let e : 23 * m * (n + 1) * (j + 1) ≡ 23 * m * (n + 1) * k = ap (λ v. 23 * m * (n + 1) * v) next in
-    omega (arith, e)
-
-pub down_cost : (m n stop k s0 s : ℕ) → stop ≤ n → s + 23 * m * (n + 1) * k ≤ (s0 + 1) + 23 * m * (n + 1) * stop →
-    s ≤ s0 + 23 * m * (n + 1) * (n + 1) + 1
-down_cost m n stop k s0 s low loop =
-    let up : stop ≤ n + 1 = omega arith in
-    let all = mul-le-mul_left (23 * m * (n + 1)) up in
     omega (arith, all)
 
 -- one task is done, at most C steps each

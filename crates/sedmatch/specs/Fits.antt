@@ -1,8 +1,7 @@
 -- Private to the proofs: no contract of a public item cites what stands here.
 -- What fits into the room for a search.
-use Rattle.std.specs.Prelude.{◌≡◌, ℕ, ◌+◌, ◌*◌, ◌^◌, ◌<◌, ◌≤◌, [], length, Vec, vec_len, vec_capacity}
+use Rattle.std.specs.Prelude.{◌≡◌, ℕ, ◌*◌, ◌^◌, ◌<◌, ◌≤◌, Bool, List, [], length, Vec, vec_capacity}
 use Rattle.sedmatch.specs.declared.scratch.Sets.{Sets}
-use Rattle.sedmatch.specs.declared.scratch.Notes.{Notes}
 use Rattle.sedmatch.specs.declared.scratch.Plan.{Plan}
 
 -- there are marks for n nodes
@@ -21,22 +20,6 @@ Fits m n s = FitsNodes m s × (m ≤ 65536) × (n ≤ 2 ^ 30)
 abbrev pub SameMarks : Sets → Sets → Type 0
 SameMarks old new = (length new.null ≡ length old.null) × (length new.entered ≡ length old.entered) × (length new.ended ≡ length old.ended)
 
--- there are notes for n places
-abbrev pub FitsPlaces : ℕ → Notes → Type 0
-FitsPlaces n s = (n ≤ length s.places) × (n ≤ vec_len s.next)
-
--- there is room for notes for n places
-abbrev pub HasPlaces : ℕ → Notes → Type 0
-HasPlaces n s = (n ≤ length s.places) × (n ≤ vec_capacity s.next)
-
--- there is as much room for notes as before
-abbrev pub KeepsPlaces : Notes → Notes → Type 0
-KeepsPlaces old new = (length new.places ≡ length old.places) × (vec_capacity old.next ≤ vec_capacity new.next)
-
--- there are as many notes as before, and as much room for them
-abbrev pub SameNotes : Notes → Notes → Type 0
-SameNotes old new = (length new.places ≡ length old.places) × (vec_len new.next ≡ vec_len old.next) × (vec_capacity old.next ≤ vec_capacity new.next)
-
 -- nothing is left to do, and there is room for all that an expression of n nodes can give to do
 abbrev pub FitsWork : ℕ → Plan → Type 0
 FitsWork n p = (p.tasks.items ≡ []) × (p.stack.items ≡ []) × (2 * n < vec_capacity p.tasks) × (n < vec_capacity p.stack)
@@ -45,25 +28,21 @@ FitsWork n p = (p.tasks.items ≡ []) × (p.stack.items ≡ []) × (2 * n < vec_
 abbrev pub AllDone : Plan → Plan → Type 0
 AllDone old new = (new.tasks.items ≡ []) × (new.stack.items ≡ []) × (vec_capacity old.tasks ≤ vec_capacity new.tasks) × (vec_capacity old.stack ≤ vec_capacity new.stack)
 
--- marks and notes fit, to cut the spans that nodes match into those of their parts
-abbrev pub FitsCuts : ℕ → ℕ → Sets → Notes → Type 0
-FitsCuts m n s t = Fits m n s × FitsPlaces (n + 1) t
+-- the marks for nodes fit, and there are some for the places of the text, to cut the spans that nodes match into those of their parts
+abbrev pub FitsCuts : ℕ → ℕ → Sets → List Bool → Type 0
+FitsCuts m n s places = Fits m n s × (n < length places)
 
--- there are as many marks and notes as before
-abbrev pub SameRoom : Sets → Sets → Notes → Notes → Type 0
-SameRoom old new before after = SameMarks old new × SameNotes before after
+-- there are as many marks for nodes and for places as before
+abbrev pub SameRoom : Sets → Sets → List Bool → List Bool → Type 0
+SameRoom old new before after = SameMarks old new × (length after ≡ length before)
 
--- marks, notes and the plan fit, to decide the groups of a match
-abbrev pub FitsGroups : ℕ → ℕ → Sets → Notes → Plan → Type 0
-FitsGroups m n s t p = Fits m n s × FitsPlaces (n + 1) t × FitsWork m p
-
--- the same, but for the notes there is the room alone
-abbrev pub HasGroups : ℕ → ℕ → Sets → Notes → Plan → Type 0
-HasGroups m n s t p = Fits m n s × HasPlaces (n + 1) t × FitsWork m p
+-- the marks and the plan fit, to decide the groups of a match
+abbrev pub FitsGroups : ℕ → ℕ → Sets → List Bool → Plan → Type 0
+FitsGroups m n s places p = Fits m n s × (n < length places) × FitsWork m p
 
 -- nothing is left to do, and there is as much room for all as before
-abbrev pub KeepsGroups : Sets → Sets → Notes → Notes → Plan → Plan → Type 0
-KeepsGroups old new before after from to = SameMarks old new × KeepsPlaces before after × AllDone from to
+abbrev pub KeepsGroups : Sets → Sets → List Bool → List Bool → Plan → Plan → Type 0
+KeepsGroups old new before after from to = SameMarks old new × (length after ≡ length before) × AllDone from to
 
 -- no nodes are left on the stack, and there is room for more than n of them
 abbrev pub HasStack : {A : Type 0} → ℕ → Vec ℕ A → Type 0
@@ -78,9 +57,9 @@ abbrev pub KeepsPlan : Plan → Plan → Type 0
 KeepsPlan old new = (new.stack.items ≡ []) × (vec_capacity old.stack ≤ vec_capacity new.stack) × (vec_capacity old.tasks ≤ vec_capacity new.tasks)
 
 -- the room for texts of so many bytes and expressions of so many nodes
-pub record HasRoom (text nodes : ℕ) (sets : Sets) (notes : Notes) (plan : Plan) : Type 0 where
+pub record HasRoom (text nodes : ℕ) (sets : Sets) (places : List Bool) (plan : Plan) : Type 0 where
   pub short : text ≤ 2 ^ 30
   pub few : nodes ≤ 65536
   pub fits_nodes : FitsNodes nodes sets
-  pub has_places : HasPlaces (text + 1) notes
+  pub has_places : text < length places
   pub fits_work : FitsWork nodes plan

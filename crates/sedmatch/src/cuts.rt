@@ -1,20 +1,20 @@
 //! Where the parts of a node that matches a given span begin and end.
 ghost use Rattle.std.specs.Prelude.{◌≡◌, ℕ, false, true, ◌+◌, ◌-◌, ◌*◌, ◌^◌, ◌<◌, ◌≤◌, ◌↔◌, length};
-ghost use Rattle.std.specs.Prelude.{slice_index_or, IfSome, IfNone, IsTrue, slice_index, Some};
+ghost use Rattle.std.specs.Prelude.{slice_index_or, IfSome, IfNone, IsTrue};
 ghost use Rattle.sedmatch.specs.Spans.{Copies};
-ghost use Rattle.sedmatch.specs.Fits.{Fits, FitsCuts, FitsFew, FitsPlaces, SameMarks, SameNotes, SameRoom};
+ghost use Rattle.sedmatch.specs.Fits.{Fits, FitsCuts, FitsFew, SameMarks, SameRoom};
 ghost use Rattle.sedmatch.specs.Costs.{Takes};
 ghost use Rattle.sedmatch.specs.Places.{InOrder};
 ghost use Rattle.sedmatch.specs.Reach.{At, one_start, OpenFrom};
 ghost use Rattle.sedmatch.specs.Reach.{TellEntered, TellBegun};
 ghost use Rattle.sedmatch.specs.Caps.{LastCut};
-ghost use Rattle.sedmatch.specs.Cuts.{GreatestBelow, IsNext, LastCopyIn, LeastFrom};
+ghost use Rattle.sedmatch.specs.Cuts.{GreatestBelow, LastCopyIn, LeastFrom, Repeats, TellStarts};
 
 use crate::ahead::{Lead, lead_from};
 use crate::counted::{Bytes, Marks, Text};
 use crate::passes::Here;
 use crate::runs::{Far, far_from, none_before};
-use crate::scratch::{Notes, Sets};
+use crate::scratch::Sets;
 use crate::search::{advance_from, advance_seen};
 use sedre::{Expr, Node, Nodes, Steps};
 
@@ -365,56 +365,101 @@ fn copy_to(
     best
 }
 
-/// Notes for each place from `start` on how far the next copy of `root` goes in a cut of the rest up to `stop`.
-fn mark_tail(
-    expr: &Expr,
+/// Marks each place up to `stop` at which a match of the node `root` from `start` ends, counted from the other end; the
+/// others up to there aren't marked.
+fn mark_ends(
+    nodes: &Nodes,
     root: usize,
-    text: &Text,
+    bytes: &Bytes,
     start: usize,
     stop: usize,
     sets: &mut Sets,
-    notes: &mut Notes,
+    ends: &mut Marks,
     steps: &mut Steps,
 )
-    requires root { root < length expr.now.nodes }
-    requires start { start ≤ stop }
-    requires stop { stop ≤ length text.now }
-    requires fits { Fits (length expr.now.nodes) (length text.now) sets.old }
-    requires notes_fit { FitsPlaces (length text.now + 1) notes.old }
-    requires room { steps.old < 2 ^ 115 }
+    requires root { root < length nodes.now.nodes }
+    requires order { InOrder start stop (length bytes.now) }
+    requires fits { Fits (length nodes.now.nodes) (length bytes.now) sets.old }
+    requires ends_fit { length bytes.now < length ends.old }
+    requires room { steps.old < 2 ^ 116 }
     ensures marks { SameMarks sets.old sets.new }
-    ensures notes { SameNotes notes.old notes.new }
-    ensures next { (l : ℕ) → start ≤ l → l < stop → Copies (At expr.now.nodes text.now root) stop l → IsNext (At expr.now.nodes text.now root) stop l (slice_index notes.new.next.items l) }
+    ensures ends_len { length ends.new ≡ length ends.old }
+    ensures ends { (q : ℕ) → start ≤ q → q ≤ stop → IsTrue (slice_index_or ends.new (length bytes.now - q) false) ↔ At nodes.now.nodes bytes.now root start q }
     ensures grows { steps.old ≤ steps.new }
-    ensures cost { let m = length expr.now.nodes in let n = length text.now in
-        steps.new ≤ steps.old + 23 * m * (n + 1) * (n + 1) + 1 }
+    ensures cost { steps.new ≤ steps.old + 23 * length nodes.now.nodes * (length bytes.now + 1) }
 {
-    notes.places.set(stop, true, steps);
-    for k in (start..stop).rev() {
-        let found = copy_to(expr, root, text, k, stop, sets, &notes.places, steps);
-        notes.places.set(k, found.is_some(), steps);
-        notes.next[k] = found.unwrap_or(stop);
+    let _count = nodes.nodes();
+    let len = bytes.len();
+    sets.entered.clear(root + 1, steps);
+    ends.clear(len - start + 1, steps);
+    for place in start..stop + 1 {
+        let here = advance_seen(nodes, root, bytes, start, place, sets, steps);
+        ends.set(len - place, here.matched, steps);
+        if !here.more {
+            return;
+        }
     }
 }
 
-/// Where the last copy of `root` begins when `start..stop` is cut into copies that are as long as can be.
-pub fn last_copy(
+/// Marks each place from `start` on from which a match of the node `root` ends at `stop`, by one pass backwards.
+fn starts_to(
     expr: &Expr,
     root: usize,
     text: &Text,
     start: usize,
     stop: usize,
     sets: &mut Sets,
-    notes: &mut Notes,
+    starts: &mut Marks,
+    steps: &mut Steps,
+)
+    requires root { root < length expr.now.nodes }
+    requires order { InOrder start stop (length text.now) }
+    requires fits { Fits (length expr.now.nodes) (length text.now) sets.old }
+    requires starts_fit { length text.now < length starts.old }
+    requires room { steps.old < 2 ^ 115 }
+    ensures marks { SameMarks sets.old sets.new }
+    ensures starts_len { length starts.new ≡ length starts.old }
+    ensures starts { TellStarts expr.now.nodes text.now root start stop starts.new }
+    ensures grows { steps.old ≤ steps.new }
+    ensures cost { steps.new ≤ steps.old + 23 * length expr.now.nodes * (length text.now + 1) }
+{
+    let len = text.len();
+    let nodes = Nodes::mirrored(expr);
+    let bytes = text.backwards();
+    mark_ends(
+        &nodes,
+        root,
+        &bytes,
+        len - stop,
+        len - start,
+        sets,
+        starts,
+        steps,
+    );
+}
+
+/// Where the last copy of `root` begins when `start..stop`, which the repetition `star` of it matches, is cut into copies
+/// that are as long as can be.
+pub fn last_copy(
+    expr: &Expr,
+    star: usize,
+    root: usize,
+    text: &Text,
+    start: usize,
+    stop: usize,
+    sets: &mut Sets,
+    places: &mut Marks,
     steps: &mut Steps,
 ) -> usize
+    requires star { star < length expr.now.nodes }
     requires root { root < length expr.now.nodes }
+    requires repeats { Repeats expr.now.nodes star root }
     requires start { start < stop }
     requires stop { stop ≤ length text.now }
-    requires fits { FitsCuts (length expr.now.nodes) (length text.now) sets.old notes.old }
+    requires fits { FitsCuts (length expr.now.nodes) (length text.now) sets.old places.old }
     requires spans { Copies (At expr.now.nodes text.now root) stop start }
     requires room { steps.old ≤ 2 ^ 114 }
-    ensures same { SameRoom sets.old sets.new notes.old notes.new }
+    ensures same { SameRoom sets.old sets.new places.old places.new }
     ensures last { LastCopyIn (At expr.now.nodes text.now root) stop start result }
     ensures grows { steps.old ≤ steps.new }
     ensures cost { let m = length expr.now.nodes in let n = length text.now in
@@ -425,7 +470,7 @@ pub fn last_copy(
         Node::Set(_) => stop - 1,
         _ => match copy_at_sight(expr, root, text, start, stop, steps) {
             Some(copy) => copy,
-            None => copy_by_passes(expr, root, text, start, stop, sets, notes, steps),
+            None => copy_by_passes(expr, star, root, text, start, stop, sets, places, steps),
         },
     }
 }
@@ -465,36 +510,45 @@ fn copy_at_sight(
     }
 }
 
-/// The same by passes, where a copy may have several bytes.
+/// The same by passes, where a copy may have several bytes: one backwards over the whole marks from where copies lead on
+/// to `stop`, and one forwards over each copy finds the last such place at which it can end.
 fn copy_by_passes(
     expr: &Expr,
+    star: usize,
     root: usize,
     text: &Text,
     start: usize,
     stop: usize,
     sets: &mut Sets,
-    notes: &mut Notes,
+    places: &mut Marks,
     steps: &mut Steps,
 ) -> usize
+    requires star { star < length expr.now.nodes }
     requires root { root < length expr.now.nodes }
+    requires repeats { Repeats expr.now.nodes star root }
     requires start { start < stop }
     requires stop { stop ≤ length text.now }
-    requires fits { FitsCuts (length expr.now.nodes) (length text.now) sets.old notes.old }
+    requires fits { FitsCuts (length expr.now.nodes) (length text.now) sets.old places.old }
     requires spans { Copies (At expr.now.nodes text.now root) stop start }
     requires room { steps.old < 2 ^ 115 }
-    ensures same { SameRoom sets.old sets.new notes.old notes.new }
+    ensures same { SameRoom sets.old sets.new places.old places.new }
     ensures last { LastCopyIn (At expr.now.nodes text.now root) stop start result }
     ensures grows { steps.old ≤ steps.new }
     ensures cost { let m = length expr.now.nodes in let n = length text.now in
         steps.new ≤ steps.old + 23 * m * (n + 1) * (n + 1) + 1 }
 {
-    mark_tail(expr, root, text, start, stop, sets, notes, steps);
+    let _count = expr.nodes();
+    starts_to(expr, star, text, start, stop, sets, places, steps);
     let mut copy = start;
-    loop {
-        let end = notes.copy_end(copy);
-        if end >= stop {
-            return copy;
+    'copies: loop {
+        match copy_to(expr, root, text, copy, stop, sets, places, steps) {
+            None => unreachable!(),
+            Some(end) => {
+                if end >= stop {
+                    return copy;
+                }
+                copy = end;
+            }
         }
-        copy = end;
     }
 }

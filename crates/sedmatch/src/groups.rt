@@ -7,16 +7,16 @@ ghost use Rattle.sedre.specs.Tree.{size};
 ghost use Rattle.sedre.specs.Arena.{tree_at, tree};
 ghost use Rattle.sedmatch.specs.Spans.{Spans};
 ghost use Rattle.sedmatch.specs.Caps.{Caps, forget, IsReport};
-ghost use Rattle.sedmatch.specs.Fits.{AllDone, Fits, FitsCuts, FitsGroups, HasGroups, HasStack, KeepsGroups, KeepsPlan, KeepsStack, SameMarks, SameRoom};
+ghost use Rattle.sedmatch.specs.Fits.{AllDone, Fits, FitsCuts, FitsGroups, HasStack, KeepsGroups, KeepsPlan, KeepsStack, SameMarks, SameRoom};
 ghost use Rattle.sedmatch.specs.Places.{InOrder};
 ghost use Rattle.sedmatch.specs.Reach.{At};
 ghost use Rattle.sedmatch.specs.Work.{IsStep, IsReady, LeavesLess, weights, inners, wholes, node_cost, forget_if};
 ghost use Rattle.sedmatch.specs.Work.{tasks_of, forgets_of, has_span, is_group, sizes, parts_of, forget_node, NoGroups};
 ghost use Rattle.sedmatch.specs.Costs.{Takes};
 
-use crate::counted::Text;
+use crate::counted::{Marks, Text};
 use crate::cuts::{last_copy, last_cut, reaches};
-use crate::scratch::{Notes, Plan, Sets, Task};
+use crate::scratch::{Plan, Sets, Task};
 use sedre::{Expr, Node, Steps};
 
 /// What is done in place of one task, and whether the groups inside are forgotten before.
@@ -159,19 +159,19 @@ fn split_node(
     stop: usize,
     text: &Text,
     sets: &mut Sets,
-    notes: &mut Notes,
+    places: &mut Marks,
     stack: &mut Vec<usize>,
     steps: &mut Steps,
 ) -> Split
     requires inside { x < length expr.now.nodes }
     requires order { InOrder start stop (length text.now) }
-    requires fits { FitsCuts (length expr.now.nodes) (length text.now) sets.old notes.old }
+    requires fits { FitsCuts (length expr.now.nodes) (length text.now) sets.old places.old }
     requires node { slice_get expr.now.nodes x ≡ Some node.now }
     requires spans { At expr.now.nodes text.now x start stop }
     requires stack { HasStack (size (tree_at expr.now.nodes x)) stack.old }
     requires few { size (tree_at expr.now.nodes x) ≤ length expr.now.nodes }
     requires room { steps.old ≤ 2 ^ 114 }
-    ensures same { SameRoom sets.old sets.new notes.old notes.new }
+    ensures same { SameRoom sets.old sets.new places.old places.new }
     ensures stack { KeepsStack stack.old stack.new }
     ensures step { IsStep expr.now.nodes text.now x start stop (forgets_of result) (tasks_of result) }
     ensures cost { let m = length expr.now.nodes in let n = length text.now in
@@ -185,17 +185,7 @@ fn split_node(
         Node::End => Split::Done,
         Node::Seq(a, b) => {
             let (left, right) = (a.index(), b.index());
-            let cut = last_cut(
-                expr,
-                left,
-                right,
-                text,
-                start,
-                stop,
-                sets,
-                &mut notes.places,
-                steps,
-            );
+            let cut = last_cut(expr, left, right, text, start, stop, sets, places, steps);
             Split::Two(
                 false,
                 Task::Enter(left, start, cut),
@@ -223,7 +213,7 @@ fn split_node(
         Node::Star(a, first) => {
             let inner = a.index();
             if start < stop {
-                let copy = last_copy(expr, inner, text, start, stop, sets, notes, steps);
+                let copy = last_copy(expr, x, inner, text, start, stop, sets, places, steps);
                 Split::One(true, Task::Enter(inner, copy, stop))
             } else if has_empty_copy(expr, inner, *first, text, start, sets, steps) {
                 Split::One(true, Task::Enter(inner, start, stop))
@@ -337,16 +327,16 @@ fn work(
     groups: &mut [Option<(usize, usize)>],
     plan: &mut Plan,
     sets: &mut Sets,
-    notes: &mut Notes,
+    places: &mut Marks,
     steps: &mut Steps,
 )
     requires sizes { (x : ℕ) → x < length expr.now.nodes → size (tree_at expr.now.nodes x) ≤ length expr.now.nodes }
-    requires fits { FitsCuts (length expr.now.nodes) (length text.now) sets.old notes.old }
+    requires fits { FitsCuts (length expr.now.nodes) (length text.now) sets.old places.old }
     requires stack { HasStack (length expr.now.nodes) plan.old.stack }
     requires ready { IsReady expr.now.nodes text.now (task.now ∷ reverse plan.old.tasks.items) }
     requires tasks_room { weights expr.now.nodes (task.now ∷ reverse plan.old.tasks.items) < vec_capacity plan.old.tasks }
     requires room { steps.old < 2 ^ 114 }
-    ensures same { SameRoom sets.old sets.new notes.old notes.new }
+    ensures same { SameRoom sets.old sets.new places.old places.new }
     ensures plan { KeepsPlan plan.old plan.new }
     ensures less { LeavesLess expr.now.nodes text.now (task.now ∷ reverse plan.old.tasks.items) groups.old (reverse plan.new.tasks.items) groups.new }
     ensures grows { steps.old ≤ steps.new }
@@ -360,7 +350,9 @@ fn work(
             let _count = expr.nodes();
             let node = expr.look(expr.id(x), steps);
             let stack = &mut plan.stack;
-            let parts = split_node(expr, x, &node, start, stop, text, sets, notes, stack, steps);
+            let parts = split_node(
+                expr, x, &node, start, stop, text, sets, places, stack, steps,
+            );
             forget_first(expr, x, forgets(&parts), &mut plan.stack, groups, steps);
             put_split(&parts, &mut plan.tasks);
         }
@@ -377,17 +369,17 @@ pub fn decide(
     groups: &mut [Option<(usize, usize)>],
     plan: &mut Plan,
     sets: &mut Sets,
-    notes: &mut Notes,
+    places: &mut Marks,
     steps: &mut Steps,
 )
     requires root { root < length expr.now.nodes }
     requires order { InOrder start stop (length text.now) }
     requires spans { At expr.now.nodes text.now root start stop }
     requires sizes { (x : ℕ) → x < length expr.now.nodes → size (tree_at expr.now.nodes x) ≤ length expr.now.nodes }
-    requires fits { FitsGroups (length expr.now.nodes) (length text.now) sets.old notes.old plan.old }
+    requires fits { FitsGroups (length expr.now.nodes) (length text.now) sets.old places.old plan.old }
     requires room { let m = length expr.now.nodes in let n = length text.now in
         steps.old + (46 * m * (n + 1) * (n + 1) + 1 + m) * m + 3 * m < 2 ^ 114 }
-    ensures same { SameRoom sets.old sets.new notes.old notes.new }
+    ensures same { SameRoom sets.old sets.new places.old places.new }
     ensures done { AllDone plan.old plan.new }
     ensures caps { Caps (tree_at expr.now.nodes root) text.now start stop groups.old groups.new }
     ensures grows { steps.old ≤ steps.new }
@@ -396,7 +388,7 @@ pub fn decide(
 {
     put_task(&mut plan.tasks, Task::Enter(root, start, stop));
     while let Some(task) = plan.tasks.pop() {
-        work(expr, &task, text, groups, plan, sets, notes, steps);
+        work(expr, &task, text, groups, plan, sets, places, steps);
     }
 }
 
@@ -408,16 +400,16 @@ pub fn report(
     stop: usize,
     plan: &mut Plan,
     sets: &mut Sets,
-    notes: &mut Notes,
+    places: &mut Marks,
     steps: &mut Steps,
 ) -> [Option<(usize, usize)>; 10]
     requires start { start ≤ stop }
     requires stop { stop ≤ length text.now }
     requires spans { Spans (tree expr.now) text.now start stop }
-    requires fits { HasGroups (length expr.now.nodes) (length text.now) sets.old notes.old plan.old }
+    requires fits { FitsGroups (length expr.now.nodes) (length text.now) sets.old places.old plan.old }
     requires room { let m = length expr.now.nodes in let n = length text.now in
         steps.old + (46 * m * (n + 1) * (n + 1) + 1 + m) * m + 3 * m < 2 ^ 114 }
-    ensures done { KeepsGroups sets.old sets.new notes.old notes.new plan.old plan.new }
+    ensures done { KeepsGroups sets.old sets.new places.old places.new plan.old plan.new }
     ensures report { IsReport (tree expr.now) text.now start stop result }
     ensures grows { steps.old ≤ steps.new }
     ensures none_cost { expr.now.groups ≡ 0 → steps.new ≡ steps.old }
@@ -427,7 +419,6 @@ pub fn report(
     let root = expr.root().index();
     let mut groups = [None; 10];
     if expr.groups() > 0 {
-        notes.grow(text.len() + 1);
         decide(
             expr,
             root,
@@ -437,7 +428,7 @@ pub fn report(
             &mut groups,
             plan,
             sets,
-            notes,
+            places,
             steps,
         );
     }

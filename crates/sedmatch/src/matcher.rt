@@ -72,7 +72,7 @@ pub fn find(
         end,
         &mut scratch.plan,
         &mut scratch.sets,
-        &mut scratch.notes,
+        &mut scratch.places,
         steps,
     );
     Some(Found { start, end, groups })

@@ -300,7 +300,7 @@ impl TableMatcher {
             end,
             &mut scratch.plan,
             &mut scratch.sets,
-            &mut scratch.notes,
+            &mut scratch.places,
             steps,
         )
     }

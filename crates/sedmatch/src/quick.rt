@@ -236,7 +236,7 @@ fn find_by(
         end,
         &mut scratch.plan,
         &mut scratch.sets,
-        &mut scratch.notes,
+        &mut scratch.places,
         steps,
     );
     Some(Found { start, end, groups })

@@ -1,7 +1,6 @@
 //! The room that a search works in, made once: marks and numbers alone.
 ghost use Rattle.std.specs.Prelude.{◌≡◌, ℕ, ◌*◌, ◌+◌, ◌^◌, ◌<◌, ◌≤◌, IfOk, [], vec_len, vec_capacity, length};
-ghost use Rattle.std.specs.Prelude.{slice_index};
-ghost use Rattle.sedmatch.specs.Fits.{FitsNodes, FitsPlaces, FitsWork, HasPlaces, KeepsPlaces};
+ghost use Rattle.sedmatch.specs.Fits.{FitsNodes, FitsWork};
 
 use crate::counted::Marks;
 use std::alloc::{AllocError, Global};
@@ -16,39 +15,6 @@ pub struct Sets {
     pub entered: Marks,
     /// The node, once entered, ends here after at least one byte.
     pub ended: Marks,
-}
-
-/// What is noted of the places of the text while a node is cut into its parts.
-#[derive(Drop)]
-pub struct Notes {
-    /// A part can end there, or the rest can begin there.
-    pub places: Marks,
-    /// Where the copy that begins there ends. It grows with the texts whose groups are asked for.
-    pub next: Vec<usize>,
-}
-
-impl Notes {
-    /// Sees that there are notes for so many places.
-    pub fn grow(&mut self, places: usize)
-        requires { HasPlaces places self.old }
-        ensures fits { FitsPlaces places self.new }
-        ensures kept { KeepsPlaces self.old self.new }
-    {
-        if self.next.len() < places {
-            match self.next.resize(places, 0) {
-                Ok(()) => {}
-                Err(_) => unreachable!(),
-            }
-        }
-    }
-
-    /// Where the copy that begins at the place ends.
-    pub fn copy_end(&self, place: usize) -> usize
-        requires { place < vec_len self.now.next }
-        ensures { result ≡ slice_index self.now.next.items place }
-    {
-        self.next[place]
-    }
 }
 
 /// One thing that is still to do while the groups of a match are decided.
@@ -73,7 +39,8 @@ pub struct Plan {
 #[derive(Drop)]
 pub struct Scratch {
     pub(crate) sets: Sets,
-    pub(crate) notes: Notes,
+    /// Of the places of a text, while a node is cut into its parts: a part can end there, or the rest can begin there.
+    pub(crate) places: Marks,
     pub(crate) plan: Plan,
     max_text: usize,
     max_nodes: usize,
@@ -88,7 +55,7 @@ impl Model for Scratch {
 
     ghost view = { λ s. record { text = s.max_text; nodes = s.max_nodes } };
 
-    ghost invariant = { λ s. HasRoom s.max_text s.max_nodes s.sets s.notes s.plan };
+    ghost invariant = { λ s. HasRoom s.max_text s.max_nodes s.sets s.places s.plan };
 }
 
 impl Scratch {
@@ -101,11 +68,11 @@ impl Scratch {
         ensures { IfOk result (λ s. (s.text ≡ max_text) × (s.nodes ≡ max_nodes)) }
     {
         let sets = new_sets(alloc, max_nodes)?;
-        let notes = new_notes(alloc, max_text + 1)?;
+        let places = Marks::new(alloc, max_text + 1)?;
         let plan = new_plan(alloc, max_nodes)?;
         Ok(Scratch {
             sets,
-            notes,
+            places,
             plan,
             max_text,
             max_nodes,
@@ -129,16 +96,6 @@ pub fn new_sets(alloc: Global, nodes: usize) -> Result<Sets, AllocError>
         null: Marks::new(alloc, nodes)?,
         entered: Marks::new(alloc, nodes)?,
         ended: Marks::new(alloc, nodes)?,
-    })
-}
-
-/// Room for notes for so many places.
-fn new_notes(alloc: Global, places: usize) -> Result<Notes, AllocError>
-    ensures { IfOk result (λ n. HasPlaces places n) }
-{
-    Ok(Notes {
-        places: Marks::new(alloc, places)?,
-        next: Vec::with_capacity(alloc, places)?,
     })
 }
 

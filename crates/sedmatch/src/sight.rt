@@ -278,7 +278,7 @@ pub fn sight_find(
         end,
         &mut scratch.plan,
         sets,
-        &mut scratch.notes,
+        &mut scratch.places,
         steps,
     );
     Some(Found { start, end, groups })

@@ -1,4 +1,4 @@
-use Rattle.std.proofs.Common.{◌+◌, ◌*◌, ◌<◌, length, refl, subst, arith}
+use Rattle.std.proofs.Common.{◌+◌, ◌*◌, ◌<◌, length, subst, arith}
 use Rattle.sedmatch.specs.Spans.{no_copy, one_more}
 use Rattle.sedmatch.specs.Caps.{only, then}
 use Rattle.sedmatch.specs.Reach.{At}

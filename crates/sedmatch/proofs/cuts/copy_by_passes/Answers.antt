@@ -1,36 +1,53 @@
-use Rattle.std.proofs.Common.{sym, subst, arith}
+use Rattle.std.proofs.Common.{◌+◌, ◌*◌, ◌<◌, length, arith}
 use Rattle.sedmatch.specs.Reach.{At}
-use Rattle.sedmatch.specs.Cuts.{IsNext}
-use Rattle.sedmatch.proofs.TailLemmas.{LastCopy-step, LastCopy-end}
+use Rattle.sedmatch.proofs.CutLemmas.{walk_step}
+use Rattle.sedmatch.proofs.TailLemmas.{next_some, next_is, LastCopy-step, LastCopy-end, copies_room, copies_cost}
 use Rattle.sedmatch.proofs.cuts.copy_by_passes.Goals as goal
 
-pub loop-root-preserved : goal.loop-root-preserved
-loop-root-preserved c =
+pub copy_to-requires-clause-room : goal.copy_to-requires-clause-room
+copy_to-requires-clause-room c =
+    copies_room (length c.args.expr.now.nodes) (length c.args.text.now) c.copies.copy c.args.start c.args.steps.now c.starts_to.new.steps c.copies.steps (omega arith) (omega arith) (omega arith) c.requires.room c.starts_to.ensures.cost c.copies.invariant.cost
+
+pub unreachable-requires : goal.unreachable-requires
+unreachable-requires c =
+    let inv = c.copies.invariant in
+    next_some c.args.expr.now.nodes c.args.text.now c.args.star c.args.root c.args.start c.args.stop c.starts_to.new.starts c.nodes-count.ensures.arena c.requires.repeats c.starts_to.ensures.starts
+    c.copies.copy inv.after inv.before inv.rest c.in-None.ensures.greatest
+
+pub copies-preserved : goal.copies-preserved
+copies-preserved c =
     let R = At c.args.expr.now.nodes c.args.text.now c.args.root in
-    let next : IsNext R c.args.stop c.loop-root.copy c.copy_end-end.result =
-    subst (λ v. IsNext R c.args.stop c.loop-root.copy v) (sym c.copy_end-end.ensures)
-    (c.mark_tail.ensures.next c.loop-root.copy c.loop-root.invariant.after c.loop-root.invariant.before c.loop-root.invariant.rest) in
+    let inv = c.copies.invariant in
+    let next = next_is c.args.expr.now.nodes c.args.text.now c.args.star c.args.root c.args.start c.args.stop c.starts_to.new.starts c.nodes-count.ensures.arena c.requires.repeats c.starts_to.ensures.starts
+    c.copies.copy c.in-Some.end inv.after c.in-Some.ensures.greatest in
+    let before : c.in-Some.end < c.args.stop = omega arith in
     let up = next.after in
     record {
+      marks = (omega arith, omega arith, omega arith);
       after = omega arith;
-      before = omega arith;
+      before = before;
+      grows = omega arith;
+      cost = walk_step (22 * length c.args.expr.now.nodes * (length c.args.text.now + 1)) c.copies.copy c.in-Some.end c.args.start c.starts_to.new.steps c.copies.steps c.copy_to.new.steps up inv.cost c.copy_to.ensures.cost;
       rest = next.rest;
-      last = λ e last. c.loop-root.invariant.last e (LastCopy-step R c.args.stop 0 c.loop-root.copy c.copy_end-end.result e next (omega arith) last);
+      last = λ e last. inv.last e (LastCopy-step R c.args.stop c.copies.copy c.in-Some.end e next before last);
     }
 
 pub returns-then-end-stop-clause-last : goal.returns-then-end-stop-clause-last
 returns-then-end-stop-clause-last c =
     let R = At c.args.expr.now.nodes c.args.text.now c.args.root in
-    let next : IsNext R c.args.stop c.loop-root.copy c.copy_end-end.result =
-    subst (λ v. IsNext R c.args.stop c.loop-root.copy v) (sym c.copy_end-end.ensures)
-    (c.mark_tail.ensures.next c.loop-root.copy c.loop-root.invariant.after c.loop-root.invariant.before c.loop-root.invariant.rest) in
-    (c.loop-root.invariant.last c.loop-root.copy (LastCopy-end R c.args.stop c.loop-root.copy c.copy_end-end.result next (omega arith)), c.loop-root.invariant.after, c.loop-root.invariant.before)
+    let inv = c.copies.invariant in
+    let next = next_is c.args.expr.now.nodes c.args.text.now c.args.star c.args.root c.args.start c.args.stop c.starts_to.new.starts c.nodes-count.ensures.arena c.requires.repeats c.starts_to.ensures.starts
+    c.copies.copy c.in-Some.end inv.after c.in-Some.ensures.greatest in
+    (inv.last c.copies.copy (LastCopy-end R c.args.stop c.copies.copy c.in-Some.end next (omega arith)), inv.after, inv.before)
 
-pub loop-root-smaller : goal.loop-root-smaller
-loop-root-smaller c =
-    let R = At c.args.expr.now.nodes c.args.text.now c.args.root in
-    let next : IsNext R c.args.stop c.loop-root.copy c.copy_end-end.result =
-    subst (λ v. IsNext R c.args.stop c.loop-root.copy v) (sym c.copy_end-end.ensures)
-    (c.mark_tail.ensures.next c.loop-root.copy c.loop-root.invariant.after c.loop-root.invariant.before c.loop-root.invariant.rest) in
+pub returns-then-end-stop-clause-cost : goal.returns-then-end-stop-clause-cost
+returns-then-end-stop-clause-cost c =
+    copies_cost (length c.args.expr.now.nodes) (length c.args.text.now) c.copies.copy c.args.start c.args.stop c.args.steps.now c.starts_to.new.steps c.copies.steps c.copy_to.new.steps c.copies.invariant.before c.requires.stop c.starts_to.ensures.cost c.copies.invariant.cost c.copy_to.ensures.cost
+
+pub copies-smaller : goal.copies-smaller
+copies-smaller c =
+    let inv = c.copies.invariant in
+    let next = next_is c.args.expr.now.nodes c.args.text.now c.args.star c.args.root c.args.start c.args.stop c.starts_to.new.starts c.nodes-count.ensures.arena c.requires.repeats c.starts_to.ensures.starts
+    c.copies.copy c.in-Some.end inv.after c.in-Some.ensures.greatest in
     let up = next.after in
     omega arith

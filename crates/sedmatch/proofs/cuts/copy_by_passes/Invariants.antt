@@ -1,16 +1,20 @@
-use Rattle.std.proofs.Common.{ℕ, ◌-◌, ◌<◌, ◌≤◌}
+use Rattle.std.proofs.Common.{ℕ, ◌+◌, ◌-◌, ◌*◌, ◌<◌, ◌≤◌, length}
+use Rattle.sedmatch.specs.Fits.{SameMarks}
 use Rattle.sedmatch.specs.Spans.{Copies}
 use Rattle.sedmatch.specs.Reach.{At}
 use Rattle.sedmatch.specs.Caps.{LastCopy}
 use Rattle.sedmatch.proofs.cuts.copy_by_passes.Given as goal
 
-abbrev pub invariant-loop-root : goal.invariant-loop-root
-invariant-loop-root l = record {
+abbrev pub invariant-copies : goal.invariant-copies
+invariant-copies l = record {
+  marks : SameMarks l.initial.sets l.sets;
   after : l.start ≤ l.copy;
   before : l.copy < l.stop;
+  grows : l.initial.steps ≤ l.steps;
+  cost : l.steps + 22 * length l.expr.nodes * (length l.text + 1) * l.start ≤ l.initial.steps + 22 * length l.expr.nodes * (length l.text + 1) * l.copy;
   rest : Copies (At l.expr.nodes l.text l.root) l.stop l.copy;
   last : (c : ℕ) → LastCopy (At l.expr.nodes l.text l.root) l.stop l.copy c → LastCopy (At l.expr.nodes l.text l.root) l.stop l.start c;
 }
 
-abbrev pub decreases-loop-root : goal.decreases-loop-root
-decreases-loop-root l = l.stop - l.copy
+abbrev pub decreases-copies : goal.decreases-copies
+decreases-copies l = l.stop - l.copy

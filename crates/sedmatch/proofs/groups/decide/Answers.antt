@@ -20,7 +20,7 @@ loop-task-init c =
     let low : weights nodes (reverse c.put_task.new.tasks.items) ≤ 2 * length nodes = omega (arith, weight, small) in
     record {
       marks = (refl, refl, refl);
-      notes = (refl, refl, omega arith);
+      places = refl;
       stack_empty = c.requires.fits.2.1;
       stack_room = omega arith;
       tasks_room = omega arith;
@@ -43,7 +43,7 @@ loop-task-preserved c =
     let less : weights nodes (reverse c.work.new.plan.tasks.items) + 1 ≤ weights nodes (reverse c.loop-task.plan.tasks.items) = omega (arith, c.work.ensures.less.2, ap (weights nodes) popped) in
     record {
       marks = (omega arith, omega arith, omega arith);
-      notes = (omega arith, omega arith, omega arith);
+      places = omega arith;
       stack_empty = c.work.ensures.plan.0;
       stack_room = omega arith;
       tasks_room = omega (arith, c.pop.ensures.capacity);

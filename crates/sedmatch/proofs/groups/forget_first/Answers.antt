@@ -1,4 +1,4 @@
-use Rattle.std.proofs.Common.{Bool, ◌≡◌, sym, subst, ◌∙◌, refl}
+use Rattle.std.proofs.Common.{◌≡◌, sym, subst, ◌∙◌, refl}
 use Rattle.sedre.specs.Arena.{tree_at}
 use Rattle.sedmatch.specs.Work.{forget_if}
 use Rattle.sedmatch.proofs.GroupLemmas.{forget-nothing}

@@ -37,6 +37,11 @@ last_copy-copy-requires-clause-root c =
     let is : slice_get c.args.expr.now.nodes c.args.x ≡ Some (Star c.in-Star.a c.in-Star.first) = c.requires.node ∙ ap Some c.in-Star.is in
     rw c.index-inner-in-Star.ensures (part_inside _ c.nodes-count.ensures.arena _ _ _ c.requires.inside is refl)
 
+pub last_copy-copy-requires-clause-repeats : goal.last_copy-copy-requires-clause-repeats
+last_copy-copy-requires-clause-repeats c =
+    let is : slice_get c.args.expr.now.nodes c.args.x ≡ Some (Star c.in-Star.a c.in-Star.first) = c.requires.node ∙ ap Some c.in-Star.is in
+    (c.in-Star.a, c.in-Star.first, is, sym c.index-inner-in-Star.ensures)
+
 pub last_copy-copy-requires-clause-spans : goal.last_copy-copy-requires-clause-spans
 last_copy-copy-requires-clause-spans c =
     let is : slice_get c.args.expr.now.nodes c.args.x ≡ Some (Star c.in-Star.a c.in-Star.first) = c.requires.node ∙ ap Some c.in-Star.is in
