@@ -19,13 +19,13 @@ use Rattle.sedmatch.proofs.ReachLemmas.{open_at, close_at}
 
 -- what stands in a list with one more at its end
 module _ {A : Type 0} (xs : List A) (y : A) where
-  get_old : (k : ℕ) (x : A) → slice_get xs k ≡ Some x → slice_get (xs ++ y ∷ []) k ≡ Some x
+  pub get_old : (k : ℕ) (x : A) → slice_get xs k ≡ Some x → slice_get (xs ++ y ∷ []) k ≡ Some x
   get_old k x is =
       let inside = slice_get_within xs k x is in
       let long = length-append xs (y ∷ []) in
       slice_get-get_or (xs ++ y ∷ []) k x (omega (arith, inside, long)) ∙ ap Some (get_or_append_left xs (y ∷ []) x k inside ∙ get_or_from_slice_get xs k x x is)
 
-  get_new : slice_get (xs ++ y ∷ []) (length xs) ≡ Some y
+  pub get_new : slice_get (xs ++ y ∷ []) (length xs) ≡ Some y
   get_new =
       let long = length-append xs (y ∷ []) in
       slice_get-get_or (xs ++ y ∷ []) (length xs) y (omega (arith, long)) ∙ ap Some (get_or_push xs y y (length xs) refl)
