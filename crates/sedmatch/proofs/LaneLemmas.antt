@@ -25,7 +25,7 @@ no_lane v k lt none same =
     absurd (omega (arith, set, clear))
 
 -- of two vectors combined lane by lane
-combined : (f : ℕ → ℕ → ℕ) (a b : List ℕ) (k : ℕ) → length a ≡ 32 → length b ≡ 32 → k < 32 → slice_index (zip2 f a b) k ≡ f (slice_index a k) (slice_index b k)
+pub combined : (f : ℕ → ℕ → ℕ) (a b : List ℕ) (k : ℕ) → length a ≡ 32 → length b ≡ 32 → k < 32 → slice_index (zip2 f a b) k ≡ f (slice_index a k) (slice_index b k)
 combined f a b k p q lt = get_or-zip2 f a b k 0 0 0 (omega (arith, p, lt)) (omega (arith, q, lt))
 
 xor_same : (n : ℕ) → bit_xor n n ≡ 0
@@ -44,21 +44,32 @@ lesser : (x y : ℕ) (b : Bool) → ltb x y ≡ b → (x ≡ 0) ⊎ (y ≡ 0) �
 lesser x y true e h = let lt = ltb-true x y e in ⊎_elim (λ (first : x ≡ 0). first) (λ (second : y ≡ 0). absurd (omega (arith, lt, second))) h
 lesser x y false e h = let ge = ltb-false x y e in ⊎_elim (λ (first : x ≡ 0). omega (arith, ge, first)) (λ (second : y ≡ 0). second) h
 
--- the lesser of two vectors lane by lane is 0 where one of them is
+-- the lesser of two vectors lane by lane
+module _ (a b : List ℕ) (first : length a ≡ 32) (second : length b ≡ 32) where
+  tests : length (zip2 ltb a b) ≡ 32
+  tests = length-zip2 ltb a b (first ∙ sym second) ∙ first
+
+  pub least_long : length (sel_l (zip2 ltb a b) a b) ≡ 32
+  least_long = length-sel_l (zip2 ltb a b) a b (tests ∙ sym first) (tests ∙ sym second) ∙ tests
+
+  -- is 0 where one of them is
+  pub least_zero : (k : ℕ) → k < 32 → (slice_index a k ≡ 0) ⊎ (slice_index b k ≡ 0) → slice_index (sel_l (zip2 ltb a b) a b) k ≡ 0
+  least_zero k lt zero =
+      let x = slice_index a k in
+      let y = slice_index b k in
+      let test : get_or (zip2 ltb a b) k false ≡ ltb x y = get_or-zip2 ltb a b k 0 0 false (omega (arith, first, lt)) (omega (arith, second, lt)) in
+      let is = get_or-sel_l (zip2 ltb a b) a b k 0 (omega (arith, tests, lt)) (omega (arith, first, lt)) (omega (arith, second, lt)) in
+      is ∙ ap (λ m. cond m x y) test ∙ lesser x y (ltb x y) refl zero
+
+-- and so for two properties of the bytes
 module _ (P Q : ℕ → Type 0) (lanes a b : List ℕ) where
   pub either_zero : HasZeros P lanes a → HasZeros Q lanes b → HasZeros (λ c. P c ⊎ Q c) lanes (sel_l (zip2 ltb a b) a b)
-  either_zero first second =
-      let long : length (zip2 ltb a b) ≡ 32 = length-zip2 ltb a b (first.0 ∙ sym second.0) ∙ first.0 in (
-        length-sel_l (zip2 ltb a b) a b (long ∙ sym first.0) (long ∙ sym second.0) ∙ long,
-        λ k lt has.
-            let x = slice_index a k in
-            let y = slice_index b k in
-            let test : get_or (zip2 ltb a b) k false ≡ ltb x y = get_or-zip2 ltb a b k 0 0 false (omega (arith, first.0, lt)) (omega (arith, second.0, lt)) in
-            let is = get_or-sel_l (zip2 ltb a b) a b k 0 (omega (arith, long, lt)) (omega (arith, first.0, lt)) (omega (arith, second.0, lt)) in
-            is ∙ ap (λ m. cond m x y) test
-            ∙ lesser x y (ltb x y) refl
-            (⊎_elim (λ (p : P (slice_index lanes k)). inl (first.1 k lt p)) (λ (q : Q (slice_index lanes k)). inr (second.1 k lt q)) has),
-      )
+  either_zero first second = (
+    least_long a b first.0 second.0,
+    λ k lt has.
+        least_zero a b first.0 second.0 k lt
+        (⊎_elim (λ (p : P (slice_index lanes k)). inl (first.1 k lt p)) (λ (q : Q (slice_index lanes k)). inr (second.1 k lt q)) has),
+  )
 
 -- two vectors of bytes from two distances after a place on, and lanes that are 0 where the bytes stand in them
 module _ (w v u : List ℕ) (p : ℕ) (f g : Fixed) (a b : List ℕ) where

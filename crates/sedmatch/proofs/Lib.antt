@@ -16,6 +16,7 @@ pub mod SkipLemmas
 pub mod NeededLemmas
 pub mod NarrowLemmas
 pub mod ChoiceLemmas
+pub mod OpeningLemmas
 pub mod SightLemmas
 pub mod TrailLemmas
 pub mod FewLemmas

@@ -24,6 +24,7 @@ pub mod Between
 pub mod Word
 pub mod Trail
 pub mod Choice
+pub mod Openings
 pub mod Sight
 pub mod Few
 pub mod Rare

@@ -10,7 +10,7 @@ const LANES: usize = 32;
 
 /// The bytes from a place on, as many as a vector has lanes.
 #[inline(always)]
-fn lanes_at(bytes: &[u8], at: usize) -> u8x32
+pub fn lanes_at(bytes: &[u8], at: usize) -> u8x32
     requires { at + 32 ≤ length bytes.now }
     ensures { (k : ℕ) → k < 32 → slice_index result k ≡ slice_index bytes.now (at + k) }
 {

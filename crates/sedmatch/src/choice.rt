@@ -1,14 +1,21 @@
 //! A choice of a few literals, as in `cat\|dog\|bird`: a match begins where one of them stands, and ends after the longest
 //! that does.
 //!
-//! Each byte is looked up in a table of those with which a literal begins. Where it is one, the literals are compared.
-ghost use Rattle.std.specs.Prelude.{◌≡◌, ℕ, List, Bool, ◌+◌, ◌*◌, ◌^◌, ◌<◌, ◌≤◌, ◌-◌, ◌↔◌, length, IfOk, IfSome, IsTrue, slice_get, Some};
+//! The places at which a literal can stand are sought by the bytes with which they begin: by the first of each, where these
+//! are few and rare, else by the first two of each, or where one has a single byte, by a look at each byte of the text. At
+//! such a place the literals are compared.
+ghost use Rattle.std.specs.Prelude.{◌≡◌, ℕ, List, Bool, ◌+◌, ◌*◌, ◌^◌, ◌<◌, ◌≤◌, ◌-◌, ◌↔◌, ◌⊎◌, length, IfOk, IfSome, IsTrue, slice_get, Some};
 ghost use Rattle.memchr.specs.Find.{OccursAt};
 ghost use Rattle.sedmatch.specs.Word.{AllWord};
-ghost use Rattle.sedmatch.specs.Choice.{AllChoice, AreHeads, AreShort, BranchesOf, ChoiceAt, ChoiceEnd, FirstChoice, Longer, LongestAt};
+ghost use Rattle.sedmatch.specs.Choice.{AllChoice, AreHeads, AreShort, BranchesOf, ChoiceAt, ChoiceEnd, FirstChoice, Longer, LongestAt, RareHeads};
+ghost use Rattle.sedmatch.specs.Few.{Gathered, HasFew};
+ghost use Rattle.sedmatch.specs.Openings.{PairAt};
 
 use crate::counted::Text;
+use crate::few::{Few, with_byte};
 use crate::needed::{Literal, literal_from};
+use crate::openings::{Opening, openings_of};
+use crate::rare::are_rare;
 use sedre::{Expr, Node, Steps};
 use std::alloc::{AllocError, Global};
 use std::marker::Model;
@@ -40,6 +47,19 @@ impl Alternative {
         &self.bytes
     }
 
+    /// The two bytes with which it begins, if it has so many.
+    pub fn opening(&self) -> Option<Opening>
+        ensures { IfSome result (λ o. PairAt o self.now 0) }
+    {
+        if self.bytes.len() < 2 {
+            return None;
+        }
+        Some(Opening {
+            first: self.bytes[0],
+            second: self.bytes[1],
+        })
+    }
+
     /// The byte with which it begins.
     fn head(&self) -> Option<u8>
         ensures { IfSome result (λ c. slice_get self.now 0 ≡ Some c) }
@@ -57,18 +77,23 @@ impl Alternative {
 pub struct Choice {
     // Whether a literal begins with the byte.
     heads: Vec<bool>,
+    // The bytes with which the literals begin, where they are few and rare.
+    rare: Option<Few>,
+    // The first two bytes of each, where it has so many.
+    openings: Option<Vec<Opening>>,
     literals: Vec<Alternative>,
 }
 
 impl Model for Choice {
-    ghost use Rattle.std.specs.Prelude.{ℕ, List};
-    ghost use Rattle.sedmatch.specs.Choice.{AreHeads, AreShort};
+    ghost use Rattle.std.specs.Prelude.{ℕ, List, length, IfSome};
+    ghost use Rattle.sedmatch.specs.Choice.{AreHeads, AreShort, RareHeads};
+    ghost use Rattle.sedmatch.specs.Openings.{OpenLiterals};
 
     ghost Value = { List (List ℕ) };
 
     ghost view = { λ c. c.literals.items };
 
-    ghost invariant = { λ c. AreHeads c.heads.items c.literals.items × AreShort c.literals.items };
+    ghost invariant = { λ c. AreHeads c.heads.items c.literals.items × RareHeads c.rare c.literals.items × AreShort c.literals.items × IfSome c.openings (λ o. OpenLiterals o.items c.literals.items (length c.literals.items)) };
 }
 
 /// What the spans of a node are made of.
@@ -174,6 +199,37 @@ fn heads_of(alloc: Global, literals: &[Alternative]) -> Result<Option<Vec<bool>>
     Ok(Some(heads))
 }
 
+/// The bytes gathered so far and one more, where they are still few.
+fn with_head(few: Option<Few>, byte: u8) -> Option<Few>
+    ensures { IfSome result (λ f. (c : ℕ) → (Gathered few c ⊎ (c ≡ byte)) → HasFew f c) }
+{
+    match few {
+        Some(few) if few.has(byte) => Some(few),
+        _ => with_byte(few, byte),
+    }
+}
+
+/// The bytes with which the literals begin, where they are few.
+fn few_heads(literals: &[Alternative]) -> Option<Few>
+    ensures { RareHeads result literals.now }
+{
+    let mut few = None;
+    for x in 0..literals.len() {
+        few = Some(with_head(few, literals[x].head()?)?);
+    }
+    few
+}
+
+/// The same, where they are rare too.
+fn rare_heads(literals: &[Alternative]) -> Option<Few>
+    ensures { RareHeads result literals.now }
+{
+    match few_heads(literals) {
+        Some(few) if are_rare(&few) => Some(few),
+        _ => None,
+    }
+}
+
 /// The choice of two literals or more that the matches are, if they are few.
 pub fn choice_of(
     alloc: Global,
@@ -195,7 +251,14 @@ pub fn choice_of(
     let Some(heads) = heads_of(alloc, &literals)? else {
         return Ok(None);
     };
-    Ok(Some(Choice { heads, literals }))
+    let rare = rare_heads(&literals);
+    let openings = openings_of(alloc, &literals)?;
+    Ok(Some(Choice {
+        heads,
+        rare,
+        openings,
+        literals,
+    }))
 }
 
 /// Whether the literal stands at the place.
@@ -272,17 +335,51 @@ pub fn first_choice(
     None
 }
 
+/// The same where the literals begin with few bytes, which are sought.
+fn rare_choice(
+    few: &Few,
+    literals: &[Alternative],
+    text: &Text,
+    from: usize,
+    steps: &mut Steps,
+) -> Option<usize>
+    requires heads { RareHeads (Some few.now) literals.now }
+    requires literals { AreShort literals.now }
+    requires from { from ≤ length text.now }
+    requires short { length text.now ≤ 2 ^ 30 }
+    requires room { steps.old < 2 ^ 116 }
+    ensures first { FirstChoice literals.now text.now from result }
+    ensures grows { steps.old ≤ steps.new }
+    ensures cost { steps.new ≤ steps.old + 21 * (length text.now + 1) }
+{
+    let mut place = from;
+    while let Some(at) = text.find_few(few, place, steps) {
+        if text.longest_choice(literals, at, steps).is_some() {
+            return Some(at);
+        }
+        place = at + 1;
+    }
+    None
+}
+
 impl Choice {
     /// The first place from `from` on at which a match begins.
     pub fn start(&self, text: &Text, from: usize, steps: &mut Steps) -> Option<usize>
         requires from { from ≤ length text.now }
         requires short { length text.now ≤ 2 ^ 30 }
-        requires room { steps.old < 2 ^ 117 }
+        requires room { steps.old < 2 ^ 116 }
         ensures first { FirstChoice self.now text.now from result }
         ensures grows { steps.old ≤ steps.new }
-        ensures cost { steps.new ≤ steps.old + 21 * (length text.now + 1) }
+        ensures cost { steps.new ≤ steps.old + 22 * (length text.now + 1) }
     {
-        text.find_choice(&self.heads, &self.literals, from, steps)
+        let literals = &self.literals;
+        match (&self.rare, &self.openings) {
+            (Some(few), _) => rare_choice(few, literals, text, from, steps),
+            (None, Some(openings)) => {
+                text.find_opened(&self.heads, openings, literals, from, steps)
+            }
+            (None, None) => text.find_choice(&self.heads, literals, from, steps),
+        }
     }
 
     /// Where the longest match ends that begins at `start`.

@@ -8,6 +8,7 @@ ghost use Rattle.sedmatch.specs.Bytes.{FirstAt, looked_at, in_order};
 ghost use Rattle.sedmatch.specs.Choice.{AreHeads, AreShort, FirstChoice, LongestAt};
 ghost use Rattle.sedmatch.specs.Few.{AreBytes, FirstFew};
 ghost use Rattle.sedmatch.specs.Needed.{FirstLiteral, LastLiteral, passed_to};
+ghost use Rattle.sedmatch.specs.Openings.{OpenLiterals};
 ghost use Rattle.sedmatch.specs.Rare.{ApartIn};
 ghost use Rattle.sedmatch.specs.Runs.{IsRun};
 ghost use Rattle.sedmatch.specs.Skip.{CanBegin, NextStart, skip_cost};
@@ -21,6 +22,7 @@ use crate::apart::apart_to;
 use crate::choice::{Alternative, MAX_BYTES, first_choice, longest_at};
 use crate::few::Few;
 use crate::members::{first_member, last_with, run_back, run_to};
+use crate::openings::{Opening, first_opened};
 use crate::rare::Fixed;
 use crate::sight::First;
 use memchr::memchr;
@@ -254,6 +256,39 @@ impl<'a> Text<'a> {
             }
             Some(place) => {
                 steps.add((1 + MAX_BYTES) * (place - from + 1));
+                Some(place)
+            }
+        }
+    }
+
+    /// The same by the two bytes with which each begins.
+    /// Counts two looks and the most bytes of all literals for each byte from `from` to that place, or to the end where there
+    /// is none.
+    pub(crate) fn find_opened(
+        &self,
+        heads: &[bool],
+        openings: &[Opening],
+        literals: &[Alternative],
+        from: usize,
+        steps: &mut Steps,
+    ) -> Option<usize>
+        requires heads { AreHeads heads.now literals.now }
+        requires openings { OpenLiterals openings.now literals.now (length literals.now) }
+        requires literals { AreShort literals.now }
+        requires from { from ≤ length self.now }
+        requires short { length self.now ≤ 2 ^ 30 }
+        requires room { steps.old < 2 ^ 117 }
+        ensures first { FirstChoice literals.now self.now from result }
+        ensures grows { steps.old ≤ steps.new }
+        ensures cost { steps.new ≤ steps.old + 22 * (length self.now + 1) }
+    {
+        match first_opened(heads, openings, literals, self.bytes, from) {
+            None => {
+                steps.add((2 + MAX_BYTES) * (self.bytes.len() - from));
+                None
+            }
+            Some(place) => {
+                steps.add((2 + MAX_BYTES) * (place - from + 1));
                 Some(place)
             }
         }

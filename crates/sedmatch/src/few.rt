@@ -58,7 +58,7 @@ impl Few {
 
 /// Lanes of which those are 0 in which the byte stands.
 #[inline(always)]
-fn byte_zeros(byte: u8, lanes: u8x32) -> u8x32
+pub fn byte_zeros(byte: u8, lanes: u8x32) -> u8x32
     ensures { HasZeros (λ c. c ≡ byte) lanes result }
 {
     lanes ^ u8x32::splat(byte)

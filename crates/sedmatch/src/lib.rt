@@ -34,6 +34,7 @@ mod meet;
 mod members;
 mod needed;
 mod occurrences;
+mod openings;
 mod passes;
 mod quick;
 mod rare;

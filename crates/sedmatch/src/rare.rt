@@ -102,6 +102,15 @@ impl Fixed {
     }
 }
 
+/// Whether the bytes are so rare that they are sought one by one in less time than by a table.
+pub fn are_rare(few: &Few) -> bool {
+    let first = Fixed {
+        offset: 0,
+        few: *few,
+    };
+    first.weight() <= RARE
+}
+
 /// What stands after the beginning of every match.
 #[derive(Clone, Copy)]
 pub struct Rare {
