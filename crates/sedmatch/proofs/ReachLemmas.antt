@@ -54,6 +54,19 @@ pub takes_some : (byte : Option ℕ) (members : List Bool) → IsTrue (takes byt
 takes_some None members h = absurd (true≢false (sym h))
 takes_some (Some b) members h = (b, refl, h)
 
+-- nothing is entered before the first start
+pub Enters-from : (nodes : List Node) (w : List ℕ) (r : ℕ) (p : Starts) (x j : ℕ) → Enters nodes w r p x j → p.first ≤ j
+Enters-from nodes w r p x j (at_root _ _ _ e) = omega arith
+Enters-from nodes w r p x j (with_whole z _ _ other is' begins e) = Enters-from nodes w r p z j e
+Enters-from nodes w r p x j (after_left z _ i _ a b is' right e at) =
+    let early = Enters-from nodes w r p z i e in
+    let on = Spans-forward (tree_at nodes a.index) w i j at in
+    omega arith
+Enters-from nodes w r p x j (again z _ i _ a first is' inner e at) =
+    let early = Enters-from nodes w r p z i e in
+    let on = Spans-forward (tree_at nodes z) w i j at in
+    omega arith
+
 module _ (nodes : List Node) (w : List ℕ) (r : ℕ) (p : Starts) (arena : IsArena nodes) where
   -- a part that begins where its node does
   FromNode-with_whole : (y c j : ℕ) (node : Node) → slice_get nodes y ≡ Some node → BeginsWith node c → Enters nodes w r p y j → FromNode nodes w r p y c j node
@@ -141,19 +154,6 @@ module _ (nodes : List Node) (w : List ℕ) (r : ℕ) (p : Starts) (arena : IsAr
       let up = Enters-inside z i e in
       let same : z ≡ loose.0 = arena.once z loose.0 c (Star a first) loose.1 is' loose.3 inner loose.4 in
       let high = loose.2 in
-      omega arith
-
-  -- nothing is entered before the first start
-  pub Enters-from : (x j : ℕ) → Enters nodes w r p x j → p.first ≤ j
-  Enters-from x j (at_root _ _ _ e) = omega arith
-  Enters-from x j (with_whole z _ _ other is' begins e) = Enters-from z j e
-  Enters-from x j (after_left z _ i _ a b is' right e at) =
-      let early = Enters-from z i e in
-      let on = Spans-forward (tree_at nodes a.index) w i j at in
-      omega arith
-  Enters-from x j (again z _ i _ a first is' inner e at) =
-      let early = Enters-from z i e in
-      let on = Spans-forward (tree_at nodes z) w i j at in
       omega arith
 
   part_left : (a b : NodeId) → IsPart (Seq a b) a.index

@@ -14,6 +14,14 @@ use Rattle.sedmatch.proofs.ReachLemmas.{Enters-root, Enters-from}
 pub same_number : (m n : ℕ) → IsTrue (eqb m n) ↔ (m ≡ n)
 same_number m n = (eqb-true m n, eq-eqb m n)
 
+-- no mark says that nothing was entered before the first start
+pub none_entered : (nodes : List Node) (w : List ℕ) (r : ℕ) (starts : Starts) (marks : List Bool) (place : ℕ) → place ≡ starts.first →
+    ((c : ℕ) → c < r + 1 → slice_index_or marks c false ≡ false) → Marked marks (Below (r + 1)) (λ c. Entered nodes w r starts c place)
+none_entered nodes w r starts marks place first clear c below = (
+  λ h. absurd (true≢false (sym h ∙ clear c below)),
+  λ h. let late = Enters-from nodes w r starts c h.0 h.2 in absurd (omega arith),
+)
+
 module _ (nodes : List Node) (w : List ℕ) (r : ℕ) (starts : Starts) (arena : IsArena nodes) where
   -- a match of r from one of the starts ends here
   pub root_spans : (place : ℕ) (null ended : List Bool) (first v : Bool) →
@@ -45,21 +53,19 @@ module _ (nodes : List Node) (w : List ℕ) (r : ℕ) (starts : Starts) (arena :
             (cases_lt some.0 place),
       )
 
-  -- no mark says that nothing was entered before the first start
+  -- the same where the nodes are known to be an arena
   pub clear_entered : (marks : List Bool) (place : ℕ) → place ≡ starts.first → ((c : ℕ) → c < r + 1 → slice_index_or marks c false ≡ false) →
       Marked marks (Below (r + 1)) (λ c. Entered nodes w r starts c place)
-  clear_entered marks place first clear c below = (
-    λ h. absurd (true≢false (sym h ∙ clear c below)),
-    λ h. let late = Enters-from nodes w r starts arena c h.0 h.2 in absurd (omega arith),
-  )
+  clear_entered = none_entered nodes w r starts
 
-  -- at the next place, what is entered now was entered before
-  pub next_entered : (marks : List Bool) (place : ℕ) → Marked marks (Below (r + 1)) (λ c. Enters nodes w r starts c place) →
-      Marked marks (Below (r + 1)) (λ c. Entered nodes w r starts c (place + 1))
-  next_entered marks place marked c below = (
-    λ h. (place, refl, (marked c below).0 h),
-    λ h. let same : h.0 ≡ place = omega arith in (marked c below).1 (subst (λ i. Enters nodes w r starts c i) same h.2),
-  )
+-- at the next place, what is entered now was entered before
+pub next_entered : (nodes : List Node) (w : List ℕ) (r : ℕ) (starts : Starts) (marks : List Bool) (place : ℕ) →
+    Marked marks (Below (r + 1)) (λ c. Enters nodes w r starts c place) →
+    Marked marks (Below (r + 1)) (λ c. Entered nodes w r starts c (place + 1))
+next_entered nodes w r starts marks place marked c below = (
+  λ h. (place, refl, (marked c below).0 h),
+  λ h. let same : h.0 ≡ place = omega arith in (marked c below).1 (subst (λ i. Enters nodes w r starts c i) same h.2),
+)
 
 -- before its start nothing is spanned
 pub LongestBelow-none : (e : Tree) (w : List ℕ) (i : ℕ) → LongestBelow e w i i None

@@ -109,7 +109,7 @@ module _ (nodes : List Node) (r : ℕ) (arena : IsArena nodes) (root : r < lengt
       (λ i x members e is_set marked.
       let here : i ≡ place = omega arith in
       ap (λ b. takes b members) (ap (slice_get w) here ∙ is) ∙ alike other byte x members little small class is_set)
-      (next_entered nodes w r s arena old place begun)
+      (next_entered nodes w r s old place begun)
 
   -- what leads to some marks leads to others that agree
   pub leads_agree : (sweeps : Bool) (classes : List ℕ) (row : List Bool) (ends : Ends) (class : ℕ) (new other : List Bool) (after : Ends) →

@@ -3,7 +3,7 @@
 //! A concatenation is followed from part to part as long as each is a set, an anchor or the null string: so far a match
 //! goes one way only. Most places at which none begins are told by one or two of these parts.
 ghost use Rattle.std.specs.Prelude.{◌≡◌, ℕ, ◌+◌, ◌*◌, ◌^◌, ◌<◌, ◌≤◌, length, slice_get, Some, IsTrue};
-ghost use Rattle.sedre.specs.Arena.{tree, tree_of};
+ghost use Rattle.sedre.specs.Arena.{IsArena, tree, tree_of};
 ghost use Rattle.sedre.specs.Tree.{Tree, set as a_set};
 ghost use Rattle.sedmatch.specs.Spans.{Spans};
 ghost use Rattle.sedmatch.specs.Reach.{At};
@@ -86,6 +86,7 @@ pub fn rest_of_node(
     steps: &mut Steps,
 ) -> Rest
     requires node { slice_get expr.now.nodes index ≡ Some node.now }
+    requires arena { IsArena expr.now.nodes }
     requires inside { index < length expr.now.nodes }
     requires place { place ≤ length text.now }
     requires room { steps.old < 2 ^ 119 }
@@ -94,7 +95,6 @@ pub fn rest_of_node(
     ensures grows { steps.old ≤ steps.new }
     ensures cost { steps.new ≤ steps.old + 2 }
 {
-    let _count = expr.nodes();
     match node {
         Node::Seq(a, b) => {
             let first = expr.look(*a, steps);
@@ -143,7 +143,6 @@ pub fn rest_behind(expr: &Expr, index: usize, text: &Text, place: usize, steps: 
     ensures grows { steps.old ≤ steps.new }
     ensures cost { steps.new ≤ steps.old + 7 }
 {
-    let _count = expr.nodes();
     let node = expr.look(expr.id(index), steps);
     match node {
         Node::Alt(a, b) => {
@@ -180,7 +179,6 @@ pub fn lead_from(expr: &Expr, root: usize, text: &Text, place: usize, steps: &mu
     ensures grows { steps.old ≤ steps.new }
     ensures cost { steps.new ≤ steps.old + 7 * length expr.now.nodes }
 {
-    let _count = expr.nodes();
     let mut index = root;
     let mut at = place;
     loop {

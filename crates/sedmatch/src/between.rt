@@ -83,7 +83,6 @@ fn middle_of(expr: &Expr, index: usize, steps: &mut Steps) -> Option<(Few, usize
     ensures grows { steps.old ≤ steps.new }
     ensures cost { steps.new ≤ steps.old + 4 }
 {
-    let _count = expr.nodes();
     match expr.look(expr.id(index), steps) {
         Node::Seq(a, b) => {
             let set = star_set(expr, a.index(), steps)?;
@@ -119,7 +118,6 @@ pub fn between_of(
     ensures grows { steps.old ≤ steps.new }
     ensures cost { steps.new ≤ steps.old + 262152 }
 {
-    let _count = expr.nodes();
     let root = expr.root().index();
     let Literal { bytes: head, rest } = literal_from(alloc, expr, root, steps)?;
     let Some(middle) = rest else {

@@ -114,7 +114,6 @@ fn branches_of(expr: &Expr, index: usize, steps: &mut Steps) -> Branches
     ensures branches { BranchesOf expr.now.nodes index result }
     ensures cost { steps.new ≡ steps.old + 1 }
 {
-    let _count = expr.nodes();
     let node = expr.look(expr.id(index), steps);
     match node {
         Node::Alt(a, b) => Branches::Both(a.index(), b.index()),
@@ -160,7 +159,6 @@ fn literals_of(
     ensures grows { steps.old ≤ steps.new }
     ensures cost { steps.new ≤ steps.old + 1114144 }
 {
-    let _count = expr.nodes();
     let mut literals = Vec::new(alloc);
     let mut index = expr.root().index();
     let mut left = MAX_BYTES;

@@ -80,7 +80,6 @@ fn first_end_on(
         first: start,
         last: text.len(),
     };
-    let _count = expr.nodes();
     for at in place + 1..text.len() + 1 {
         let here = advance(expr, root, text, starts, at, sets, steps);
         if here.matched {
@@ -182,7 +181,6 @@ fn bound_on(
         return place;
     }
     let starts = Starts { first: start, last };
-    let _count = expr.nodes();
     for at in place + 1..text.len() + 1 {
         let here = advance(expr, root, text, starts, at, sets, steps);
         if !here.more {
@@ -213,7 +211,6 @@ fn enter(
     ensures grows { steps.old ≤ steps.new }
     ensures cost { steps.new ≤ steps.old + 6 * length expr.now.nodes }
 {
-    let _count = expr.nodes();
     match settle(expr, root, table, &sets.entered, ends, steps) {
         None => Next::Full(ends),
         Some(state) => Next::To(state),
@@ -343,7 +340,6 @@ fn last_on(
         first,
         last: bytes.len(),
     };
-    let _count = nodes.nodes();
     for at in place + 1..stop + 1 {
         let here = advance(nodes, root, bytes, starts, at, sets, steps);
         best = later(nodes, root, bytes, first, best, at, here.matched);

@@ -118,7 +118,6 @@ fn pass_places(
     ensures entered { TellEntered nodes.now.nodes bytes.now root (starts_to 0 (length bytes.now)) to sets.new.entered }
     ensures cost { let m = length nodes.now.nodes in Pays steps.old steps.new (22 * m * to) (22 * m * from) }
 {
-    let _count = nodes.nodes();
     let starts = Starts {
         first: 0,
         last: bytes.len(),
@@ -206,7 +205,6 @@ fn keep_blocks(nodes: &Nodes, bytes: &Bytes, root: usize, behind: &mut Behind, s
     ensures grows { steps.old ≤ steps.new }
     ensures cost { let m = length nodes.now.nodes in steps.new ≤ steps.old + 25 * m * (length bytes.now + 1) }
 {
-    let _count = nodes.nodes();
     behind.sets.entered.clear(root + 1, steps);
     let last = bytes.len() / behind.width;
     for block in 0..last {
@@ -318,7 +316,6 @@ fn meets(
     ensures grows { steps.old ≤ steps.new }
     ensures cost { steps.new ≤ steps.old + 3 * (root + 1) }
 {
-    let _count = expr.nodes();
     for x in 0..root + 1 {
         if front.get(x, steps) && behind.get(x, steps) {
             let node = expr.look(expr.id(x), steps);
@@ -390,7 +387,6 @@ fn longest_met(
         steps.new + 25 * m * start + blocks_cost m behind.new
         ≤ steps.old + m + 25 * m * (met_to start result + 1) + blocks_cost m behind.old }
 {
-    let _count = expr.nodes();
     sets.entered.clear(root + 1, steps);
     let mut best = None;
     for place in start..text.len() + 1 {
@@ -495,7 +491,6 @@ pub fn next_behind(
         steps.new + 25 * m * at + blocks_cost m behind.new
         ≤ steps.old + 54 * m + 25 * m * end_to (length text.now) result + blocks_cost m behind.old }
 {
-    let _count = expr.nodes();
     let first = next_met(expr, root, text, at, behind, sets, steps);
     if !is_null_at(first, at) {
         return first;

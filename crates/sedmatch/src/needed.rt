@@ -52,7 +52,6 @@ fn set_of(expr: &Expr, index: usize, steps: &mut Steps) -> Option<ByteSet>
     ensures set { IfSome result (λ s. IsOfSet expr.now.nodes index s) }
     ensures cost { steps.new ≡ steps.old + 1 }
 {
-    let _count = expr.nodes();
     match expr.look(expr.id(index), steps) {
         Node::Set(set) => Some(set),
         _ => None,
@@ -67,7 +66,6 @@ pub fn link_of(expr: &Expr, index: usize, steps: &mut Steps) -> Link
     ensures grows { steps.old ≤ steps.new }
     ensures cost { steps.new ≤ steps.old + 2 }
 {
-    let _count = expr.nodes();
     let node = expr.look(expr.id(index), steps);
     match node {
         Node::Seq(a, b) => match set_of(expr, a.index(), steps) {
@@ -107,7 +105,6 @@ pub fn literal_from(
     ensures grows { steps.old ≤ steps.new }
     ensures cost { steps.new ≤ steps.old + 131074 }
 {
-    let _count = expr.nodes();
     let mut bytes = Vec::new(alloc);
     let mut index = from;
     while bytes.len() < MAX_LITERAL {
@@ -144,7 +141,6 @@ fn second_of(expr: &Expr, index: usize, steps: &mut Steps) -> Option<usize>
     ensures ends { IfSome result (λ y. AllEndWith expr.now.nodes index y) }
     ensures cost { steps.new ≡ steps.old + 1 }
 {
-    let _count = expr.nodes();
     let node = expr.look(expr.id(index), steps);
     match node {
         Node::Seq(_, b) => Some(b.index()),
@@ -175,7 +171,6 @@ fn longest_literal(
     requires room { steps.old < 2 ^ 110 }
     ensures holds { IfOk result (λ v. AllHold expr.now.nodes from v.items) }
 {
-    let _count = expr.nodes();
     let mut best = Vec::new(alloc);
     let mut index = from;
     loop {

@@ -4,6 +4,7 @@
 //! place that the pass has reached, in a match from one of its starts.
 ghost use Rattle.std.specs.Prelude.{◌≡◌, ℕ, false, List, ◌+◌, ◌-◌, ◌*◌, ◌^◌, ◌<◌, ◌≤◌, ◌↔◌, ◌&&◌, ◌||◌};
 ghost use Rattle.std.specs.Prelude.{length, slice_index_or, slice_get, Some, IsTrue};
+ghost use Rattle.sedre.specs.Arena.{IsArena};
 ghost use Rattle.sedmatch.specs.Fits.{FitsFew, SameMarks};
 ghost use Rattle.sedmatch.specs.Local.{PartsBelow, takes_next, null_of, end_of, enter_parts, takes};
 ghost use Rattle.sedmatch.specs.Reach.{IsStart, SetsFrom, SomeSpan, OpenAt};
@@ -158,8 +159,8 @@ pub fn ascend(
         TellEnded expr.now.nodes w root s place sets.new.ended }
     ensures counts { steps.old + 4 * (root + 1) ≤ steps.new }
     ensures cost { steps.new ≤ steps.old + 9 * (root + 1) }
+    ensures arena { IsArena expr.now.nodes }
 {
-    let _count = expr.nodes();
     for x in 0..root + 1 {
         let before = sets.entered.get(x, steps);
         let node = expr.look(expr.id(x), steps);
@@ -303,7 +304,6 @@ pub fn advance(
     ensures counts { steps.old + 4 * (root + 1) ≤ steps.new }
     ensures cost { steps.new ≤ steps.old + 15 * length expr.now.nodes + 5 }
 {
-    let _count = expr.nodes();
     // A count of its own is kept in registers, and added once.
     let mut own = Steps::new();
     let byte = byte_before(text, place, &mut own);

@@ -261,7 +261,6 @@ fn rare_from(expr: &Expr, from: usize, steps: &mut Steps) -> Option<Rare>
     ensures grows { steps.old ≤ steps.new }
     ensures cost { steps.new ≤ steps.old + 131074 }
 {
-    let _count = expr.nodes();
     let mut rare = None;
     let mut offset = 0usize;
     let mut index = from;
@@ -302,7 +301,6 @@ fn second_set(expr: &Expr, index: usize, steps: &mut Steps) -> Option<ByteSet>
     ensures grows { steps.old ≤ steps.new }
     ensures cost { steps.new ≤ steps.old + 4 }
 {
-    let _count = expr.nodes();
     match link_of(expr, index, steps) {
         Link::OneOf(_, next) => match link_of(expr, next, steps) {
             Link::OneOf(set, _) => Some(set),
@@ -321,7 +319,6 @@ fn second_of_two(expr: &Expr, steps: &mut Steps) -> Option<Fixed>
     ensures grows { steps.old ≤ steps.new }
     ensures cost { steps.new ≤ steps.old + 9 }
 {
-    let _count = expr.nodes();
     let root = expr.root().index();
     match expr.look(expr.id(root), steps) {
         Node::Alt(a, b) => {

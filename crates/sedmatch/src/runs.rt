@@ -4,7 +4,7 @@
 //! every match takes the whole run; where nothing follows, the longest does.
 ghost use Rattle.std.specs.Prelude.{◌≡◌, ℕ, ◌+◌, ◌*◌, ◌^◌, ◌<◌, ◌≤◌, length, slice_get, Some, IfSome, IsTrue};
 ghost use Rattle.std.specs.Prelude.{◌⊎◌};
-ghost use Rattle.sedre.specs.Arena.{tree};
+ghost use Rattle.sedre.specs.Arena.{IsArena, tree};
 ghost use Rattle.sedre.specs.Tree.{set as a_set};
 ghost use Rattle.sedmatch.specs.Spans.{Spans};
 ghost use Rattle.sedmatch.specs.Reach.{At};
@@ -60,13 +60,13 @@ fn further_of(rest: Rest) -> Further
 /// The set of which the node is a repetition, if it is one. It stands at the index.
 fn star_set_of(expr: &Expr, index: usize, node: &Node, steps: &mut Steps) -> Option<ByteSet>
     requires node { slice_get expr.now.nodes index ≡ Some node.now }
+    requires arena { IsArena expr.now.nodes }
     requires inside { index < length expr.now.nodes }
     requires room { steps.old < 2 ^ 119 }
     ensures repeats { IfSome result (λ s. AllRepeat expr.now.nodes index s) }
     ensures grows { steps.old ≤ steps.new }
     ensures cost { steps.new ≤ steps.old + 1 }
 {
-    let _count = expr.nodes();
     match node {
         Node::Star(a, _) => match expr.look(*a, steps) {
             Node::Set(set) => Some(set),
@@ -84,7 +84,6 @@ pub fn star_set(expr: &Expr, index: usize, steps: &mut Steps) -> Option<ByteSet>
     ensures grows { steps.old ≤ steps.new }
     ensures cost { steps.new ≤ steps.old + 3 }
 {
-    let _count = expr.nodes();
     let node = expr.look(expr.id(index), steps);
     match node {
         Node::Group(_, a) => {
@@ -102,8 +101,8 @@ fn near_first(expr: &Expr, index: usize, steps: &mut Steps) -> Node
     ensures first { IsFirst expr.now.nodes index result }
     ensures grows { steps.old ≤ steps.new }
     ensures cost { steps.new ≤ steps.old + 3 }
+    ensures arena { IsArena expr.now.nodes }
 {
-    let _count = expr.nodes();
     let node = expr.look(expr.id(index), steps);
     let Some(part) = left_part(&node) else {
         return node;
@@ -161,7 +160,6 @@ fn run_before(
     ensures grows { steps.old ≤ steps.new }
     ensures cost { steps.new ≤ steps.old + 3 + length text.now }
 {
-    let _count = expr.nodes();
     match near_first(expr, index, steps) {
         Node::Set(next) => run_apart(set, &next, text, from, steps),
         Node::End => Some(text.run_end(set, from, steps)),
@@ -194,6 +192,7 @@ fn star_end(
     steps: &mut Steps,
 ) -> Far
     requires node { slice_get expr.now.nodes index ≡ Some node.now }
+    requires arena { IsArena expr.now.nodes }
     requires inside { index < length expr.now.nodes }
     requires place { place ≤ length text.now }
     requires short { length text.now ≤ 2 ^ 30 }
@@ -218,6 +217,7 @@ fn opt_end(
     steps: &mut Steps,
 ) -> Far
     requires node { slice_get expr.now.nodes index ≡ Some node.now }
+    requires arena { IsArena expr.now.nodes }
     requires inside { index < length expr.now.nodes }
     requires place { place ≤ length text.now }
     requires room { steps.old < 2 ^ 118 }
@@ -225,7 +225,6 @@ fn opt_end(
     ensures grows { steps.old ≤ steps.new }
     ensures cost { steps.new ≤ steps.old + 2 }
 {
-    let _count = expr.nodes();
     match node {
         Node::Opt(a, _) => match expr.look(*a, steps) {
             Node::Set(set) => one_or_none(&set, text, place, steps),
@@ -245,6 +244,7 @@ fn seq_behind(
     steps: &mut Steps,
 ) -> Further
     requires node { slice_get expr.now.nodes index ≡ Some node.now }
+    requires arena { IsArena expr.now.nodes }
     requires inside { index < length expr.now.nodes }
     requires place { place ≤ length text.now }
     requires short { length text.now ≤ 2 ^ 30 }
@@ -254,7 +254,6 @@ fn seq_behind(
     ensures grows { steps.old ≤ steps.new }
     ensures cost { steps.new ≤ steps.old + 6 + length text.now }
 {
-    let _count = expr.nodes();
     match node {
         Node::Seq(a, b) => match star_set(expr, a.index(), steps) {
             Some(set) => match run_before(expr, b.index(), &set, text, place, steps) {
@@ -278,7 +277,6 @@ fn far_behind(expr: &Expr, index: usize, text: &Text, place: usize, steps: &mut 
     ensures grows { steps.old ≤ steps.new }
     ensures cost { steps.new ≤ steps.old + (length text.now + 8) }
 {
-    let _count = expr.nodes();
     let node = expr.look(expr.id(index), steps);
     match node {
         Node::Seq(_, _) => seq_behind(expr, index, &node, text, place, steps),
@@ -313,7 +311,6 @@ pub fn far_from(expr: &Expr, root: usize, text: &Text, place: usize, steps: &mut
     ensures grows { steps.old ≤ steps.new }
     ensures cost { steps.new ≤ steps.old + (length text.now + 8) * length expr.now.nodes }
 {
-    let _count = expr.nodes();
     let mut index = root;
     let mut at = place;
     loop {
@@ -362,7 +359,6 @@ pub fn none_before(
     ensures grows { steps.old ≤ steps.new }
     ensures cost { steps.new ≤ steps.old + 3 + length text.now }
 {
-    let _count = expr.nodes();
     match near_first(expr, index, steps) {
         Node::Set(next) => none_in(&next, text, from, to, steps),
         Node::End => true,

@@ -307,7 +307,6 @@ pub fn longest_on(
     ensures grows { steps.old ≤ steps.new }
     ensures cost { steps.new + 20 * length expr.now.nodes * place ≤ steps.old + 20 * length expr.now.nodes * length text.now }
 {
-    let _count = expr.nodes();
     if place >= text.len() {
         return better(before, place, ends.last);
     }
@@ -405,7 +404,6 @@ pub fn scan(
     ensures cost { let m = length expr.now.nodes in let n = length text.now in
         steps.new + 29 * m * from ≤ steps.old + 29 * m * (n + 1) }
 {
-    let _count = expr.nodes();
     let mut at = from;
     while let Some((start, lead)) = next_place(expr, begins, text, at, steps) {
         match sweep_from(expr, text, start, lead, whole, sets, steps) {
@@ -441,7 +439,6 @@ fn span_in(
     ensures cost { let m = length expr.now.nodes in let n = length text.now in
         steps.new + 20 * m * region.start ≤ steps.old + 16 * m + 41 * m * (n + 1) }
 {
-    let _count = expr.nodes();
     let start = earliest(expr, text, region, sets, steps);
     let lead = look_ahead(expr, text, start, steps);
     match longest_from(expr, text, start, lead, sets, steps) {
@@ -475,7 +472,6 @@ pub fn leftmost(
     ensures none_cost { let m = length expr.now.nodes in let n = length text.now in
         IfNone result (steps.new ≤ steps.old + 58 * m * (n + 1)) }
 {
-    let _count = expr.nodes();
     let begins = how_begins(expr, steps);
     let Some((start, lead)) = next_place(expr, &begins, text, from, steps) else {
         return None;

@@ -5,7 +5,7 @@
 //! has to be found out of the expression in a search.
 ghost use Rattle.std.specs.Prelude.{◌≡◌, ℕ, ◌+◌, ◌-◌, ◌*◌, ◌^◌, ◌<◌, ◌≤◌, ◌↔◌, length, slice_get, Some};
 ghost use Rattle.std.specs.Prelude.{IfOk, IfSome, IfNone, IsTrue};
-ghost use Rattle.sedre.specs.Arena.{tree};
+ghost use Rattle.sedre.specs.Arena.{IsArena, tree};
 ghost use Rattle.sedre.specs.Tree.{Tree};
 ghost use Rattle.sedre.specs.declared.types.Node.TheVariants.{Seq};
 ghost use Rattle.sedmatch.specs.Spans.{Found as IsFound, NotFound, SomeFound, IsIn};
@@ -83,12 +83,12 @@ fn first_of(set: &ByteSet) -> First
 /// How the matches of the expression look, a concatenation of these parts, if they are of a run and one byte after it.
 fn trail_sight(expr: &Expr, a: NodeId, b: NodeId, steps: &mut Steps) -> Option<Sight>
     requires root { slice_get expr.now.nodes (length expr.now.nodes - 1) ≡ Some (Seq a b) }
+    requires arena { IsArena expr.now.nodes }
     requires room { steps.old < 2 ^ 111 }
     ensures sight { IfSome result (λ s. IsSight (tree expr.now) s) }
     ensures grows { steps.old ≤ steps.new }
     ensures cost { steps.new ≤ steps.old + 4 }
 {
-    let _count = expr.nodes();
     match star_set(expr, a.index(), steps) {
         Some(members) => match expr.look(b, steps) {
             Node::Set(set) => Some(Sight::Trail(members, first_of(&set))),
@@ -105,7 +105,6 @@ fn run_sight(expr: &Expr, steps: &mut Steps) -> Option<Sight>
     ensures sight { IfSome result (λ s. IsSight (tree expr.now) s) }
     ensures cost { steps.new ≤ steps.old + 6 }
 {
-    let _count = expr.nodes();
     let root = expr.root().index();
     match expr.look(expr.id(root), steps) {
         Node::Set(set) => Some(Sight::One(first_of(&set))),

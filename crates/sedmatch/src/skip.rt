@@ -1,6 +1,6 @@
 //! From which places a match can begin at all, so that the others are passed over.
 ghost use Rattle.std.specs.Prelude.{◌≡◌, ◌+◌, ◌*◌, ◌^◌, ◌<◌, ◌≤◌, ◌↔◌, length, IfSome, IsTrue};
-ghost use Rattle.sedre.specs.Arena.{tree};
+ghost use Rattle.sedre.specs.Arena.{IsArena, tree};
 ghost use Rattle.sedmatch.specs.declared.skip.Begins.TheVariants.{WithSet, WithEither};
 ghost use Rattle.sedmatch.specs.Skip.{AllBegin, AllAt, CanBegin, NextStart, skip_cost, left_part, LeafBegins, IsLeaf};
 ghost use Rattle.sedmatch.specs.Skip.{EitherHas, with_set, alternatives};
@@ -93,8 +93,8 @@ fn left_leaf(expr: &Expr, from: usize, steps: &mut Steps) -> Node
     ensures leaf { IsLeaf expr.now.nodes from result }
     ensures grows { steps.old ≤ steps.new }
     ensures cost { steps.new ≤ steps.old + from + 1 }
+    ensures arena { IsArena expr.now.nodes }
 {
-    let _count = expr.nodes();
     let mut index = from;
     loop {
         let node = expr.look(expr.id(index), steps);
@@ -114,7 +114,6 @@ fn first_set(expr: &Expr, from: usize, steps: &mut Steps) -> Option<ByteSet>
     ensures grows { steps.old ≤ steps.new }
     ensures cost { steps.new ≤ steps.old + from + 1 }
 {
-    let _count = expr.nodes();
     match left_leaf(expr, from, steps) {
         Node::Set(set) => Some(set),
         _ => None,
@@ -142,7 +141,6 @@ fn begins_either(expr: &Expr, left: usize, right: usize, steps: &mut Steps) -> B
     ensures grows { steps.old ≤ steps.new }
     ensures cost { steps.new ≤ steps.old + 8 * length expr.now.nodes }
 {
-    let _count = expr.nodes();
     let Some(set) = first_set(expr, left, steps) else {
         return Begins::Anyhow;
     };
@@ -181,8 +179,8 @@ pub fn how_begins(expr: &Expr, steps: &mut Steps) -> Begins
     ensures begins { AllBegin (tree expr.now) result }
     ensures grows { steps.old ≤ steps.new }
     ensures cost { steps.new ≤ steps.old + 9 * length expr.now.nodes }
+    ensures arena { IsArena expr.now.nodes }
 {
-    let _count = expr.nodes();
     let root = expr.root().index();
     let leaf = left_leaf(expr, root, steps);
     match alternatives(&leaf) {

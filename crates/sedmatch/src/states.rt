@@ -76,7 +76,6 @@ pub fn step(
     ensures counts { steps.old + 8 * (root + 1) ≤ steps.new }
     ensures cost { steps.new ≤ steps.old + 26 * length expr.now.nodes + 5 }
 {
-    let _count = expr.nodes();
     let mut own = Steps::new();
     ascend(expr, root, byte, begin, true, sets, &mut own);
     let last = ends_here(root, first, &sets.null, &sets.ended, &mut own);

@@ -199,7 +199,6 @@ fn state_of(
     ensures none_cost { IfNone result (steps.new ≤ steps.old + length expr.now.nodes + 1) }
     ensures cost { steps.new ≤ steps.old + 4 * length expr.now.nodes + 1 }
 {
-    let _count = expr.nodes();
     match find_state(expr, root, table, slot, row, ends, steps) {
         Some(state) => Some(state),
         None => add_state(expr, root, table, slot, row, ends, steps),
@@ -269,7 +268,6 @@ pub fn settle(
     ensures grows { steps.old ≤ steps.new }
     ensures cost { steps.new ≤ steps.old + 5 * length expr.now.nodes + 1 }
 {
-    let _count = expr.nodes();
     let slot = slot_of(expr, table, row, steps);
     match state_of(expr, root, table, slot, row, ends, steps) {
         Some(state) => Some(state),

@@ -46,7 +46,6 @@ fn width_of(
     ensures width { IfSome result (λ count. AllTimes expr.now.nodes index set.now count) }
     ensures cost { steps.new ≡ steps.old + 1 }
 {
-    let _count = expr.nodes();
     match expr.look(expr.id(index), steps) {
         Node::Set(other) => {
             if same_bytes(&other, set) {

@@ -41,7 +41,6 @@ pub fn word_of(alloc: Global, expr: &Expr, steps: &mut Steps) -> Result<Option<W
     ensures grows { steps.old ≤ steps.new }
     ensures cost { steps.new ≤ steps.old + 131074 }
 {
-    let _count = expr.nodes();
     let root = expr.root().index();
     let Literal { bytes, rest } = literal_from(alloc, expr, root, steps)?;
     if rest.is_some() || bytes.len() < 2 {

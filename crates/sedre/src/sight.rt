@@ -76,6 +76,7 @@ impl<'a> Nodes<'a> {
         requires room { steps.old < 2 ^ 120 }
         ensures node { slice_get self.now.nodes id.index ≡ Some result }
         ensures cost { steps.new ≡ steps.old + 1 }
+        ensures arena { IsArena self.now.nodes }
     {
         steps.add(1);
         self.expr.seen(id, self.mirrored)

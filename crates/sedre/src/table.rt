@@ -87,6 +87,7 @@ impl Expr {
         requires room { steps.old < 2 ^ 120 }
         ensures node { slice_get self.now.nodes id.index ≡ Some result }
         ensures cost { steps.new ≡ steps.old + 1 }
+        ensures arena { IsArena self.now.nodes }
     {
         steps.add(1);
         self.nodes.get(id.index)
@@ -95,7 +96,8 @@ impl Expr {
     /// The node itself, mirrored where that is asked for. It counts nothing: [`crate::Nodes`] does.
     pub(crate) fn seen(&self, id: NodeId, mirrored: bool) -> Node
         requires { id.index < length self.now.nodes }
-        ensures { option_map (node_seen mirrored) (slice_get self.now.nodes id.index) ≡ Some result }
+        ensures node { option_map (node_seen mirrored) (slice_get self.now.nodes id.index) ≡ Some result }
+        ensures arena { IsArena self.now.nodes }
     {
         self.nodes.get_seen(id.index, mirrored)
     }

@@ -8,7 +8,7 @@ use Rattle.sedmatch.proofs.ahead.rest_behind.Goals as goal
 pub fails_early-requires-clause-inside : goal.fails_early-requires-clause-inside
 fails_early-requires-clause-inside c =
     let is : slice_get c.args.expr.now.nodes c.args.index ≡ Some (Alt c.in-Alt.a c.in-Alt.b) = cc in
-    let before = alternatives_before c.args.expr.now.nodes c.nodes-count.ensures.arena c.args.text.now c.args.index c.args.place c.in-Alt.a c.in-Alt.b is in
+    let before = alternatives_before c.args.expr.now.nodes c.look-node.ensures.arena c.args.text.now c.args.index c.args.place c.in-Alt.a c.in-Alt.b is in
     omega (arith, before.0)
 
 pub returns-then-fails_early-clause-goes : goal.returns-then-fails_early-clause-goes
@@ -18,11 +18,11 @@ returns-then-fails_early-clause-goes c =
     let is : slice_get nodes c.args.index ≡ Some (Alt c.in-Alt.a c.in-Alt.b) = cc in
     let none : (j : ℕ) → At nodes w c.in-Alt.a.index c.args.place j → ⊥ =
     subst (λ x. (j : ℕ) → At nodes w x c.args.place j → ⊥) c.index.ensures (c.fails_early.ensures.fails c.if-fails_early.true) in
-    let goes = second_left nodes c.nodes-count.ensures.arena w c.args.index c.args.place c.in-Alt.a c.in-Alt.b is none in
+    let goes = second_left nodes c.look-node.ensures.arena w c.args.index c.args.place c.in-Alt.a c.in-Alt.b is none in
     subst (λ x. (j : ℕ) → At nodes w c.args.index c.args.place j ↔ At nodes w x c.args.place j) (sym c.index-then-fails_early.ensures) goes
 
 pub returns-then-fails_early-clause-below : goal.returns-then-fails_early-clause-below
 returns-then-fails_early-clause-below c =
     let is : slice_get c.args.expr.now.nodes c.args.index ≡ Some (Alt c.in-Alt.a c.in-Alt.b) = cc in
-    let before = alternatives_before c.args.expr.now.nodes c.nodes-count.ensures.arena c.args.text.now c.args.index c.args.place c.in-Alt.a c.in-Alt.b is in
+    let before = alternatives_before c.args.expr.now.nodes c.look-node.ensures.arena c.args.text.now c.args.index c.args.place c.in-Alt.a c.in-Alt.b is in
     (omega (arith, before.1), c.requires.place)

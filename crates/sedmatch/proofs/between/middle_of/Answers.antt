@@ -8,11 +8,11 @@ use Rattle.sedmatch.proofs.between.middle_of.Goals as goal
 pub star_set-requires-clause-inside : goal.star_set-requires-clause-inside
 star_set-requires-clause-inside c =
     let is : slice_get c.args.expr.now.nodes c.args.index ≡ Some (Seq c.in-Seq.a c.in-Seq.b) = cc in
-    let below = seq_below c.args.expr.now.nodes c.nodes-count.ensures.arena c.args.index c.in-Seq.a c.in-Seq.b is in
+    let below = seq_below c.args.expr.now.nodes c.in-Seq.ensures.arena c.args.index c.in-Seq.a c.in-Seq.b is in
     omega (arith, below.0)
 
 pub returns-in_ok-few-in-Seq-clause-goes : goal.returns-in_ok-few-in-Seq-clause-goes
 returns-in_ok-few-in-Seq-clause-goes c =
     let is : slice_get c.args.expr.now.nodes c.args.index ≡ Some (Seq c.in-Seq.a c.in-Seq.b) = cc in
-    seq_clear c.args.expr.now.nodes c.nodes-count.ensures.arena c.args.index c.in-Seq.a c.in-Seq.b c.index-in-Seq.result c.index.result c.in_ok-set-in-Seq.set c.in_ok-few-in-Seq.few is
+    seq_clear c.args.expr.now.nodes c.in-Seq.ensures.arena c.args.index c.in-Seq.a c.in-Seq.b c.index-in-Seq.result c.index.result c.in_ok-set-in-Seq.set c.in_ok-few-in-Seq.few is
     c.index.ensures c.index-in-Seq.ensures c.in_ok-set-in-Seq.ensures.repeats c.in_ok-few-in-Seq.ensures

@@ -18,7 +18,7 @@ loop-at-init c = record {
   marks = (refl, refl, refl);
   grows = omega arith;
   cost = omega arith;
-  entered = next_entered c.args.expr.now.nodes c.args.text.now c.args.root (starts_to c.args.start c.args.last) c.nodes-count.ensures.arena c.args.sets.now.entered c.args.place (c.requires.at.begun (omega arith));
+  entered = next_entered c.args.expr.now.nodes c.args.text.now c.args.root (starts_to c.args.start c.args.last) c.args.sets.now.entered c.args.place (c.requires.at.begun (omega arith));
 }
 
 pub loop-at-preserved : goal.loop-at-preserved
@@ -26,7 +26,7 @@ loop-at-preserved c = record {
   marks = (omega arith, omega arith, omega arith);
   grows = omega arith;
   cost = omega arith;
-  entered = next_entered c.args.expr.now.nodes c.args.text.now c.args.root (starts_to c.args.start c.args.last) c.nodes-count.ensures.arena c.advance-here.new.sets.entered c.loop-at.at c.advance-here.ensures.entered;
+  entered = next_entered c.args.expr.now.nodes c.args.text.now c.args.root (starts_to c.args.start c.args.last) c.advance-here.new.sets.entered c.loop-at.at c.advance-here.ensures.entered;
 }
 
 pub returns-then-not-here-clause-bound : goal.returns-then-not-here-clause-bound

@@ -35,7 +35,7 @@ loop-at-init c =
       marks = (refl, refl, refl);
       grows = omega arith;
       cost = omega arith;
-      entered = next_entered nodes w c.args.root (starts c.len-2.result) c.nodes-count.ensures.arena c.args.sets.now.entered c.args.place begun;
+      entered = next_entered nodes w c.args.root (starts c.len-2.result) c.args.sets.now.entered c.args.place begun;
       missed = pass_one nodes w c.args.root c.args.start c.requires.root c.args.place c.args.ends.inner (omega arith) c.if-ends.false (c.requires.at.inner (omega arith)) c.requires.missed;
     }
 
@@ -49,7 +49,7 @@ loop-at-preserved c =
       marks = (omega arith, omega arith, omega arith);
       grows = omega arith;
       cost = omega arith;
-      entered = next_entered nodes w c.args.root (starts c.len-2.result) c.nodes-count.ensures.arena c.advance-here.new.sets.entered c.loop-at.at c.advance-here.ensures.entered;
+      entered = next_entered nodes w c.args.root (starts c.len-2.result) c.advance-here.new.sets.entered c.loop-at.at c.advance-here.ensures.entered;
       missed = pass_one nodes w c.args.root c.args.start c.requires.root c.loop-at.at c.advance-here.result.matched (omega arith) c.if-here.false spans c.loop-at.invariant.missed;
     }
 

@@ -27,7 +27,7 @@ loop-at-init c =
       marks = (refl, refl, refl);
       grows = omega arith;
       cost = omega arith;
-      entered = next_entered nodes w c.args.root (starts c.len-2.result) c.nodes-count.ensures.arena c.args.sets.now.entered c.args.place begun;
+      entered = next_entered nodes w c.args.root (starts c.len-2.result) c.args.sets.now.entered c.args.place begun;
       last = c.later-best.ensures.last;
     }
 
@@ -45,7 +45,7 @@ loop-at-preserved c =
       marks = (omega arith, omega arith, omega arith);
       grows = omega arith;
       cost = omega arith;
-      entered = next_entered nodes w c.args.root (starts c.len-2.result) c.nodes-count.ensures.arena c.advance-here.new.sets.entered c.loop-at.at c.advance-here.ensures.entered;
+      entered = next_entered nodes w c.args.root (starts c.len-2.result) c.advance-here.new.sets.entered c.loop-at.at c.advance-here.ensures.entered;
       last = c.later-best-in-loop-at.ensures.last;
     }
 

@@ -2,7 +2,7 @@ use Rattle.std.proofs.Common.{◌≡◌, ◌+◌, ◌≤◌, ◌∙◌, IfSome, 
 use Rattle.sedre.specs.Arena.{tree}
 use Rattle.sedmatch.specs.Reach.{one_start, Entered, LongestBelow, Marked, Below}
 use Rattle.sedmatch.specs.Meet.{met_to, GoesOnFrom, blocks_cost}
-use Rattle.sedmatch.proofs.SearchLemmas.{clear_entered, next_entered, LongestBelow-none, Longest-from_below}
+use Rattle.sedmatch.proofs.SearchLemmas.{none_entered, next_entered, LongestBelow-none, Longest-from_below}
 use Rattle.sedmatch.proofs.MeetLemmas.{met_reached, met_from, met_cost, goes_end, best_hit, best_miss, best_all}
 use Rattle.sedmatch.proofs.meet.longest_met.Goals.{then-here, else-here}
 use Rattle.sedmatch.proofs.meet.longest_met.Goals as goal
@@ -16,7 +16,7 @@ loop-place-init c = record {
   reaches = c.requires.served.1;
   grows = omega arith;
   cost = omega arith;
-  entered = clear_entered c.args.expr.now.nodes c.args.text.now c.args.root (one_start c.args.start) c.nodes-count.ensures.arena c.clear.new.self c.args.start refl (λ n below. c.clear.ensures.clear n (omega arith));
+  entered = none_entered c.args.expr.now.nodes c.args.text.now c.args.root (one_start c.args.start) c.clear.new.self c.args.start refl (λ n below. c.clear.ensures.clear n (omega arith));
   longest = LongestBelow-none (tree c.args.expr.now) c.args.text.now c.args.start;
   lies = search rules;
   ahead = λ q low is. absurd (omega arith);
@@ -90,7 +90,7 @@ loop-place-preserved c =
       grows = omega arith;
       cost = omega arith;
       entered = subst (λ v. Marked v (Below (root + 1)) (λ x. Entered nodes w root (one_start start) x (place + 1))) (sym c.goes_on.ensures.entered)
-          (next_entered nodes w root (one_start start) c.nodes-count.ensures.arena c.advance_from-here.new.sets.entered place c.advance_from-here.ensures.entered);
+          (next_entered nodes w root (one_start start) c.advance_from-here.new.sets.entered place c.advance_from-here.ensures.entered);
       longest = elim c.if-here.branch [
         | then-here b ↦ subst (LongestBelow (tree c.args.expr.now) w start (place + 1)) (sym b.best-is)
             (best_hit nodes w c.args.root start place c.advance_from-here.result.matched c.requires.root c.advance_from-here.ensures.spans b.if-here.true)

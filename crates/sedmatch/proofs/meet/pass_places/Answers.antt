@@ -32,7 +32,7 @@ loop-place-preserved c =
       rows = rows_next nodes w root from place c.loop-place.rows c.store.new.self c.advance-here.new.sets.entered low there wide c.store.ensures.same told c.store.ensures.other inv.rows;
       begins = marks_next nodes w root from place c.loop-place.begins c.set.new.self c.advance-here.result.matched inside c.set.ensures.marks tells inv.begins;
       others = λ q old. mark_kept nodes w root place q c.loop-place.begins c.set.new.self c.advance-here.result.matched inside c.set.ensures.marks tells (inv.others q old);
-      entered = next_entered nodes w root (starts_to 0 (length w)) c.nodes-count.ensures.arena c.advance-here.new.sets.entered place told;
+      entered = next_entered nodes w root (starts_to 0 (length w)) c.advance-here.new.sets.entered place told;
       grows = omega arith;
       cost = omega arith;
     }

@@ -7,4 +7,4 @@ use Rattle.sedmatch.proofs.needed.set_of.Goals as goal
 pub returns-in-Set-clause-set : goal.returns-in-Set-clause-set
 returns-in-Set-clause-set c =
     let is : slice_get c.args.expr.now.nodes c.args.index ≡ Some (Set c.in-Set.set) = cc in
-    node_set c.args.expr.now.nodes c.nodes-count.ensures.arena c.args.index c.in-Set.set is
+    node_set c.args.expr.now.nodes c.in-Set.ensures.arena c.args.index c.in-Set.set is

@@ -27,7 +27,7 @@ returns-clause-spans c =
     let comes = comes_after nodes w place c.args.sets.now.entered c.byte_before-byte.result c.byte_before-byte.ensures.byte in
     let nulls = c.ascend.ensures.null w place there in
     let ends = c.ascend.ensures.ended w c.args.starts place there comes c.requires.entered in
-    root_spans nodes w c.args.root c.args.starts c.nodes-count.ensures.arena place
+    root_spans nodes w c.args.root c.args.starts c.ascend.ensures.arena place
     c.ascend.new.sets.null c.ascend.new.sets.ended c.has-first.result c.ends_here-matched.result
     (rw (← c.descend-more.ensures.kept_null, ← c.descend-more.ensures.kept_ended) c.ends_here-matched.ensures.value) c.has-first.ensures nulls ends
 
@@ -40,6 +40,6 @@ returns-clause-opens c =
     let comes = comes_after nodes w place c.args.sets.now.entered c.byte_before-byte.result c.byte_before-byte.ensures.byte in
     let nulls = c.ascend.ensures.null w place there in
     let ends = c.ascend.ensures.ended w c.args.starts place there comes c.requires.entered in
-    open_from_sets nodes w c.args.root c.args.starts c.nodes-count.ensures.arena c.requires.root place c.byte_after-next.result c.descend-more.result c.byte_after-next.ensures.byte
+    open_from_sets nodes w c.args.root c.args.starts c.ascend.ensures.arena c.requires.root place c.byte_after-next.result c.descend-more.result c.byte_after-next.ensures.byte
     (c.descend-more.ensures.opens w c.args.starts place nulls ends c.has-first.ensures
     (subst (λ l. Marked l (Below (c.args.root + 1)) (λ n. Entered nodes w c.args.root c.args.starts n place)) (sym c.ascend.ensures.kept) c.requires.entered))

@@ -8,18 +8,18 @@ use Rattle.sedmatch.proofs.passes.ascend.Goals as goal
 pub marks_here-here-requires-clause-null_inside : goal.marks_here-here-requires-clause-null_inside
 marks_here-here-requires-clause-null_inside c =
     let is : slice_get c.args.expr.now.nodes c.loop-x.x ≡ Some c.look-node.result = cc in
-    parts_below _ c.nodes-count.ensures.arena _ _ is _ (omega arith)
+    parts_below _ c.look-node.ensures.arena _ _ is _ (omega arith)
 
 pub marks_here-here-requires-clause-ended_inside : goal.marks_here-here-requires-clause-ended_inside
 marks_here-here-requires-clause-ended_inside c =
     let is : slice_get c.args.expr.now.nodes c.loop-x.x ≡ Some c.look-node.result = cc in
-    parts_below _ c.nodes-count.ensures.arena _ _ is _ (omega arith)
+    parts_below _ c.look-node.ensures.arena _ _ is _ (omega arith)
 
 pub loop-x-preserved : goal.loop-x-preserved
 loop-x-preserved c =
     let nodes = c.args.expr.now.nodes in
     let x = c.loop-x.x in
-    let arena = c.nodes-count.ensures.arena in
+    let arena = c.look-node.ensures.arena in
     let is : slice_get nodes x ≡ Some c.look-node.result = cc in
     let null_len : length c.set.new.self ≡ length c.loop-x.sets.null = rw c.set.ensures.marks (simp length-set) in
     let ended_len : length c.set-in-loop-x.new.self ≡ length c.loop-x.sets.ended = rw c.set-in-loop-x.ensures.marks (simp length-set) in
@@ -32,6 +32,7 @@ loop-x-preserved c =
       kept = c.loop-x.invariant.kept;
       counts = omega arith;
       cost = omega arith;
+      arena = λ some. arena;
       null = λ w place there. ascend_null nodes w arena place x c.look-node.result is c.args.begin c.args.end there
           c.loop-x.sets.null c.set.new.self c.marks_here-here.result.0 (omega arith) c.marks_here-here.ensures.null c.set.ensures.marks (c.loop-x.invariant.null w place there);
       ended = λ w s place there comes enters. ascend_ended nodes w arena place x c.look-node.result is c.args.root s (omega arith)
@@ -44,3 +45,6 @@ returns-clause-null c w place there n below = c.loop-x.invariant.null w place th
 
 pub returns-clause-ended : goal.returns-clause-ended
 returns-clause-ended c w s place there comes enters n below = c.loop-x.invariant.ended w s place there comes enters n (omega arith)
+
+pub returns-clause-arena : goal.returns-clause-arena
+returns-clause-arena c = c.loop-x.invariant.arena (omega arith)

@@ -1,4 +1,5 @@
-use Rattle.std.proofs.Common.{◌≡◌, ℕ, List, ◌+◌, ◌*◌, ◌≤◌}
+use Rattle.std.proofs.Common.{◌≡◌, ℕ, List, ◌+◌, ◌*◌, ◌<◌, ◌≤◌}
+use Rattle.sedre.specs.Arena.{IsArena}
 use Rattle.sedmatch.specs.Fits.{SameMarks}
 use Rattle.sedmatch.specs.Reach.{Marked, Below, At, Ends, Entered}
 use Rattle.sedmatch.specs.Places.{IsPlace, ComesAfter}
@@ -11,6 +12,7 @@ invariant-loop-x l = record {
   kept : l.sets.entered ≡ l.initial.sets.entered;
   counts : l.initial.steps + 4 * l.x ≤ l.steps;
   cost : l.steps ≤ l.initial.steps + 9 * l.x;
+  arena : 0 < l.x → IsArena l.expr.nodes;
   null : (w : List ℕ) (place : ℕ) → IsPlace w place l.begin l.end → Marked l.sets.null (Below l.x) (λ c. At l.expr.nodes w c place place);
   ended : (w : List ℕ) (s : Starts) (place : ℕ) → IsPlace w place l.begin l.end → ComesAfter l.expr.nodes w place l.initial.sets.entered l.byte →
       Marked l.initial.sets.entered (Below (l.root + 1)) (λ c. Entered l.expr.nodes w l.root s c place) →

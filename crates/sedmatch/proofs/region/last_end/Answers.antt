@@ -25,7 +25,7 @@ loop-place-preserved c =
       marks = (omega arith, omega arith, omega arith);
       grows = omega arith;
       cost = omega arith;
-      entered = next_entered nodes w root (starts_to c.args.first c.len.result) c.root.ensures.arena c.advance-here.new.sets.entered place c.advance-here.ensures.entered;
+      entered = next_entered nodes w root (starts_to c.args.first c.len.result) c.advance-here.new.sets.entered place c.advance-here.ensures.entered;
       last = elim c.if-here.branch [
         | then-here b ↦ subst (λ v. LastEnd (tree c.args.nodes.now) w c.args.first (place + 1) v) (sym b.best-is)
             (LastEnd-hit nodes w root (omega arith) c.args.first c.len.result place c.len.ensures (omega arith) (c.advance-here.ensures.spans.0 b.if-here.true))

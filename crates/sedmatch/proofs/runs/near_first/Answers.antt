@@ -7,19 +7,19 @@ use Rattle.sedmatch.proofs.runs.near_first.Goals as goal
 pub id-requires-2 : goal.id-requires-2
 id-requires-2 c =
     let is : slice_get c.args.expr.now.nodes c.args.index ≡ Some c.look-node.result = cc in
-    let below = first_below c.args.expr.now.nodes c.nodes-count.ensures.arena c.args.index c.look-node.result c.in-Some.part is (sym c.left_part.ensures ∙ c.in-Some.is) in
+    let below = first_below c.args.expr.now.nodes c.look-node.ensures.arena c.args.index c.look-node.result c.in-Some.part is (sym c.left_part.ensures ∙ c.in-Some.is) in
     omega (arith, below)
 
 pub look-inner-requires-clause-inside : goal.look-inner-requires-clause-inside
 look-inner-requires-clause-inside c =
     let is : slice_get c.args.expr.now.nodes c.args.index ≡ Some c.look-node.result = cc in
-    let below = first_below c.args.expr.now.nodes c.nodes-count.ensures.arena c.args.index c.look-node.result c.in-Some.part is (sym c.left_part.ensures ∙ c.in-Some.is) in
+    let below = first_below c.args.expr.now.nodes c.look-node.ensures.arena c.args.index c.look-node.result c.in-Some.part is (sym c.left_part.ensures ∙ c.in-Some.is) in
     omega (arith, below)
 
 pub returns-in_default-left_part-clause-first : goal.returns-in_default-left_part-clause-first
 returns-in_default-left_part-clause-first c =
     let nodes = c.args.expr.now.nodes in
-    let arena = c.nodes-count.ensures.arena in
+    let arena = c.look-node.ensures.arena in
     let is : slice_get nodes c.args.index ≡ Some c.look-node.result = cc in
     let there : slice_get nodes c.in-Some.part ≡ Some c.look-inner.result = cc in
     first_deeper nodes arena c.args.index c.look-node.result c.look-inner.result c.in-Some.part is (sym c.left_part.ensures ∙ c.in-Some.is)
@@ -28,7 +28,7 @@ returns-in_default-left_part-clause-first c =
 pub id-requires-3 : goal.id-requires-3
 id-requires-3 c =
     let nodes = c.args.expr.now.nodes in
-    let arena = c.nodes-count.ensures.arena in
+    let arena = c.look-node.ensures.arena in
     let is : slice_get nodes c.args.index ≡ Some c.look-node.result = cc in
     let there : slice_get nodes c.in-Some.part ≡ Some c.look-inner.result = cc in
     let below = first_below nodes arena c.args.index c.look-node.result c.in-Some.part is (sym c.left_part.ensures ∙ c.in-Some.is) in
@@ -38,7 +38,7 @@ id-requires-3 c =
 pub look-requires-clause-inside : goal.look-requires-clause-inside
 look-requires-clause-inside c =
     let nodes = c.args.expr.now.nodes in
-    let arena = c.nodes-count.ensures.arena in
+    let arena = c.look-node.ensures.arena in
     let is : slice_get nodes c.args.index ≡ Some c.look-node.result = cc in
     let there : slice_get nodes c.in-Some.part ≡ Some c.look-inner.result = cc in
     let below = first_below nodes arena c.args.index c.look-node.result c.in-Some.part is (sym c.left_part.ensures ∙ c.in-Some.is) in
@@ -48,7 +48,7 @@ look-requires-clause-inside c =
 pub returns-clause-first : goal.returns-clause-first
 returns-clause-first c =
     let nodes = c.args.expr.now.nodes in
-    let arena = c.nodes-count.ensures.arena in
+    let arena = c.look-node.ensures.arena in
     let is : slice_get nodes c.args.index ≡ Some c.look-node.result = cc in
     let there : slice_get nodes c.in-Some.part ≡ Some c.look-inner.result = cc in
     let last : slice_get nodes c.in-Some-left_part.deeper ≡ Some c.look.result = cc in

@@ -7,11 +7,11 @@ use Rattle.sedmatch.proofs.runs.star_set_of.Goals as goal
 pub look-requires-clause-inside : goal.look-requires-clause-inside
 look-requires-clause-inside c =
     let is : slice_get c.args.expr.now.nodes c.args.index ≡ Some (Star c.in-Star.a c.in-Star.field-1) = cc in
-    let before = c.nodes-count.ensures.arena.below c.args.index c.in-Star.a.index (Star c.in-Star.a c.in-Star.field-1) is refl in
+    let before = c.requires.arena.below c.args.index c.in-Star.a.index (Star c.in-Star.a c.in-Star.field-1) is refl in
     omega (arith, before)
 
 pub returns-in-Set-clause-repeats : goal.returns-in-Set-clause-repeats
 returns-in-Set-clause-repeats c =
     let is : slice_get c.args.expr.now.nodes c.args.index ≡ Some (Star c.in-Star.a c.in-Star.field-1) = cc in
     let there : slice_get c.args.expr.now.nodes c.in-Star.a.index ≡ Some (Set c.in-Set.set) = cc in
-    star_repeats c.args.expr.now.nodes c.nodes-count.ensures.arena c.args.index c.in-Star.a c.in-Star.field-1 c.in-Set.set is there
+    star_repeats c.args.expr.now.nodes c.requires.arena c.args.index c.in-Star.a c.in-Star.field-1 c.in-Set.set is there

@@ -21,7 +21,7 @@ loop-at-init c =
       marks = (refl, refl, refl);
       grows = omega arith;
       cost = omega arith;
-      entered = next_entered nodes w c.args.root (one_start c.args.start) c.nodes-count.ensures.arena c.args.sets.now.entered c.args.place (c.requires.at.begun (omega arith));
+      entered = next_entered nodes w c.args.root (one_start c.args.start) c.args.sets.now.entered c.args.place (c.requires.at.begun (omega arith));
       longest = c.better-best.ensures.longest e w c.args.start (one_span nodes w c.args.root c.args.start c.requires.root c.args.place c.args.ends.inner (c.requires.at.inner (omega arith))) c.requires.best.0;
       lies = c.better-best.ensures.lies c.args.start (length w) c.requires.order.0 c.requires.order.1 c.requires.best.1;
     }
@@ -35,7 +35,7 @@ loop-at-preserved c =
       marks = (omega arith, omega arith, omega arith);
       grows = omega arith;
       cost = omega arith;
-      entered = next_entered nodes w c.args.root (one_start c.args.start) c.nodes-count.ensures.arena c.advance_seen-here.new.sets.entered c.loop-at.at c.advance_seen-here.ensures.entered;
+      entered = next_entered nodes w c.args.root (one_start c.args.start) c.advance_seen-here.new.sets.entered c.loop-at.at c.advance_seen-here.ensures.entered;
       longest = c.better-best-in-loop-at.ensures.longest e w c.args.start (at_whole nodes w c.args.root c.args.start c.requires.root c.loop-at.at c.advance_seen-here.result.matched c.advance_seen-here.ensures.spans) c.loop-at.invariant.longest;
       lies = c.better-best-in-loop-at.ensures.lies c.args.start (length w) (omega arith) (omega arith) c.loop-at.invariant.lies;
     }

@@ -20,7 +20,7 @@ loop-place-preserved c = record {
   marks = (omega arith, omega arith, omega arith);
   grows = omega arith;
   cost = omega arith;
-  entered = next_entered c.args.expr.now.nodes c.args.text.now c.index-root.result (record { first = c.args.start; last = c.len.result }) c.root.ensures.arena c.advance_forwards-here.new.sets.entered c.loop-place.place c.advance_forwards-here.ensures.entered;
+  entered = next_entered c.args.expr.now.nodes c.args.text.now c.index-root.result (record { first = c.args.start; last = c.len.result }) c.advance_forwards-here.new.sets.entered c.loop-place.place c.advance_forwards-here.ensures.entered;
   missed = missed_step c.args.expr.now.nodes c.args.text.now c.index-root.result c.args.start c.len.result (omega arith) c.len.ensures
       c.loop-place.place (omega arith) c.advance_forwards-here.result.matched c.if-here.false c.advance_forwards-here.ensures.spans c.loop-place.invariant.missed;
 }

@@ -8,13 +8,13 @@ use Rattle.sedmatch.proofs.sight.run_sight.Goals as goal
 pub look-requires-in-Seq-clause-inside : goal.look-requires-in-Seq-clause-inside
 look-requires-in-Seq-clause-inside c =
     let is : slice_get c.args.expr.now.nodes c.index-root.result ≡ Some (Seq c.in-Seq.a c.in-Seq.b) = cc in
-    let below = seq_below c.args.expr.now.nodes c.nodes-count.ensures.arena c.index-root.result c.in-Seq.a c.in-Seq.b is in
+    let below = seq_below c.args.expr.now.nodes c.in-Seq.ensures.arena c.index-root.result c.in-Seq.a c.in-Seq.b is in
     omega (arith, below.0)
 
 pub star_set-requires-clause-inside : goal.star_set-requires-clause-inside
 star_set-requires-clause-inside c =
     let is : slice_get c.args.expr.now.nodes c.index-root.result ≡ Some (Seq c.in-Seq.a c.in-Seq.b) = cc in
-    let below = seq_below c.args.expr.now.nodes c.nodes-count.ensures.arena c.index-root.result c.in-Seq.a c.in-Seq.b is in
+    let below = seq_below c.args.expr.now.nodes c.in-Seq.ensures.arena c.index-root.result c.in-Seq.a c.in-Seq.b is in
     omega (arith, below.1)
 
 pub returns-in-Set : goal.returns-in-Set
@@ -22,7 +22,7 @@ returns-in-Set c =
     let last : length c.args.expr.now.nodes - 1 ≡ c.index-root.result = omega arith in
     let is : slice_get c.args.expr.now.nodes c.index-root.result ≡ Some (Set c.in-Set.set) = cc in
     record {
-      sight = sight_one c.args.expr.now.nodes c.nodes-count.ensures.arena c.index-root.result (length c.args.expr.now.nodes - 1) last c.in-Set.set c.first_of.result is c.first_of.ensures;
+      sight = sight_one c.args.expr.now.nodes c.in-Set.ensures.arena c.index-root.result (length c.args.expr.now.nodes - 1) last c.in-Set.set c.first_of.result is c.first_of.ensures;
       cost = omega arith;
     }
 
@@ -33,7 +33,7 @@ returns-in-Some c =
     let is : slice_get nodes c.index-root.result ≡ Some (Seq c.in-Seq.a c.in-Seq.b) = cc in
     let there : slice_get nodes c.in-Seq.a.index ≡ Some (Set c.in-Set-look.set) = cc in
     record {
-      sight = sight_led nodes c.nodes-count.ensures.arena c.index-root.result (length nodes - 1) last c.in-Seq.a c.in-Seq.b c.in-Set-look.set c.first_of-in-Some.result c.index.result c.in-Some.members
+      sight = sight_led nodes c.in-Seq.ensures.arena c.index-root.result (length nodes - 1) last c.in-Seq.a c.in-Seq.b c.in-Set-look.set c.first_of-in-Some.result c.index.result c.in-Some.members
           is there c.index.ensures c.first_of-in-Some.ensures c.in-Some.ensures.repeats;
       cost = omega arith;
     }

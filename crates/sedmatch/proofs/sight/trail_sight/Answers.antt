@@ -7,17 +7,17 @@ use Rattle.sedmatch.proofs.sight.trail_sight.Goals as goal
 
 pub star_set-requires-clause-inside : goal.star_set-requires-clause-inside
 star_set-requires-clause-inside c =
-    let below = seq_below c.args.expr.now.nodes c.nodes-count.ensures.arena (length c.args.expr.now.nodes - 1) c.args.a c.args.b c.requires.root in
+    let below = seq_below c.args.expr.now.nodes c.requires.arena (length c.args.expr.now.nodes - 1) c.args.a c.args.b c.requires.root in
     omega (arith, below.0)
 
 pub look-requires-clause-inside : goal.look-requires-clause-inside
 look-requires-clause-inside c =
-    let below = seq_below c.args.expr.now.nodes c.nodes-count.ensures.arena (length c.args.expr.now.nodes - 1) c.args.a c.args.b c.requires.root in
+    let below = seq_below c.args.expr.now.nodes c.requires.arena (length c.args.expr.now.nodes - 1) c.args.a c.args.b c.requires.root in
     omega (arith, below.1)
 
 pub returns-in-Set-clause-sight : goal.returns-in-Set-clause-sight
 returns-in-Set-clause-sight c =
     let nodes = c.args.expr.now.nodes in
     let there : slice_get nodes c.args.b.index ≡ Some (Set c.in-Set.set) = cc in
-    sight_trail nodes c.nodes-count.ensures.arena (length nodes - 1) (length nodes - 1) refl c.args.a c.args.b c.index.result c.in-Some.members c.in-Set.set c.first_of.result
+    sight_trail nodes c.requires.arena (length nodes - 1) (length nodes - 1) refl c.args.a c.args.b c.index.result c.in-Some.members c.in-Set.set c.first_of.result
     c.requires.root c.index.ensures there c.in-Some.ensures.repeats c.first_of.ensures

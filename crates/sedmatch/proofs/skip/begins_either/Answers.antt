@@ -12,14 +12,14 @@ pub first_set-requires-in-Some-alternatives-clause-inside : goal.first_set-requi
 first_set-requires-in-Some-alternatives-clause-inside c =
     let is : slice_get c.args.expr.now.nodes c.loop-turn.rest ≡ Some c.look-node.result = cc in
     let alts : alternatives c.look-node.result ≡ Some (c.in-Some-alternatives.part, c.in-Some-alternatives.next) = sym c.alternatives.ensures ∙ c.in-Some-alternatives.is in
-    let opens = alt_opens c.args.expr.now.nodes c.nodes-count.ensures.arena c.loop-turn.rest c.look-node.result c.in-Some-alternatives.part c.in-Some-alternatives.next is alts in
+    let opens = alt_opens c.args.expr.now.nodes c.look-node.ensures.arena c.loop-turn.rest c.look-node.result c.in-Some-alternatives.part c.in-Some-alternatives.next is alts in
     omega (arith, opens.0)
 
 pub returns-in_default-first_set-clause-cost : goal.returns-in_default-first_set-clause-cost
 returns-in_default-first_set-clause-cost c =
     let is : slice_get c.args.expr.now.nodes c.loop-turn.rest ≡ Some c.look-node.result = cc in
     let alts : alternatives c.look-node.result ≡ Some (c.in-Some-alternatives.part, c.in-Some-alternatives.next) = sym c.alternatives.ensures ∙ c.in-Some-alternatives.is in
-    let opens = alt_opens c.args.expr.now.nodes c.nodes-count.ensures.arena c.loop-turn.rest c.look-node.result c.in-Some-alternatives.part c.in-Some-alternatives.next is alts in
+    let opens = alt_opens c.args.expr.now.nodes c.look-node.ensures.arena c.loop-turn.rest c.look-node.result c.in-Some-alternatives.part c.in-Some-alternatives.next is alts in
     turn_cost (length c.args.expr.now.nodes) c.loop-turn._turn c.args.steps.now c.first_set.new.steps c.loop-turn.steps c.first_set-in-Some-alternatives.new.steps
     (omega arith) (omega arith) (omega arith) c.loop-turn.invariant.cost (omega (arith, opens.0))
 
@@ -47,7 +47,7 @@ loop-turn-preserved c =
     let fourth = c.loop-turn.invariant.fourth (omega arith) in
     let is : slice_get nodes rest ≡ Some c.look-node.result = cc in
     let alts : alternatives c.look-node.result ≡ Some (c.in-Some-alternatives.part, next) = sym c.alternatives.ensures ∙ c.in-Some-alternatives.is in
-    let opens = alt_opens nodes c.nodes-count.ensures.arena rest c.look-node.result c.in-Some-alternatives.part next is alts in
+    let opens = alt_opens nodes c.look-node.ensures.arena rest c.look-node.result c.in-Some-alternatives.part next is alts in
     let more = c.with-sets.ensures in
     record {
       inside = omega (arith, opens.1);

@@ -11,7 +11,7 @@ pub returns-clause-state : goal.returns-clause-state
 returns-clause-state c w s place begins firsts comes enters =
     let nodes = c.args.expr.now.nodes in
     let r = c.args.root in
-    let arena = c.nodes-count.ensures.arena in
+    let arena = c.ascend.ensures.arena in
     let row = c.args.sets.now.entered in
     let row2 = c.ascend.new.sets.entered in
     let row3 = c.ascend-2.new.sets.entered in

@@ -1,10 +1,14 @@
 use Rattle.std.proofs.Common.{◌≡◌, Some, subst}
 use Rattle.std.specs.Prelude.{slice_get}
-use Rattle.sedre.specs.Arena.{Written}
-use Rattle.sedre.proofs.MirrorLemmas.{some-seen}
+use Rattle.sedre.specs.Arena.{Written, IsArena}
+use Rattle.sedre.proofs.MirrorLemmas.{some-seen, seen-arena}
 use Rattle.sedre.proofs.sight.Nodes.look.Goals as goal
 
 pub returns-clause-node : goal.returns-clause-node
 returns-clause-node c =
     subst (λ (e : Written). slice_get e.nodes c.args.id.index ≡ Some c.seen.result) c.self.view_is
-    (some-seen c.self.inside.mirrored c.self.inside.expr.now c.args.id.index c.seen.result c.seen.ensures)
+    (some-seen c.self.inside.mirrored c.self.inside.expr.now c.args.id.index c.seen.result c.seen.ensures.node)
+
+pub returns-clause-arena : goal.returns-clause-arena
+returns-clause-arena c =
+    subst (λ (e : Written). IsArena e.nodes) c.self.view_is (seen-arena c.self.inside.mirrored c.self.inside.expr.now c.seen.ensures.arena)
