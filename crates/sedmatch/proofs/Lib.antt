@@ -39,5 +39,6 @@ pub mod WordLemmas
 pub mod TableLemmas
 pub mod QuickLemmas
 pub mod LinearLemmas
+pub mod FirstStartLemmas
 pub mod LongestLemmas
 pub mod CutLemmas

@@ -6,7 +6,7 @@ use Rattle.sedre.specs.Arena.{tree_at}
 use Rattle.sedre.specs.declared.types.Node.{Node}
 use Rattle.sedmatch.specs.declared.tables.Table.{Table}
 use Rattle.sedmatch.specs.Spans.{Spans}
-use Rattle.sedmatch.specs.Reach.{At, SomeSpan, OpenAt, one_start, Longest, LongestBelow}
+use Rattle.sedmatch.specs.Reach.{At, SomeSpan, OpenAt, one_start, LongestBelow}
 use Rattle.sedmatch.specs.Tables.{StartsAre}
 
 -- no place after the start is one
@@ -17,11 +17,6 @@ one_are t w start place none low p after within = (λ h. absurd (true≢false (s
 pub pass_best : (e : Tree) (w : List ℕ) (i n stop : ℕ) (best : Option ℕ) → ((p : ℕ) → n ≤ p → p < stop → Spans e w i p → ⊥) → LongestBelow e w i n best → LongestBelow e w i stop best
 pass_best e w i n stop None none old = λ k lt s. ⊎_elim (λ (l : k < n). old k l s) (λ (g : n ≤ k). none k g lt s) (cases_lt k n)
 pass_best e w i n stop (Some j) none old = (old.0, λ k lt s. ⊎_elim (λ (l : k < n). old.1 k l s) (λ (g : n ≤ k). absurd (none k g lt s)) (cases_lt k n))
-
--- nothing ends after the place at all
-pub best_is : (e : Tree) (w : List ℕ) (i n : ℕ) (best : Option ℕ) → ((p : ℕ) → n ≤ p → Spans e w i p → ⊥) → LongestBelow e w i n best → Longest e w i best
-best_is e w i n None none old = λ k s. ⊎_elim (λ (l : k < n). old k l s) (λ (g : n ≤ k). none k g s) (cases_lt k n)
-best_is e w i n (Some j) none old = (old.0, λ k s. ⊎_elim (λ (l : k < n). old.1 k l s) (λ (g : n ≤ k). absurd (none k g s)) (cases_lt k n))
 
 module _ (nodes : List Node) (w : List ℕ) (r start : ℕ) (root : r + 1 ≡ length nodes) where
   abbrev pub Tree_of : Tree

@@ -47,6 +47,21 @@ owed_is_met m n q o is = ap (λ b. if b then owed_met m n q o else 128 * m * (n 
 pub behind_is_met : (m n q : ℕ) (o : Occurrences) → IsTrue o.met → owed_behind m n q o ≡ owed_met m n q o
 behind_is_met m n q o is = ap (λ b. if b then owed_met m n q o else owed_apart m n o.left) is
 
+-- while something is left
+left_some : (m n left : ℕ) → 0 < left → owed_apart m n left ≡ left + 384 * m * (n + 1)
+left_some m n left some = by (nat_eq left 0) (λ zero. absurd (let none : left ≡ 0 = grind (arith, nat_tests) in omega (arith, none, some)))
+  where
+    by : (b : Bool) → (b ≡ true → ⊥) → (if b then 128 * m * (n + 1) else left + 384 * m * (n + 1)) ≡ left + 384 * m * (n + 1)
+    by true never = absurd (never refl)
+    by false never = refl
+
+-- what is owed before the first search
+pub owed_begun : (m n root len left : ℕ) → root + 1 ≡ m → len ≡ n → left ≡ 32 * (root + 1) * (len + 1) → 0 < left → owed_apart m n left ≡ 416 * m * (n + 1)
+owed_begun m n root len left nodes places is some =
+    let e1 : 32 * (root + 1) * (len + 1) ≡ 32 * m * (len + 1) = ap (λ v. 32 * v * (len + 1)) nodes in
+    let e2 : 32 * m * (len + 1) ≡ 32 * m * (n + 1) = ap (λ v. 32 * m * (v + 1)) places in
+    rw (left_some m n left some) (omega (arith, e1, e2, is))
+
 -- a search is paid for by what is left, or by what is kept for the last one
 pub counted_paid : (m n left s t : ℕ) → 0 < left → s ≤ t → t ≤ s + 256 * m * (n + 1) →
     t + owed_apart m n (left - (t - s)) ≤ s + owed_apart m n left
@@ -59,13 +74,6 @@ counted_paid m n left s t some grows cost =
     let none : left - (t - s) ≡ 0 = omega arith in
     rw none (rw (left_some m n left some) (omega arith)))
     (cases_lt (t - s) left)
-  where
-    left_some : (m n left : ℕ) → 0 < left → owed_apart m n left ≡ left + 384 * m * (n + 1)
-    left_some m n left some = by (nat_eq left 0) (λ zero. absurd (let none : left ≡ 0 = grind (arith, nat_tests) in omega (arith, none, some)))
-      where
-        by : (b : Bool) → (b ≡ true → ⊥) → (if b then 128 * m * (n + 1) else left + 384 * m * (n + 1)) ≡ left + 384 * m * (n + 1)
-        by true never = absurd (never refl)
-        by false never = refl
 
 -- a search that finds none
 none_paid : (m at k b c s t : ℕ) → t + 25 * m * at + c ≤ s + 54 * m + 25 * m * (at + k) + b → t ≤ s + (79 * m * (k + 1) + b)

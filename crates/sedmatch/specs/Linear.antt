@@ -4,7 +4,7 @@ use Rattle.std.specs.Prelude.{ℕ, ◌+◌, ◌<◌, ◌≤◌, Bool, List, leng
 use Rattle.sedre.specs.Tree.{Tree}
 use Rattle.sedre.specs.declared.types.Node.{Node}
 use Rattle.sedmatch.specs.declared.linear.FirstEnd.{FirstEnd}
-use Rattle.sedmatch.specs.Spans.{Found}
+use Rattle.sedmatch.specs.Spans.{Spans, Found}
 use Rattle.sedmatch.specs.Reach.{At, SomeSpan}
 use Rattle.sedmatch.specs.States.{IsAt}
 use Rattle.sedmatch.specs.Tables.{starts_from}
@@ -13,11 +13,11 @@ use Rattle.sedmatch.specs.Tables.{starts_from}
 abbrev pub NoneBefore : List Node → List ℕ → ℕ → ℕ → ℕ → Type 0
 NoneBefore nodes w r start place = (i k : ℕ) → start ≤ i → k < place → At nodes w r i k → ⊥
 
--- a place at which a match from the start on ends, and what is told of it where bytes follow
+-- the first place at which a match from the start on ends, and what is told of it where bytes follow
 abbrev pub IsFirstEnd : List Node → List ℕ → ℕ → ℕ → List Bool → Option FirstEnd → Type 0
 IsFirstEnd nodes w r from marks None = NoneBefore nodes w r from (length w + 1)
 IsFirstEnd nodes w r from marks (Some f) = (from ≤ f.place) × (f.place ≤ length w) × SomeSpan nodes w r (starts_from from w) f.place
-    × (f.place < length w → IsAt nodes w r (starts_from from w) f.place marks f.ends)
+    × (f.place < length w → IsAt nodes w r (starts_from from w) f.place marks f.ends) × NoneBefore nodes w r from f.place
 
 -- where the pass ended
 abbrev pub ended_to : ℕ → Option FirstEnd → ℕ
@@ -27,6 +27,13 @@ ended_to n (Some f) = f.place
 -- no match that begins at one of these places ends after the bound
 abbrev pub IsBound : List Node → List ℕ → ℕ → ℕ → ℕ → ℕ → Type 0
 IsBound nodes w r start last bound = (last ≤ bound) × (bound ≤ length w) × ((i k : ℕ) → start ≤ i → i ≤ last → At nodes w r i k → k ≤ bound)
+
+-- the first place from one on at which a match begins that ends at another
+pub record IsFirstStart (e : Tree) (w : List ℕ) (from end i : ℕ) : Type 0 where
+  pub after : from ≤ i
+  pub before : i ≤ end
+  pub spans : Spans e w i end
+  pub first : (h : ℕ) → from ≤ h → h < i → Spans e w h end → ⊥
 
 -- there is a leftmost-longest match from the place on, within the text
 abbrev pub IsThere : Tree → List ℕ → ℕ → Option (ℕ × ℕ) → Type 0

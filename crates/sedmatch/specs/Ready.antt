@@ -17,9 +17,13 @@ use Rattle.sedmatch.specs.declared.ready.Tables.{Tables}
 abbrev pub IsKnown : Tree → Known → Type 0
 IsKnown e k = AllBegin e k.begins × IsNeeded e k.needed × AllRare e k.rare
 
--- the tables are for the whole expression: in the one every place is a start, in the other the first alone
+-- the tables are for the whole expression and for the mirrored one: in the one every place is a start, in the other the first alone
 abbrev pub AreTables : Written → ℕ → Tables → Type 0
-AreTables e root t = IsSweep e.nodes root t.every × IsSingle e.nodes root t.single × IsSweep (seen true e).nodes root t.back
+AreTables e root t =
+    IsSweep e.nodes root t.every
+    × IsSingle e.nodes root t.single
+    × IsSweep (seen true e).nodes root t.back
+    × IsSingle (seen true e).nodes root t.back_single
 
 -- the expression is prepared for searches: the root is its last node, what is known of it is so, and the tables are for it
 abbrev pub IsPrepared : Written → ℕ → Known → Tables → Type 0

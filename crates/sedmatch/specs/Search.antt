@@ -53,9 +53,9 @@ abbrev pub LastEnd : Tree → List ℕ → ℕ → ℕ → Option ℕ → Type 0
 LastEnd e w first n None = (i k : ℕ) → first ≤ i → k < n → Spans e w i k → ⊥
 LastEnd e w first n (Some p) = (p < n) × ((i : ℕ) × (first ≤ i) × Spans e w i p) × ((i k : ℕ) → first ≤ i → k < n → Spans e w i k → k ≤ p)
 
--- the end of the longest match from the place i that ends before the place n, if there is one; it lies in the text
-abbrev pub IsBest : Tree → List ℕ → ℕ → ℕ → Option ℕ → Type 0
-IsBest e w i n best = LongestBelow e w i n best × IfSome best (λ end. (i ≤ end) × (end ≤ length w))
+-- the end of the longest match from the place i that ends before the place n, if there is one; it lies up to the place stop
+abbrev pub IsBest : Tree → List ℕ → ℕ → ℕ → ℕ → Option ℕ → Type 0
+IsBest e w i n stop best = LongestBelow e w i n best × IfSome best (λ end. (i ≤ end) × (end ≤ stop))
 
 -- the starts from one to another
 abbrev pub starts_to : ℕ → ℕ → Starts

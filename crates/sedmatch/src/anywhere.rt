@@ -10,7 +10,7 @@ ghost use Rattle.sedmatch.specs.Costs.{Pays, Takes};
 
 use crate::ahead::Lead;
 use crate::counted::Text;
-use crate::linear::{first_end_in, region_by, span_by};
+use crate::linear::{first_end_in, region_by, span_by, start_to};
 use crate::needed::narrowed;
 use crate::quick::longest_in;
 use crate::rare::first_place;
@@ -156,5 +156,19 @@ fn span_from(
         sets,
         steps,
     );
+    // All matches of such a region end where the first one does.
+    if region.bound == region.last {
+        let begin = start_to(
+            expr,
+            root,
+            text,
+            start,
+            first.place,
+            &mut tables.back_single,
+            sets,
+            steps,
+        );
+        return Some((begin, first.place));
+    }
     span_by(expr, root, text, region, tables, sets, steps)
 }

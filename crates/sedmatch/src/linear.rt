@@ -9,17 +9,17 @@ ghost use Rattle.sedmatch.specs.Reach.{SomeSpan};
 ghost use Rattle.sedmatch.specs.Search.{IsRegion, IsRegionTo, LastEnd, IsEarliest, starts_to};
 ghost use Rattle.sedmatch.specs.States.{IsAt};
 ghost use Rattle.sedmatch.specs.Tables.{IsSingle, IsSweep, IsTable, NextIs, starts_from};
-ghost use Rattle.sedmatch.specs.Linear.{NoneBefore, IsFirstEnd, ended_to, IsBound, IsThere};
+ghost use Rattle.sedmatch.specs.Linear.{NoneBefore, IsFirstEnd, ended_to, IsBound, IsFirstStart, IsThere};
 ghost use Rattle.sedmatch.specs.Ready.{AreTables};
 ghost use Rattle.sedmatch.specs.Costs.{Pays};
 
 use crate::counted::{Bytes, Text};
 use crate::passes::{Starts, advance};
-use crate::quick::longest_in;
+use crate::quick::{longest_in, longest_to};
 use crate::ready::Tables;
 use crate::region::Region;
 use crate::scratch::Sets;
-use crate::states::Ends;
+use crate::states::{Ends, ends_at};
 use crate::tables::{Next, Table, first_state, follow, follow_past, go, settle, stay};
 use sedre::{Expr, Nodes, Steps};
 
@@ -297,14 +297,6 @@ fn later(
     if matched { Some(place) } else { best }
 }
 
-/// Whether a match ends at the place, given what is told of it.
-fn ends_at(place: usize, len: usize, ends: Ends) -> bool
-    ensures here { (nodes : List Node) (w : List ℕ) (r : ℕ) (s : Starts) (row : List Bool) → len ≡ length w → place ≤ len →
-        IsAt nodes w r s place row ends → IsTrue result ↔ SomeSpan nodes w r s place }
-{
-    if place < len { ends.inner } else { ends.last }
-}
-
 /// The last place up to `stop` at which a match ends that begins at `first` or after it, given what is told of a
 /// place and the last one before it.
 fn last_on(
@@ -537,6 +529,52 @@ fn earliest_by(
     let stop = len - region.start;
     match last_by(&nodes, root, &bytes, first, stop, table, sets, steps) {
         None => region.start,
+        Some(place) => len - place,
+    }
+}
+
+/// The first place from `from` on at which a match begins that ends at `end`, by a table for the mirrored expression in
+/// which no place after the first is a start.
+pub fn start_to(
+    expr: &Expr,
+    root: usize,
+    text: &Text,
+    from: usize,
+    end: usize,
+    table: &mut Table,
+    sets: &mut Sets,
+    steps: &mut Steps,
+) -> usize
+    requires root { root + 1 ≡ length expr.now.nodes }
+    requires order { InOrder from end (length text.now) }
+    requires some { SomeSpan expr.now.nodes text.now root (starts_from from text.now) end }
+    requires table { IsSingle (seen true expr.now).nodes root table.old }
+    requires fits { Fits (length expr.now.nodes) (length text.now) sets.old }
+    requires room { steps.old < 2 ^ 110 }
+    ensures table { IsSingle (seen true expr.now).nodes root table.new }
+    ensures marks { SameMarks sets.old sets.new }
+    ensures first { IsFirstStart (tree expr.now) text.now from end result }
+    ensures none_long { from ≡ end → steps.new ≡ steps.old }
+    ensures grows { steps.old ≤ steps.new }
+    ensures cost { let m = length expr.now.nodes in steps.new + 42 * m * from ≤ steps.old + 38 * m + 42 * m * end }
+{
+    if from == end {
+        return from;
+    }
+    let len = text.len();
+    let nodes = Nodes::mirrored(expr);
+    let bytes = text.backwards();
+    match longest_to(
+        &nodes,
+        root,
+        &bytes,
+        len - end,
+        len - from,
+        table,
+        sets,
+        steps,
+    ) {
+        None => from,
         Some(place) => len - place,
     }
 }

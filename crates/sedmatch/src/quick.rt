@@ -4,7 +4,8 @@ ghost use Rattle.sedre.specs.Arena.{tree};
 ghost use Rattle.sedmatch.specs.Fits.{Fits, SameMarks};
 ghost use Rattle.sedmatch.specs.Spans.{SomeFound};
 ghost use Rattle.sedmatch.specs.Tables.{IsSingle, IsSweep};
-ghost use Rattle.sedmatch.specs.Reach.{Longest};
+ghost use Rattle.sedmatch.specs.Places.{InOrder};
+ghost use Rattle.sedmatch.specs.Reach.{Longest, LongestBelow};
 ghost use Rattle.sedmatch.specs.Answer.{IsComputed, MatchAnswer, SpanAnswer};
 ghost use Rattle.sedmatch.specs.Matching.{found};
 ghost use Rattle.sedmatch.specs.Ready.{AreTables, IsKnown, IsPrepared};
@@ -24,6 +25,7 @@ use crate::scratch::{Scratch, Sets};
 use crate::search::{better, longest_on};
 use crate::sight::{Sight, sight_find, sight_matches, sight_of, sight_span};
 use crate::skip::Begins;
+use crate::states::ends_at;
 use crate::tables::{Next, Table, first_state, follow_past, go, stay};
 use sedre::{Expr, Nodes, Steps};
 use std::alloc::{AllocError, Global};
@@ -110,28 +112,30 @@ fn some_anywhere(
     }
 }
 
-/// The end of the longest match that begins at `start`, by a table in which no place after it is a start.
-fn longest_by(
+/// The end of the longest match that begins at `start` and ends at `stop` or before, by a table in which no place after
+/// the start is one.
+pub fn longest_to(
     expr: &Nodes,
     root: usize,
     text: &Bytes,
     start: usize,
+    stop: usize,
     table: &mut Table,
     sets: &mut Sets,
     steps: &mut Steps,
 ) -> Option<usize>
     requires root { root + 1 ≡ length expr.now.nodes }
-    requires start { start ≤ length text.now }
+    requires order { InOrder start stop (length text.now) }
     requires table { IsSingle expr.now.nodes root table.old }
     requires fits { Fits (length expr.now.nodes) (length text.now) sets.old }
     requires room { steps.old < 2 ^ 110 }
     ensures table { IsSingle expr.now.nodes root table.new }
     ensures marks { SameMarks sets.old sets.new }
-    ensures longest { Longest (tree expr.now) text.now start result }
-    ensures lies { IfSome result (λ end. (start ≤ end) × (end ≤ length text.now)) }
+    ensures longest { LongestBelow (tree expr.now) text.now start (stop + 1) result }
+    ensures lies { IfSome result (λ end. (start ≤ end) × (end ≤ stop)) }
     ensures grows { steps.old ≤ steps.new }
     ensures cost { let m = length expr.now.nodes in
-        steps.new + 42 * m * start ≤ steps.old + 38 * m + 42 * m * length text.now }
+        steps.new + 42 * m * start ≤ steps.old + 38 * m + 42 * m * stop }
 {
     let begin = start == 0;
     let mut place = start;
@@ -140,40 +144,41 @@ fn longest_by(
     loop {
         match next {
             Next::Full(ends) => {
-                return longest_on(expr, root, text, start, place, ends, best, sets, steps);
+                return longest_on(
+                    expr, root, text, start, place, stop, ends, best, sets, steps,
+                );
             }
             Next::To(state) => {
                 let ends = table.ends[state];
-                if place >= text.len() {
-                    return better(best, place, ends.last);
+                if place >= stop {
+                    return better(best, place, ends_at(place, text.len(), ends));
                 }
                 best = better(best, place, ends.inner);
                 if !ends.goes {
                     return best;
                 }
-                let (inner, len) = (ends.inner, text.len());
-                let run = stay(expr, root, table, text, state, inner, place, len, steps);
+                let inner = ends.inner;
+                let run = stay(expr, root, table, text, state, inner, place, stop, steps);
                 if run > place {
                     best = Some(run - 1);
                     place = run;
                 } else {
-                    let stop = follow_past(
-                        expr, root, table, text, state, inner, place, len, steps,
-                    );
-                    if stop.place >= len {
-                        return better(best, stop.place, table.ends[stop.state].last);
+                    let to = follow_past(expr, root, table, text, state, inner, place, stop, steps);
+                    if to.place >= stop {
+                        let there = ends_at(to.place, text.len(), table.ends[to.state]);
+                        return better(best, to.place, there);
                     }
-                    let byte = text.byte(stop.place, steps);
-                    let passed = stop.place - place;
-                    next = go(expr, root, table, stop.state, byte, passed, sets, steps);
-                    place = stop.place + 1;
+                    let byte = text.byte(to.place, steps);
+                    let passed = to.place - place;
+                    next = go(expr, root, table, to.state, byte, passed, sets, steps);
+                    place = to.place + 1;
                 }
             }
         }
     }
 }
 
-/// The same over a text as it is.
+/// The end of the longest match that begins at `start`, in a text as it is.
 pub fn longest_in(
     expr: &Expr,
     root: usize,
@@ -198,7 +203,7 @@ pub fn longest_in(
 {
     let nodes = Nodes::of(expr);
     let bytes = text.forwards();
-    longest_by(&nodes, root, &bytes, start, table, sets, steps)
+    longest_to(&nodes, root, &bytes, start, text.len(), table, sets, steps)
 }
 
 /// The leftmost-longest match that begins at `from` or later, with its groups.
@@ -248,8 +253,8 @@ const STATES: usize = 64;
 /// An expression with tables of the states that its searches reach: what was found out at one place of a text serves
 /// at all others, and in later texts, so that a byte mostly costs a few looks, whatever the expression.
 ///
-/// It holds a copy of the expression and three tables: for a pass in which every place is a start, for one from a
-/// single start, and for one backwards. All their room is taken in [`TableMatcher::new`], a few kilobytes for a common
+/// It holds a copy of the expression and four tables: for a pass in which every place is a start, for one from a
+/// single start, and for either backwards. All their room is taken in [`TableMatcher::new`], a few kilobytes for a common
 /// expression, and for each some 30 bytes a node. A literal that all matches hold, of 32 bytes at most, is found out then
 /// too. Where an expression is used once, [`crate::find`] and its like are the better choice: they need no table.
 #[derive(Drop)]

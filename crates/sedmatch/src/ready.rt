@@ -1,5 +1,5 @@
 //! What is found out of an expression when its matcher is made, and its tables.
-ghost use Rattle.std.specs.Prelude.{IfOk, true, false, ◌≡◌, ℕ, ◌+◌, ◌^◌, ◌<◌, ◌≤◌, length, IsTrue};
+ghost use Rattle.std.specs.Prelude.{IfOk, true, false, ◌≡◌, ℕ, ◌+◌, ◌^◌, ◌<◌, ◌≤◌, length};
 ghost use Rattle.sedre.specs.Arena.{tree};
 ghost use Rattle.sedre.specs.Mirror.{seen};
 ghost use Rattle.sedmatch.specs.Ready.{AreTables, IsKnown};
@@ -33,6 +33,8 @@ pub struct Tables {
     pub single: Table,
     /// For a pass backwards, in which every place is a start.
     pub back: Table,
+    /// For a pass backwards from a single start.
+    pub back_single: Table,
 }
 
 /// Finds out what all matches of the expression have in common. Nothing is sought where they are seen at the first look.
@@ -82,11 +84,12 @@ fn new_table_of(
     new_table(alloc, &nodes, root, sweeps, classes, states)
 }
 
-/// An empty table for the mirrored expression, in which every place is a start.
+/// An empty table for the mirrored expression.
 fn mirror_table_of(
     alloc: Global,
     expr: &Expr,
     root: usize,
+    sweeps: bool,
     classes: &Classes,
     states: usize,
 ) -> Result<Table, AllocError>
@@ -94,10 +97,10 @@ fn mirror_table_of(
     requires classes { IsCut classes.now }
     requires few { states ≤ 64 }
     ensures table { IfOk result (λ t. IsTable (seen true expr.now).nodes root t) }
-    ensures sweeps { IfOk result (λ t. IsTrue t.sweeps) }
+    ensures sweeps { IfOk result (λ t. t.sweeps ≡ sweeps) }
 {
     let nodes = Nodes::mirrored(expr);
-    new_table(alloc, &nodes, root, true, classes, states)
+    new_table(alloc, &nodes, root, sweeps, classes, states)
 }
 
 /// The classes of bytes for an expression.
@@ -124,6 +127,7 @@ pub fn new_tables(
     Ok(Tables {
         every: new_table_of(alloc, expr, root, true, &classes, states)?,
         single: new_table_of(alloc, expr, root, false, &classes, states)?,
-        back: mirror_table_of(alloc, expr, root, &classes, states)?,
+        back: mirror_table_of(alloc, expr, root, true, &classes, states)?,
+        back_single: mirror_table_of(alloc, expr, root, false, &classes, states)?,
     })
 }

@@ -23,7 +23,7 @@ use crate::region::{Region, earliest};
 use crate::runs::{Far, look_far};
 use crate::scratch::Sets;
 use crate::skip::{Begins, how_begins, next_start};
-use crate::states::Ends;
+use crate::states::{Ends, ends_at};
 use sedre::{Expr, Nodes, Steps};
 
 /// Brings the marks of a pass over the text as it is to the next place.
@@ -283,35 +283,39 @@ pub fn better(best: Option<usize>, place: usize, matched: bool) -> Option<usize>
     if matched { Some(place) } else { best }
 }
 
-/// The end of the longest match from a start, given what is told of a place and the best before it.
+/// The end of the longest match from a start that ends at `stop` or before, given what is told of a place and the best
+/// before it.
 pub fn longest_on(
     expr: &Nodes,
     root: usize,
     text: &Bytes,
     start: usize,
     place: usize,
+    stop: usize,
     ends: Ends,
     before: Option<usize>,
     sets: &mut Sets,
     steps: &mut Steps,
 ) -> Option<usize>
     requires root { root + 1 ≡ length expr.now.nodes }
-    requires order { InOrder start place (length text.now) }
+    requires order { InOrder start place stop }
+    requires stop { stop ≤ length text.now }
     requires fits { Fits (length expr.now.nodes) (length text.now) sets.old }
     requires at { IsAt expr.now.nodes text.now root (one_start start) place sets.old.entered ends }
-    requires best { IsBest (tree expr.now) text.now start place before }
+    requires best { IsBest (tree expr.now) text.now start place stop before }
     requires room { steps.old < 2 ^ 116 }
     ensures marks { SameMarks sets.old sets.new }
-    ensures longest { Longest (tree expr.now) text.now start result }
-    ensures lies { IfSome result (λ end. (start ≤ end) × (end ≤ length text.now)) }
+    ensures longest { LongestBelow (tree expr.now) text.now start (stop + 1) result }
+    ensures lies { IfSome result (λ end. (start ≤ end) × (end ≤ stop)) }
     ensures grows { steps.old ≤ steps.new }
-    ensures cost { steps.new + 20 * length expr.now.nodes * place ≤ steps.old + 20 * length expr.now.nodes * length text.now }
+    ensures cost { steps.new + 20 * length expr.now.nodes * place ≤ steps.old + 20 * length expr.now.nodes * stop }
 {
-    if place >= text.len() {
-        return better(before, place, ends.last);
+    let here = ends_at(place, text.len(), ends);
+    let mut best = better(before, place, here);
+    if place >= stop {
+        return best;
     }
-    let mut best = better(before, place, ends.inner);
-    for at in place + 1..text.len() + 1 {
+    for at in place + 1..stop + 1 {
         let here = advance_seen(expr, root, text, start, at, sets, steps);
         best = better(best, at, here.matched);
     }

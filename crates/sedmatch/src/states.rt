@@ -3,7 +3,8 @@
 //! What a step tells holds of every text and place that agree with what it was given, so that it can be kept.
 ghost use Rattle.std.specs.Prelude.{slice_get, Some, ◌≡◌, ℕ, Bool, false, List, ◌+◌, ◌*◌, ◌^◌, ◌<◌, ◌≤◌, ◌↔◌, length, slice_index_or, IsTrue};
 ghost use Rattle.sedmatch.specs.Fits.{FitsFew, SameMarks};
-ghost use Rattle.sedmatch.specs.Reach.{IsStart, TellEntered};
+ghost use Rattle.sedmatch.specs.Reach.{IsStart, SomeSpan, TellEntered};
+ghost use Rattle.sedre.specs.declared.types.Node.{Node};
 ghost use Rattle.sedmatch.specs.Places.{ComesAfter};
 ghost use Rattle.sedmatch.specs.States.{IsAt};
 ghost use Rattle.sedmatch.specs.declared.passes.Starts.{Starts};
@@ -24,6 +25,14 @@ pub struct Ends {
     pub last: bool,
     /// Not whether one ends there, but whether one that began there or before may end later.
     pub goes: bool,
+}
+
+/// Whether a match ends at the place, given what is told of it.
+pub fn ends_at(place: usize, len: usize, ends: Ends) -> bool
+    ensures here { (nodes : List Node) (w : List ℕ) (r : ℕ) (s : Starts) (row : List Bool) → len ≡ length w → place ≤ len →
+        IsAt nodes w r s place row ends → IsTrue result ↔ SomeSpan nodes w r s place }
+{
+    if place < len { ends.inner } else { ends.last }
 }
 
 /// Whether the node is a set.

@@ -82,7 +82,8 @@ returns-then-ends-clause-first c =
       c.loop-next.invariant.after,
       c.loop-next.invariant.within,
       (at.inner (omega arith)).0 c.if-ends.true,
-      λ lt. at_agree nodes w r (starts_from from w) place (length nodes) row c.load.new.marks ends (omega arith) (agree_back (length nodes) c.load.new.marks row agree) at,
+      (λ lt. at_agree nodes w r (starts_from from w) place (length nodes) row c.load.new.marks ends (omega arith) (agree_back (length nodes) c.load.new.marks row agree) at),
+      c.loop-next.invariant.missed,
     )
 
 pub returns-then-ends-clause-cost : goal.returns-then-ends-clause-cost

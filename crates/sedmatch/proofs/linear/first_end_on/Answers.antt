@@ -22,7 +22,7 @@ returns-then-place-len-clause-cost c =
 
 pub returns-then-ends-clause-first : goal.returns-then-ends-clause-first
 returns-then-ends-clause-first c =
-    (c.requires.order.0, c.requires.order.1, (c.requires.at.inner (omega arith)).0 c.if-ends.true, λ lt. c.requires.at)
+    (c.requires.order.0, c.requires.order.1, (c.requires.at.inner (omega arith)).0 c.if-ends.true, (λ lt. c.requires.at), c.requires.missed)
 
 pub loop-at-init : goal.loop-at-init
 loop-at-init c =
@@ -64,9 +64,10 @@ returns-then-here-clause-first c =
       omega arith,
       omega arith,
       some,
-      λ lt. told_at nodes w r (starts_from c.args.start w) at c.advance-here.new.sets.entered c.advance-here.result.more
+      (λ lt. told_at nodes w r (starts_from c.args.start w) at c.advance-here.new.sets.entered c.advance-here.result.more
           (subst (λ n. TellBegun nodes w r (starts n) at c.advance-here.new.sets.entered) c.len-2.ensures c.advance-here.ensures.entered) some
-          (subst (λ n. OpenAt nodes w r (starts n) at c.advance-here.result.more) c.len-2.ensures c.advance-here.ensures.opens),
+          (subst (λ n. OpenAt nodes w r (starts n) at c.advance-here.result.more) c.len-2.ensures c.advance-here.ensures.opens)),
+      c.loop-at.invariant.missed,
     )
 
 pub returns-clause-first : goal.returns-clause-first

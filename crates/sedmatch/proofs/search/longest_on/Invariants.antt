@@ -11,5 +11,5 @@ invariant-loop-at l = record {
   cost : l.steps + 20 * length l.expr.nodes * (l.place + 1) ≤ l.initial.steps + 20 * length l.expr.nodes * l.at;
   entered : TellEntered l.expr.nodes l.text l.root (one_start l.start) l.at l.sets.entered;
   longest : LongestBelow (tree l.expr) l.text l.start l.at l.best;
-  lies : IfSome l.best (λ end. (l.start ≤ end) × (end ≤ length l.text));
+  lies : IfSome l.best (λ end. (l.start ≤ end) × (end ≤ l.stop));
 }

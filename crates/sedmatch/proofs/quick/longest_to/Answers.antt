@@ -1,4 +1,4 @@
-use Rattle.std.proofs.Common.{◌+◌, ◌-◌, ◌*◌, ◌≤◌, ◌∙◌, false, length, refl, sym, subst, true≢false, arith, rules}
+use Rattle.std.proofs.Common.{◌≡◌, ◌+◌, ◌-◌, ◌*◌, ◌≤◌, ◌∙◌, false, length, refl, sym, subst, true≢false, arith, rules}
 use Rattle.std.specs.Prelude.{eqb}
 use Rattle.std.proofs.lemmas.Bool.{eqb-true, eq-eqb, not-true}
 use Rattle.sedre.specs.Arena.{tree}
@@ -7,12 +7,12 @@ use Rattle.sedmatch.specs.Reach.{one_start, LongestBelow}
 use Rattle.sedmatch.specs.States.{IsAt}
 use Rattle.sedmatch.specs.Tables.{NextIs, LeadsFrom, IsFirst}
 use Rattle.sedmatch.specs.Words.{row_of}
-use Rattle.sedmatch.proofs.SearchLemmas.{LongestBelow-none, Longest-from_below}
+use Rattle.sedmatch.proofs.SearchLemmas.{LongestBelow-none}
 use Rattle.sedmatch.proofs.TableLemmas.{default_same}
-use Rattle.sedmatch.proofs.LongestLemmas.{one_are, one_span, pass_best, best_is, closed, none_passed, longest_last}
+use Rattle.sedmatch.proofs.LongestLemmas.{one_are, one_span, pass_best, closed, none_passed, longest_last}
 use Rattle.sedmatch.proofs.QuickLemmas.{next_map, look_most}
 use Rattle.sedmatch.proofs.LinearLemmas.{line_step, line_end}
-use Rattle.sedmatch.proofs.quick.longest_by.Goals as goal
+use Rattle.sedmatch.proofs.quick.longest_to.Goals as goal
 
 pub loop-next-init : goal.loop-next-init
 loop-next-init c =
@@ -24,7 +24,7 @@ loop-next-init c =
       sweeps = c.first_state-next.ensures.sweeps ∙ c.requires.table.1;
       marks = c.first_state-next.ensures.marks;
       after = omega arith;
-      within = c.requires.start;
+      within = c.requires.order.0;
       next = next_map (IsFirst nodes c.args.root (eqb start 0)) (IsAt nodes w c.args.root (one_start start) start) c.first_state-next.new.table c.first_state-next.new.sets.entered c.first_state-next.result
           (λ row ends first. first w (one_start start) (eqb-true start 0, eq-eqb start 0) (omega arith)) c.first_state-next.ensures.next;
       longest = LongestBelow-none (tree c.args.expr.now) w start;
@@ -33,8 +33,8 @@ loop-next-init c =
       cost = omega arith;
     }
 
-pub returns-then-place-len-clause-longest : goal.returns-then-place-len-clause-longest
-returns-then-place-len-clause-longest c =
+pub returns-then-place-stop-clause-longest : goal.returns-then-place-stop-clause-longest
+returns-then-place-stop-clause-longest c =
     let nodes = c.args.expr.now.nodes in
     let w = c.args.text.now in
     let r = c.args.root in
@@ -50,8 +50,10 @@ returns-then-place-len-clause-longest c =
     let rows_there = c.loop-next.invariant.table.rows_there in
     let same = c.index-ends.ensures ∙ default_same T.ends.items state ends (record { inner = false; last = false; goes = false }) (omega (arith, there.0, ends_there, rows_there)) in
     let at : IsAt nodes w r (one_start start) place (row_of T.rows state) ends = subst (λ v. IsAt nodes w r (one_start start) place (row_of T.rows state) v) (sym same) there.1 in
-    Longest-from_below e w start (place + 1) c.better.result (omega arith) (omega arith)
-    (c.better.ensures.longest e w start (one_span nodes w r start c.requires.root place ends.last (at.last (omega arith))) c.loop-next.invariant.longest)
+    let same_place : place ≡ c.args.stop = omega arith in
+    let tells = c.ends_at.ensures.here nodes w r (one_start start) (row_of T.rows state) c.len.ensures (omega arith) at in
+    subst (λ p. LongestBelow e w start (p + 1) c.better.result) same_place
+    (c.better.ensures.longest e w start (one_span nodes w r start c.requires.root place c.ends_at.result tells) c.loop-next.invariant.longest)
 
 pub returns-then-not-ends-clause-longest : goal.returns-then-not-ends-clause-longest
 returns-then-not-ends-clause-longest c =
@@ -72,10 +74,11 @@ returns-then-not-ends-clause-longest c =
     let at : IsAt nodes w r (one_start start) place (row_of T.rows state) ends = subst (λ v. IsAt nodes w r (one_start start) place (row_of T.rows state) v) (sym same) there.1 in
     let best : LongestBelow e w start (place + 1) c.better-best.result =
     c.better-best.ensures.longest e w start (one_span nodes w r start c.requires.root place ends.inner (at.inner (omega arith))) c.loop-next.invariant.longest in
-    best_is e w start (place + 1) c.better-best.result (closed nodes w r start c.requires.root place ends.goes c.loop-next.invariant.after (not-true ends.goes c.if-not-ends.true) (at.goes (omega arith))) best
+    pass_best e w start (place + 1) (c.args.stop + 1) c.better-best.result
+    (λ p late less s. closed nodes w r start c.requires.root place ends.goes c.loop-next.invariant.after (not-true ends.goes c.if-not-ends.true) (at.goes (omega arith)) p late s) best
 
-pub returns-then-stop-len-clause-longest : goal.returns-then-stop-len-clause-longest
-returns-then-stop-len-clause-longest c =
+pub returns-then-to-stop-clause-longest : goal.returns-then-to-stop-clause-longest
+returns-then-to-stop-clause-longest c =
     let nodes = c.args.expr.now.nodes in
     let w = c.args.text.now in
     let r = c.args.root in
@@ -93,15 +96,17 @@ returns-then-stop-len-clause-longest c =
     let at : IsAt nodes w r (one_start start) place (row_of T.rows state) ends = subst (λ v. IsAt nodes w r (one_start start) place (row_of T.rows state) v) (sym same) there.1 in
     let best : LongestBelow e w start (place + 1) c.better-best.result =
     c.better-best.ensures.longest e w start (one_span nodes w r start c.requires.root place ends.inner (at.inner (omega arith))) c.loop-next.invariant.longest in
-    let stop = c.follow_past-stop.result in
-    let on = c.follow_past-stop.ensures.follows (one_start start) (one_are T w start place c.loop-next.invariant.sweeps c.loop-next.invariant.after) there.1 in
+    let to = c.follow_past-to.result in
+    let on = c.follow_past-to.ensures.follows (one_start start) (one_are T w start place c.loop-next.invariant.sweeps c.loop-next.invariant.after) there.1 in
     let last = c.index.result.now in
-    let same_last = c.index.ensures ∙ default_same T.ends.items stop.state last (record { inner = false; last = false; goes = false }) (omega (arith, c.follow_past-stop.ensures.state, ends_there, rows_there)) in
-    let at_last : IsAt nodes w r (one_start start) stop.place (row_of T.rows stop.state) last = subst (λ v. IsAt nodes w r (one_start start) stop.place (row_of T.rows stop.state) v) (sym same_last) on.0 in
-    let within : stop.place ≤ length w = omega (arith, c.follow_past-stop.ensures.within) in
-    Longest-from_below e w start (stop.place + 1) c.better-then-stop-len.result (omega arith) (omega arith)
-    (c.better-then-stop-len.ensures.longest e w start (one_span nodes w r start c.requires.root stop.place last.last (at_last.last (omega arith)))
-    (pass_best e w start (place + 1) stop.place c.better-best.result (none_passed nodes w r start c.requires.root place stop.place on.1 stop.place (omega arith) within) best))
+    let same_last = c.index.ensures ∙ default_same T.ends.items to.state last (record { inner = false; last = false; goes = false }) (omega (arith, c.follow_past-to.ensures.state, ends_there, rows_there)) in
+    let at_last : IsAt nodes w r (one_start start) to.place (row_of T.rows to.state) last = subst (λ v. IsAt nodes w r (one_start start) to.place (row_of T.rows to.state) v) (sym same_last) on.0 in
+    let within : to.place ≤ length w = omega (arith, c.follow_past-to.ensures.within) in
+    let same_place : to.place ≡ c.args.stop = omega (arith, c.follow_past-to.ensures.within) in
+    let tells = c.ends_at-there.ensures.here nodes w r (one_start start) (row_of T.rows to.state) c.len-then-to-stop.ensures (omega (arith, within, c.len-then-to-stop.ensures)) at_last in
+    subst (λ p. LongestBelow e w start (p + 1) c.better-then-to-stop.result) same_place
+    (c.better-then-to-stop.ensures.longest e w start (one_span nodes w r start c.requires.root to.place c.ends_at-there.result tells)
+    (pass_best e w start (place + 1) to.place c.better-best.result (none_passed nodes w r start c.requires.root place to.place on.1 to.place (omega arith) within) best))
 
 pub loop-next-preserved : goal.loop-next-preserved
 loop-next-preserved c =
@@ -122,8 +127,8 @@ loop-next-preserved c =
     let at : IsAt nodes w r (one_start start) place (row_of T.rows state) ends = subst (λ v. IsAt nodes w r (one_start start) place (row_of T.rows state) v) (sym same) there.1 in
     let best : LongestBelow e w start (place + 1) c.better-best.result =
     c.better-best.ensures.longest e w start (one_span nodes w r start c.requires.root place ends.inner (at.inner (omega arith))) c.loop-next.invariant.longest in
-    let stop = c.follow_past-stop.result in
-    let on = c.follow_past-stop.ensures.follows (one_start start) (one_are T w start place c.loop-next.invariant.sweeps c.loop-next.invariant.after) there.1 in
+    let to = c.follow_past-to.result in
+    let on = c.follow_past-to.ensures.follows (one_start start) (one_are T w start place c.loop-next.invariant.sweeps c.loop-next.invariant.after) there.1 in
     let G = c.go-next.new.table in
     record {
       table = c.go-next.ensures.table;
@@ -131,24 +136,24 @@ loop-next-preserved c =
       marks = (omega arith, omega arith, omega arith);
       after = omega arith;
       within = omega arith;
-      next = next_map (LeadsFrom nodes r T stop.state c.byte-byte.result) (IsAt nodes w r (one_start start) (stop.place + 1)) G c.go-next.new.sets.entered c.go-next.result
-          (λ row after leads. leads w (one_start start) stop.place c.byte-byte.result c.byte-byte.ensures.byte (omega arith) refl
+      next = next_map (LeadsFrom nodes r T to.state c.byte-byte.result) (IsAt nodes w r (one_start start) (to.place + 1)) G c.go-next.new.sets.entered c.go-next.result
+          (λ row after leads. leads w (one_start start) to.place c.byte-byte.result c.byte-byte.ensures.byte (omega arith) refl
           ((λ h. absurd (true≢false (sym h ∙ c.loop-next.invariant.sweeps))), (λ h. absurd (omega (arith, h.0, h.1)))) on.0) c.go-next.ensures.next;
-      longest = pass_best e w start (place + 1) (stop.place + 1) c.better-best.result (none_passed nodes w r start c.requires.root place stop.place on.1 (stop.place + 1) (omega arith) (omega arith)) best;
-      lies = c.better-best.ensures.lies start (length w) c.loop-next.invariant.after c.loop-next.invariant.within c.loop-next.invariant.lies;
+      longest = pass_best e w start (place + 1) (to.place + 1) c.better-best.result (none_passed nodes w r start c.requires.root place to.place on.1 (to.place + 1) (omega arith) (omega arith)) best;
+      lies = c.better-best.ensures.lies start c.args.stop c.loop-next.invariant.after c.loop-next.invariant.within c.loop-next.invariant.lies;
       grows = omega arith;
-      cost = line_step (length nodes) (38 * length nodes) start place stop.place c.args.steps.now c.loop-next.steps c.go-next.new.steps (omega arith) c.follow_past-stop.ensures.after c.loop-next.invariant.cost (omega arith);
+      cost = line_step (length nodes) (38 * length nodes) start place to.place c.args.steps.now c.loop-next.steps c.go-next.new.steps (omega arith) c.follow_past-to.ensures.after c.loop-next.invariant.cost (omega arith);
     }
 
-pub returns-then-stop-len-clause-cost : goal.returns-then-stop-len-clause-cost
-returns-then-stop-len-clause-cost c =
-    line_end (length c.args.expr.now.nodes) (38 * length c.args.expr.now.nodes) (38 * length c.args.expr.now.nodes) (length c.args.text.now) c.args.start c.loop-next.place c.args.steps.now c.loop-next.steps c.follow_past-stop.new.steps (omega arith)
+pub returns-then-to-stop-clause-cost : goal.returns-then-to-stop-clause-cost
+returns-then-to-stop-clause-cost c =
+    line_end (length c.args.expr.now.nodes) (38 * length c.args.expr.now.nodes) (38 * length c.args.expr.now.nodes) c.args.stop c.args.start c.loop-next.place c.args.steps.now c.loop-next.steps c.follow_past-to.new.steps (omega arith)
     (omega arith) (omega arith) c.loop-next.invariant.cost (omega arith)
 
-pub returns-then-stop-len-clause-lies : goal.returns-then-stop-len-clause-lies
-returns-then-stop-len-clause-lies c =
-    let best = c.better-best.ensures.lies c.args.start (length c.args.text.now) c.loop-next.invariant.after c.loop-next.invariant.within c.loop-next.invariant.lies in
-    c.better-then-stop-len.ensures.lies c.args.start (length c.args.text.now) (omega arith) (omega arith) best
+pub returns-then-to-stop-clause-lies : goal.returns-then-to-stop-clause-lies
+returns-then-to-stop-clause-lies c =
+    let best = c.better-best.ensures.lies c.args.start c.args.stop c.loop-next.invariant.after c.loop-next.invariant.within c.loop-next.invariant.lies in
+    c.better-then-to-stop.ensures.lies c.args.start c.args.stop (omega arith) (omega arith) best
 
 pub loop-next-preserved-then-run-place : goal.loop-next-preserved-then-run-place
 loop-next-preserved-then-run-place c =

@@ -4,7 +4,7 @@ use Rattle.sedmatch.specs.Fits.{SameMarks}
 use Rattle.sedmatch.specs.Reach.{one_start, LongestBelow}
 use Rattle.sedmatch.specs.States.{IsAt}
 use Rattle.sedmatch.specs.Tables.{IsTable, NextIs}
-use Rattle.sedmatch.proofs.quick.longest_by.Given as goal
+use Rattle.sedmatch.proofs.quick.longest_to.Given as goal
 
 abbrev pub invariant-loop-next : goal.invariant-loop-next
 invariant-loop-next l = record {
@@ -12,13 +12,13 @@ invariant-loop-next l = record {
   sweeps : l.table.sweeps ≡ false;
   marks : SameMarks l.fn.sets l.sets;
   after : l.start ≤ l.place;
-  within : l.place ≤ length l.text;
+  within : l.place ≤ l.stop;
   next : NextIs (IsAt l.expr.nodes l.text l.root (one_start l.start) l.place) l.table l.sets.entered l.next;
   longest : LongestBelow (tree l.expr) l.text l.start l.place l.best;
-  lies : IfSome l.best (λ end. (l.start ≤ end) × (end ≤ length l.text));
+  lies : IfSome l.best (λ end. (l.start ≤ end) × (end ≤ l.stop));
   grows : l.fn.steps ≤ l.steps;
   cost : l.steps + 42 * length l.expr.nodes * l.start ≤ l.fn.steps + 38 * length l.expr.nodes + 42 * length l.expr.nodes * l.place;
 }
 
 abbrev pub decreases-loop-next : goal.decreases-loop-next
-decreases-loop-next l = length l.text - l.place
+decreases-loop-next l = l.stop - l.place
