@@ -9,8 +9,11 @@ use sedmatch::{Occurrences, TableMatcher};
 use sedscript::Script;
 use std::alloc::{AllocError, Global};
 
-/// How many states all tables of one sort have together: some megabytes' worth.
-const STATES_OF_ALL: usize = 131_072;
+/// How many states all tables of one sort have together, as long as none has fewer than [`FEWEST_STATES`].
+const STATES_OF_ALL: usize = 16_384;
+
+/// In a script of more expressions than these they have no tables.
+const MOST_EXPRESSIONS: usize = 16_384;
 
 /// The most states that a table has.
 const MOST_STATES: usize = 64;
@@ -18,17 +21,16 @@ const MOST_STATES: usize = 64;
 /// With fewer states than these a table is full so soon that it saves hardly any time.
 const FEWEST_STATES: usize = 8;
 
-/// How many states each table has in a script of so many expressions: fewer where there are many, and none where there
-/// are so many that the few which are left for each would serve none of them.
+/// How many states each table has in a script of so many expressions: fewer where there are many, and none where even
+/// the fewest for each would be too many.
 fn states_for(expressions: usize) -> usize
     ensures { result ≤ 64 }
 {
-    let each = STATES_OF_ALL / expressions.max(1);
-    if each < FEWEST_STATES {
-        0
-    } else {
-        each.min(MOST_STATES)
+    if expressions > MOST_EXPRESSIONS {
+        return 0;
     }
+    let each = STATES_OF_ALL / expressions.max(1);
+    each.clamp(FEWEST_STATES, MOST_STATES)
 }
 
 /// A matcher for each expression of the script, in its order. What one finds out at a line serves at all later lines.

@@ -30,6 +30,9 @@ const CELLS: usize = 4096;
 /// A full table is worth emptying if so many bytes for each state were passed by its cells since the last time.
 const WORTH: usize = 8;
 
+/// By how many bits the inverse of a number of columns is moved.
+const INVERSE_BITS: u32 = 20;
+
 /// A table for one expression.
 #[derive(Drop)]
 pub struct Table {
@@ -45,6 +48,8 @@ pub struct Table {
     pub classes: Vec<u8>,
     /// How many classes there are.
     pub columns: usize,
+    /// About 2²⁰ divided by that, by which a state is told from its cells' place without a division.
+    pub inverse: usize,
     /// By a digest of its marks, one more than the number of a state that may have them, or 0.
     pub index: Vec<u8>,
     /// One more than the state in which a search from the beginning of the text begins, or 0.
@@ -275,6 +280,29 @@ pub fn settle(
     }
 }
 
+/// A number by which [`state_at`] multiplies in place of dividing by so many columns.
+fn inverse_of(columns: usize) -> usize {
+    if columns == 0 {
+        0
+    } else {
+        (1 << INVERSE_BITS) / columns + 1
+    }
+}
+
+/// The state whose cells begin at this place. What the multiplication gives is tested, since it isn't always exact.
+fn state_at(table: &Table, offset: usize) -> usize
+    requires columns { 0 < table.now.columns }
+    ensures state { result ≡ offset / table.now.columns }
+{
+    let state = offset.wrapping_mul(table.inverse) >> INVERSE_BITS;
+    if let Some(first) = state.checked_mul(table.columns) {
+        if first <= offset && offset - first < table.columns {
+            return state;
+        }
+    }
+    offset / table.columns
+}
+
 /// The state that comes after a state and a byte, where it is known.
 fn known(
     expr: &Nodes,
@@ -295,9 +323,9 @@ fn known(
     let class = table.classes[byte as usize] as usize;
     let cell = table.cells[table.columns * state + class];
     if cell >= PLAIN {
-        Some((cell - PLAIN) as usize / table.columns)
+        Some(state_at(table, (cell - PLAIN) as usize))
     } else if cell > 0 {
-        Some((cell - 1) as usize / table.columns)
+        Some(state_at(table, (cell - 1) as usize))
     } else {
         None
     }
@@ -501,7 +529,7 @@ pub fn follow_to(
             let count = own.count();
             steps.add(count as usize);
             return Stop {
-                state: (code - PLAIN as usize) / columns,
+                state: state_at(table, code - PLAIN as usize),
                 place,
             };
         }
@@ -510,7 +538,7 @@ pub fn follow_to(
     let count = own.count();
     steps.add(count as usize);
     Stop {
-        state: (code - PLAIN as usize) / columns,
+        state: state_at(table, code - PLAIN as usize),
         place: to,
     }
 }
@@ -698,6 +726,7 @@ pub fn new_table(
         cells: new_cells(alloc, columns * states)?,
         classes: classes.of.clone()?,
         columns,
+        inverse: inverse_of(columns),
         index: new_index(alloc, states)?,
         at_begin: 0,
         later: 0,
