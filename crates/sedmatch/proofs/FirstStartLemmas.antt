@@ -1,5 +1,5 @@
 -- The first place at which a match begins that ends at a known place, found from there backwards.
-use Rattle.std.proofs.Common.{◌≡◌, ℕ, ◌+◌, ◌-◌, ◌*◌, ◌<◌, ◌≤◌, true, List, length, reverse, Option, Some, None, refl, ap, subst, ⊎_elim, ◌∙◌, arith, mul-le-mul_left}
+use Rattle.std.proofs.Common.{◌≡◌, ℕ, ◌+◌, ◌-◌, ◌<◌, ◌≤◌, true, List, length, reverse, Option, Some, None, refl, ap, subst, ⊎_elim, ◌∙◌, arith}
 use Rattle.std.proofs.lemmas.Bool.{cases_lt}
 use Rattle.sedre.specs.Tree.{Tree}
 use Rattle.sedre.specs.Arena.{Written, tree, tree_at}
@@ -7,7 +7,7 @@ use Rattle.sedre.specs.Mirror.{mirror, seen}
 use Rattle.sedre.proofs.MirrorLemmas.{seen-tree}
 use Rattle.sedre.specs.declared.types.Node.{Node}
 use Rattle.sedmatch.specs.Spans.{Spans, Found}
-use Rattle.sedmatch.specs.Reach.{At, SomeSpan, LongestBelow}
+use Rattle.sedmatch.specs.Reach.{SomeSpan, LongestBelow}
 use Rattle.sedmatch.specs.Search.{IsRegionTo}
 use Rattle.sedmatch.specs.Tables.{starts_from}
 use Rattle.sedmatch.specs.Linear.{NoneBefore, IsFirstStart}

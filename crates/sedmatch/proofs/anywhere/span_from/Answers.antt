@@ -1,6 +1,4 @@
-use Rattle.std.proofs.Common.{length, refl, arith}
-use Rattle.sedmatch.proofs.AnywhereLemmas.{none_from, closed_steps, closed_short}
-use Rattle.sedmatch.proofs.FirstStartLemmas.{closed_found}
+use Rattle.sedmatch.proofs.AnywhereLemmas.{none_from}
 use Rattle.sedmatch.proofs.anywhere.span_from.Goals as goal
 
 pub returns-in_default-clause-answer : goal.returns-in_default-clause-answer

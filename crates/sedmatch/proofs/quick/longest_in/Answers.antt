@@ -1,4 +1,4 @@
-use Rattle.std.proofs.Common.{ℕ, ◌+◌, List, length, subst, arith}
+use Rattle.std.proofs.Common.{ℕ, ◌+◌, List, subst, arith}
 use Rattle.sedre.specs.Arena.{Written, tree}
 use Rattle.sedmatch.specs.Reach.{LongestBelow}
 use Rattle.sedmatch.proofs.SearchLemmas.{Longest-from_below}

@@ -1,7 +1,6 @@
-use Rattle.std.proofs.Common.{◌≡◌, ◌+◌, ◌*◌, length, IsTrue, ◌↔◌, refl, ap, subst, arith}
+use Rattle.std.proofs.Common.{◌≡◌, ◌+◌, ◌*◌, length, refl, ap, subst, arith}
 use Rattle.sedre.specs.Arena.{tree}
 use Rattle.sedmatch.specs.Reach.{one_start, LongestBelow}
-use Rattle.sedmatch.specs.Spans.{Spans}
 use Rattle.sedmatch.proofs.SearchLemmas.{next_entered}
 use Rattle.sedmatch.proofs.LongestLemmas.{one_span, at_whole}
 use Rattle.sedmatch.proofs.search.longest_on.Goals as goal
