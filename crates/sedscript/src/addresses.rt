@@ -10,7 +10,7 @@ ghost use Rattle.sedscript.specs.Between.{own_delimiter};
 ghost use Rattle.sedscript.specs.Answers.{as_addressed, as_headed, ComesFrom, Agrees};
 
 use crate::between::own_delimiter;
-use crate::bytes::{Sort, byte_at, is_byte, is_digit, number_of, past};
+use crate::bytes::{Sort, byte_at, is_byte, number_of, past};
 use crate::expressions::expression_at;
 use crate::items::{Addresses, Source};
 use crate::types::{Address, Reason, ScriptFault};
@@ -137,7 +137,7 @@ fn address_at(
         Some(b'/') => match_at(source, exprs, b'/', at),
         Some(b'\\') => own_match(source, exprs, at + 1),
         Some(b) => {
-            if is_digit(b) {
+            if b.is_ascii_digit() {
                 line_at(source.text, at, past(Sort::Digit, source.text, at))
             } else {
                 Ok((None, at))

@@ -27,13 +27,6 @@ pub fn is_blank(b: u8) -> bool
     b == b' ' || b == b'\t'
 }
 
-/// Whether the byte is a decimal digit.
-pub fn is_digit(b: u8) -> bool
-    ensures { result ≡ Rattle.sedscript.specs.Bytes.is_digit b }
-{
-    b >= b'0' && b <= b'9'
-}
-
 fn belongs(sort: Sort, b: u8) -> bool
     ensures { result ≡ belongs sort b }
 {
@@ -41,7 +34,7 @@ fn belongs(sort: Sort, b: u8) -> bool
         Sort::Blank => is_blank(b),
         Sort::Separator => is_blank(b) || b == b'\n' || b == b';',
         Sort::Bang => is_blank(b) || b == b'!',
-        Sort::Digit => is_digit(b),
+        Sort::Digit => b.is_ascii_digit(),
         Sort::Name => !(is_blank(b) || b == b'\n' || b == b';' || b == b'}'),
         Sort::Line => b != b'\n',
     }

@@ -2,21 +2,15 @@
 
 ghost use Rattle.std.specs.Prelude.{◌≡◌, ◌≤◌, ◌+◌, ◌++◌, ◌∷◌, [], false, length, IfOk, OnOk};
 ghost use Rattle.sedscript.specs.Bytes.{part};
-ghost use Rattle.sedscript.specs.Replacement.{group, is_letter, escaped_piece, plain_piece, piece_of, pieces_of};
+ghost use Rattle.sedscript.specs.Replacement.{group, escaped_piece, plain_piece, piece_of, pieces_of};
 ghost use Rattle.sedscript.specs.Replacement.{pieces_in, exceeds, escape_fault, replacement_fault, GroupsWithin};
 ghost use Rattle.sedscript.specs.Answers.{pieces_with};
 
-use crate::bytes::{is_digit, part};
+use crate::bytes::part;
 use crate::strings::escapes;
 use crate::substitution::{Part, Piece};
 use crate::types::{Reason, ScriptFault};
 use std::alloc::{AllocError, Global};
-
-fn is_letter(b: u8) -> bool
-    ensures { result ≡ is_letter b }
-{
-    (b >= b'A' && b <= b'Z') || (b >= b'a' && b <= b'z')
-}
 
 /// What a backslash in force and this byte stand for.
 fn escaped_piece(delimiter: u8, b: u8) -> Option<Piece>
@@ -26,13 +20,13 @@ fn escaped_piece(delimiter: u8, b: u8) -> Option<Piece>
         Some(Piece::Literal(b))
     } else if b == b'0' {
         Some(Piece::Whole)
-    } else if is_digit(b) {
+    } else if b.is_ascii_digit() {
         Some(Piece::Group(usize::from(b - b'0')))
     } else if b == b'n' {
         Some(Piece::Literal(b'\n'))
     } else if b == b't' {
         Some(Piece::Literal(b'\t'))
-    } else if is_letter(b) {
+    } else if b.is_ascii_alphabetic() {
         None
     } else {
         Some(Piece::Literal(b))
