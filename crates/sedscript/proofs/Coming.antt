@@ -1,6 +1,7 @@
 -- How what functions answer is put together.
 use Rattle.std.proofs.Common.{◌≡◌, ◌≢◌, ◌≤◌, ℕ, ◌+◌, Bool, true, false, ◌==◌, List, [], ◌∷◌, ◌++◌, length, Option, Some, None, Result, Ok, Err, IfOk, refl, sym, ap, subst, ◌∙◌, inl, inr, ◌⊎◌, append_assoc, arith, slice_get, if◌then◌else◌}
 use Rattle.std.proofs.lemmas.Bool.Decides.{eqb_tells}
+use Rattle.std.specs.Result.{IsErrAnd}
 use Rattle.std.proofs.lemmas.List.{append-nil}
 use Rattle.sedre.specs.declared.types.Kind.{Kind}
 use Rattle.sedre.specs.Arena.{Written}
@@ -82,6 +83,12 @@ pub comes_err : {A B : Type 0} (text : List ℕ) (kind : Kind) (m : ℕ) (r : Re
     Fails text kind m r x ⊎ (x ≡ NO_MEMORY) → Fails text kind m (r >>= f) x ⊎ (x ≡ NO_MEMORY)
 comes_err text kind m r f x (inl h) = inl (fails_first text kind m r f x h)
 comes_err text kind m r f x (inr e) = inr e
+
+-- a fault that another function answered
+pub comes_as_err : {X A : Type 0} (text : List ℕ) (kind : Kind) (m : ℕ) (old new : List Written) (w : X → ℕ → A) (result : Result X ScriptFault) (r : Reading A) (x : ScriptFault) →
+    IsErrAnd result (λ (y : ScriptFault). y ≡ x) → Fails text kind m r x ⊎ (x ≡ NO_MEMORY) → Comes text kind m old new w result r
+comes_as_err text kind m old new w (Ok y) r x is h = absurd is
+comes_as_err text kind m old new w (Err y) r x is h = subst (λ (f : ScriptFault). Fails text kind m r f ⊎ (f ≡ NO_MEMORY)) (sym is) h
 
 -- what reads no expression
 pub comes_plain : {X A : Type 0} (text : List ℕ) (kind : Kind) (m : ℕ) (old new : List Written) (w : X → ℕ → A) (result : Result X ScriptFault) (r : Result A ScriptFault) →

@@ -89,13 +89,11 @@ fn match_at(
     }
     let folded = folds_at(source.text, to + 1);
     let number = exprs.len();
-    match expression_at(source, exprs, delimiter, folded, from, to) {
-        Err(fault) => Err(fault),
-        Ok(_) => Ok((
-            Some(Address::Match(Some(number))),
-            past_flag(source.text, to + 1),
-        )),
-    }
+    expression_at(source, exprs, delimiter, folded, from, to)?;
+    Ok((
+        Some(Address::Match(Some(number))),
+        past_flag(source.text, to + 1),
+    ))
 }
 
 /// An expression whose own delimiter stands at a place.
@@ -187,10 +185,8 @@ fn second_at(
         (second_at source.now.text.now (length exprs.old.items) first at) }
     ensures within { IfOk result (λ found. (at ≤ found.1) × (found.1 ≤ length source.now.text.now)) }
 {
-    match address_at(source, exprs, at) {
-        Err(fault) => Err(fault),
-        Ok((second, next)) => with_second(first, at, next, second),
-    }
+    let (second, next) = address_at(source, exprs, at)?;
+    with_second(first, at, next, second)
 }
 
 /// What follows a first address: a comma and a second one, or nothing.
@@ -232,10 +228,8 @@ pub fn addresses_at(
         (addresses_at source.now.text.now (length exprs.old.items) at) }
     ensures within { IfOk result (λ found. (at ≤ found.1) × (found.1 ≤ length source.now.text.now)) }
 {
-    match address_at(source, exprs, at) {
-        Err(fault) => Err(fault),
-        Ok((first, next)) => behind_first(source, exprs, first, next),
-    }
+    let (first, next) = address_at(source, exprs, at)?;
+    behind_first(source, exprs, first, next)
 }
 
 /// With the `!` that stands there.

@@ -20,13 +20,12 @@ pub fn cut(source: &Source, items: &mut Items, exprs: &mut Vec<Expr>) -> Result<
 {
     let mut at = 0;
     'items: loop {
-        match item_at(source, exprs, at) {
-            Err(fault) => return Err(fault),
-            Ok(Here::Ends) => return Ok(at),
-            Ok(Here::Is(item, next)) => match items.push(item) {
-                Err(_) => return Err(NO_MEMORY),
-                Ok(()) => at = next,
-            },
+        match item_at(source, exprs, at)? {
+            Here::Ends => return Ok(at),
+            Here::Is(item, next) => {
+                items.push(item)?;
+                at = next;
+            }
         }
     }
 }

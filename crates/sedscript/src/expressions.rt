@@ -102,13 +102,11 @@ pub fn expression_at(
     ensures one { IfOk result (λ groups. length exprs.new.items ≡ length exprs.old.items + 1) }
 {
     match expression_between(source, delimiter, folded, from, to) {
+        Err(fault) => Err(fault_of(from, fault)),
         Ok(expr) => {
             let groups = expr.groups();
-            match add_copy(source.alloc, exprs, &expr) {
-                Err(_) => Err(NO_MEMORY),
-                Ok(_) => Ok(groups),
-            }
+            add_copy(source.alloc, exprs, &expr)?;
+            Ok(groups)
         }
-        Err(fault) => Err(fault_of(from, fault)),
     }
 }

@@ -34,15 +34,11 @@ fn judge<'a>(
     ensures fault { IfErr result (λ f.
         Faulty source.now.text.now source.now.kind source.now.max_nodes f ⊎ (f ≡ NO_MEMORY)) }
 {
-    match cut(source, items, exprs) {
-        Err(fault) => Err(fault),
-        Ok(_) => match targets_of(source.alloc, source.text, items) {
-            Err(_) => Err(NO_MEMORY),
-            Ok(targets) => match late(source.text, items, &targets) {
-                Some(fault) => Err(fault),
-                None => Ok(targets),
-            },
-        },
+    cut(source, items, exprs)?;
+    let targets = targets_of(source.alloc, source.text, items)?;
+    match late(source.text, items, &targets) {
+        Some(fault) => Err(fault),
+        None => Ok(targets),
     }
 }
 
@@ -97,17 +93,9 @@ pub fn read(alloc: Global, text: &[u8], kind: Kind, max_nodes: usize) -> Result<
         kind,
         max_nodes,
     };
-    match judge(&source, &mut items, &mut exprs) {
-        Err(fault) => Err(fault),
-        Ok(targets) => match files_of(alloc, text, &items) {
-            Err(_) => Err(NO_MEMORY),
-            Ok(files) => match commands_of(alloc, text, &items, &targets, &files) {
-                Err(_) => Err(NO_MEMORY),
-                Ok(commands) => match named_of(alloc, text, &items, exprs, files) {
-                    Err(_) => Err(NO_MEMORY),
-                    Ok(named) => Ok(Script::of(commands, named, is_quiet(text), max_nodes)),
-                },
-            },
-        },
-    }
+    let targets = judge(&source, &mut items, &mut exprs)?;
+    let files = files_of(alloc, text, &items)?;
+    let commands = commands_of(alloc, text, &items, &targets, &files)?;
+    let named = named_of(alloc, text, &items, exprs, files)?;
+    Ok(Script::of(commands, named, is_quiet(text), max_nodes))
 }
