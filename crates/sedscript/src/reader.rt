@@ -1,24 +1,45 @@
 //! The reader of scripts.
 
 ghost use Rattle.std.specs.Prelude.{◌≡◌, ◌≤◌, ◌⊎◌, [], IfOk, IfErr, OnOk};
-ghost use Rattle.sedscript.specs.Script.{Means, Faulty};
+ghost use Rattle.sedscript.specs.Script.{Cut, IsEnd, Means, Faulty};
 ghost use Rattle.sedscript.specs.Answers.{IsJudged};
 ghost use Rattle.sedscript.specs.Parts.{IsNamed};
 ghost use Rattle.sedscript.specs.Tables.{TargetsAre, FilesAre};
 ghost use Rattle.sedscript.specs.declared.types.ScriptFault.{ScriptFault};
 
 use crate::commands::{commands_of, is_quiet, substitutions_of, tables_of, texts_of};
-use crate::cut::cut;
 use crate::files::{Files, files_of};
-use crate::items::Source;
+use crate::items::{Here, Source};
 use crate::kept::Items;
-use crate::late::late;
+use crate::reading::item_at;
 use crate::script::{Named, Script};
+use crate::target_faults::late;
 use crate::targets::{Targets, targets_of};
 use crate::types::{Kind, NO_MEMORY, ScriptFault};
 use sedre::Expr;
 use sedre::laws::reads_as_one;
 use std::alloc::{AllocError, Global};
+
+/// Cuts a text into its items and regular expressions up to its end, and answers where the last item ends.
+fn cut(source: &Source, items: &mut Items, exprs: &mut Vec<Expr>) -> Result<usize, ScriptFault>
+    requires empty { (items.old ≡ []) × (exprs.old.items ≡ []) }
+    ensures cut { IfOk result (λ to.
+        Cut source.now.text.now source.now.kind source.now.max_nodes 0 0 items.new exprs.new.items to
+        × IsEnd source.now.text.now to) }
+    ensures fault { IfErr result (λ f.
+        Faulty source.now.text.now source.now.kind source.now.max_nodes f ⊎ (f ≡ NO_MEMORY)) }
+{
+    let mut at = 0;
+    'items: loop {
+        match item_at(source, exprs, at)? {
+            Here::Ends => return Ok(at),
+            Here::Is(item, next) => {
+                items.push(item)?;
+                at = next;
+            }
+        }
+    }
+}
 
 /// Cuts a text into its items and judges its labels and blocks.
 fn judge<'a>(

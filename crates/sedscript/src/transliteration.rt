@@ -10,8 +10,8 @@ ghost use Rattle.sedscript.specs.Script.{table_between};
 
 use crate::bytes::part;
 use crate::items::Strings;
-use crate::late::fault_if;
 use crate::strings::{escapes, second_of};
+use crate::target_faults::fault_if;
 use crate::types::{Reason, ScriptFault};
 use std::alloc::{AllocError, Global};
 

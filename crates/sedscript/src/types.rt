@@ -218,7 +218,7 @@ pub const NO_MEMORY: ScriptFault = ScriptFault {
     reason: Reason::NoMemory,
 };
 
-/// So that `?` answers a refused request for memory as a fault of the script.
+/// A refused request for memory is the fault `NO_MEMORY`, so that `?` can answer it.
 impl From<AllocError> for ScriptFault {
     ghost use Rattle.sedscript.specs.declared.types.TheConstants.{NO_MEMORY};
 

@@ -1,7 +1,7 @@
 use Rattle.std.proofs.Common.{◌≡◌, ◌≤◌, ◌-◌, length, drop, take}
 use Rattle.sedscript.specs.Targets.{late, late_in}
 use Rattle.sedscript.specs.Tables.{blocks_in}
-use Rattle.sedscript.proofs.late.late.Given as goal
+use Rattle.sedscript.proofs.target_faults.late.Given as goal
 
 abbrev pub invariant-items : goal.invariant-items
 invariant-items l = record {

@@ -1,7 +1,7 @@
 use Rattle.std.proofs.Common.{drop, take, ◌+◌}
 use Rattle.sedscript.proofs.Blocks.{end_known, end_within}
 use Rattle.sedscript.proofs.LateFaults.{late_open, late_label}
-use Rattle.sedscript.proofs.late.late_at.Goals as goal
+use Rattle.sedscript.proofs.target_faults.late_at.Goals as goal
 
 pub returns-in-Open : goal.returns-in-Open
 returns-in-Open c =

@@ -1,7 +1,7 @@
 use Rattle.std.proofs.Common.{arith}
 use Rattle.sedscript.proofs.Blocks.{blocks_step}
 use Rattle.sedscript.proofs.LateFaults.{late_step}
-use Rattle.sedscript.proofs.late.late.Goals as goal
+use Rattle.sedscript.proofs.target_faults.late.Goals as goal
 
 pub items-preserved : goal.items-preserved
 items-preserved c = record {
