@@ -13,7 +13,7 @@ use Rattle.sedscript.specs.Reading.{Reading}
 use Rattle.sedscript.specs.Items.{item_at}
 use Rattle.sedscript.specs.Expressions.{Fails, own, no_expression, later, in_script}
 use Rattle.sedscript.specs.Script.{Cut, done, item, Faulty, early, afterwards}
-use Rattle.sedscript.specs.Targets.{late}
+use Rattle.sedscript.specs.Targets.{target_fault}
 use Rattle.sedscript.proofs.Exclusive.{ReadsAsOne, as_other, gives_one, no_fails, is_next, cut_no_fault, cut_same}
 
 -- an expression's text has one first fault at most
@@ -64,10 +64,10 @@ cut_one_fault text kind m count at to stop _ _ _ _ f g n k one once (item {next 
 pub one_fault : ReadsAsOne → OneExprFault → (text : List ℕ) (kind : Kind) (m : ℕ) (f g : ScriptFault) → Faulty text kind m f → Faulty text kind m g → f ≡ g
 one_fault one once text kind m f g (early is es to cut bad) (early js fs stop cut' worse) =
     cut_one_fault text kind m 0 0 to stop is js es fs f g (length es) (length fs) one once cut (omega arith) bad cut' (omega arith) worse
-one_fault one once text kind m f g (early is es to cut bad) (afterwards js fs stop cut' ends late) =
+one_fault one once text kind m f g (early is es to cut bad) (afterwards js fs stop cut' ends found) =
     absurd (cut_no_fault text kind m 0 0 stop to js is fs es f (length es) one cut' ends cut (omega arith) bad)
-one_fault one once text kind m f g (afterwards is es to cut ends late) (early js fs stop cut' worse) =
+one_fault one once text kind m f g (afterwards is es to cut ends found) (early js fs stop cut' worse) =
     absurd (cut_no_fault text kind m 0 0 to stop is js es fs g (length fs) one cut ends cut' (omega arith) worse)
 one_fault one once text kind m f g (afterwards is es to cut ends found) (afterwards js fs stop cut' ends' other) =
     let items : is ≡ js = cut_same text kind m 0 0 to stop is js es fs one cut ends cut' ends' in
-    let both : ◌≡◌ {A = Option ScriptFault} (Some f) (Some g) = sym found ∙ (ap (late text) items ∙ other) in cc
+    let both : ◌≡◌ {A = Option ScriptFault} (Some f) (Some g) = sym found ∙ (ap (target_fault text) items ∙ other) in cc

@@ -94,15 +94,15 @@ second_at text count first at = address_at text count at >>= λ x. plainly (with
 
 -- what follows a first address: a comma and a second one, or nothing.
 -- Blanks round the comma are passed over (this project's own)
-abbrev pub behind_first : List ℕ → ℕ → ℕ → Option Address → Reading Headed
-behind_first text count at None = plainly (headed None None at count)
-behind_first text count at (Some first) =
+abbrev pub after_first : List ℕ → ℕ → ℕ → Option Address → Reading Headed
+after_first text count at None = plainly (headed None None at count)
+after_first text count at (Some first) =
     if is_byte 44 (slice_get text (past Blank text at))
     then second_at text count first (past Blank text (past Blank text at + 1))
     else plainly (headed (Some first) None at count)
 
 unfoldable pub addresses_at : List ℕ → ℕ → ℕ → Reading Headed
-addresses_at text count at = address_at text count at >>= λ x. behind_first text x.count x.at x.address
+addresses_at text count at = address_at text count at >>= λ x. after_first text x.count x.at x.address
 
 -- with the `!` that stands there. Several count as one.
 -- Blanks round them are passed over (those after them: this project's own)

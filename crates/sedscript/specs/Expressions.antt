@@ -24,7 +24,7 @@ in_script from f = record { place = from + f.place; reason = Expression f }
 -- what is read is this value, with these expressions
 pub data Gives (text : List ℕ) (kind : Kind) (max_nodes : ℕ) {A : Type 0} : Reading A → List Written → A → Type 0 where
   value : {x : A} → Gives text kind max_nodes (plainly (Ok x)) [] x
-  behind : {p : Pattern} {k : ℕ → Reading A} {es : List Written} {x : A} (e : Written) →
+  after_expression : {p : Pattern} {k : ℕ → Reading A} {es : List Written} {x : A} (e : Written) →
       IsRead text kind max_nodes p e → Gives text kind max_nodes (k e.groups) es x →
       Gives text kind max_nodes (expression p k) (e ∷ es) x
 

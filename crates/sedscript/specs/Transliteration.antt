@@ -11,7 +11,7 @@ use Rattle.sedscript.specs.Targets.{fault_if}
 -- a byte of a string, and its place (of an escape: the place of its backslash)
 pub use Rattle.sedscript.specs.declared.transliteration.Char.{Char}
 
--- what a backslash in force and this byte stand for. The delimiter and the backslash stand for themselves, `n` for a
+-- what this byte stands for where it is escaped. The delimiter and the backslash stand for themselves, `n` for a
 -- newline, `t` for a tab (this project's own); other bytes are refused (this project's own)
 abbrev pub escaped_byte : ℕ → ℕ → Option ℕ
 escaped_byte delimiter b =
@@ -20,7 +20,7 @@ escaped_byte delimiter b =
     else if b == 116 then Some 9
     else None
 
--- the byte of a string that ends with the one at a place, with whether a backslash in force stands before it
+-- the byte of a string that ends with the one at a place, given whether that is escaped
 abbrev pub char_of : ℕ → Bool → ℕ → ℕ → Option Char
 char_of delimiter true at b = option_map (λ x. record { byte = x; place = at - 1 }) (escaped_byte delimiter b)
 char_of delimiter false at b = if b == 92 then None else Some (record { byte = b; place = at })
@@ -29,7 +29,7 @@ abbrev pub with_char : Option Char → List Char → List Char
 with_char None cs = cs
 with_char (Some c) cs = c ∷ cs
 
--- the bytes of a string that begins at a place, with whether a backslash in force stands before it.
+-- the bytes of a string that begins at a place, given whether the first is escaped.
 -- An escape that is refused leaves none
 abbrev pub chars_from : ℕ → Bool → ℕ → List ℕ → List Char
 chars_from delimiter escaped at [] = []
@@ -74,12 +74,12 @@ strings_fault text delimiter letter from middle to =
     (fault_if (not (length (chars_of text delimiter from middle) == length (chars_of text delimiter (middle + 1) to)))
     LengthsDiffer letter)))
 
--- the byte of the target where a byte stands in the source, or the byte itself
+-- the byte of string2 at the place that a byte has in string1, or the byte itself
 abbrev pub counterpart : List ℕ → List ℕ → ℕ → ℕ
-counterpart [] target b = b
-counterpart (s ∷ source) [] b = b
-counterpart (s ∷ source) (t ∷ target) b = if s == b then t else counterpart source target b
+counterpart [] string2 b = b
+counterpart (s ∷ string1) [] b = b
+counterpart (s ∷ string1) (t ∷ string2) b = if s == b then t else counterpart string1 string2 b
 
 -- what stands for each byte
 unfoldable pub table_of : List ℕ → List ℕ → List ℕ
-table_of source target = map (counterpart source target) (range_with_len 0 256)
+table_of string1 string2 = map (counterpart string1 string2) (range_with_len 0 256)

@@ -4,7 +4,7 @@ ghost use Rattle.std.specs.Prelude.{◌≡◌, ◌≢◌, ◌≤◌, ◌<◌, �
 ghost use Rattle.sedscript.specs.declared.types.Address.{Address};
 ghost use Rattle.sedscript.specs.Bytes.{part, with_digits};
 ghost use Rattle.sedscript.specs.Addresses.{folds_at, past_flag, empty_match, match_at, own_match, address_at};
-ghost use Rattle.sedscript.specs.Addresses.{behind_first, second_at};
+ghost use Rattle.sedscript.specs.Addresses.{after_first, second_at};
 ghost use Rattle.sedscript.specs.Addresses.{with_second, addresses_at, with_bang, addresses_of, line_of};
 ghost use Rattle.sedscript.specs.Between.{own_delimiter};
 ghost use Rattle.sedscript.specs.Answers.{as_addressed, as_headed, ComesFrom, Agrees};
@@ -190,7 +190,7 @@ fn second_at(
 }
 
 /// What follows a first address: a comma and a second one, or nothing.
-fn behind_first(
+fn after_first(
     source: &Source,
     exprs: &mut Vec<Expr>,
     first: Option<Address>,
@@ -198,7 +198,7 @@ fn behind_first(
 ) -> Result<(Addresses, usize), ScriptFault>
     requires at { at ≤ length source.now.text.now }
     ensures comes { ComesFrom source.now exprs.old.items exprs.new.items as_headed result
-        (behind_first source.now.text.now (length exprs.old.items) at first) }
+        (after_first source.now.text.now (length exprs.old.items) at first) }
     ensures within { IfOk result (λ found. (at ≤ found.1) × (found.1 ≤ length source.now.text.now)) }
 {
     let Some(address) = first else {
@@ -229,10 +229,10 @@ pub fn addresses_at(
     ensures within { IfOk result (λ found. (at ≤ found.1) × (found.1 ≤ length source.now.text.now)) }
 {
     let (first, next) = address_at(source, exprs, at)?;
-    behind_first(source, exprs, first, next)
+    after_first(source, exprs, first, next)
 }
 
-/// With the `!` that stands there.
+/// The addresses with the `!` that may follow them at a place, and the place after it.
 pub fn with_bang(text: &[u8], addresses: Addresses, at: usize) -> (Addresses, usize)
     requires { at ≤ length text.now }
     ensures is { as_headed result 0 ≡ with_bang text.now (as_headed (addresses, at) 0) }

@@ -10,7 +10,7 @@ pub enum Sort {
     Blank,
     /// What may stand between commands: blanks, newlines and semicolons.
     Separator,
-    /// `!`, and the blanks round it.
+    /// `!`, and the blanks around it.
     Bang,
     /// A decimal digit.
     Digit,
@@ -40,7 +40,7 @@ fn belongs(sort: Sort, b: u8) -> bool
     }
 }
 
-/// The byte at a place, none at the end.
+/// The byte at a place; None at the end.
 pub fn byte_at(text: &[u8], at: usize) -> Option<u8>
     ensures { result ≡ slice_get text.now at }
 {

@@ -24,7 +24,7 @@ use crate::transliteration::table_between;
 use crate::types::{Action, Command};
 use std::alloc::{AllocError, Global};
 
-/// How many texts, substitutions and tables there are with this function, with so many before it.
+/// The numbers of texts, substitutions and tables up to this function and with it, given those before it.
 fn counts_with(n: Counts, function: Function) -> Counts
     requires { AtMost (usize.MAX - 1) n }
     ensures is { result ≡ counts_with n function }
@@ -97,7 +97,8 @@ fn file_action(file_use: FileUse, number: usize) -> Action
     }
 }
 
-/// What the item of an index does, with what is counted before it. None where it leaves no command.
+/// What the item at index `k` does, where `before` blocks were opened and `counts` were counted before it. None where it
+/// leaves no command.
 fn action_of<'a>(
     text: &'a [u8],
     items: &Items,
@@ -227,7 +228,7 @@ pub fn texts_of(alloc: Global, text: &[u8], items: &Items) -> Result<Vec<Vec<u8>
     Ok(texts)
 }
 
-/// The sink that the flag `w` names, where it stands.
+/// The sink that the flag `w` names, if it is there.
 fn sink_of<'a>(text: &'a [u8], files: &Files<'a>, name: Option<(usize, usize)>) -> Option<usize>
     ensures { (items : List Item) →
         FilesAre text.now items files.now → result ≡ sink_of text.now items name }

@@ -76,7 +76,7 @@ fn expression_between(
     }
 }
 
-/// Adds a copy of an expression: what its reading reserved beyond it goes back.
+/// Adds a copy of an expression, so that the room that reading it took beyond its own is given back.
 fn add_copy(alloc: Global, exprs: &mut Vec<Expr>, expr: &Expr) -> Result<(), AllocError>
     ensures { OnOk result (exprs.new.items ≡ exprs.old.items ++ expr.now ∷ []) }
 {
@@ -84,8 +84,8 @@ fn add_copy(alloc: Global, exprs: &mut Vec<Expr>, expr: &Expr) -> Result<(), All
     Ok(())
 }
 
-/// Reads the expression that stands between two places, where case counts or is folded, and adds it. Answers the number
-/// of its groups.
+/// Reads the expression that stands between two places, where case counts or is folded, and adds it. Answers how many
+/// groups it has.
 pub fn expression_at(
     source: &Source,
     exprs: &mut Vec<Expr>,

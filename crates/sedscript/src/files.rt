@@ -39,7 +39,7 @@ fn is_standard_output(name: &[u8]) -> bool
     name == STANDARD_OUTPUT
 }
 
-/// Whether a name is one of a file.
+/// Whether a name is that of a file: one that stands for the standard output isn't, where it is written.
 fn is_file(file_use: FileUse, name: &[u8]) -> bool
     ensures { result ≡ is_file file_use name.now }
 {
@@ -49,7 +49,7 @@ fn is_file(file_use: FileUse, name: &[u8]) -> bool
     }
 }
 
-/// Where the name stands by which a function reads, or writes.
+/// Where the name of the file that a function reads, or writes, begins and ends.
 fn name_in(file_use: FileUse, function: Function) -> Option<(usize, usize)>
     ensures { result ≡ name_in file_use function }
 {

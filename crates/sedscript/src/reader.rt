@@ -13,7 +13,7 @@ use crate::items::{Here, Source};
 use crate::kept::Items;
 use crate::reading::item_at;
 use crate::script::{Named, Script};
-use crate::target_faults::late;
+use crate::target_faults::target_fault;
 use crate::targets::{Targets, targets_of};
 use crate::types::{Kind, NO_MEMORY, ScriptFault};
 use sedre::Expr;
@@ -57,7 +57,7 @@ fn judge<'a>(
 {
     cut(source, items, exprs)?;
     let targets = targets_of(source.alloc, source.text, items)?;
-    match late(source.text, items, &targets) {
+    match target_fault(source.text, items, &targets) {
         Some(fault) => Err(fault),
         None => Ok(targets),
     }

@@ -2,9 +2,9 @@
 
 ghost use Rattle.std.specs.Prelude.{◌≡◌, ◌≤◌, ◌<◌, ◌+◌, Some, length, slice_get, IfOk};
 ghost use Rattle.sedscript.specs.Items.{substitute_at, substitute_with, function_of, function_with, function_at};
-ghost use Rattle.sedscript.specs.Items.{function_behind, item_at};
+ghost use Rattle.sedscript.specs.Items.{function_after, item_at};
 ghost use Rattle.sedscript.specs.Functions.{item_of};
-ghost use Rattle.sedscript.specs.Answers.{as_function, as_headed, as_here, ComesFrom, AreStrings, IsBehind, IsHere};
+ghost use Rattle.sedscript.specs.Answers.{as_function, as_headed, as_here, ComesFrom, AreStrings, IsAfter, IsHere};
 
 use crate::addresses::{addresses_at, with_bang};
 use crate::between::{folds, substitute_strings, substituted, transliterate_at};
@@ -109,7 +109,7 @@ fn item_of(addresses: Addresses, place: usize, function: Function, next: usize) 
     )
 }
 
-/// The item of the function of a letter at a place, where it may stand after these addresses.
+/// The item of the function whose letter stands at a place, if that may have these addresses.
 fn item_with(
     source: &Source,
     exprs: &mut Vec<Expr>,
@@ -120,7 +120,7 @@ fn item_with(
     requires { slice_get source.now.text.now at ≡ Some letter }
     ensures comes { ComesFrom source.now exprs.old.items exprs.new.items as_here result
         (function_at source.now.text.now (length exprs.old.items) addresses at) }
-    ensures within { IfOk result (IsBehind at (length source.now.text.now)) }
+    ensures within { IfOk result (IsAfter at (length source.now.text.now)) }
 {
     let verb = allowed(addresses, letter, at)?;
     let (function, next) = function_with(source, exprs, verb, at)?;
@@ -137,7 +137,7 @@ fn function_at(
     requires { at ≤ length source.now.text.now }
     ensures comes { ComesFrom source.now exprs.old.items exprs.new.items as_here result
         (function_at source.now.text.now (length exprs.old.items) addresses at) }
-    ensures within { IfOk result (IsBehind at (length source.now.text.now)) }
+    ensures within { IfOk result (IsAfter at (length source.now.text.now)) }
 {
     match byte_at(source.text, at) {
         None => Err(ScriptFault {
@@ -149,7 +149,7 @@ fn function_at(
 }
 
 /// The item of the function after its addresses.
-fn function_behind(
+fn function_after(
     source: &Source,
     exprs: &mut Vec<Expr>,
     addresses: Addresses,
@@ -157,8 +157,8 @@ fn function_behind(
 ) -> Result<Here, ScriptFault>
     requires { at ≤ length source.now.text.now }
     ensures comes { ComesFrom source.now exprs.old.items exprs.new.items as_here result
-        (function_behind source.now.text.now (as_headed (addresses, at) (length exprs.old.items))) }
-    ensures within { IfOk result (IsBehind at (length source.now.text.now)) }
+        (function_after source.now.text.now (as_headed (addresses, at) (length exprs.old.items))) }
+    ensures within { IfOk result (IsAfter at (length source.now.text.now)) }
 {
     let (addresses, next) = with_bang(source.text, addresses, at);
     function_at(source, exprs, addresses, next)
@@ -176,7 +176,7 @@ pub fn item_at(source: &Source, exprs: &mut Vec<Expr>, at: usize) -> Result<Here
         None => Ok(Here::Ends),
         Some(_) => {
             let (addresses, next) = addresses_at(source, exprs, start)?;
-            function_behind(source, exprs, addresses, next)
+            function_after(source, exprs, addresses, next)
         }
     }
 }

@@ -12,7 +12,7 @@ use crate::substitution::{Part, Piece};
 use crate::types::{Reason, ScriptFault};
 use std::alloc::{AllocError, Global};
 
-/// What a backslash in force and this byte stand for.
+/// What this byte stands for where it is escaped.
 fn escaped_piece(delimiter: u8, b: u8) -> Option<Piece>
     ensures { result ≡ escaped_piece delimiter b }
 {
@@ -110,7 +110,7 @@ pub fn replacement_fault(
     None
 }
 
-/// Adds the bytes after the parts as a part of their own.
+/// Adds the bytes that are gathered, if there are any, as a part of their own.
 fn end_run(parts: &mut Vec<Part>, run: Vec<u8>) -> Result<(), AllocError>
     ensures { OnOk result (pieces_in parts.new.items ≡ pieces_with parts.old.items run.items) }
 {
@@ -120,21 +120,21 @@ fn end_run(parts: &mut Vec<Part>, run: Vec<u8>) -> Result<(), AllocError>
     Ok(())
 }
 
-/// Adds a piece to the parts and the bytes after them, and gives the bytes that then are after them.
+/// Adds a piece to the parts and the bytes gathered after them, and gives the bytes that are gathered then.
 fn add_piece(
     alloc: Global,
     parts: &mut Vec<Part>,
     run: Vec<u8>,
     piece: Piece,
 ) -> Result<Vec<u8>, AllocError>
-    ensures { IfOk result (λ behind.
-        pieces_with parts.new.items behind.items ≡ pieces_with parts.old.items run.items ++ piece ∷ []) }
+    ensures { IfOk result (λ rest.
+        pieces_with parts.new.items rest.items ≡ pieces_with parts.old.items run.items ++ piece ∷ []) }
 {
     match piece {
         Piece::Literal(b) => {
-            let mut behind = run;
-            behind.push(b)?;
-            Ok(behind)
+            let mut rest = run;
+            rest.push(b)?;
+            Ok(rest)
         }
         Piece::Whole => {
             end_run(parts, run)?;

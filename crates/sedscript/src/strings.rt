@@ -7,14 +7,14 @@ ghost use Rattle.sedscript.specs.Strings.{escapes, string_end};
 use crate::bytes::part;
 use crate::items::Strings;
 
-/// Whether a byte is a backslash in force, with whether one stands before it.
+/// Whether a byte is a backslash that escapes the next one, given whether it is escaped itself.
 pub fn escapes(escaped: bool, b: u8) -> bool
     ensures { result ≡ escapes escaped b }
 {
     b == b'\\' && !escaped
 }
 
-/// Where the string ends that begins at a place: at a delimiter, none where a newline or the end comes first.
+/// Where the string that begins at a place ends: at a delimiter; None where a newline or the end comes first.
 /// Where it `breaks`, a newline after a backslash belongs to it.
 pub fn string_end(text: &[u8], breaks: bool, delimiter: u8, from: usize) -> Option<usize>
     requires { from ≤ length text.now }

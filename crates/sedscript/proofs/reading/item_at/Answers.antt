@@ -1,8 +1,8 @@
 use Rattle.std.proofs.Common.{Err, refl, sym, ap, ◌∙◌, slice_get, length}
 use Rattle.sedscript.specs.Answers.{as_here}
 use Rattle.sedscript.specs.Addresses.{addresses_at}
-use Rattle.sedscript.specs.Items.{function_behind}
-use Rattle.sedscript.proofs.Coming.{comes_then, comes_err, comes_as_err, item_none, item_some, behind_here}
+use Rattle.sedscript.specs.Items.{function_after}
+use Rattle.sedscript.proofs.Coming.{comes_then, comes_err, comes_as_err, item_none, item_some, after_here}
 use Rattle.sedscript.proofs.reading.item_at.Goals as goal
 
 pub returns-in-None-clause-comes : goal.returns-in-None-clause-comes
@@ -12,16 +12,16 @@ pub returns-in_err-addresses-in-Some-clause-comes : goal.returns-in_err-addresse
 returns-in_err-addresses-in-Some-clause-comes c =
     comes_as_err c.args.source.now.text.now c.args.source.now.kind c.args.source.now.max_nodes _ _ as_here c.from_residual.result _ c.in_err-addresses-in-Some.field-0.0 c.from_residual.ensures.1
     (item_some c.args.source.now.text.now c.args.source.now.kind c.args.source.now.max_nodes c.args.exprs.now.items c.addresses_at.new.exprs.items c.args.at c.past-start.result _ (Err c.in_err-addresses-in-Some.field-0.0) c.past-start.ensures.is (sym c.byte_at.ensures ∙ c.in-Some.is)
-    (comes_err c.args.source.now.text.now c.args.source.now.kind c.args.source.now.max_nodes (addresses_at c.args.source.now.text.now (length c.args.exprs.now.items) c.past-start.result) (function_behind c.args.source.now.text.now) c.in_err-addresses-in-Some.field-0.0 c.in_err-addresses-in-Some.ensures.comes))
+    (comes_err c.args.source.now.text.now c.args.source.now.kind c.args.source.now.max_nodes (addresses_at c.args.source.now.text.now (length c.args.exprs.now.items) c.past-start.result) (function_after c.args.source.now.text.now) c.in_err-addresses-in-Some.field-0.0 c.in_err-addresses-in-Some.ensures.comes))
 
 pub returns-in_ok-addresses-in-Some-clause-comes : goal.returns-in_ok-addresses-in-Some-clause-comes
 returns-in_ok-addresses-in-Some-clause-comes c =
-    item_some c.args.source.now.text.now c.args.source.now.kind c.args.source.now.max_nodes c.args.exprs.now.items c.function_behind.new.exprs.items c.args.at c.past-start.result _ _ c.past-start.ensures.is (sym c.byte_at.ensures ∙ c.in-Some.is)
-    (comes_then c.args.source.now.text.now c.args.source.now.kind c.args.source.now.max_nodes _ c.addresses_at.new.exprs.items c.function_behind.new.exprs.items (addresses_at c.args.source.now.text.now (length c.args.exprs.now.items) c.past-start.result) (function_behind c.args.source.now.text.now) _ as_here _ c.in_ok-addresses-in-Some.ensures.comes
-    c.function_behind.ensures.comes)
+    item_some c.args.source.now.text.now c.args.source.now.kind c.args.source.now.max_nodes c.args.exprs.now.items c.function_after.new.exprs.items c.args.at c.past-start.result _ _ c.past-start.ensures.is (sym c.byte_at.ensures ∙ c.in-Some.is)
+    (comes_then c.args.source.now.text.now c.args.source.now.kind c.args.source.now.max_nodes _ c.addresses_at.new.exprs.items c.function_after.new.exprs.items (addresses_at c.args.source.now.text.now (length c.args.exprs.now.items) c.past-start.result) (function_after c.args.source.now.text.now) _ as_here _ c.in_ok-addresses-in-Some.ensures.comes
+    c.function_after.ensures.comes)
 
 pub returns-in-None-clause-here : goal.returns-in-None-clause-here
 returns-in-None-clause-here c = ap (slice_get c.args.source.now.text.now) (sym c.past-start.ensures.is) ∙ (sym c.byte_at.ensures ∙ c.in-None.is)
 
 pub returns-in_ok-addresses-in-Some-clause-here : goal.returns-in_ok-addresses-in-Some-clause-here
-returns-in_ok-addresses-in-Some-clause-here c = behind_here c.args.source.now.text.now c.args.at c.past-start.result c.in_ok-addresses-in-Some.next c.function_behind.result c.past-start.ensures.within.0 c.in_ok-addresses-in-Some.ensures.within.0 c.function_behind.ensures.within
+returns-in_ok-addresses-in-Some-clause-here c = after_here c.args.source.now.text.now c.args.at c.past-start.result c.in_ok-addresses-in-Some.next c.function_after.result c.past-start.ensures.within.0 c.in_ok-addresses-in-Some.ensures.within.0 c.function_after.ensures.within
