@@ -28,7 +28,7 @@ use Rattle.sedscript.specs.declared.items.Item.{Item}
 use Rattle.sedscript.specs.declared.items.Counts.{Counts}
 use Rattle.sedscript.specs.declared.items.Here.{Here}
 use Rattle.sedscript.specs.declared.items.Here.TheVariants.{Is, Ends}
-use Rattle.sedscript.specs.Bytes.{past, part, run_of, is_digit, is_byte, with_digits}
+use Rattle.sedscript.specs.Bytes.{past, bytes_between, run_of, is_digit, is_byte, with_digits}
 use Rattle.sedscript.specs.declared.items.Flags.{Flags}
 use Rattle.sedscript.specs.declared.items.Strings.{Strings}
 use Rattle.sedscript.specs.declared.types.Reason.TheVariants.{TrailingBytes, RepeatedFlag, FlagOnEmpty}
@@ -125,7 +125,7 @@ file_action_within n k Write h = h
 
 -- what a function names among all items is among the sizes
 abbrev FilesWithin : List ℕ → List Item → Sizes → Function → Type 0
-FilesWithin text all n (File u from to) = FileWithin n u (number_in u text all (part text from to))
+FilesWithin text all n (File u from to) = FileWithin n u (number_in u text all (bytes_between text from to))
 FilesWithin text all n (Substitute s e f) = SinkWithin n.wfiles (sink_of text all f.file)
 FilesWithin text all n f = Unit {0}
 
@@ -151,10 +151,10 @@ may_act text all before after m n Open files whole count long =
     (subst (λ (m : ℕ). AtMost m (block_end before after)) (let e : suc (commands_in before) + commands_in after ≡ n.commands = omega (arith, count) in e) (close_bound 0 (suc (commands_in before)) after))
 may_act text all before after m n (Branch u from to) files whole count long =
     branch_within n _ u
-    (branch_bound n.commands (from == to) (commands_in all) (label_in text (part text from to) 0 all) (omega (arith, whole))
-    (subst (λ (m : ℕ). AtMost m (label_in text (part text from to) 0 all)) (let e : 0 + commands_in all ≡ n.commands = omega (arith, whole) in e) (label_bound text (part text from to) 0 all)))
+    (branch_bound n.commands (from == to) (commands_in all) (label_in text (bytes_between text from to) 0 all) (omega (arith, whole))
+    (subst (λ (m : ℕ). AtMost m (label_in text (bytes_between text from to) 0 all)) (let e : 0 + commands_in all ≡ n.commands = omega (arith, whole) in e) (label_bound text (bytes_between text from to) 0 all)))
 may_act text all before after m n (Text u from to) files whole count long = text_within n m.texts u (omega (arith, long.0))
-may_act text all before after m n (File u from to) files whole count long = file_action_within n (number_in u text all (part text from to)) u files
+may_act text all before after m n (File u from to) files whole count long = file_action_within n (number_in u text all (bytes_between text from to)) u files
 may_act text all before after m n (Substitute s e f) files whole count long = omega (arith, long.1)
 may_act text all before after m n (Transliterate s) files whole count long = omega (arith, long.2)
 may_act text all before after m n Close files whole count long = tt
@@ -257,7 +257,7 @@ address_bounds text count at = by_byte (slice_get text at)
     by_byte : (o : Option ℕ) → Bounds AddressedWithin count (address_of text count at o)
     by_byte None = nothing_bounds count at
     by_byte (Some b) =
-        bounds_if AddressedWithin count (is_digit b) _ _ (line_bounds count at (past Digit text at) (with_digits (Some 0) (part text at (past Digit text at))))
+        bounds_if AddressedWithin count (is_digit b) _ _ (line_bounds count at (past Digit text at) (with_digits (Some 0) (bytes_between text at (past Digit text at))))
         (bounds_if AddressedWithin count (b == 36) _ _ (omega arith, tt)
         (bounds_if AddressedWithin count (b == 47) _ _ (match_bounds text count 47 at)
         (bounds_if AddressedWithin count (b == 92) _ _ (own_bounds text count (at + 1) (own_delimiter (slice_get text (at + 1)))) (nothing_bounds count at))))
@@ -398,7 +398,7 @@ flags_within text empty f zero at (b ∷ bs) h = by_digit (λ g skip. flags_with
 substituted_within : (text : List ℕ) (s : Strings) (e limit : Option ℕ) (n : ℕ) → IsOneOf n e → IfOk (substituted text s e limit) (FoundWithin n)
 unfolding substituted
 substituted_within text s e limit n h =
-    unless_within n (replacement_fault s.delimiter limit false (s.middle + 1) (part text (s.middle + 1) s.to)) _
+    unless_within n (replacement_fault s.delimiter limit false (s.middle + 1) (bytes_between text (s.middle + 1) s.to)) _
     (by_flags (flags_from text (not (is_some e)) no_flags 0 (s.to + 1) (drop (s.to + 1) text)) (flags_within text (not (is_some e)) no_flags 0 (s.to + 1) (drop (s.to + 1) text) (omega arith)))
   where
     by_flags : (r : Result (Flags × ℕ) ScriptFault) → IfOk r ReadWithin → IfOk (◌then◌ r (λ (found : Flags × ℕ). ended text (Substitute s e found.0) found.1)) (FoundWithin n)
@@ -612,9 +612,9 @@ abbrev Among : FileUse → List ℕ → List (List ℕ) → List Item → Type 0
 Among u text ns is = (name : List ℕ) → has name (names_in u text is) ≡ true → has name ns ≡ true
 
 -- a name that stands at these places
-file_there : (u : FileUse) (text : List ℕ) (span : ℕ × ℕ) (rest : List (List ℕ)) → is_file u (part text span.0 span.1) ≡ true → has (part text span.0 span.1) (cons_option (file_at u text (Some span)) rest) ≡ true
+file_there : (u : FileUse) (text : List ℕ) (span : ℕ × ℕ) (rest : List (List ℕ)) → is_file u (bytes_between text span.0 span.1) ≡ true → has (bytes_between text span.0 span.1) (cons_option (file_at u text (Some span)) rest) ≡ true
 file_there u text span rest h =
-    let name : List ℕ = part text span.0 span.1 in
+    let name : List ℕ = bytes_between text span.0 span.1 in
     ap (λ (b : Bool). has name (cons_option (if b then Some name else None) rest)) h
     ∙ ap (λ (b : Bool). b || has name rest) ((bytes_eq-Decides name name).1 refl)
 
@@ -640,14 +640,14 @@ files_within text all n (i ∷ is) r w a b = (
   where
     by_flag : (o : Option (ℕ × ℕ)) → ((name : List ℕ) → has name (cons_option (file_at Write text o) (names_in Write text is)) ≡ true → has name (files_in Write text all) ≡ true) → SinkWithin n.wfiles (sink_of text all o)
     by_flag None b = tt
-    by_flag (Some span) b = file_number Write text all n (part text span.0 span.1) r w (λ h. b (part text span.0 span.1) (file_there Write text span (names_in Write text is) h))
+    by_flag (Some span) b = file_number Write text all n (bytes_between text span.0 span.1) r w (λ h. b (bytes_between text span.0 span.1) (file_there Write text span (names_in Write text is) h))
 
     by_function : (f : Function) →
         ((name : List ℕ) → has name (cons_option (file_at Read text (name_in Read f)) (names_in Read text is)) ≡ true → has name (files_in Read text all) ≡ true) →
         ((name : List ℕ) → has name (cons_option (file_at Write text (name_in Write f)) (names_in Write text is)) ≡ true → has name (files_in Write text all) ≡ true) →
         FilesWithin text all n f
-    by_function (File Read from to) a b = file_number Read text all n (part text from to) r w (λ h. a (part text from to) (file_there Read text (from, to) (names_in Read text is) h))
-    by_function (File Write from to) a b = file_number Write text all n (part text from to) r w (λ h. b (part text from to) (file_there Write text (from, to) (names_in Write text is) h))
+    by_function (File Read from to) a b = file_number Read text all n (bytes_between text from to) r w (λ h. a (bytes_between text from to) (file_there Read text (from, to) (names_in Read text is) h))
+    by_function (File Write from to) a b = file_number Write text all n (bytes_between text from to) r w (λ h. b (bytes_between text from to) (file_there Write text (from, to) (names_in Write text is) h))
     by_function (Substitute s e f) a b = by_flag f.file b
     by_function f a b = tt
 

@@ -19,7 +19,7 @@ use Rattle.sedscript.specs.declared.types.Address.{Address}
 use Rattle.sedscript.specs.declared.types.Address.TheVariants.{Last, Match}
 use Rattle.sedscript.specs.declared.items.Here.{Here}
 use Rattle.sedscript.specs.declared.items.Here.TheVariants.{Is, Ends}
-use Rattle.sedscript.specs.Bytes.{part, past, is_byte, is_digit, with_digits}
+use Rattle.sedscript.specs.Bytes.{bytes_between, past, is_byte, is_digit, with_digits}
 use Rattle.sedscript.specs.Reading.{Pattern, Reading, plainly, expression, ◌>>=◌}
 use Rattle.sedscript.specs.Addresses.{Addressed, found, headed, folds_at, past_flag, empty_match, match_at, match_to, own_match, addresses_at, after_first, address_at, address_of, line_of}
 use Rattle.sedscript.specs.declared.items.Strings.{Strings}
@@ -113,7 +113,7 @@ not_memory : (r : ExprReason) → is_no_memory r ≡ false → r ≡ NoMemory �
 not_memory r e is = let g : true ≡ false = sym (ap is_no_memory is) ∙ e in cc
 
 fails_in_script : {A : Type 0} (text : List ℕ) (kind : Kind) (m : ℕ) (p : Pattern) (k : ℕ → Reading A) (f : ExprFault) (b : Bool) → is_no_memory f.reason ≡ b →
-    ExprFaulty kind (Some p.delimiter) (part text p.from p.to) m f.place f.reason ⊎ (f ≡ no_expr_memory) →
+    ExprFaulty kind (Some p.delimiter) (bytes_between text p.from p.to) m f.place f.reason ⊎ (f ≡ no_expr_memory) →
     Fails text kind m (expression p k) (if b then NO_MEMORY else in_script p.from f) ⊎ ((if b then NO_MEMORY else in_script p.from f) ≡ NO_MEMORY)
 fails_in_script text kind m p k f true is h = inr refl
 fails_in_script text kind m p k f false is (inl h) = inl (no_expression {f = f} h)
@@ -121,7 +121,7 @@ fails_in_script text kind m p k f false is (inr e) = absurd (not_memory f.reason
 
 -- a fault of the reader of expressions, in the script
 pub fails_as_read : {A : Type 0} (text : List ℕ) (kind : Kind) (m : ℕ) (p : Pattern) (k : ℕ → Reading A) (f : ExprFault) →
-    ExprFaulty kind (Some p.delimiter) (part text p.from p.to) m f.place f.reason ⊎ (f ≡ no_expr_memory) →
+    ExprFaulty kind (Some p.delimiter) (bytes_between text p.from p.to) m f.place f.reason ⊎ (f ≡ no_expr_memory) →
     Fails text kind m (expression p k) (fault_of p.from f) ⊎ (fault_of p.from f ≡ NO_MEMORY)
 fails_as_read text kind m p k f h = fails_in_script text kind m p k f (is_no_memory f.reason) refl h
 
@@ -200,7 +200,7 @@ pub only_first : (text : List ℕ) (count at : ℕ) (first : Address) (o : Optio
 only_first text count at first o e d = ap (after_first text count at) e ∙ if_false _ _ (is_byte 44 (slice_get text (past Blank text at))) d
 
 pub line_comes : (text : List ℕ) (kind : Kind) (m : ℕ) (old : List Written) (at b : ℕ) (result : Result (Option Address × ℕ) ScriptFault) → slice_get text at ≡ Some b → is_digit b ≡ true →
-    Agrees as_addressed (length old) result (line_of (length old) at (past Digit text at) (with_digits (Some 0) (part text at (past Digit text at)))) →
+    Agrees as_addressed (length old) result (line_of (length old) at (past Digit text at) (with_digits (Some 0) (bytes_between text at (past Digit text at)))) →
     Comes text kind m old old as_addressed result (address_at text (length old) at)
 unfolding address_at
 line_comes text kind m old at b result e d h =

@@ -9,7 +9,7 @@ use Rattle.sedscript.specs.declared.items.Item.{Item}
 use Rattle.sedscript.specs.declared.items.Here.{Here}
 use Rattle.sedscript.specs.declared.items.Here.TheVariants.{Is, Ends}
 use Rattle.sedscript.specs.declared.bytes.Sort.TheVariants.{Separator}
-use Rattle.sedscript.specs.Bytes.{past, part}
+use Rattle.sedscript.specs.Bytes.{past, bytes_between}
 use Rattle.sedscript.specs.Reading.{Pattern, Reading}
 use Rattle.sedscript.specs.Items.{item_at, item_from}
 use Rattle.sedscript.specs.Expressions.{IsRead, Gives, value, after_expression, Fails, no_expression, later}
@@ -23,7 +23,7 @@ ReadsAsOne = (kind : Kind) (folded : Bool) (delimiter : Option ℕ) (text : List
 
 -- what stands after one reading of a pattern stands after the other
 pub as_other : (text : List ℕ) (kind : Kind) (m : ℕ) (p : Pattern) (d e : Written) → ReadsAsOne → IsRead text kind m p d → IsRead text kind m p e → d.groups ≡ e.groups
-as_other text kind m p d e one h g = (one kind p.folded (Some p.delimiter) (part text p.from p.to) (tree d) (tree e) d.groups e.groups h.reads g.reads).1
+as_other text kind m p d e one h g = (one kind p.folded (Some p.delimiter) (bytes_between text p.from p.to) (tree d) (tree e) d.groups e.groups h.reads g.reads).1
 
 -- what is read is one value, with one number of expressions
 pub gives_one : {A : Type 0} (text : List ℕ) (kind : Kind) (m : ℕ) (r : Reading A) (es fs : List Written) (a b : A) → ReadsAsOne →

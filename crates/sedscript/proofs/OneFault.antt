@@ -8,7 +8,7 @@ use Rattle.sedre.specs.Grammar.{ExprFaulty}
 use Rattle.sedscript.specs.declared.types.ScriptFault.{ScriptFault}
 use Rattle.sedscript.specs.declared.items.Item.{Item}
 use Rattle.sedscript.specs.declared.items.Here.TheVariants.{Is}
-use Rattle.sedscript.specs.Bytes.{part}
+use Rattle.sedscript.specs.Bytes.{bytes_between}
 use Rattle.sedscript.specs.Reading.{Reading}
 use Rattle.sedscript.specs.Items.{item_at}
 use Rattle.sedscript.specs.Expressions.{Fails, own, no_expression, later, in_script}
@@ -32,7 +32,7 @@ pub fails_one : {A : Type 0} (text : List ℕ) (kind : Kind) (m : ℕ) (r : Read
     Fails text kind m r f → Fails text kind m r g → f ≡ g
 fails_one text kind m _ _ _ one once own own = refl
 fails_one text kind m _ _ _ one once (no_expression {p = p} {f = f} bad) (no_expression {f = g} worse) =
-    in_script_one p.from f g (once kind (Some p.delimiter) (part text p.from p.to) m f.place g.place f.reason g.reason bad worse)
+    in_script_one p.from f g (once kind (Some p.delimiter) (bytes_between text p.from p.to) m f.place g.place f.reason g.reason bad worse)
 fails_one text kind m _ _ _ one once (no_expression {f = f} bad) (later e is h) = absurd (is.no_fault f.place f.reason bad)
 fails_one text kind m _ _ _ one once (later e is h) (no_expression {f = f} bad) = absurd (is.no_fault f.place f.reason bad)
 fails_one text kind m _ f g one once (later {p = p} {k = k} d is h) (later e is' h') =

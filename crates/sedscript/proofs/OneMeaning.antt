@@ -6,7 +6,7 @@ use Rattle.sedre.specs.Arena.{Written, tree}
 use Rattle.sedscript.specs.declared.items.Here.{Here}
 use Rattle.sedscript.specs.declared.items.Here.TheVariants.{Is, Ends}
 use Rattle.sedscript.specs.declared.items.Item.{Item}
-use Rattle.sedscript.specs.Bytes.{part}
+use Rattle.sedscript.specs.Bytes.{bytes_between}
 use Rattle.sedscript.specs.Reading.{Reading}
 use Rattle.sedscript.specs.Items.{item_at}
 use Rattle.sedscript.specs.Expressions.{Gives, value, after_expression}
@@ -23,7 +23,7 @@ pub gives_alike : {A X : Type 0} (look : Written → X) (text : List ℕ) (kind 
     Gives text kind m r es a → Gives text kind m r fs b → map look es ≡ map look fs
 gives_alike look text kind m _ _ _ _ _ alike one value value = refl
 gives_alike look text kind m _ _ _ a b alike one (after_expression {p = p} {k = k} {es = es} d is g) (after_expression {es = fs} e is' g') =
-    let both = one kind p.folded (Some p.delimiter) (part text p.from p.to) (tree d) (tree e) d.groups e.groups is.reads is'.reads in
+    let both = one kind p.folded (Some p.delimiter) (bytes_between text p.from p.to) (tree d) (tree e) d.groups e.groups is.reads is'.reads in
     let rest = gives_alike look text kind m (k e.groups) es fs a b alike one (subst (λ (n : ℕ). Gives text kind m (k n) es a) both.1 g) g' in
     ap (λ x. x ∷ map look es) (alike d e both.0 both.1) ∙ ap (λ xs. look e ∷ xs) rest
 

@@ -12,7 +12,7 @@ use Rattle.sedscript.specs.declared.items.Item.{Item}
 use Rattle.sedscript.specs.declared.items.Counts.{Counts}
 use Rattle.sedscript.specs.declared.items.Function.{Function}
 use Rattle.sedscript.specs.declared.items.Function.TheVariants.{Open, Label}
-use Rattle.sedscript.specs.Bytes.{part}
+use Rattle.sedscript.specs.Bytes.{bytes_between}
 use Rattle.sedscript.specs.Targets.{target_fault_at, target_fault_in, depth_after, fault_if, block_end, label_in, is_label}
 use Rattle.sedscript.proofs.Labels.{own_name, none_of, take_item, drop_item}
 
@@ -29,7 +29,7 @@ target_fault_open text all before after depth place f b o r is end some e =
     ∙ ap (target_fault_at text all before depth after place) (sym is))
 
 pub target_fault_label : (text name : List ℕ) (all before after : List Item) (depth place from to : ℕ) (f : Function) (b : Bool) (r : Option ScriptFault) →
-    f ≡ Label from to → name ≡ part text from to → (is_label text name f ≡ true → b ≡ is_some (label_in text name 0 before)) → r ≡ fault_if b RepeatedLabel place →
+    f ≡ Label from to → name ≡ bytes_between text from to → (is_label text name f ≡ true → b ≡ is_some (label_in text name 0 before)) → r ≡ fault_if b RepeatedLabel place →
     r ≡ target_fault_at text all before depth after place f
 target_fault_label text name all before after depth place from to f b r is named earlier e =
     let own : is_label text name f ≡ true = ap (λ (n : List ℕ). is_label text n f) named ∙ own_name text f from to is in

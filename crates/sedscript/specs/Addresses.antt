@@ -7,7 +7,7 @@ use Rattle.sedscript.specs.declared.types.Reason.TheVariants.{BadAddress, OpenDe
 use Rattle.sedscript.specs.declared.types.Address.{Address}
 use Rattle.sedscript.specs.declared.types.Address.TheVariants.{Line, Last, Match}
 use Rattle.sedscript.specs.declared.items.Addresses.{Addresses}
-use Rattle.sedscript.specs.Bytes.{past, part, is_digit, with_digits, is_byte}
+use Rattle.sedscript.specs.Bytes.{past, bytes_between, is_digit, with_digits, is_byte}
 use Rattle.sedscript.specs.Functions.{fault}
 use Rattle.sedscript.specs.Between.{own_delimiter}
 use Rattle.sedscript.specs.Reading.{Reading, plainly, expression, ◌>>=◌}
@@ -63,7 +63,7 @@ abbrev pub address_of : List ℕ → ℕ → ℕ → Option ℕ → Reading Addr
 address_of text count at None = plainly (found None at count)
 address_of text count at (Some b) =
     if is_digit b
-    then plainly (line_of count at (past Digit text at) (with_digits (Some 0) (part text at (past Digit text at))))
+    then plainly (line_of count at (past Digit text at) (with_digits (Some 0) (bytes_between text at (past Digit text at))))
     else if b == 36 then plainly (found (Some Last) (at + 1) count)
     else if b == 47 then match_at text count 47 at
     else if b == 92 then own_match text count (at + 1) (own_delimiter (slice_get text (at + 1)))

@@ -8,7 +8,7 @@ use Rattle.sedscript.specs.declared.items.Strings.{Strings}
 use Rattle.sedscript.specs.declared.items.Flags.{Flags}
 use Rattle.sedscript.specs.declared.items.Function.{Function}
 use Rattle.sedscript.specs.declared.items.Function.TheVariants.{Substitute, Transliterate}
-use Rattle.sedscript.specs.Bytes.{part}
+use Rattle.sedscript.specs.Bytes.{bytes_between}
 use Rattle.sedscript.specs.Functions.{fault, ended, ◌>>=◌}
 use Rattle.sedscript.specs.Strings.{string_end}
 use Rattle.sedscript.specs.Replacement.{replacement_fault}
@@ -66,5 +66,5 @@ flagged text s e = flags_after text s (not (is_some e)) >>= λ found. ended text
 -- may have a greater number than this, and flags
 unfoldable pub substituted : List ℕ → Strings → Option ℕ → Option ℕ → Result (Function × ℕ) ScriptFault
 substituted text s e limit =
-    unless_fault (replacement_fault s.delimiter limit false (s.middle + 1) (part text (s.middle + 1) s.to))
+    unless_fault (replacement_fault s.delimiter limit false (s.middle + 1) (bytes_between text (s.middle + 1) s.to))
     (flagged text s e)

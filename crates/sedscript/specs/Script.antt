@@ -34,7 +34,7 @@ use Rattle.sedscript.specs.declared.items.Counts.{Counts}
 use Rattle.sedscript.specs.declared.items.Flags.{Flags}
 use Rattle.sedscript.specs.declared.items.Strings.{Strings}
 use Rattle.sedscript.specs.declared.items.Here.TheVariants.{Is}
-use Rattle.sedscript.specs.Bytes.{part, past}
+use Rattle.sedscript.specs.Bytes.{bytes_between, past}
 use Rattle.sedscript.specs.Items.{item_at}
 use Rattle.sedscript.specs.Expressions.{Gives, Fails}
 use Rattle.sedscript.specs.Replacement.{pieces_of}
@@ -72,7 +72,7 @@ unescaped_from escaped [] = []
 unescaped_from escaped (b ∷ bs) = if not escaped && b == 92 then unescaped_from true bs else b ∷ unescaped_from false bs
 
 abbrev pub with_text : List ℕ → Function → List (List ℕ) → List (List ℕ)
-with_text text (Text t from to) ts = unescaped_from false (part text from to) ∷ ts
+with_text text (Text t from to) ts = unescaped_from false (bytes_between text from to) ∷ ts
 with_text text f ts = ts
 
 -- the texts of `a`, `i` and `c`, in order
@@ -86,13 +86,13 @@ none_counted = record { texts = 0; substitutions = 0; tables = 0 }
 -- the sink that the flag `w` names, if it is there
 abbrev pub sink_of : List ℕ → List Item → Option (ℕ × ℕ) → Option ℕ
 sink_of text all None = None
-sink_of text all (Some name) = Some (number_in Write text all (part text name.0 name.1))
+sink_of text all (Some name) = Some (number_in Write text all (bytes_between text name.0 name.1))
 
 -- the substitution of an `s` among all items. Without a number it begins with the first occurrence
 abbrev pub substitution_of : List ℕ → List Item → Strings → Option ℕ → Flags → Substitution
 substitution_of text all s e f = record {
   expression = e;
-  replacement = pieces_of s.delimiter (part text (s.middle + 1) s.to);
+  replacement = pieces_of s.delimiter (bytes_between text (s.middle + 1) s.to);
   number = unwrap_or f.number 1;
   global = f.global;
   print = f.print;
@@ -166,10 +166,10 @@ action_of text all before n after (Plain s) = Some (simple_action s)
 action_of text all before n after Open = Some (Block (unwrap_or (block_end before after) 0))
 action_of text all before n after (Branch u from to) =
     Some (branch_action u
-    (if from == to then commands_in all else unwrap_or (label_in text (part text from to) 0 all) 0))
+    (if from == to then commands_in all else unwrap_or (label_in text (bytes_between text from to) 0 all) 0))
 action_of text all before n after (Text t from to) = Some (text_action t n.texts)
 action_of text all before n after (File u from to) =
-    Some (file_action u (number_in u text all (part text from to)))
+    Some (file_action u (number_in u text all (bytes_between text from to)))
 action_of text all before n after (Substitute s e f) = Some (SubstituteNow n.substitutions)
 action_of text all before n after (Transliterate s) = Some (TransliterateNow n.tables)
 action_of text all before n after f = None

@@ -11,7 +11,7 @@ use Rattle.sedscript.specs.declared.types.Reason.TheVariants.{UnknownLabel, Repe
 use Rattle.sedscript.specs.declared.items.Function.{Function}
 use Rattle.sedscript.specs.declared.items.Function.TheVariants.{Open, Close, Label, Branch, Comment}
 use Rattle.sedscript.specs.declared.items.Item.{Item}
-use Rattle.sedscript.specs.Bytes.{part}
+use Rattle.sedscript.specs.Bytes.{bytes_between}
 
 -- whether a function leaves a command: all but `}`, `:` and `#`
 abbrev pub leaves : Function → Bool
@@ -31,7 +31,7 @@ commands_in (i ∷ is) = if leaves i.function then suc (commands_in is) else com
 
 -- whether the function is a label of this name
 abbrev pub is_label : List ℕ → List ℕ → Function → Bool
-is_label text name (Label from to) = bytes_eq (part text from to) name
+is_label text name (Label from to) = bytes_eq (bytes_between text from to) name
 is_label text name f = false
 
 -- the number of the command after the first label of this name, with so many commands before the items
@@ -72,9 +72,9 @@ abbrev pub target_fault_at : List ℕ → List Item → List Item → ℕ → Li
 target_fault_at text all before depth after place Open = fault_if (is_none (block_end before after)) OpenBlock place
 target_fault_at text all before depth after place Close = fault_if (depth == 0) StrayClose place
 target_fault_at text all before depth after place (Label from to) =
-    fault_if (is_some (label_in text (part text from to) 0 before)) RepeatedLabel place
+    fault_if (is_some (label_in text (bytes_between text from to) 0 before)) RepeatedLabel place
 target_fault_at text all before depth after place (Branch u from to) =
-    fault_if (not (from == to) && is_none (label_in text (part text from to) 0 all)) UnknownLabel place
+    fault_if (not (from == to) && is_none (label_in text (bytes_between text from to) 0 all)) UnknownLabel place
 target_fault_at text all before depth after place f = None
 
 abbrev pub target_fault_in : List ℕ → List Item → List Item → ℕ → List Item → Option ScriptFault

@@ -5,7 +5,7 @@ use Rattle.std.specs.List.{list_any, range_with_len}
 use Rattle.std.specs.Option.{option_or}
 use Rattle.sedscript.specs.declared.types.ScriptFault.{ScriptFault}
 use Rattle.sedscript.specs.declared.types.Reason.TheVariants.{LengthsDiffer, RepeatedByte, BadEscape}
-use Rattle.sedscript.specs.Bytes.{part}
+use Rattle.sedscript.specs.Bytes.{bytes_between}
 use Rattle.sedscript.specs.Strings.{escapes}
 use Rattle.sedscript.specs.Targets.{fault_if}
 -- a byte of a string, and its place (of an escape: the place of its backslash)
@@ -38,7 +38,7 @@ chars_from delimiter escaped at (b ∷ bs) =
 
 -- the bytes of the string that stands between two places
 abbrev pub chars_of : List ℕ → ℕ → ℕ → ℕ → List Char
-chars_of text delimiter from to = chars_from delimiter false from (part text from to)
+chars_of text delimiter from to = chars_from delimiter false from (bytes_between text from to)
 
 abbrev pub bytes_of : List Char → List ℕ
 bytes_of cs = map (λ c. c.byte) cs
@@ -68,8 +68,8 @@ repeated_fault found = option_map (λ place. record { place = place; reason = Re
 -- have the same length)
 abbrev pub strings_fault : List ℕ → ℕ → ℕ → ℕ → ℕ → ℕ → Option ScriptFault
 strings_fault text delimiter letter from middle to =
-    option_or (string_fault delimiter false from (part text from middle))
-    (option_or (string_fault delimiter false (middle + 1) (part text (middle + 1) to))
+    option_or (string_fault delimiter false from (bytes_between text from middle))
+    (option_or (string_fault delimiter false (middle + 1) (bytes_between text (middle + 1) to))
     (option_or (repeated_fault (repeated_in [] (chars_of text delimiter from middle)))
     (fault_if (not (length (chars_of text delimiter from middle) == length (chars_of text delimiter (middle + 1) to)))
     LengthsDiffer letter)))

@@ -2,7 +2,7 @@
 
 ghost use Rattle.std.specs.Prelude.{◌≡◌, ◌≢◌, ◌≤◌, ◌<◌, ◌+◌, ℕ, List, Option, Some, length, slice_get, IfOk, IfSome};
 ghost use Rattle.sedscript.specs.declared.types.Address.{Address};
-ghost use Rattle.sedscript.specs.Bytes.{part, with_digits};
+ghost use Rattle.sedscript.specs.Bytes.{bytes_between, with_digits};
 ghost use Rattle.sedscript.specs.Addresses.{folds_at, past_flag, empty_match, match_at, own_match, address_at};
 ghost use Rattle.sedscript.specs.Addresses.{after_first, second_at};
 ghost use Rattle.sedscript.specs.Addresses.{with_second, addresses_at, with_bang, addresses_of, line_of};
@@ -20,7 +20,7 @@ use sedre::{Expr, delimited};
 fn line_at(text: &[u8], from: usize, to: usize) -> Result<(Option<Address>, usize), ScriptFault>
     requires { (from ≤ to) × (to ≤ length text.now) }
     ensures is { (count : ℕ) → Agrees as_addressed count result
-        (line_of count from to (with_digits (Some 0) (part text.now from to))) }
+        (line_of count from to (with_digits (Some 0) (bytes_between text.now from to))) }
     ensures to { IfOk result (λ found. found.1 ≡ to) }
 {
     match number_of(&text[from..to]) {

@@ -1,7 +1,7 @@
 //! Places of a text.
 
 ghost use Rattle.std.specs.Prelude.{◌≡◌, ◌≤◌, ◌<◌, ◌+◌, Some, length, slice_get};
-ghost use Rattle.sedscript.specs.Bytes.{belongs, past, part, with_digit, with_digits};
+ghost use Rattle.sedscript.specs.Bytes.{belongs, past, bytes_between, with_digit, with_digits};
 
 /// Bytes that are passed over together.
 #[derive(Clone, Copy)]
@@ -75,8 +75,8 @@ pub fn past(sort: Sort, text: &[u8], at: usize) -> usize
 }
 
 /// The bytes from a place up to another, as far as they stand there.
-pub fn part(text: &[u8], from: usize, to: usize) -> &[u8]
-    ensures { result.now ≡ part text.now from to }
+pub fn bytes_between(text: &[u8], from: usize, to: usize) -> &[u8]
+    ensures { result.now ≡ bytes_between text.now from to }
 {
     if to <= from || text.len() <= from {
         &[]

@@ -5,7 +5,7 @@ ghost use Rattle.sedscript.specs.Files.{is_standard_output, is_file, name_in, fi
 ghost use Rattle.sedscript.specs.Tables.{labelled, with_name, first_number, NumbersAre, AreNumbered, FilesAre};
 ghost use Rattle.sedscript.specs.declared.items.Item.{Item};
 
-use crate::bytes::part;
+use crate::bytes::bytes_between;
 use crate::items::{FileUse, Function};
 use crate::kept::Items;
 use std::alloc::{AllocError, Global};
@@ -123,7 +123,7 @@ fn add_file<'a>(
     let Some((from, to)) = found else {
         return Ok(());
     };
-    let name = part(text, from, to);
+    let name = bytes_between(text, from, to);
     if !is_file(file_use, name) {
         return Ok(());
     }

@@ -9,9 +9,9 @@ ghost use Rattle.sedscript.specs.declared.types.ScriptFault.{ScriptFault};
 
 use crate::commands::{commands_of, is_quiet, substitutions_of, tables_of, texts_of};
 use crate::files::{Files, files_of};
+use crate::item_reader::item_at;
 use crate::items::{Here, Source};
 use crate::kept::Items;
-use crate::reading::item_at;
 use crate::script::{Named, Script};
 use crate::target_faults::target_fault;
 use crate::targets::{Targets, targets_of};

@@ -1,12 +1,12 @@
 //! Replacements of `s`.
 
 ghost use Rattle.std.specs.Prelude.{◌≡◌, ◌≤◌, ◌+◌, ◌++◌, ◌∷◌, [], false, length, IfOk, OnOk};
-ghost use Rattle.sedscript.specs.Bytes.{part};
+ghost use Rattle.sedscript.specs.Bytes.{bytes_between};
 ghost use Rattle.sedscript.specs.Replacement.{group, escaped_piece, plain_piece, piece_of, pieces_of};
 ghost use Rattle.sedscript.specs.Replacement.{pieces_in, exceeds, escape_fault, replacement_fault, GroupsWithin};
 ghost use Rattle.sedscript.specs.Answers.{pieces_with};
 
-use crate::bytes::part;
+use crate::bytes::bytes_between;
 use crate::strings::escapes;
 use crate::substitution::{Part, Piece};
 use crate::types::{Reason, ScriptFault};
@@ -92,9 +92,9 @@ pub fn replacement_fault(
     to: usize,
 ) -> Option<ScriptFault>
     requires { (from ≤ to) × (to ≤ length text.now) }
-    ensures { result ≡ replacement_fault delimiter limit false from (part text.now from to) }
+    ensures { result ≡ replacement_fault delimiter limit false from (bytes_between text.now from to) }
 {
-    let bytes = part(text, from, to);
+    let bytes = bytes_between(text, from, to);
     let mut escaped = false;
     let mut k = 0;
     'bytes: while k < bytes.len() {

@@ -1,10 +1,10 @@
 //! Strings between delimiters, as `s` and `y` have them.
 
 ghost use Rattle.std.specs.Prelude.{◌≡◌, ◌≤◌, ◌<◌, ◌+◌, length, drop, false, IfSome};
-ghost use Rattle.sedscript.specs.Bytes.{part};
+ghost use Rattle.sedscript.specs.Bytes.{bytes_between};
 ghost use Rattle.sedscript.specs.Strings.{escapes, string_end};
 
-use crate::bytes::part;
+use crate::bytes::bytes_between;
 use crate::items::Strings;
 
 /// Whether a byte is a backslash that escapes the next one, given whether it is escaped itself.
@@ -39,10 +39,10 @@ pub fn string_end(text: &[u8], breaks: bool, delimiter: u8, from: usize) -> Opti
 
 /// The second of two strings.
 pub fn second_of(text: &[u8], strings: Strings) -> &[u8]
-    ensures { result.now ≡ part text.now (strings.middle + 1) strings.to }
+    ensures { result.now ≡ bytes_between text.now (strings.middle + 1) strings.to }
 {
     if strings.to <= strings.middle {
         return &[];
     }
-    part(text, strings.middle + 1, strings.to)
+    bytes_between(text, strings.middle + 1, strings.to)
 }

@@ -4,7 +4,7 @@ ghost use Rattle.std.specs.Prelude.{◌≡◌, ◌<◌, ◌≤◌, ◌+◌, Some
 ghost use Rattle.sedscript.specs.Targets.{fault_if, target_fault_at, target_fault, depth_after};
 ghost use Rattle.sedscript.specs.Tables.{TargetsAre, blocks_in};
 
-use crate::bytes::part;
+use crate::bytes::bytes_between;
 use crate::items::{Function, Item};
 use crate::kept::Items;
 use crate::targets::{Targets, is_close, is_open, opened};
@@ -42,14 +42,14 @@ fn target_fault_at<'a>(
         Function::Close => fault_if(depth == 0, Reason::StrayClose, item.place),
         Function::Label(from, to) => {
             fault_if(
-                targets.is_repeated(part(text, from, to), k),
+                targets.is_repeated(bytes_between(text, from, to), k),
                 Reason::RepeatedLabel,
                 item.place,
             )
         }
         Function::Branch(_, from, to) => {
             fault_if(
-                from != to && targets.label(part(text, from, to)).is_none(),
+                from != to && targets.label(bytes_between(text, from, to)).is_none(),
                 Reason::UnknownLabel,
                 item.place,
             )

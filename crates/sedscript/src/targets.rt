@@ -10,7 +10,7 @@ ghost use Rattle.sedscript.specs.Tables.{LabelsAre, TargetsAre, ends_in, with_en
 ghost use Rattle.sedscript.specs.Tables.{reversed, first};
 ghost use Rattle.sedscript.specs.Tables.{number, is_earlier, labelled};
 
-use crate::bytes::part;
+use crate::bytes::bytes_between;
 use crate::items::{Function, Item};
 use crate::kept::Items;
 use std::alloc::{AllocError, Global};
@@ -187,7 +187,7 @@ fn add_label<'a>(
     let Function::Label(from, to) = function else {
         return Ok(());
     };
-    let name = part(text, from, to);
+    let name = bytes_between(text, from, to);
     if labels.contains_key(&name) {
         return Ok(());
     }

@@ -2,13 +2,13 @@
 
 ghost use Rattle.std.specs.Prelude.{◌≡◌, ◌≤◌, ◌<◌, ◌+◌, ℕ, List, [], ◌∷◌, true, false, length, IfOk};
 ghost use Rattle.std.specs.List.{range_with_len};
-ghost use Rattle.sedscript.specs.Bytes.{part};
+ghost use Rattle.sedscript.specs.Bytes.{bytes_between};
 ghost use Rattle.sedscript.specs.Transliteration.{escaped_byte, char_of, chars_from, chars_of, bytes_of, string_fault};
 ghost use Rattle.sedscript.specs.Transliteration.{is_among, repeated_in, strings_fault, table_of};
 ghost use Rattle.sedscript.specs.Answers.{marks_of};
 ghost use Rattle.sedscript.specs.Script.{table_between};
 
-use crate::bytes::part;
+use crate::bytes::bytes_between;
 use crate::items::Strings;
 use crate::strings::{escapes, second_of};
 use crate::target_faults::fault_if;
@@ -139,8 +139,8 @@ pub fn strings_fault(
     requires { (from ≤ middle) × (middle < to) × (to ≤ length text.now) }
     ensures { result ≡ strings_fault text.now delimiter letter from middle to }
 {
-    let string1 = part(text, from, middle);
-    let string2 = part(text, middle + 1, to);
+    let string1 = bytes_between(text, from, middle);
+    let string2 = bytes_between(text, middle + 1, to);
     if let Some(fault) = string_fault(string1, delimiter, from) {
         return Some(fault);
     }
@@ -204,7 +204,11 @@ pub fn table_between(alloc: Global, text: &[u8], strings: Strings) -> Result<Vec
     ensures { IfOk result (λ v. v.items ≡ table_between text.now strings) }
 {
     let delimiter = strings.delimiter;
-    let string1 = bytes_of(alloc, part(text, strings.from, strings.middle), delimiter)?;
+    let string1 = bytes_of(
+        alloc,
+        bytes_between(text, strings.from, strings.middle),
+        delimiter,
+    )?;
     let string2 = bytes_of(alloc, second_of(text, strings), delimiter)?;
     table_from(alloc, &string1, &string2)
 }

@@ -15,6 +15,6 @@ block_end-requires c =
 
 pub returns-in-Label : goal.returns-in-Label
 returns-in-Label c =
-    target_fault_label c.args.text.now c.part.result.now c.args.items.now (take c.args.k c.args.items.now) (drop (c.args.k + 1) c.args.items.now) c.args.depth c.args.item.place
-    c.in-Label.from c.in-Label.to c.args.item.function c.is_repeated.result c.fault_if-in-Label.result c.in-Label.is c.part.ensures
+    target_fault_label c.args.text.now c.bytes_between.result.now c.args.items.now (take c.args.k c.args.items.now) (drop (c.args.k + 1) c.args.items.now) c.args.depth c.args.item.place
+    c.in-Label.from c.in-Label.to c.args.item.function c.is_repeated.result c.fault_if-in-Label.result c.in-Label.is c.bytes_between.ensures
     (c.is_repeated.ensures c.args.text.now c.args.items.now c.args.item c.requires.targets c.requires.item) c.fault_if-in-Label.ensures

@@ -1,7 +1,7 @@
 use Rattle.std.proofs.Common.{sym, ◌∙◌, length}
 use Rattle.sedscript.specs.Answers.{as_function}
 use Rattle.sedscript.proofs.Coming.{comes_as_err, substitute_fault, substitute_goes}
-use Rattle.sedscript.proofs.reading.substitute_at.Goals as goal
+use Rattle.sedscript.proofs.item_reader.substitute_at.Goals as goal
 
 pub returns-in_err-strings-clause-comes : goal.returns-in_err-strings-clause-comes
 returns-in_err-strings-clause-comes c =

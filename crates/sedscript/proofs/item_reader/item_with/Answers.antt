@@ -1,7 +1,7 @@
 use Rattle.std.proofs.Common.{sym, ◌∙◌, length, Ok, Err}
 use Rattle.sedscript.specs.Answers.{as_here}
 use Rattle.sedscript.proofs.Coming.{item_fault, item_goes, item_comes, comes_err, comes_as_err}
-use Rattle.sedscript.proofs.reading.item_with.Goals as goal
+use Rattle.sedscript.proofs.item_reader.item_with.Goals as goal
 
 pub returns-in_err-verb-clause-comes : goal.returns-in_err-verb-clause-comes
 returns-in_err-verb-clause-comes c =

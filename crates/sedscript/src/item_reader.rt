@@ -1,4 +1,4 @@
-//! The items of a script: functions with their addresses.
+//! The items of a script are read: functions with their addresses.
 
 ghost use Rattle.std.specs.Prelude.{◌≡◌, ◌≤◌, ◌<◌, ◌+◌, Some, length, slice_get, IfOk};
 ghost use Rattle.sedscript.specs.Items.{substitute_at, substitute_with, function_of, function_with, function_at};

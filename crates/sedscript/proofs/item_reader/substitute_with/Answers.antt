@@ -5,7 +5,7 @@ use Rattle.sedscript.specs.Reading.{Reading}
 use Rattle.sedscript.specs.Expressions.{Fails}
 use Rattle.sedscript.specs.Answers.{Comes, as_function}
 use Rattle.sedscript.proofs.Coming.{comes_err, comes_as_err, comes_plain, substitute_empty, substitute_is, substitute_comes, functions_agree}
-use Rattle.sedscript.proofs.reading.substitute_with.Goals as goal
+use Rattle.sedscript.proofs.item_reader.substitute_with.Goals as goal
 
 pub returns-then-strings-clause-comes : goal.returns-then-strings-clause-comes
 returns-then-strings-clause-comes c =

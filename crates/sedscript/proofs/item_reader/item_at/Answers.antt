@@ -3,7 +3,7 @@ use Rattle.sedscript.specs.Answers.{as_here}
 use Rattle.sedscript.specs.Addresses.{addresses_at}
 use Rattle.sedscript.specs.Items.{function_after}
 use Rattle.sedscript.proofs.Coming.{comes_then, comes_err, comes_as_err, item_none, item_some, after_here}
-use Rattle.sedscript.proofs.reading.item_at.Goals as goal
+use Rattle.sedscript.proofs.item_reader.item_at.Goals as goal
 
 pub returns-in-None-clause-comes : goal.returns-in-None-clause-comes
 returns-in-None-clause-comes c = item_none c.args.source.now.text.now c.args.source.now.kind c.args.source.now.max_nodes c.args.exprs.now.items c.args.exprs.now.items c.args.at (ap (slice_get c.args.source.now.text.now) (sym c.past-start.ensures.is) ∙ (sym c.byte_at.ensures ∙ c.in-None.is)) refl
