@@ -173,7 +173,7 @@ module _ {R : Type 0} (remaining : R → Option (List ℕ)) (old new : Stream R)
     acted P (Ok u) h = (ls, taken, h)
     acted P (Err end) h = record { rest = ls; stopped = h; lines = []; are = refl; bytes = bytes_stay _ }
 
-    -- the command is come to in the state in which it acts
+    -- the command is reached in the state in which it acts
     here_comes : ComesTo e.limits (setting e files) (at_lines e ls) (at_lines (come_with e k (slice_set e.state.ranges k choice.active) used) ls)
     here_comes = record {
       fits = here;

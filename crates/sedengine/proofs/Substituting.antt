@@ -32,7 +32,7 @@ use Rattle.sedengine.proofs.Moves.{moves_writing, ran_quietly, stopped_here}
 use Rattle.sedengine.proofs.Tasks.{fits_of}
 use Rattle.sedengine.proofs.Tried.{standing}
 
--- Where a command is come to the pattern space needn't be empty.
+-- Where a command is reached the pattern space needn't be empty.
 may_hold : (p : Place) (bytes : List ℕ) → comes (tasks_of p) ≡ true → IsEmptied p bytes
 may_hold p.Begin bytes h = cc
 may_hold p.Rebegin bytes h = tt
@@ -105,7 +105,7 @@ there_is [] k h = absurd (omega arith)
 there_is (x ∷ xs) zero h = (x, refl)
 there_is (x ∷ xs) (suc k) h = there_is xs k (omega arith)
 
--- the line of a command that is come to
+-- the line of a command that is reached
 pub comes_line : (s : State) (ts : List Task) → comes ts ≡ true → line_at s ts ≡ s.number
 comes_line s [] h = cc
 comes_line s (do_at k ∷ rest) h = refl

@@ -6,7 +6,7 @@ use Rattle.std.proofs.lemmas.Bool.Decides.{eqb_tells}
 use Rattle.sedscript.specs.declared.items.Item.{Item}
 use Rattle.sedscript.specs.declared.items.Function.{Function}
 use Rattle.sedscript.specs.declared.items.Function.TheVariants.{Open, Close}
-use Rattle.sedscript.specs.Targets.{counted, commands_in, is_open, is_close, close_in, depth_behind, block_end, leaves}
+use Rattle.sedscript.specs.Targets.{counted, commands_in, is_open, is_close, close_in, depth_after, block_end, leaves}
 use Rattle.sedscript.specs.Tables.{unopened, unopened_by, tail, first, reversed, opened, blocks_in, with_end, ends_in}
 
 tail_get : (us : List ℕ) (d : ℕ) → slice_get us (suc d) ≡ slice_get (tail us) d
@@ -21,7 +21,7 @@ not_zero : (d : ℕ) → (suc d == 0) ≡ false
 not_zero d = elim (eqb_tells (suc d) 0) [ inl h ↦ absurd (omega (arith, h.1)) | inr h ↦ h.0 ]
 
 close_step : (f : Function) (d n : ℕ) (us : List ℕ) (c : ℕ → Option ℕ) → ((e : ℕ) → c e ≡ slice_get us e) →
-    (if is_close f && d == 0 then Some n else c (depth_behind d f)) ≡ slice_get (unopened_by n f us) d
+    (if is_close f && d == 0 then Some n else c (depth_after d f)) ≡ slice_get (unopened_by n f us) d
 close_step Close zero n us c h = refl
 close_step Close (suc d) n us c h = let e : suc d - 1 ≡ d = omega arith in rw e (rw (not_zero d) (h d))
 close_step Open d n us c h = h (suc d) ∙ tail_get us d
@@ -41,8 +41,8 @@ pub unopened_step : (items : List Item) (k n next : ℕ) (i : Item) → slice_ge
 unopened_step items k n next i at e =
     ap (λ (m : ℕ). unopened_by next i.function (unopened m (drop (k + 1) items))) e ∙ sym (ap (unopened next) (drop_item items k i at))
 
-pub none_behind : (items : List Item) (n : ℕ) → [] ≡ reversed (unopened n (drop (length items) items))
-none_behind items n = let e : drop (length items) items ≡ [] = drop_of_length-le items (omega arith) in rw e refl
+pub none_after : (items : List Item) (n : ℕ) → [] ≡ reversed (unopened n (drop (length items) items))
+none_after items n = let e : drop (length items) items ≡ [] = drop_of_length-le items (omega arith) in rw e refl
 
 -- the table after the last item
 pub ends_end : (items : List Item) (n : ℕ) (ends : List (Option ℕ)) → drop (length ends) ends ≡ ends_in n (drop (length items) items)
@@ -73,23 +73,23 @@ skip_end true x es m = refl
 skip_end false x es m = refl
 
 -- what the table says of an item that opens a block
-end_behind : (items : List Item) (k n : ℕ) (i : Item) → slice_get items k ≡ Some i → i.function ≡ Open →
+end_after : (items : List Item) (k n : ℕ) (i : Item) → slice_get items k ≡ Some i → i.function ≡ Open →
     slice_get (ends_in n items) (blocks_in (take k items)) ≡ Some (close_in 0 (suc (n + commands_in (take k items))) (drop (suc k) items))
-end_behind [] k n i at opens = let h : ◌≡◌ {A = Option Item} None (Some i) = at in cc
-end_behind (j ∷ items) zero n i at opens =
+end_after [] k n i at opens = let h : ◌≡◌ {A = Option Item} None (Some i) = at in cc
+end_after (j ∷ items) zero n i at opens =
     let same : j ≡ i = cc in
     let more : n ≡ n + 0 = omega arith in
     open_first j.function n items (ap (λ (x : Item). x.function) same ∙ opens) ∙ ap (λ (m : ℕ). Some (close_in 0 (suc m) items)) more
-end_behind (j ∷ items) (suc k) n i at opens =
+end_after (j ∷ items) (suc k) n i at opens =
     skip_end (is_open j.function) (close_in 0 (counted n j) items) (ends_in (counted n j) items) (blocks_in (take k items))
-    ∙ (end_behind items k (counted n j) i at opens ∙ ap (λ (m : ℕ). Some (close_in 0 (suc m) (drop (suc k) items))) (counted_in n j (take k items)))
+    ∙ (end_after items k (counted n j) i at opens ∙ ap (λ (m : ℕ). Some (close_in 0 (suc m) (drop (suc k) items))) (counted_in n j (take k items)))
 
 end_found : (items : List Item) (ends : List (Option ℕ)) (k : ℕ) (i : Item) → ends ≡ ends_in 0 items → slice_get items k ≡ Some i → i.function ≡ Open →
     slice_get ends (blocks_in (take k items)) ≡ Some (block_end (take k items) (drop (k + 1) items))
 end_found items ends k i are at opens =
     let one : suc k ≡ k + 1 = omega arith in
     let none : 0 + commands_in (take k items) ≡ commands_in (take k items) = omega arith in
-    ap (λ (es : List (Option ℕ)). slice_get es (blocks_in (take k items))) are ∙ (end_behind items k 0 i at opens
+    ap (λ (es : List (Option ℕ)). slice_get es (blocks_in (take k items))) are ∙ (end_after items k 0 i at opens
     ∙ (ap (λ (m : ℕ). Some (close_in 0 (suc m) (drop (suc k) items))) none
     ∙ ap (λ (m : ℕ). Some (close_in 0 (suc (commands_in (take k items))) (drop m items))) one))
 

@@ -28,7 +28,7 @@ use Rattle.sedscript.specs.declared.items.Item.{Item}
 use Rattle.sedscript.specs.declared.items.Counts.{Counts}
 use Rattle.sedscript.specs.declared.items.Here.{Here}
 use Rattle.sedscript.specs.declared.items.Here.TheVariants.{Is, Ends}
-use Rattle.sedscript.specs.Bytes.{past, part, run_of, is_digit, is_byte, with_digits}
+use Rattle.sedscript.specs.Bytes.{past, bytes_between, run_of, is_digit, is_byte, with_digits}
 use Rattle.sedscript.specs.declared.items.Flags.{Flags}
 use Rattle.sedscript.specs.declared.items.Strings.{Strings}
 use Rattle.sedscript.specs.declared.types.Reason.TheVariants.{TrailingBytes, RepeatedFlag, FlagOnEmpty}
@@ -36,12 +36,12 @@ use Rattle.sedscript.specs.Functions.{fault, allowed, item_of, ended, may_end, t
 use Rattle.sedscript.specs.Replacement.{replacement_fault}
 use Rattle.sedscript.specs.Flags.{no_flags, numbered, with_number, with_flag, with_file, ends_flags, flags_from, folds}
 use Rattle.sedscript.specs.Transliteration.{strings_fault, counterpart, table_of}
-use Rattle.sedscript.specs.Between.{own_delimiter, substitute_strings, transliterate_strings, unless_fault, transliterate_at, flags_behind, substituted}
-use Rattle.sedscript.specs.Items.{substitute_with, substitute_at, function_of, function_with, function_at, function_behind, item_with, item_from, item_at}
+use Rattle.sedscript.specs.Between.{own_delimiter, substitute_strings, transliterate_strings, unless_fault, transliterate_at, flags_after, substituted}
+use Rattle.sedscript.specs.Items.{substitute_with, substitute_at, function_of, function_with, function_at, function_after, item_with, item_from, item_at}
 use Rattle.sedscript.specs.Reading.{Reading, plainly, expression, ◌>>=◌}
-use Rattle.sedscript.specs.Addresses.{Addressed, Headed, line_of, folds_at, empty_match, match_to, match_at, own_match, address_of, address_at, with_second, second_at, behind_first, addresses_at, with_bang}
-use Rattle.sedscript.specs.Expressions.{Gives, value, behind}
-use Rattle.sedscript.specs.Targets.{leaves, counted, commands_in, label_in, is_label, close_in, is_close, depth_behind, block_end}
+use Rattle.sedscript.specs.Addresses.{Addressed, Headed, line_of, folds_at, empty_match, match_to, match_at, own_match, address_of, address_at, with_second, second_at, after_first, addresses_at, with_bang}
+use Rattle.sedscript.specs.Expressions.{Gives, value, after_expression}
+use Rattle.sedscript.specs.Targets.{leaves, counted, commands_in, label_in, is_label, close_in, is_close, depth_after, block_end}
 use Rattle.sedscript.specs.declared.script.Named.{Named}
 use Rattle.sedscript.specs.Parts.{program_of, IsNamed}
 use Rattle.sedscript.specs.Script.{Cut, done, item, is_quiet, with_text, texts_of, with_substitution, substitutions_of, with_table, tables_of, substitution_of, table_between, counts_with, none_counted, action_of, simple_action, text_action, branch_action, file_action, sink_of, with_action, commands_of, Judged, Means, Program}
@@ -74,8 +74,8 @@ at_most_or n (Some k) h = h
 close_bound : (depth n : ℕ) (is : List Item) → AtMost (n + commands_in is) (close_in depth n is)
 close_bound depth n [] = tt
 close_bound depth n (i ∷ is) =
-    at_most_if (is_close i.function && depth == 0) (n + commands_in (i ∷ is)) n (close_in (depth_behind depth i.function) (counted n i) is) (omega arith)
-    (subst (λ (m : ℕ). AtMost m (close_in (depth_behind depth i.function) (counted n i) is)) (counted_in n i is) (close_bound (depth_behind depth i.function) (counted n i) is))
+    at_most_if (is_close i.function && depth == 0) (n + commands_in (i ∷ is)) n (close_in (depth_after depth i.function) (counted n i) is) (omega arith)
+    (subst (λ (m : ℕ). AtMost m (close_in (depth_after depth i.function) (counted n i) is)) (counted_in n i is) (close_bound (depth_after depth i.function) (counted n i) is))
 
 label_bound : (text name : List ℕ) (n : ℕ) (is : List Item) → AtMost (n + commands_in is) (label_in text name n is)
 label_bound text name n [] = tt
@@ -125,7 +125,7 @@ file_action_within n k Write h = h
 
 -- what a function names among all items is among the sizes
 abbrev FilesWithin : List ℕ → List Item → Sizes → Function → Type 0
-FilesWithin text all n (File u from to) = FileWithin n u (number_in u text all (part text from to))
+FilesWithin text all n (File u from to) = FileWithin n u (number_in u text all (bytes_between text from to))
 FilesWithin text all n (Substitute s e f) = SinkWithin n.wfiles (sink_of text all f.file)
 FilesWithin text all n f = Unit {0}
 
@@ -151,10 +151,10 @@ may_act text all before after m n Open files whole count long =
     (subst (λ (m : ℕ). AtMost m (block_end before after)) (let e : suc (commands_in before) + commands_in after ≡ n.commands = omega (arith, count) in e) (close_bound 0 (suc (commands_in before)) after))
 may_act text all before after m n (Branch u from to) files whole count long =
     branch_within n _ u
-    (branch_bound n.commands (from == to) (commands_in all) (label_in text (part text from to) 0 all) (omega (arith, whole))
-    (subst (λ (m : ℕ). AtMost m (label_in text (part text from to) 0 all)) (let e : 0 + commands_in all ≡ n.commands = omega (arith, whole) in e) (label_bound text (part text from to) 0 all)))
+    (branch_bound n.commands (from == to) (commands_in all) (label_in text (bytes_between text from to) 0 all) (omega (arith, whole))
+    (subst (λ (m : ℕ). AtMost m (label_in text (bytes_between text from to) 0 all)) (let e : 0 + commands_in all ≡ n.commands = omega (arith, whole) in e) (label_bound text (bytes_between text from to) 0 all)))
 may_act text all before after m n (Text u from to) files whole count long = text_within n m.texts u (omega (arith, long.0))
-may_act text all before after m n (File u from to) files whole count long = file_action_within n (number_in u text all (part text from to)) u files
+may_act text all before after m n (File u from to) files whole count long = file_action_within n (number_in u text all (bytes_between text from to)) u files
 may_act text all before after m n (Substitute s e f) files whole count long = omega (arith, long.1)
 may_act text all before after m n (Transliterate s) files whole count long = omega (arith, long.2)
 may_act text all before after m n Close files whole count long = tt
@@ -206,7 +206,7 @@ bounds_then P Q count (expression p k) f h g = λ groups. bounds_then P Q (suc c
 -- what is given is bounded by the count after all expressions
 gives_bounds : {A : Type 0} (P : ℕ → A → Type 0) (text : List ℕ) (kind : Kind) (m count : ℕ) (r : Reading A) (es : List Written) (x : A) → Gives text kind m r es x → Bounds P count r → P (count + length es) x
 gives_bounds P text kind m count _ _ x value h = subst (λ (n : ℕ). P n x) (let e : count ≡ count + 0 = omega arith in e) h
-gives_bounds P text kind m count _ _ x (behind {k = k} {es = es} e is g) h =
+gives_bounds P text kind m count _ _ x (after_expression {k = k} {es = es} e is g) h =
     subst (λ (n : ℕ). P n x) (let same : suc count + length es ≡ count + suc (length es) = omega arith in same) (gives_bounds P text kind m (suc count) (k e.groups) es x g (h e.groups))
 
 abbrev AddressedWithin : ℕ → Addressed → Type 0
@@ -257,7 +257,7 @@ address_bounds text count at = by_byte (slice_get text at)
     by_byte : (o : Option ℕ) → Bounds AddressedWithin count (address_of text count at o)
     by_byte None = nothing_bounds count at
     by_byte (Some b) =
-        bounds_if AddressedWithin count (is_digit b) _ _ (line_bounds count at (past Digit text at) (with_digits (Some 0) (part text at (past Digit text at))))
+        bounds_if AddressedWithin count (is_digit b) _ _ (line_bounds count at (past Digit text at) (with_digits (Some 0) (bytes_between text at (past Digit text at))))
         (bounds_if AddressedWithin count (b == 36) _ _ (omega arith, tt)
         (bounds_if AddressedWithin count (b == 47) _ _ (match_bounds text count 47 at)
         (bounds_if AddressedWithin count (b == 92) _ _ (own_bounds text count (at + 1) (own_delimiter (slice_get text (at + 1)))) (nothing_bounds count at))))
@@ -273,7 +273,7 @@ second_bounds text count first at h =
     (address_bounds text count at)
     (λ n x le p. second_within n first at x x.address p.0 (address_more count n (Some first) le h) p.1)
 
-behind_bounds : (text : List ℕ) (count at : ℕ) (o : Option Address) → AddressWithin count o → Bounds HeadedWithin count (behind_first text count at o)
+behind_bounds : (text : List ℕ) (count at : ℕ) (o : Option Address) → AddressWithin count o → Bounds HeadedWithin count (after_first text count at o)
 behind_bounds text count at None h = (refl, (tt, tt))
 behind_bounds text count at (Some first) h =
     bounds_if HeadedWithin count (is_byte 44 (slice_get text (past Blank text at))) _ _ (second_bounds text count first (past Blank text (past Blank text at + 1)) h)
@@ -282,9 +282,9 @@ behind_bounds text count at (Some first) h =
 addresses_bounds : (text : List ℕ) (count at : ℕ) → Bounds HeadedWithin count (addresses_at text count at)
 unfolding addresses_at
 addresses_bounds text count at =
-    bounds_then AddressedWithin HeadedWithin count (address_at text count at) (λ (x : Addressed). behind_first text x.count x.at x.address)
+    bounds_then AddressedWithin HeadedWithin count (address_at text count at) (λ (x : Addressed). after_first text x.count x.at x.address)
     (address_bounds text count at)
-    (λ n x le p. subst (λ (k : ℕ). Bounds HeadedWithin k (behind_first text x.count x.at x.address)) p.0
+    (λ n x le p. subst (λ (k : ℕ). Bounds HeadedWithin k (after_first text x.count x.at x.address)) p.0
     (behind_bounds text x.count x.at x.address (address_more n x.count x.address (omega (arith, p.0)) p.1)))
 
 -- functions
@@ -376,13 +376,13 @@ flags_within text empty f zero at (b ∷ bs) h = by_digit (λ g skip. flags_with
     Rest : Type 0
     Rest = (g : Flags) (skip : ℕ) → FlagsWithin g → IfOk (flags_from text empty g skip (suc at) bs) ReadWithin
 
-    behind : Rest → (skip : ℕ) (r : Result Flags ScriptFault) → IfOk r FlagsWithin → IfOk (◌then◌ r (λ (g : Flags). flags_from text empty g skip (suc at) bs)) ReadWithin
-    behind rest skip (Ok g) k = rest g skip k
-    behind rest skip (Err e) k = tt
+    read_on : Rest → (skip : ℕ) (r : Result Flags ScriptFault) → IfOk r FlagsWithin → IfOk (◌then◌ r (λ (g : Flags). flags_from text empty g skip (suc at) bs)) ReadWithin
+    read_on rest skip (Ok g) k = rest g skip k
+    read_on rest skip (Err e) k = tt
 
     by_file : Rest → (t : Bool) → IfOk (if t then with_file f at (name_from text (at + 1)) else ◌then◌ (with_flag empty f at b) (λ (g : Flags). flags_from text empty g zero (suc at) bs)) ReadWithin
     by_file rest true = file_flag_within f at (name_from text (at + 1)) h
-    by_file rest false = behind rest zero (with_flag empty f at b) (flag_within empty f at b h)
+    by_file rest false = read_on rest zero (with_flag empty f at b) (flag_within empty f at b h)
 
     by_end : Rest → (t : Bool) →
         IfOk (if t then Ok (f, at) else if b == 119 then with_file f at (name_from text (at + 1)) else ◌then◌ (with_flag empty f at b) (λ (g : Flags). flags_from text empty g zero (suc at) bs)) ReadWithin
@@ -392,13 +392,13 @@ flags_within text empty f zero at (b ∷ bs) h = by_digit (λ g skip. flags_with
     by_digit : Rest → (t : Bool) → IfOk (if t then ◌then◌ (with_number f at (b ∷ take (run_of Digit bs) bs)) (λ (g : Flags). flags_from text empty g (run_of Digit bs) (suc at) bs)
         else if ends_flags b then Ok (f, at) else if b == 119 then with_file f at (name_from text (at + 1))
         else ◌then◌ (with_flag empty f at b) (λ (g : Flags). flags_from text empty g zero (suc at) bs)) ReadWithin
-    by_digit rest true = behind rest (run_of Digit bs) (with_number f at (b ∷ take (run_of Digit bs) bs)) (number_within f at (b ∷ take (run_of Digit bs) bs))
+    by_digit rest true = read_on rest (run_of Digit bs) (with_number f at (b ∷ take (run_of Digit bs) bs)) (number_within f at (b ∷ take (run_of Digit bs) bs))
     by_digit rest false = by_end rest (ends_flags b)
 
 substituted_within : (text : List ℕ) (s : Strings) (e limit : Option ℕ) (n : ℕ) → IsOneOf n e → IfOk (substituted text s e limit) (FoundWithin n)
 unfolding substituted
 substituted_within text s e limit n h =
-    unless_within n (replacement_fault s.delimiter limit false (s.middle + 1) (part text (s.middle + 1) s.to)) _
+    unless_within n (replacement_fault s.delimiter limit false (s.middle + 1) (bytes_between text (s.middle + 1) s.to)) _
     (by_flags (flags_from text (not (is_some e)) no_flags 0 (s.to + 1) (drop (s.to + 1) text)) (flags_within text (not (is_some e)) no_flags 0 (s.to + 1) (drop (s.to + 1) text) (omega arith)))
   where
     by_flags : (r : Result (Flags × ℕ) ScriptFault) → IfOk r ReadWithin → IfOk (◌then◌ r (λ (found : Flags × ℕ). ended text (Substitute s e found.0) found.1)) (FoundWithin n)
@@ -409,7 +409,7 @@ substitute_bounds : (text : List ℕ) (count : ℕ) (s : Strings) → Bounds Fou
 substitute_bounds text count s = by_length (s.middle == s.from)
   where
     by_length : (b : Bool) → Bounds FoundWithin count
-        (if b then plainly (substituted text s None None) else expression (record { from = s.from; to = s.middle; delimiter = s.delimiter; folded = folds (flags_behind text s false) }) (λ groups. plainly (substituted text s (Some count) (Some groups))))
+        (if b then plainly (substituted text s None None) else expression (record { from = s.from; to = s.middle; delimiter = s.delimiter; folded = folds (flags_after text s false) }) (λ groups. plainly (substituted text s (Some count) (Some groups))))
     by_length true = substituted_within text s None None count tt
     by_length false = λ groups. substituted_within text s (Some count) (Some groups) (suc count) (omega arith)
 
@@ -458,9 +458,9 @@ item_bounds text count at = by_byte (slice_get text (past Separator text at))
     by_byte : (o : Option ℕ) → Bounds HereWithin count (item_from text count (past Separator text at) o)
     by_byte None = tt
     by_byte (Some b) =
-        bounds_then HeadedWithin HereWithin count (addresses_at text count (past Separator text at)) (function_behind text)
+        bounds_then HeadedWithin HereWithin count (addresses_at text count (past Separator text at)) (function_after text)
         (addresses_bounds text count (past Separator text at))
-        (λ n h le p. subst (λ (k : ℕ). Bounds HereWithin k (function_behind text h)) p.0
+        (λ n h le p. subst (λ (k : ℕ). Bounds HereWithin k (function_after text h)) p.0
         (item_of_bounds text h.count (with_bang text h).addresses (with_bang text h).at (bang_within text h h.count (subst (λ (k : ℕ). AddressesWithin k h.addresses) (sym p.0) p.1))))
 
 function_more : (m n : ℕ) (f : Function) → m ≤ n → FunctionWithin m f → FunctionWithin n f
@@ -538,7 +538,7 @@ fit_append m (e ∷ es) fs h g = (h.0, fit_append m es fs h.1 g)
 
 fit_read : {A : Type 0} (text : List ℕ) (kind : Kind) (m : ℕ) (r : Reading A) (es : List Written) (x : A) → Gives text kind m r es x → AllFit m es
 fit_read text kind m _ _ x value = tt
-fit_read text kind m _ _ x (behind {k = k} {es = es} e is g) = (is.fits, fit_read text kind m (k e.groups) es x g)
+fit_read text kind m _ _ x (after_expression {k = k} {es = es} e is g) = (is.fits, fit_read text kind m (k e.groups) es x g)
 
 cut_fit : (text : List ℕ) (kind : Kind) (m count at to : ℕ) (is : List Item) (es : List Written) → Cut text kind m count at is es to → AllFit m es
 cut_fit text kind m count at to _ _ done = tt
@@ -612,9 +612,9 @@ abbrev Among : FileUse → List ℕ → List (List ℕ) → List Item → Type 0
 Among u text ns is = (name : List ℕ) → has name (names_in u text is) ≡ true → has name ns ≡ true
 
 -- a name that stands at these places
-file_there : (u : FileUse) (text : List ℕ) (span : ℕ × ℕ) (rest : List (List ℕ)) → is_file u (part text span.0 span.1) ≡ true → has (part text span.0 span.1) (cons_option (file_at u text (Some span)) rest) ≡ true
+file_there : (u : FileUse) (text : List ℕ) (span : ℕ × ℕ) (rest : List (List ℕ)) → is_file u (bytes_between text span.0 span.1) ≡ true → has (bytes_between text span.0 span.1) (cons_option (file_at u text (Some span)) rest) ≡ true
 file_there u text span rest h =
-    let name : List ℕ = part text span.0 span.1 in
+    let name : List ℕ = bytes_between text span.0 span.1 in
     ap (λ (b : Bool). has name (cons_option (if b then Some name else None) rest)) h
     ∙ ap (λ (b : Bool). b || has name rest) ((bytes_eq-Decides name name).1 refl)
 
@@ -640,14 +640,14 @@ files_within text all n (i ∷ is) r w a b = (
   where
     by_flag : (o : Option (ℕ × ℕ)) → ((name : List ℕ) → has name (cons_option (file_at Write text o) (names_in Write text is)) ≡ true → has name (files_in Write text all) ≡ true) → SinkWithin n.wfiles (sink_of text all o)
     by_flag None b = tt
-    by_flag (Some span) b = file_number Write text all n (part text span.0 span.1) r w (λ h. b (part text span.0 span.1) (file_there Write text span (names_in Write text is) h))
+    by_flag (Some span) b = file_number Write text all n (bytes_between text span.0 span.1) r w (λ h. b (bytes_between text span.0 span.1) (file_there Write text span (names_in Write text is) h))
 
     by_function : (f : Function) →
         ((name : List ℕ) → has name (cons_option (file_at Read text (name_in Read f)) (names_in Read text is)) ≡ true → has name (files_in Read text all) ≡ true) →
         ((name : List ℕ) → has name (cons_option (file_at Write text (name_in Write f)) (names_in Write text is)) ≡ true → has name (files_in Write text all) ≡ true) →
         FilesWithin text all n f
-    by_function (File Read from to) a b = file_number Read text all n (part text from to) r w (λ h. a (part text from to) (file_there Read text (from, to) (names_in Read text is) h))
-    by_function (File Write from to) a b = file_number Write text all n (part text from to) r w (λ h. b (part text from to) (file_there Write text (from, to) (names_in Write text is) h))
+    by_function (File Read from to) a b = file_number Read text all n (bytes_between text from to) r w (λ h. a (bytes_between text from to) (file_there Read text (from, to) (names_in Read text is) h))
+    by_function (File Write from to) a b = file_number Write text all n (bytes_between text from to) r w (λ h. b (bytes_between text from to) (file_there Write text (from, to) (names_in Write text is) h))
     by_function (Substitute s e f) a b = by_flag f.file b
     by_function f a b = tt
 

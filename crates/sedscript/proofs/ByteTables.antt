@@ -21,10 +21,10 @@ set_filled f g n s x lt here else_ =
     ])
 
 -- a pair before the others
-pub table_more : (s t : ℕ) (source target : List ℕ) → s < 256 → set (table_of source target) s t ≡ table_of (s ∷ source) (t ∷ target)
+pub table_more : (s t : ℕ) (string1 string2 : List ℕ) → s < 256 → set (table_of string1 string2) s t ≡ table_of (s ∷ string1) (t ∷ string2)
 unfolding table_of
-table_more s t source target lt =
-    set_filled (counterpart source target) (counterpart (s ∷ source) (t ∷ target)) 256 s t lt (rw (equal_self s) refl)
+table_more s t string1 string2 lt =
+    set_filled (counterpart string1 string2) (counterpart (s ∷ string1) (t ∷ string2)) 256 s t lt (rw (equal_self s) refl)
     (λ (k : ℕ) (other : k ≢ s). elim (eqb_tells s k) [ inl h ↦ absurd (other (sym h.1)) | inr h ↦ rw h.0 refl ])
 
 -- a byte more
@@ -38,21 +38,21 @@ pub marks_at : (b : ℕ) (bs : List ℕ) (d : Bool) → b < 256 → get_or (mark
 unfolding marks_of
 marks_at b bs d lt = get_or-map-range_with_len (is_among bs) 0 256 b b d lt (omega arith)
 
-pub table_length : (source target : List ℕ) → length (table_of source target) ≡ 256
+pub table_length : (string1 string2 : List ℕ) → length (table_of string1 string2) ≡ 256
 unfolding table_of
-table_length source target = length-map-range_with_len (counterpart source target) 0 256
+table_length string1 string2 = length-map-range_with_len (counterpart string1 string2) 0 256
 
 -- without a pair each byte stands for itself
-pub table_none : (source target : List ℕ) → source ≡ [] ⊎ target ≡ [] → range_with_len 0 256 ≡ table_of source target
+pub table_none : (string1 string2 : List ℕ) → string1 ≡ [] ⊎ string2 ≡ [] → range_with_len 0 256 ≡ table_of string1 string2
 unfolding table_of
-table_none source target h =
-    fill_by_all (counterpart source target) (range_with_len 0 256) 256 0 (length-range_with_len 0 256)
-    (λ (k : ℕ) (lt : k < 256). get_or-range_with_len 0 256 k 0 lt ∙ (omega arith ∙ sym (same source target k h)))
+table_none string1 string2 h =
+    fill_by_all (counterpart string1 string2) (range_with_len 0 256) 256 0 (length-range_with_len 0 256)
+    (λ (k : ℕ) (lt : k < 256). get_or-range_with_len 0 256 k 0 lt ∙ (omega arith ∙ sym (same string1 string2 k h)))
   where
-    same : (source target : List ℕ) (k : ℕ) → source ≡ [] ⊎ target ≡ [] → counterpart source target k ≡ k
-    same source target k (inl e) = rw e refl
-    same [] target k (inr e) = refl
-    same (s ∷ source) target k (inr e) = rw e refl
+    same : (string1 string2 : List ℕ) (k : ℕ) → string1 ≡ [] ⊎ string2 ≡ [] → counterpart string1 string2 k ≡ k
+    same string1 string2 k (inl e) = rw e refl
+    same [] string2 k (inr e) = refl
+    same (s ∷ string1) string2 k (inr e) = rw e refl
 
 -- a number more
 pub range_more : (a n : ℕ) → range_with_len a (n + 1) ≡ range_with_len a n ++ (a + n) ∷ []
@@ -62,18 +62,18 @@ range_more a (suc n) =
     ∙ ap (λ (l : List ℕ). a ∷ l) (range_more (a + 1) n ∙ ap (λ (k : ℕ). range_with_len (a + 1) n ++ k ∷ []) (omega arith))
 
 -- the pair at an index, before those after it
-pub table_step : (source target : List ℕ) (k d e s t : ℕ) → k < length source → k < length target → s ≡ get_or source k d → t ≡ get_or target k e → s < 256 →
-    set (table_of (drop (k + 1) source) (drop (k + 1) target)) s t ≡ table_of (drop k source) (drop k target)
-table_step source target k d e s t h g is as_ lt =
+pub table_step : (string1 string2 : List ℕ) (k d e s t : ℕ) → k < length string1 → k < length string2 → s ≡ get_or string1 k d → t ≡ get_or string2 k e → s < 256 →
+    set (table_of (drop (k + 1) string1) (drop (k + 1) string2)) s t ≡ table_of (drop k string1) (drop k string2)
+table_step string1 string2 k d e s t h g is as_ lt =
     let one : k + 1 ≡ suc k = omega arith in
-    let these : s ∷ drop (k + 1) source ≡ drop k source = ap (λ (z : ℕ). z ∷ drop (k + 1) source) is ∙ (ap (λ (z : ℕ). get_or source k d ∷ drop z source) one ∙ sym (drop-cons source k d h)) in
-    let those : t ∷ drop (k + 1) target ≡ drop k target = ap (λ (z : ℕ). z ∷ drop (k + 1) target) as_ ∙ (ap (λ (z : ℕ). get_or target k e ∷ drop z target) one ∙ sym (drop-cons target k e g)) in
-    table_more s t (drop (k + 1) source) (drop (k + 1) target) lt ∙ (ap (λ (z : List ℕ). table_of z (t ∷ drop (k + 1) target)) these ∙ ap (table_of (drop k source)) those)
+    let these : s ∷ drop (k + 1) string1 ≡ drop k string1 = ap (λ (z : ℕ). z ∷ drop (k + 1) string1) is ∙ (ap (λ (z : ℕ). get_or string1 k d ∷ drop z string1) one ∙ sym (drop-cons string1 k d h)) in
+    let those : t ∷ drop (k + 1) string2 ≡ drop k string2 = ap (λ (z : ℕ). z ∷ drop (k + 1) string2) as_ ∙ (ap (λ (z : ℕ). get_or string2 k e ∷ drop z string2) one ∙ sym (drop-cons string2 k e g)) in
+    table_more s t (drop (k + 1) string1) (drop (k + 1) string2) lt ∙ (ap (λ (z : List ℕ). table_of z (t ∷ drop (k + 1) string2)) these ∙ ap (table_of (drop k string1)) those)
 
 -- after the shorter string no pair stands
-pub table_start : (source target : List ℕ) (k : ℕ) → k ≡ min (length source) (length target) → range_with_len 0 256 ≡ table_of (drop k source) (drop k target)
-table_start source target k e = table_none (drop k source) (drop k target) (elim (leb_tells (length source) k)
-    [ inl h ↦ inl (drop_of_length-le source h.1) | inr h ↦ inr (drop_of_length-le target (let above = h.1 in omega (arith, e, above))) ])
+pub table_start : (string1 string2 : List ℕ) (k : ℕ) → k ≡ min (length string1) (length string2) → range_with_len 0 256 ≡ table_of (drop k string1) (drop k string2)
+table_start string1 string2 k e = table_none (drop k string1) (drop k string2) (elim (leb_tells (length string1) k)
+    [ inl h ↦ inl (drop_of_length-le string1 h.1) | inr h ↦ inr (drop_of_length-le string2 (let above = h.1 in omega (arith, e, above))) ])
 
 -- nothing is noted at first
 pub no_marks : (seen : List Bool) → seen ≡ replicate 256 false → seen ≡ marks_of []

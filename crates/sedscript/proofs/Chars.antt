@@ -3,7 +3,7 @@ use Rattle.std.proofs.Common.{◌≡◌, ℕ, suc, ◌+◌, ◌-◌, ◌<◌, �
 use Rattle.sedscript.specs.Strings.{escapes}
 use Rattle.sedscript.specs.Transliteration.{Char, escaped_byte, char_of, with_char, chars_from, chars_of, bytes_of, table_of, repeated_in, is_among}
 use Rattle.sedscript.specs.declared.items.Strings.{Strings}
-use Rattle.sedscript.specs.Bytes.{part}
+use Rattle.sedscript.specs.Bytes.{bytes_between}
 use Rattle.sedscript.specs.Script.{table_between}
 
 chars_step : (d from k : ℕ) (e f : Bool) (bytes : List ℕ) (o : Option Char) → k < length bytes → o ≡ char_of d e (from + k) (get_or bytes k 0) → f ≡ escapes e (get_or bytes k 0) →
@@ -59,8 +59,8 @@ same_bytes d at n e [] = refl
 same_bytes d at n e (b ∷ bs) = same_byte d at n e b _ _ (same_bytes d (suc at) (suc n) (escapes e b) bs)
 
 -- the table of two strings
-pub table_is : (text : List ℕ) (s : Strings) (table source target first second : List ℕ) → first ≡ part text s.from s.middle → second ≡ part text (s.middle + 1) s.to →
-    source ≡ bytes_of (chars_from s.delimiter false 0 first) → target ≡ bytes_of (chars_from s.delimiter false 0 second) → table ≡ table_of source target → table ≡ table_between text s
-table_is text s table source target first second one other from to is =
-    is ∙ ap (λ (x : List ℕ). table_of x target) (from ∙ (ap (λ (x : List ℕ). bytes_of (chars_from s.delimiter false 0 x)) one ∙ same_bytes s.delimiter 0 s.from false (part text s.from s.middle)))
-    ∙ ap (table_of (bytes_of (chars_of text s.delimiter s.from s.middle))) (to ∙ (ap (λ (x : List ℕ). bytes_of (chars_from s.delimiter false 0 x)) other ∙ same_bytes s.delimiter 0 (s.middle + 1) false (part text (s.middle + 1) s.to)))
+pub table_is : (text : List ℕ) (s : Strings) (table string1 string2 first second : List ℕ) → first ≡ bytes_between text s.from s.middle → second ≡ bytes_between text (s.middle + 1) s.to →
+    string1 ≡ bytes_of (chars_from s.delimiter false 0 first) → string2 ≡ bytes_of (chars_from s.delimiter false 0 second) → table ≡ table_of string1 string2 → table ≡ table_between text s
+table_is text s table string1 string2 first second one other from to is =
+    is ∙ ap (λ (x : List ℕ). table_of x string2) (from ∙ (ap (λ (x : List ℕ). bytes_of (chars_from s.delimiter false 0 x)) one ∙ same_bytes s.delimiter 0 s.from false (bytes_between text s.from s.middle)))
+    ∙ ap (table_of (bytes_of (chars_of text s.delimiter s.from s.middle))) (to ∙ (ap (λ (x : List ℕ). bytes_of (chars_from s.delimiter false 0 x)) other ∙ same_bytes s.delimiter 0 (s.middle + 1) false (bytes_between text (s.middle + 1) s.to)))

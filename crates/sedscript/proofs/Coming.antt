@@ -1,6 +1,7 @@
 -- How what functions answer is put together.
 use Rattle.std.proofs.Common.{◌≡◌, ◌≢◌, ◌≤◌, ℕ, ◌+◌, Bool, true, false, ◌==◌, List, [], ◌∷◌, ◌++◌, length, Option, Some, None, Result, Ok, Err, IfOk, refl, sym, ap, subst, ◌∙◌, inl, inr, ◌⊎◌, append_assoc, arith, slice_get, if◌then◌else◌}
 use Rattle.std.proofs.lemmas.Bool.Decides.{eqb_tells}
+use Rattle.std.specs.Result.{IsErrAnd}
 use Rattle.std.proofs.lemmas.List.{append-nil}
 use Rattle.sedre.specs.declared.types.Kind.{Kind}
 use Rattle.sedre.specs.Arena.{Written}
@@ -18,22 +19,22 @@ use Rattle.sedscript.specs.declared.types.Address.{Address}
 use Rattle.sedscript.specs.declared.types.Address.TheVariants.{Last, Match}
 use Rattle.sedscript.specs.declared.items.Here.{Here}
 use Rattle.sedscript.specs.declared.items.Here.TheVariants.{Is, Ends}
-use Rattle.sedscript.specs.Bytes.{part, past, is_byte, is_digit, with_digits}
+use Rattle.sedscript.specs.Bytes.{bytes_between, past, is_byte, is_digit, with_digits}
 use Rattle.sedscript.specs.Reading.{Pattern, Reading, plainly, expression, ◌>>=◌}
-use Rattle.sedscript.specs.Addresses.{Addressed, found, headed, folds_at, past_flag, empty_match, match_at, match_to, own_match, addresses_at, behind_first, address_at, address_of, line_of}
+use Rattle.sedscript.specs.Addresses.{Addressed, found, headed, folds_at, past_flag, empty_match, match_at, match_to, own_match, addresses_at, after_first, address_at, address_of, line_of}
 use Rattle.sedscript.specs.declared.items.Strings.{Strings}
 use Rattle.sedscript.specs.declared.items.Function.{Function}
-use Rattle.sedscript.specs.Between.{own_delimiter, substitute_strings, flags_behind, substituted}
+use Rattle.sedscript.specs.Between.{own_delimiter, substitute_strings, flags_after, substituted}
 use Rattle.sedscript.specs.Flags.{folds}
 use Rattle.sedscript.specs.Letters.{verb_of}
 use Rattle.sedscript.specs.declared.letters.Verb.{Verb}
 use Rattle.sedscript.specs.declared.letters.Verb.TheVariants.{Reads}
 use Rattle.sedscript.specs.declared.letters.Shape.{Shape}
-use Rattle.sedscript.specs.Items.{item_at, item_from, function_behind, substitute_with, substitute_at, function_of, function_with, function_at, item_with}
+use Rattle.sedscript.specs.Items.{item_at, item_from, function_after, substitute_with, substitute_at, function_of, function_with, function_at, item_with}
 use Rattle.sedscript.specs.Functions.{allowed, item_of}
 use Rattle.sedscript.specs.declared.items.Addresses.{Addresses}
-use Rattle.sedscript.specs.Expressions.{IsRead, Gives, value, behind, Fails, own, no_expression, later, in_script}
-use Rattle.sedscript.specs.Answers.{as_here, as_function, as_groups, as_addressed, Comes, Agrees, IsBehind, IsHere, is_no_memory, fault_of}
+use Rattle.sedscript.specs.Expressions.{IsRead, Gives, value, after_expression, Fails, own, no_expression, later, in_script}
+use Rattle.sedscript.specs.Answers.{as_here, as_function, as_groups, as_addressed, Comes, Agrees, IsAfter, IsHere, is_no_memory, fault_of}
 
 not_equal : (a b : ℕ) → a ≢ b → (a == b) ≡ false
 not_equal a b n = elim (eqb_tells a b) [ inl h ↦ absurd (n h.1) | inr h ↦ h.0 ]
@@ -53,13 +54,13 @@ if_false x y false e = refl
 pub gives_then : {A B : Type 0} (text : List ℕ) (kind : Kind) (m : ℕ) (r : Reading A) (f : A → Reading B) (es fs : List Written) (a : A) (b : B) →
     Gives text kind m r es a → Gives text kind m (f a) fs b → Gives text kind m (r >>= f) (es ++ fs) b
 gives_then text kind m _ f _ fs _ b value h = h
-gives_then text kind m _ f _ fs a b (behind {k = k} {es = es} e is g) h = behind e is (gives_then text kind m (k e.groups) f es fs a b g h)
+gives_then text kind m _ f _ fs a b (after_expression {k = k} {es = es} e is g) h = after_expression e is (gives_then text kind m (k e.groups) f es fs a b g h)
 
 -- a fault after what was read
 pub fails_then : {A B : Type 0} (text : List ℕ) (kind : Kind) (m : ℕ) (r : Reading A) (f : A → Reading B) (es : List Written) (a : A) (x : ScriptFault) →
     Gives text kind m r es a → Fails text kind m (f a) x → Fails text kind m (r >>= f) x
 fails_then text kind m _ f _ _ x value h = h
-fails_then text kind m _ f _ a x (behind {k = k} {es = es} e is g) h = later e is (fails_then text kind m (k e.groups) f es a x g h)
+fails_then text kind m _ f _ a x (after_expression {k = k} {es = es} e is g) h = later e is (fails_then text kind m (k e.groups) f es a x g h)
 
 -- a fault stands first
 pub fails_first : {A B : Type 0} (text : List ℕ) (kind : Kind) (m : ℕ) (r : Reading A) (f : A → Reading B) (x : ScriptFault) →
@@ -83,6 +84,12 @@ pub comes_err : {A B : Type 0} (text : List ℕ) (kind : Kind) (m : ℕ) (r : Re
 comes_err text kind m r f x (inl h) = inl (fails_first text kind m r f x h)
 comes_err text kind m r f x (inr e) = inr e
 
+-- a fault that another function answered
+pub comes_as_err : {X A : Type 0} (text : List ℕ) (kind : Kind) (m : ℕ) (old new : List Written) (w : X → ℕ → A) (result : Result X ScriptFault) (r : Reading A) (x : ScriptFault) →
+    IsErrAnd result (λ (y : ScriptFault). y ≡ x) → Fails text kind m r x ⊎ (x ≡ NO_MEMORY) → Comes text kind m old new w result r
+comes_as_err text kind m old new w (Ok y) r x is h = absurd is
+comes_as_err text kind m old new w (Err y) r x is h = subst (λ (f : ScriptFault). Fails text kind m r f ⊎ (f ≡ NO_MEMORY)) (sym is) h
+
 -- what reads no expression
 pub comes_plain : {X A : Type 0} (text : List ℕ) (kind : Kind) (m : ℕ) (old new : List Written) (w : X → ℕ → A) (result : Result X ScriptFault) (r : Result A ScriptFault) →
     old ≡ new → Agrees w (length new) result r → Comes text kind m old new w result (plainly r)
@@ -101,12 +108,12 @@ unfolding match_at
 match_open text kind m count d place e =
     subst (λ (o : Option ℕ). Fails text kind m (match_to text count d place o) (record { place = place; reason = OpenDelimiter })) (sym e) own
 
--- a fault of the reader of expressions, by whether memory was wanting
+-- a fault of the reader of expressions, by whether there was no memory
 not_memory : (r : ExprReason) → is_no_memory r ≡ false → r ≡ NoMemory → ⊥
 not_memory r e is = let g : true ≡ false = sym (ap is_no_memory is) ∙ e in cc
 
 fails_in_script : {A : Type 0} (text : List ℕ) (kind : Kind) (m : ℕ) (p : Pattern) (k : ℕ → Reading A) (f : ExprFault) (b : Bool) → is_no_memory f.reason ≡ b →
-    ExprFaulty kind (Some p.delimiter) (part text p.from p.to) m f.place f.reason ⊎ (f ≡ no_expr_memory) →
+    ExprFaulty kind (Some p.delimiter) (bytes_between text p.from p.to) m f.place f.reason ⊎ (f ≡ no_expr_memory) →
     Fails text kind m (expression p k) (if b then NO_MEMORY else in_script p.from f) ⊎ ((if b then NO_MEMORY else in_script p.from f) ≡ NO_MEMORY)
 fails_in_script text kind m p k f true is h = inr refl
 fails_in_script text kind m p k f false is (inl h) = inl (no_expression {f = f} h)
@@ -114,7 +121,7 @@ fails_in_script text kind m p k f false is (inr e) = absurd (not_memory f.reason
 
 -- a fault of the reader of expressions, in the script
 pub fails_as_read : {A : Type 0} (text : List ℕ) (kind : Kind) (m : ℕ) (p : Pattern) (k : ℕ → Reading A) (f : ExprFault) →
-    ExprFaulty kind (Some p.delimiter) (part text p.from p.to) m f.place f.reason ⊎ (f ≡ no_expr_memory) →
+    ExprFaulty kind (Some p.delimiter) (bytes_between text p.from p.to) m f.place f.reason ⊎ (f ≡ no_expr_memory) →
     Fails text kind m (expression p k) (fault_of p.from f) ⊎ (fault_of p.from f ≡ NO_MEMORY)
 fails_as_read text kind m p k f h = fails_in_script text kind m p k f (is_no_memory f.reason) refl h
 
@@ -122,7 +129,7 @@ fails_as_read text kind m p k f h = fails_in_script text kind m p k f (is_no_mem
 pub expression_comes : (text : List ℕ) (kind : Kind) (m : ℕ) (p : Pattern) (old new : List Written) (e : Written) (groups : ℕ) → groups ≡ e.groups → IsRead text kind m p e → new ≡ old ++ e ∷ [] →
     Comes text kind m old new as_groups (Ok groups) (expression p (λ (groups : ℕ). plainly (Ok groups)))
 expression_comes text kind m p old new e groups same read grown =
-    subst (λ (n : ℕ). Comes text kind m old new as_groups (Ok n) (expression p (λ (groups : ℕ). plainly (Ok groups)))) (sym same) (e ∷ [], behind e read value, grown)
+    subst (λ (n : ℕ). Comes text kind m old new as_groups (Ok n) (expression p (λ (groups : ℕ). plainly (Ok groups)))) (sym same) (e ∷ [], after_expression e read value, grown)
 
 -- an address with an expression is what stands after the expression alone
 pub match_is : (text : List ℕ) (count d place to : ℕ) (folded : Bool) → delimiter_at text (place + 1) d ≡ Some to → to ≢ place + 1 → folded ≡ folds_at text (to + 1) →
@@ -167,7 +174,7 @@ item_none text kind m old new place e same =
     subst (λ (o : Option ℕ). Comes text kind m old new as_here (Ok Ends) (item_from text (length old) (past Separator text place) o)) (sym e) ([], value, sym same ∙ sym (append-nil old))
 
 pub item_some : (text : List ℕ) (kind : Kind) (m : ℕ) (old new : List Written) (place start b : ℕ) (result : Result Here ScriptFault) → start ≡ past Separator text place → slice_get text start ≡ Some b →
-    Comes text kind m old new as_here result (addresses_at text (length old) start >>= function_behind text) →
+    Comes text kind m old new as_here result (addresses_at text (length old) start >>= function_after text) →
     Comes text kind m old new as_here result (item_at text (length old) place)
 unfolding item_at
 item_some text kind m old new place start b result s e h =
@@ -189,11 +196,11 @@ no_address text count at b e d last slash other =
     ap (address_of text count at) e ∙ if_false _ _ (is_digit b) d ∙ if_false _ _ (b == 36) (not_equal b 36 last) ∙ if_false _ _ (b == 47) (not_equal b 47 slash) ∙ if_false _ _ (b == 92) (not_equal b 92 other)
 
 pub only_first : (text : List ℕ) (count at : ℕ) (first : Address) (o : Option Address) → o ≡ Some first → is_byte 44 (slice_get text (past Blank text at)) ≡ false →
-    behind_first text count at o ≡ plainly (headed (Some first) None at count)
-only_first text count at first o e d = ap (behind_first text count at) e ∙ if_false _ _ (is_byte 44 (slice_get text (past Blank text at))) d
+    after_first text count at o ≡ plainly (headed (Some first) None at count)
+only_first text count at first o e d = ap (after_first text count at) e ∙ if_false _ _ (is_byte 44 (slice_get text (past Blank text at))) d
 
 pub line_comes : (text : List ℕ) (kind : Kind) (m : ℕ) (old : List Written) (at b : ℕ) (result : Result (Option Address × ℕ) ScriptFault) → slice_get text at ≡ Some b → is_digit b ≡ true →
-    Agrees as_addressed (length old) result (line_of (length old) at (past Digit text at) (with_digits (Some 0) (part text at (past Digit text at)))) →
+    Agrees as_addressed (length old) result (line_of (length old) at (past Digit text at) (with_digits (Some 0) (bytes_between text at (past Digit text at)))) →
     Comes text kind m old old as_addressed result (address_at text (length old) at)
 unfolding address_at
 line_comes text kind m old at b result e d h =
@@ -204,10 +211,10 @@ pub answers_same : (n : ℕ) (result r : Result Here ScriptFault) → result ≡
 answers_same n (Ok x) r e = sym e
 answers_same n (Err x) r e = sym e
 
-pub behind_here : (text : List ℕ) (at start next : ℕ) (result : Result Here ScriptFault) → at ≤ start → start ≤ next → IfOk result (IsBehind next (length text)) → IfOk result (IsHere text at)
-behind_here text at start next (Err x) a b h = tt
-behind_here text at start next (Ok (Is i to)) a b h = (omega (arith, a, b, h.0), h.1)
-behind_here text at start next (Ok Ends) a b h = absurd h
+pub after_here : (text : List ℕ) (at start next : ℕ) (result : Result Here ScriptFault) → at ≤ start → start ≤ next → IfOk result (IsAfter next (length text)) → IfOk result (IsHere text at)
+after_here text at start next (Err x) a b h = tt
+after_here text at start next (Ok (Is i to)) a b h = (omega (arith, a, b, h.0), h.1)
+after_here text at start next (Ok Ends) a b h = absurd h
 
 -- `s`
 
@@ -218,14 +225,14 @@ functions_agree n (Err x) r e = sym e
 pub substitute_empty : (text : List ℕ) (count : ℕ) (s : Strings) → s.middle ≡ s.from → substitute_with text count s ≡ plainly (substituted text s None None)
 substitute_empty text count s e = if_true _ _ (s.middle == s.from) (equal s.middle s.from e)
 
-pub substitute_is : (text : List ℕ) (count : ℕ) (s : Strings) (folded : Bool) → s.middle ≢ s.from → folded ≡ folds (flags_behind text s false) →
+pub substitute_is : (text : List ℕ) (count : ℕ) (s : Strings) (folded : Bool) → s.middle ≢ s.from → folded ≡ folds (flags_after text s false) →
     substitute_with text count s ≡ (expression (record { from = s.from; to = s.middle; delimiter = s.delimiter; folded = folded }) (λ (groups : ℕ). plainly (Ok groups)) >>= λ (groups : ℕ). plainly (substituted text s (Some count) (Some groups)))
 substitute_is text count s folded n f =
     subst (λ (b : Bool). substitute_with text count s ≡ (expression (record { from = s.from; to = s.middle; delimiter = s.delimiter; folded = b }) (λ (groups : ℕ). plainly (Ok groups)) >>= λ (groups : ℕ). plainly (substituted text s (Some count) (Some groups)))) (sym f)
     (if_false _ _ (s.middle == s.from) (not_equal s.middle s.from n))
 
 pub substitute_comes : (text : List ℕ) (kind : Kind) (m number groups : ℕ) (s : Strings) (folded : Bool) (old new : List Written) (result : Result (Function × ℕ) ScriptFault) → s.middle ≢ s.from →
-    folded ≡ folds (flags_behind text s false) → number ≡ length old →
+    folded ≡ folds (flags_after text s false) → number ≡ length old →
     Comes text kind m old new as_groups (Ok groups) (expression (record { from = s.from; to = s.middle; delimiter = s.delimiter; folded = folded }) (λ (groups : ℕ). plainly (Ok groups))) →
     result ≡ substituted text s (Some number) (Some groups) → Comes text kind m old new as_function result (substitute_with text (length old) s)
 substitute_comes text kind m number groups s folded old new result n f same h is =

@@ -9,12 +9,12 @@ use Rattle.sedscript.specs.declared.items.Item.{Item}
 use Rattle.sedscript.specs.declared.items.Here.{Here}
 use Rattle.sedscript.specs.declared.items.Here.TheVariants.{Is, Ends}
 use Rattle.sedscript.specs.declared.bytes.Sort.TheVariants.{Separator}
-use Rattle.sedscript.specs.Bytes.{past, part}
+use Rattle.sedscript.specs.Bytes.{past, bytes_between}
 use Rattle.sedscript.specs.Reading.{Pattern, Reading}
 use Rattle.sedscript.specs.Items.{item_at, item_from}
-use Rattle.sedscript.specs.Expressions.{IsRead, Gives, value, behind, Fails, no_expression, later}
+use Rattle.sedscript.specs.Expressions.{IsRead, Gives, value, after_expression, Fails, no_expression, later}
 use Rattle.sedscript.specs.Script.{Cut, done, item, IsEnd, Means, Faulty, early, afterwards, Program, Judged}
-use Rattle.sedscript.specs.Targets.{late}
+use Rattle.sedscript.specs.Targets.{target_fault}
 
 -- a text reads as one expression, with one number of groups
 abbrev pub ReadsAsOne : Type 0
@@ -23,13 +23,13 @@ ReadsAsOne = (kind : Kind) (folded : Bool) (delimiter : Option ℕ) (text : List
 
 -- what stands after one reading of a pattern stands after the other
 pub as_other : (text : List ℕ) (kind : Kind) (m : ℕ) (p : Pattern) (d e : Written) → ReadsAsOne → IsRead text kind m p d → IsRead text kind m p e → d.groups ≡ e.groups
-as_other text kind m p d e one h g = (one kind p.folded (Some p.delimiter) (part text p.from p.to) (tree d) (tree e) d.groups e.groups h.reads g.reads).1
+as_other text kind m p d e one h g = (one kind p.folded (Some p.delimiter) (bytes_between text p.from p.to) (tree d) (tree e) d.groups e.groups h.reads g.reads).1
 
 -- what is read is one value, with one number of expressions
 pub gives_one : {A : Type 0} (text : List ℕ) (kind : Kind) (m : ℕ) (r : Reading A) (es fs : List Written) (a b : A) → ReadsAsOne →
     Gives text kind m r es a → Gives text kind m r fs b → (a ≡ b) × (length es ≡ length fs)
 gives_one text kind m _ _ _ _ _ one value value = (refl, refl)
-gives_one text kind m _ _ _ a b one (behind {p = p} {k = k} {es = es} d is g) (behind {es = fs} e is' g') =
+gives_one text kind m _ _ _ a b one (after_expression {p = p} {k = k} {es = es} d is g) (after_expression {es = fs} e is' g') =
     let same = as_other text kind m p d e one is is' in
     let h = gives_one text kind m (k e.groups) es fs a b one (subst (λ (n : ℕ). Gives text kind m (k n) es a) same g) g' in
     (h.0, ap suc h.1)
@@ -38,8 +38,8 @@ gives_one text kind m _ _ _ a b one (behind {p = p} {k = k} {es = es} d is g) (b
 pub no_fails : {A : Type 0} (text : List ℕ) (kind : Kind) (m : ℕ) (r : Reading A) (es : List Written) (a : A) (f : ScriptFault) → ReadsAsOne →
     Gives text kind m r es a → Fails text kind m r f → ⊥
 no_fails text kind m _ _ _ _ one value h = elim h [ ]
-no_fails text kind m _ _ a _ one (behind {p = p} d is g) (no_expression {f = f} bad) = is.no_fault f.place f.reason bad
-no_fails text kind m _ _ a f one (behind {p = p} {k = k} {es = es} d is g) (later e is' bad) =
+no_fails text kind m _ _ a _ one (after_expression {p = p} d is g) (no_expression {f = f} bad) = is.no_fault f.place f.reason bad
+no_fails text kind m _ _ a f one (after_expression {p = p} {k = k} {es = es} d is g) (later e is' bad) =
     no_fails text kind m (k e.groups) es a f one (subst (λ (n : ℕ). Gives text kind m (k n) es a) (as_other text kind m p d e one is is') g) bad
 
 -- at the end stands nothing else
@@ -93,7 +93,7 @@ pub judged_no_fault : (text : List ℕ) (kind : Kind) (m : ℕ) (is : List Item)
 judged_no_fault text kind m is fs to f one h (early items es stop cut bad) = cut_no_fault text kind m 0 0 to stop is items fs es f (length es) one h.cut h.ends cut (omega arith) bad
 judged_no_fault text kind m is0 fs to f one h (afterwards items es stop cut ends is) =
     let same : is0 ≡ items = cut_same text kind m 0 0 to stop is0 items fs es one h.cut h.ends cut ends in
-    let g : ◌≡◌ {A = Option ScriptFault} None (Some f) = sym h.settled ∙ (ap (late text) same ∙ is) in cc
+    let g : ◌≡◌ {A = Option ScriptFault} None (Some f) = sym h.settled ∙ (ap (target_fault text) same ∙ is) in cc
 
 -- what means a script has no fault
 pub means_no_fault : ReadsAsOne → (text : List ℕ) (kind : Kind) (m : ℕ) (s : Program) (f : ScriptFault) → Means text kind m s → Faulty text kind m f → ⊥

@@ -4,7 +4,7 @@ use Rattle.std.proofs.lemmas.Bool.Decides.{eqb_tells}
 use Rattle.sedscript.specs.declared.bytes.Sort.TheVariants.{Blank, Digit, Line}
 use Rattle.sedscript.specs.declared.types.ScriptFault.{ScriptFault}
 use Rattle.sedscript.specs.declared.items.Flags.{Flags}
-use Rattle.sedscript.specs.Bytes.{is_digit, past, part, run_of}
+use Rattle.sedscript.specs.Bytes.{is_digit, past, bytes_between, run_of}
 use Rattle.sedscript.specs.Functions.{name_from, ◌>>=◌}
 use Rattle.sedscript.specs.Flags.{ends_flags, flags_from, with_number, with_file}
 use Rattle.sedscript.specs.Answers.{with_rest}
@@ -37,7 +37,7 @@ digits_front text empty f at n b bs d e =
 
 -- the flags of a number at a place, up to another
 number_read : (text : List ℕ) (empty : Bool) (f : Flags) (at to d : ℕ) → at < length text → is_digit (get_or text at d) ≡ true → to ≡ past Digit text at →
-    flags_from text empty f 0 at (drop at text) ≡ (with_number f at (part text at to) >>= λ g. flags_from text empty g 0 to (drop to text))
+    flags_from text empty f 0 at (drop at text) ≡ (with_number f at (bytes_between text at to) >>= λ g. flags_from text empty g 0 to (drop to text))
 unfolding past
 number_read text empty f at to d h digit e =
     let front : drop at text ≡ get_or text at d ∷ drop (suc at) text = drop-cons text at d h in
@@ -47,16 +47,16 @@ number_read text empty f at to d h digit e =
     let whole : flags_from text empty f 0 at (drop at text) ≡ (with_number f at (take (to - at) (drop at text)) >>= λ g. flags_from text empty g 0 (at + (to - at)) (drop (to - at) (drop at text))) =
     subst (λ (l : List ℕ). flags_from text empty f 0 at l ≡ (with_number f at (take (to - at) l) >>= λ g. flags_from text empty g 0 (at + (to - at)) (drop (to - at) l))) (sym front)
     (digits_front text empty f at (to - at) (get_or text at d) (drop (suc at) text) digit n) in
-    subst (λ (k : ℕ). flags_from text empty f 0 at (drop at text) ≡ (with_number f at (part text at to) >>= λ g. flags_from text empty g 0 k (drop to text))) back
-    (subst (λ (l : List ℕ). flags_from text empty f 0 at (drop at text) ≡ (with_number f at (part text at to) >>= λ g. flags_from text empty g 0 (at + (to - at)) l)) rest whole)
+    subst (λ (k : ℕ). flags_from text empty f 0 at (drop at text) ≡ (with_number f at (bytes_between text at to) >>= λ g. flags_from text empty g 0 k (drop to text))) back
+    (subst (λ (l : List ℕ). flags_from text empty f 0 at (drop at text) ≡ (with_number f at (bytes_between text at to) >>= λ g. flags_from text empty g 0 (at + (to - at)) l)) rest whole)
 
-pub number_ok : (text digits : List ℕ) (empty : Bool) (f g : Flags) (at to d : ℕ) → at < length text → is_digit (get_or text at d) ≡ true → to ≡ past Digit text at → digits ≡ part text at to →
+pub number_ok : (text digits : List ℕ) (empty : Bool) (f g : Flags) (at to d : ℕ) → at < length text → is_digit (get_or text at d) ≡ true → to ≡ past Digit text at → digits ≡ bytes_between text at to →
     with_number f at digits ≡ Ok g → flags_from text empty f 0 at (drop at text) ≡ with_rest text empty (Ok (g, to))
 number_ok text digits empty f g at to d h digit e is r =
     number_read text empty f at to d h digit e ∙ ap (λ (r : Result Flags ScriptFault). r >>= λ g. flags_from text empty g 0 to (drop to text)) (ap (with_number f at) (sym is) ∙ r)
 
 pub number_err : (text digits : List ℕ) (empty : Bool) (f : Flags) (x y : ScriptFault) (result : Result (Flags × ℕ) ScriptFault) (at to d : ℕ) → at < length text → is_digit (get_or text at d) ≡ true → to ≡ past Digit text at →
-    digits ≡ part text at to → with_number f at digits ≡ Err x → result ≡ Err y → y ≡ x → flags_from text empty f 0 at (drop at text) ≡ with_rest text empty result
+    digits ≡ bytes_between text at to → with_number f at digits ≡ Err x → result ≡ Err y → y ≡ x → flags_from text empty f 0 at (drop at text) ≡ with_rest text empty result
 number_err text digits empty f x y result at to d h digit e is r bad same =
     number_read text empty f at to d h digit e ∙ (ap (λ (r : Result Flags ScriptFault). r >>= λ g. flags_from text empty g 0 to (drop to text)) (ap (with_number f at) (sym is) ∙ r)
     ∙ ap (with_rest text empty) (sym (bad ∙ ap (λ (z : ScriptFault). Err z) same)))

@@ -14,7 +14,7 @@ use Rattle.sedscript.specs.declared.targets.FirstLabel.{FirstLabel}
 use Rattle.sedscript.specs.declared.items.Item.{Item}
 use Rattle.sedscript.specs.declared.items.Function.{Function}
 use Rattle.sedscript.specs.declared.items.Function.TheVariants.{Label}
-use Rattle.sedscript.specs.Bytes.{part}
+use Rattle.sedscript.specs.Bytes.{bytes_between}
 use Rattle.sedscript.specs.Targets.{is_label, counted, commands_in, label_in, leaves}
 use Rattle.sedscript.specs.Tables.{labelled, first_label, LabelsAre, is_earlier, number}
 
@@ -157,7 +157,7 @@ pub none_of : {A : Type 0} (o : Option A) (b : Bool) → b ≡ is_some o → b �
 none_of None b e f = refl
 none_of (Some x) b e f = let g : true ≡ false = sym e ∙ f in cc
 
-pub label_inserted : (text bs : List ℕ) (from to k n : ℕ) (f : Function) (b : Bool) (old new : Labels) → f ≡ Label from to → bs ≡ part text from to →
+pub label_inserted : (text bs : List ℕ) (from to k n : ℕ) (f : Function) (b : Bool) (old new : Labels) → f ≡ Label from to → bs ≡ bytes_between text from to →
     UpdatesBy (λ x y. slice_cmp nat_cmp x.now y.now) (λ x. slice_cmp nat_cmp bs x.now) old new (Some (record { item = k; number = n })) → b ≡ is_some (labelled old bs) → b ≡ false →
     (name : List ℕ) → labelled new name ≡ option_or (labelled old name) (if is_label text name f then Some (record { item = k; number = n }) else None)
 label_inserted text bs from to k n f b old new is name_is u found absent = λ name.
@@ -174,5 +174,5 @@ pub label_repeated : (text name : List ℕ) (items : List Item) (m : Labels) (o 
 label_repeated text name items m o k i are is e l = ap (is_earlier k) (is ∙ are name) ∙ earlier_label text name k 0 0 0 k items i e l (omega arith)
 
 -- a label has its own name
-pub own_name : (text : List ℕ) (f : Function) (from to : ℕ) → f ≡ Label from to → is_label text (part text from to) f ≡ true
-own_name text f from to is = ap (is_label text (part text from to)) is ∙ (bytes_eq-Decides (part text from to) (part text from to)).1 refl
+pub own_name : (text : List ℕ) (f : Function) (from to : ℕ) → f ≡ Label from to → is_label text (bytes_between text from to) f ≡ true
+own_name text f from to is = ap (is_label text (bytes_between text from to)) is ∙ (bytes_eq-Decides (bytes_between text from to) (bytes_between text from to)).1 refl

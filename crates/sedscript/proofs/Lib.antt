@@ -11,5 +11,5 @@ mod OneFault
 pub mod Labels
 pub mod FileTables
 pub mod Blocks
-pub mod LateFaults
+pub mod TargetFaults
 pub mod Bounds

@@ -8,12 +8,12 @@ use Rattle.sedre.specs.Grammar.{ExprFaulty}
 use Rattle.sedscript.specs.declared.types.ScriptFault.{ScriptFault}
 use Rattle.sedscript.specs.declared.items.Item.{Item}
 use Rattle.sedscript.specs.declared.items.Here.TheVariants.{Is}
-use Rattle.sedscript.specs.Bytes.{part}
+use Rattle.sedscript.specs.Bytes.{bytes_between}
 use Rattle.sedscript.specs.Reading.{Reading}
 use Rattle.sedscript.specs.Items.{item_at}
 use Rattle.sedscript.specs.Expressions.{Fails, own, no_expression, later, in_script}
 use Rattle.sedscript.specs.Script.{Cut, done, item, Faulty, early, afterwards}
-use Rattle.sedscript.specs.Targets.{late}
+use Rattle.sedscript.specs.Targets.{target_fault}
 use Rattle.sedscript.proofs.Exclusive.{ReadsAsOne, as_other, gives_one, no_fails, is_next, cut_no_fault, cut_same}
 
 -- an expression's text has one first fault at most
@@ -32,7 +32,7 @@ pub fails_one : {A : Type 0} (text : List ℕ) (kind : Kind) (m : ℕ) (r : Read
     Fails text kind m r f → Fails text kind m r g → f ≡ g
 fails_one text kind m _ _ _ one once own own = refl
 fails_one text kind m _ _ _ one once (no_expression {p = p} {f = f} bad) (no_expression {f = g} worse) =
-    in_script_one p.from f g (once kind (Some p.delimiter) (part text p.from p.to) m f.place g.place f.reason g.reason bad worse)
+    in_script_one p.from f g (once kind (Some p.delimiter) (bytes_between text p.from p.to) m f.place g.place f.reason g.reason bad worse)
 fails_one text kind m _ _ _ one once (no_expression {f = f} bad) (later e is h) = absurd (is.no_fault f.place f.reason bad)
 fails_one text kind m _ _ _ one once (later e is h) (no_expression {f = f} bad) = absurd (is.no_fault f.place f.reason bad)
 fails_one text kind m _ f g one once (later {p = p} {k = k} d is h) (later e is' h') =
@@ -64,10 +64,10 @@ cut_one_fault text kind m count at to stop _ _ _ _ f g n k one once (item {next 
 pub one_fault : ReadsAsOne → OneExprFault → (text : List ℕ) (kind : Kind) (m : ℕ) (f g : ScriptFault) → Faulty text kind m f → Faulty text kind m g → f ≡ g
 one_fault one once text kind m f g (early is es to cut bad) (early js fs stop cut' worse) =
     cut_one_fault text kind m 0 0 to stop is js es fs f g (length es) (length fs) one once cut (omega arith) bad cut' (omega arith) worse
-one_fault one once text kind m f g (early is es to cut bad) (afterwards js fs stop cut' ends late) =
+one_fault one once text kind m f g (early is es to cut bad) (afterwards js fs stop cut' ends found) =
     absurd (cut_no_fault text kind m 0 0 stop to js is fs es f (length es) one cut' ends cut (omega arith) bad)
-one_fault one once text kind m f g (afterwards is es to cut ends late) (early js fs stop cut' worse) =
+one_fault one once text kind m f g (afterwards is es to cut ends found) (early js fs stop cut' worse) =
     absurd (cut_no_fault text kind m 0 0 to stop is js es fs g (length fs) one cut ends cut' (omega arith) worse)
 one_fault one once text kind m f g (afterwards is es to cut ends found) (afterwards js fs stop cut' ends' other) =
     let items : is ≡ js = cut_same text kind m 0 0 to stop is js es fs one cut ends cut' ends' in
-    let both : ◌≡◌ {A = Option ScriptFault} (Some f) (Some g) = sym found ∙ (ap (late text) items ∙ other) in cc
+    let both : ◌≡◌ {A = Option ScriptFault} (Some f) (Some g) = sym found ∙ (ap (target_fault text) items ∙ other) in cc

@@ -6,10 +6,10 @@ use Rattle.sedre.specs.Arena.{Written, tree}
 use Rattle.sedscript.specs.declared.items.Here.{Here}
 use Rattle.sedscript.specs.declared.items.Here.TheVariants.{Is, Ends}
 use Rattle.sedscript.specs.declared.items.Item.{Item}
-use Rattle.sedscript.specs.Bytes.{part}
+use Rattle.sedscript.specs.Bytes.{bytes_between}
 use Rattle.sedscript.specs.Reading.{Reading}
 use Rattle.sedscript.specs.Items.{item_at}
-use Rattle.sedscript.specs.Expressions.{Gives, value, behind}
+use Rattle.sedscript.specs.Expressions.{Gives, value, after_expression}
 use Rattle.sedscript.specs.Script.{Cut, done, item, IsEnd, Program, Means, commands_of, none_counted, texts_of, substitutions_of, tables_of}
 use Rattle.sedscript.specs.declared.items.FileUse.TheVariants.{Read, Write}
 use Rattle.sedscript.specs.Files.{files_in}
@@ -22,8 +22,8 @@ Alike look = (d e : Written) → tree d ≡ tree e → d.groups ≡ e.groups →
 pub gives_alike : {A X : Type 0} (look : Written → X) (text : List ℕ) (kind : Kind) (m : ℕ) (r : Reading A) (es fs : List Written) (a b : A) → Alike look → ReadsAsOne →
     Gives text kind m r es a → Gives text kind m r fs b → map look es ≡ map look fs
 gives_alike look text kind m _ _ _ _ _ alike one value value = refl
-gives_alike look text kind m _ _ _ a b alike one (behind {p = p} {k = k} {es = es} d is g) (behind {es = fs} e is' g') =
-    let both = one kind p.folded (Some p.delimiter) (part text p.from p.to) (tree d) (tree e) d.groups e.groups is.reads is'.reads in
+gives_alike look text kind m _ _ _ a b alike one (after_expression {p = p} {k = k} {es = es} d is g) (after_expression {es = fs} e is' g') =
+    let both = one kind p.folded (Some p.delimiter) (bytes_between text p.from p.to) (tree d) (tree e) d.groups e.groups is.reads is'.reads in
     let rest = gives_alike look text kind m (k e.groups) es fs a b alike one (subst (λ (n : ℕ). Gives text kind m (k n) es a) both.1 g) g' in
     ap (λ x. x ∷ map look es) (alike d e both.0 both.1) ∙ ap (λ xs. look e ∷ xs) rest
 

@@ -20,9 +20,9 @@ pub run_ended : (old new : List Part) (run : Vec ℕ Global) → new ≡ old ++ 
 run_ended old new run e = ap pieces_in e ∙ (pieces_append old (Literal run ∷ []) ∙ ap (λ (z : List Piece). pieces_in old ++ z) (append-nil (map literal run.items)))
 
 -- a part of one piece after them
-pub part_added : (old mid new : List Part) (part : Part) (run behind : List ℕ) (p : Piece) → pieces_in mid ≡ pieces_with old run → new ≡ mid ++ part ∷ [] → pieces_in (part ∷ []) ≡ p ∷ [] → behind ≡ [] →
-    pieces_with new behind ≡ pieces_with old run ++ p ∷ []
-part_added old mid new part run behind p e grown is none =
+pub part_added : (old mid new : List Part) (part : Part) (run bytes : List ℕ) (p : Piece) → pieces_in mid ≡ pieces_with old run → new ≡ mid ++ part ∷ [] → pieces_in (part ∷ []) ≡ p ∷ [] → bytes ≡ [] →
+    pieces_with new bytes ≡ pieces_with old run ++ p ∷ []
+part_added old mid new part run bytes p e grown is none =
     ap (λ (z : List ℕ). pieces_with new z) none ∙ (append-nil (pieces_in new) ∙ (ap pieces_in grown ∙ (pieces_append mid (part ∷ []) ∙ (ap (λ (z : List Piece). z ++ pieces_in (part ∷ [])) e ∙ ap (λ (z : List Piece). pieces_with old run ++ z) is))))
 
 -- a digit's group is at most 9

@@ -7,7 +7,7 @@ use Rattle.sedscript.specs.declared.types.Reason.TheVariants.{BadAddress, OpenDe
 use Rattle.sedscript.specs.declared.types.Address.{Address}
 use Rattle.sedscript.specs.declared.types.Address.TheVariants.{Line, Last, Match}
 use Rattle.sedscript.specs.declared.items.Addresses.{Addresses}
-use Rattle.sedscript.specs.Bytes.{past, part, is_digit, with_digits, is_byte}
+use Rattle.sedscript.specs.Bytes.{past, bytes_between, is_digit, with_digits, is_byte}
 use Rattle.sedscript.specs.Functions.{fault}
 use Rattle.sedscript.specs.Between.{own_delimiter}
 use Rattle.sedscript.specs.Reading.{Reading, plainly, expression, ◌>>=◌}
@@ -63,7 +63,7 @@ abbrev pub address_of : List ℕ → ℕ → ℕ → Option ℕ → Reading Addr
 address_of text count at None = plainly (found None at count)
 address_of text count at (Some b) =
     if is_digit b
-    then plainly (line_of count at (past Digit text at) (with_digits (Some 0) (part text at (past Digit text at))))
+    then plainly (line_of count at (past Digit text at) (with_digits (Some 0) (bytes_between text at (past Digit text at))))
     else if b == 36 then plainly (found (Some Last) (at + 1) count)
     else if b == 47 then match_at text count 47 at
     else if b == 92 then own_match text count (at + 1) (own_delimiter (slice_get text (at + 1)))
@@ -94,15 +94,15 @@ second_at text count first at = address_at text count at >>= λ x. plainly (with
 
 -- what follows a first address: a comma and a second one, or nothing.
 -- Blanks round the comma are passed over (this project's own)
-abbrev pub behind_first : List ℕ → ℕ → ℕ → Option Address → Reading Headed
-behind_first text count at None = plainly (headed None None at count)
-behind_first text count at (Some first) =
+abbrev pub after_first : List ℕ → ℕ → ℕ → Option Address → Reading Headed
+after_first text count at None = plainly (headed None None at count)
+after_first text count at (Some first) =
     if is_byte 44 (slice_get text (past Blank text at))
     then second_at text count first (past Blank text (past Blank text at + 1))
     else plainly (headed (Some first) None at count)
 
 unfoldable pub addresses_at : List ℕ → ℕ → ℕ → Reading Headed
-addresses_at text count at = address_at text count at >>= λ x. behind_first text x.count x.at x.address
+addresses_at text count at = address_at text count at >>= λ x. after_first text x.count x.at x.address
 
 -- with the `!` that stands there. Several count as one.
 -- Blanks round them are passed over (those after them: this project's own)

@@ -30,7 +30,7 @@ use Rattle.sedscript.specs.Expressions.{Gives, Fails, in_script}
 use Rattle.sedscript.specs.Script.{IsEnd, Judged}
 
 -- what a function answered is what reading gives, and the expressions grew by those that were read,
--- unless memory was wanting
+-- unless there was no memory
 abbrev pub Comes : {X A : Type 0} → List ℕ → Kind → ℕ → List Written → List Written → (X → ℕ → A) →
     Result X ScriptFault → Reading A → Type 0
 Comes text kind max_nodes old new view (Ok x) r =
@@ -72,9 +72,9 @@ pub record AreStrings (at len : ℕ) (s : Strings) : Type 0 where
   pub inside : s.to < len
 
 -- what was read stands between a place and the end
-abbrev pub IsBehind : ℕ → ℕ → Here → Type 0
-IsBehind at len (Is item next) = (at < next) × (next ≤ len)
-IsBehind at len Ends = ⊥
+abbrev pub IsAfter : ℕ → ℕ → Here → Type 0
+IsAfter at len (Is item next) = (at < next) × (next ≤ len)
+IsAfter at len Ends = ⊥
 
 -- what stands at a place: an item that ends after it, or the end
 abbrev pub IsHere : List ℕ → ℕ → Here → Type 0

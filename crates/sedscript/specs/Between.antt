@@ -8,7 +8,7 @@ use Rattle.sedscript.specs.declared.items.Strings.{Strings}
 use Rattle.sedscript.specs.declared.items.Flags.{Flags}
 use Rattle.sedscript.specs.declared.items.Function.{Function}
 use Rattle.sedscript.specs.declared.items.Function.TheVariants.{Substitute, Transliterate}
-use Rattle.sedscript.specs.Bytes.{part}
+use Rattle.sedscript.specs.Bytes.{bytes_between}
 use Rattle.sedscript.specs.Functions.{fault, ended, ◌>>=◌}
 use Rattle.sedscript.specs.Strings.{string_end}
 use Rattle.sedscript.specs.Replacement.{replacement_fault}
@@ -27,21 +27,21 @@ strings_to d from middle (Some to) = Ok (record { delimiter = d; from = from; mi
 
 -- the two strings after a delimiter at a place, of which the first ends where another was found. A newline after a
 -- backslash may stand in the second, or not
-abbrev pub strings_behind : List ℕ → Bool → ℕ → ℕ → Option ℕ → Result Strings ScriptFault
-strings_behind text breaks d place None = fault OpenDelimiter place
-strings_behind text breaks d place (Some middle) =
+abbrev pub strings_after : List ℕ → Bool → ℕ → ℕ → Option ℕ → Result Strings ScriptFault
+strings_after text breaks d place None = fault OpenDelimiter place
+strings_after text breaks d place (Some middle) =
     strings_to d (place + 1) middle (string_end breaks d false (middle + 1) (drop (middle + 1) text))
 
 -- those of `s`, whose delimiter stands at a place: a regular expression and a replacement
 abbrev pub substitute_strings : List ℕ → ℕ → Option ℕ → Result Strings ScriptFault
 substitute_strings text place None = fault BadDelimiter place
-substitute_strings text place (Some d) = strings_behind text true d place (delimiter_at text (place + 1) d)
+substitute_strings text place (Some d) = strings_after text true d place (delimiter_at text (place + 1) d)
 
 -- those of `y`
 abbrev pub transliterate_strings : List ℕ → ℕ → Option ℕ → Result Strings ScriptFault
 transliterate_strings text place None = fault BadDelimiter place
 transliterate_strings text place (Some d) =
-    strings_behind text false d place (string_end false d false (place + 1) (drop (place + 1) text))
+    strings_after text false d place (string_end false d false (place + 1) (drop (place + 1) text))
 
 -- what is read, where nothing before it has a fault
 abbrev pub unless_fault : {A : Type 0} → Option ScriptFault → Result A ScriptFault → Result A ScriptFault
@@ -55,16 +55,16 @@ transliterate_at text at =
     unless_fault (strings_fault text s.delimiter at s.from s.middle s.to) (ended text (Transliterate s) (s.to + 1))
 
 -- the flags of `s`, whose regular expression is empty or not, and the place after them
-abbrev pub flags_behind : List ℕ → Strings → (empty : Bool) → Result (Flags × ℕ) ScriptFault
-flags_behind text s empty = flags_from text empty no_flags 0 (s.to + 1) (drop (s.to + 1) text)
+abbrev pub flags_after : List ℕ → Strings → (empty : Bool) → Result (Flags × ℕ) ScriptFault
+flags_after text s empty = flags_from text empty no_flags 0 (s.to + 1) (drop (s.to + 1) text)
 
 -- the flags of `s`, and its end
 abbrev pub flagged : List ℕ → Strings → Option ℕ → Result (Function × ℕ) ScriptFault
-flagged text s e = flags_behind text s (not (is_some e)) >>= λ found. ended text (Substitute s e found.0) found.1
+flagged text s e = flags_after text s (not (is_some e)) >>= λ found. ended text (Substitute s e found.0) found.1
 
 -- what stands after the regular expression of `s`, which has this number in the script: a replacement, where no group
 -- may have a greater number than this, and flags
 unfoldable pub substituted : List ℕ → Strings → Option ℕ → Option ℕ → Result (Function × ℕ) ScriptFault
 substituted text s e limit =
-    unless_fault (replacement_fault s.delimiter limit false (s.middle + 1) (part text (s.middle + 1) s.to))
+    unless_fault (replacement_fault s.delimiter limit false (s.middle + 1) (bytes_between text (s.middle + 1) s.to))
     (flagged text s e)

@@ -33,8 +33,8 @@ unfoldable pub past : Sort → List ℕ → ℕ → ℕ
 past sort text at = at + run_of sort (drop at text)
 
 -- the bytes from a place up to another
-abbrev pub part : List ℕ → ℕ → ℕ → List ℕ
-part text from to = take (to - from) (drop from text)
+abbrev pub bytes_between : List ℕ → ℕ → ℕ → List ℕ
+bytes_between text from to = take (to - from) (drop from text)
 
 -- a number and a digit after it, as far as it is below 2 ^ 64
 abbrev pub with_digit : Option ℕ → ℕ → Option ℕ

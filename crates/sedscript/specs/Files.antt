@@ -8,7 +8,7 @@ use Rattle.sedscript.specs.declared.items.FileUse.TheVariants.{Read, Write}
 use Rattle.sedscript.specs.declared.items.Function.{Function}
 use Rattle.sedscript.specs.declared.items.Function.TheVariants.{File, Substitute}
 use Rattle.sedscript.specs.declared.items.Item.{Item}
-use Rattle.sedscript.specs.Bytes.{part}
+use Rattle.sedscript.specs.Bytes.{bytes_between}
 
 -- what is written to this name goes to the standard output (this project's own)
 abbrev pub standard_output : List ℕ
@@ -33,7 +33,7 @@ name_in u f = None
 -- the file whose name stands there
 abbrev pub file_at : FileUse → List ℕ → Option (ℕ × ℕ) → Option (List ℕ)
 file_at u text None = None
-file_at u text (Some name) = if is_file u (part text name.0 name.1) then Some (part text name.0 name.1) else None
+file_at u text (Some name) = if is_file u (bytes_between text name.0 name.1) then Some (bytes_between text name.0 name.1) else None
 
 -- each name once, in the order in which they first stand there
 abbrev pub distinct : List (List ℕ) → List (List ℕ)

@@ -41,25 +41,25 @@ ended text f at =
     if may_end (slice_get text (past Blank text at)) then Ok (f, past Blank text at)
     else fault TrailingBytes (past Blank text at)
 
--- whether a text ends before this byte: a newline that no backslash in force stands before
+-- whether a text ends before this byte: a newline that isn't escaped
 abbrev pub stops : Inside → ℕ → Bool
 stops Escape b = false
 stops InLine b = b == 10
 stops Due b = b == 10
 
--- how far a text is read after this byte: within a line, after a backslash in force, or where a further line
--- must stand
-abbrev pub behind : Inside → ℕ → Inside
-behind Escape b = if b == 10 then Due else InLine
-behind InLine b = if b == 92 then Escape else InLine
-behind Due b = if b == 92 then Escape else InLine
+-- how far a text is read after this byte: within a line, after a backslash that escapes the next byte, or where a
+-- further line has to follow
+abbrev pub inside_after : Inside → ℕ → Inside
+inside_after Escape b = if b == 10 then Due else InLine
+inside_after InLine b = if b == 92 then Escape else InLine
+inside_after Due b = if b == 92 then Escape else InLine
 
--- where a text ends whose rest stands at a place. None where a further line must stand and doesn't
+-- where a text ends, of which the rest begins at a place. None where a further line has to follow and doesn't
 abbrev pub text_end : Inside → ℕ → List ℕ → Option ℕ
 text_end InLine at [] = Some at
 text_end Escape at [] = None
 text_end Due at [] = None
-text_end how at (b ∷ bs) = if stops how b then Some at else text_end (behind how b) (suc at) bs
+text_end how at (b ∷ bs) = if stops how b then Some at else text_end (inside_after how b) (suc at) bs
 
 abbrev pub ends_line : Option ℕ → Bool
 ends_line None = true
@@ -106,7 +106,7 @@ abbrev pub given : {A : Type 0} → Option A → ℕ
 given None = 0
 given (Some a) = 1
 
--- the function of a letter at a place, where it may stand after these addresses.
+-- what the letter at a place stands for, if that may have these addresses.
 -- A `!` before a function without addresses is refused (this project's own)
 abbrev pub allowed : Addresses → ℕ → Option Verb → Result Verb ScriptFault
 allowed addresses at None = fault UnknownCommand at

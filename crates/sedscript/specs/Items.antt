@@ -18,7 +18,7 @@ use Rattle.sedscript.specs.Bytes.{past}
 use Rattle.sedscript.specs.Functions.{fault, ended, label_of, branch_of, text_of, text_from, file_of, name_from}
 use Rattle.sedscript.specs.Functions.{allowed, item_of}
 use Rattle.sedscript.specs.Letters.{verb_of}
-use Rattle.sedscript.specs.Between.{own_delimiter, substitute_strings, flags_behind, substituted}
+use Rattle.sedscript.specs.Between.{own_delimiter, substitute_strings, flags_after, substituted}
 use Rattle.sedscript.specs.Between.{transliterate_at}
 use Rattle.sedscript.specs.Flags.{folds}
 use Rattle.sedscript.specs.Reading.{Reading, plainly, expression, ◌>>=◌}
@@ -33,7 +33,7 @@ substitute_with text count s =
       from = s.from;
       to = s.middle;
       delimiter = s.delimiter;
-      folded = folds (flags_behind text s false);
+      folded = folds (flags_after text s false);
     })
     (λ groups. plainly (substituted text s (Some count) (Some groups)))
 
@@ -69,13 +69,13 @@ item_with text count addresses at (Some letter) =
 unfoldable pub function_at : List ℕ → ℕ → Addresses → ℕ → Reading Here
 function_at text count addresses at = item_with text count addresses at (slice_get text at)
 
-abbrev pub function_behind : List ℕ → Headed → Reading Here
-function_behind text h = function_at text h.count (with_bang text h).addresses (with_bang text h).at
+abbrev pub function_after : List ℕ → Headed → Reading Here
+function_after text h = function_at text h.count (with_bang text h).addresses (with_bang text h).at
 
 -- the item that begins with this byte, or the end
 abbrev pub item_from : List ℕ → ℕ → ℕ → Option ℕ → Reading Here
 item_from text count at None = plainly (Ok Ends)
-item_from text count at (Some b) = addresses_at text count at >>= function_behind text
+item_from text count at (Some b) = addresses_at text count at >>= function_after text
 
 -- the next item from a place on, with so many regular expressions before it, or the end
 unfoldable pub item_at : List ℕ → ℕ → ℕ → Reading Here

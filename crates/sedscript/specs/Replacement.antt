@@ -18,7 +18,7 @@ pub use Rattle.sedscript.specs.declared.substitution.Piece.TheVariants.{Group as
 abbrev pub is_letter : ℕ → Bool
 is_letter b = (nat_le 65 b && nat_le b 90) || (nat_le 97 b && nat_le b 122)
 
--- what a backslash in force and this byte stand for. The delimiter stands for itself, whatever byte it is; 0 for the
+-- what this byte stands for where it is escaped. The delimiter stands for itself, whatever byte it is; 0 for the
 -- whole match (this project's own), and another digit for that group of it; `n` for a newline, `t` for a tab (this
 -- project's own); a byte that is neither letter nor digit for itself, a newline among them. Other letters are refused
 abbrev pub escaped_piece : ℕ → ℕ → Option Piece
@@ -35,7 +35,7 @@ escaped_piece delimiter b =
 abbrev pub plain_piece : ℕ → Piece
 plain_piece b = if b == 38 then whole else literal b
 
--- the piece that a byte ends, with whether a backslash in force stands before it
+-- the piece that a byte ends, given whether it is escaped
 abbrev pub piece_of : ℕ → Bool → ℕ → Option Piece
 piece_of delimiter true b = escaped_piece delimiter b
 piece_of delimiter false b = if b == 92 then None else Some (plain_piece b)
@@ -44,7 +44,7 @@ abbrev pub with_piece : Option Piece → List Piece → List Piece
 with_piece None ps = ps
 with_piece (Some p) ps = p ∷ ps
 
--- the pieces of a replacement's text, with whether a backslash in force stands before it.
+-- the pieces of a replacement's text, given whether its first byte is escaped.
 -- An escape that is refused leaves none
 abbrev pub pieces_from : ℕ → Bool → List ℕ → List Piece
 pieces_from delimiter escaped [] = []
@@ -70,7 +70,7 @@ piece_fault limit place (Some (group k)) = fault_if (exceeds limit k) GroupAbsen
 abbrev pub escape_fault : ℕ → Option ℕ → ℕ → ℕ → Option ScriptFault
 escape_fault delimiter limit place b = piece_fault limit place (escaped_piece delimiter b)
 
--- the first fault of a replacement's text that begins at a place, with whether a backslash in force stands before it
+-- the first fault of a replacement's text that begins at a place, given whether its first byte is escaped
 abbrev pub replacement_fault : ℕ → Option ℕ → Bool → ℕ → List ℕ → Option ScriptFault
 replacement_fault delimiter limit escaped at [] = None
 replacement_fault delimiter limit true at (b ∷ bs) =

@@ -34,13 +34,13 @@ use Rattle.sedscript.specs.declared.items.Counts.{Counts}
 use Rattle.sedscript.specs.declared.items.Flags.{Flags}
 use Rattle.sedscript.specs.declared.items.Strings.{Strings}
 use Rattle.sedscript.specs.declared.items.Here.TheVariants.{Is}
-use Rattle.sedscript.specs.Bytes.{part, past}
+use Rattle.sedscript.specs.Bytes.{bytes_between, past}
 use Rattle.sedscript.specs.Items.{item_at}
 use Rattle.sedscript.specs.Expressions.{Gives, Fails}
 use Rattle.sedscript.specs.Replacement.{pieces_of}
 use Rattle.sedscript.specs.Transliteration.{chars_of, bytes_of, table_of}
 use Rattle.sedscript.specs.Files.{files_in, number_in}
-use Rattle.sedscript.specs.Targets.{commands_in, label_in, block_end, late}
+use Rattle.sedscript.specs.Targets.{commands_in, label_in, block_end, target_fault}
 
 -- a script as its callers see it
 pub record Program : Type 0 where
@@ -66,13 +66,13 @@ pub data Cut (text : List ℕ) (kind : Kind) (max_nodes : ℕ) : ℕ → ℕ →
 abbrev pub IsEnd : List ℕ → ℕ → Type 0
 IsEnd text at = slice_get text (past Separator text at) ≡ None
 
--- a text without its backslashes: the byte after one in force stands for itself
+-- a text without its backslashes, given whether its first byte is escaped: an escaped byte stands for itself
 abbrev pub unescaped_from : Bool → List ℕ → List ℕ
 unescaped_from escaped [] = []
 unescaped_from escaped (b ∷ bs) = if not escaped && b == 92 then unescaped_from true bs else b ∷ unescaped_from false bs
 
 abbrev pub with_text : List ℕ → Function → List (List ℕ) → List (List ℕ)
-with_text text (Text t from to) ts = unescaped_from false (part text from to) ∷ ts
+with_text text (Text t from to) ts = unescaped_from false (bytes_between text from to) ∷ ts
 with_text text f ts = ts
 
 -- the texts of `a`, `i` and `c`, in order
@@ -83,16 +83,16 @@ texts_of text (i ∷ is) = with_text text i.function (texts_of text is)
 abbrev pub none_counted : Counts
 none_counted = record { texts = 0; substitutions = 0; tables = 0 }
 
--- the sink that the flag `w` names, where it stands
+-- the sink that the flag `w` names, if it is there
 abbrev pub sink_of : List ℕ → List Item → Option (ℕ × ℕ) → Option ℕ
 sink_of text all None = None
-sink_of text all (Some name) = Some (number_in Write text all (part text name.0 name.1))
+sink_of text all (Some name) = Some (number_in Write text all (bytes_between text name.0 name.1))
 
 -- the substitution of an `s` among all items. Without a number it begins with the first occurrence
 abbrev pub substitution_of : List ℕ → List Item → Strings → Option ℕ → Flags → Substitution
 substitution_of text all s e f = record {
   expression = e;
-  replacement = pieces_of s.delimiter (part text (s.middle + 1) s.to);
+  replacement = pieces_of s.delimiter (bytes_between text (s.middle + 1) s.to);
   number = unwrap_or f.number 1;
   global = f.global;
   print = f.print;
@@ -123,7 +123,7 @@ abbrev pub tables_of : List ℕ → List Item → List (List ℕ)
 tables_of text [] = []
 tables_of text (i ∷ is) = with_table text i.function (tables_of text is)
 
--- how many texts, substitutions and tables there are with a function, with so many before it
+-- the numbers of texts, substitutions and tables up to a function and with it, given those before it
 abbrev pub counts_with : Counts → Function → Counts
 counts_with n (Text t from to) = record n { texts = suc n.texts }
 counts_with n (Substitute s e f) = record n { substitutions = suc n.substitutions }
@@ -166,10 +166,10 @@ action_of text all before n after (Plain s) = Some (simple_action s)
 action_of text all before n after Open = Some (Block (unwrap_or (block_end before after) 0))
 action_of text all before n after (Branch u from to) =
     Some (branch_action u
-    (if from == to then commands_in all else unwrap_or (label_in text (part text from to) 0 all) 0))
+    (if from == to then commands_in all else unwrap_or (label_in text (bytes_between text from to) 0 all) 0))
 action_of text all before n after (Text t from to) = Some (text_action t n.texts)
 action_of text all before n after (File u from to) =
-    Some (file_action u (number_in u text all (part text from to)))
+    Some (file_action u (number_in u text all (bytes_between text from to)))
 action_of text all before n after (Substitute s e f) = Some (SubstituteNow n.substitutions)
 action_of text all before n after (Transliterate s) = Some (TransliterateNow n.tables)
 action_of text all before n after f = None
@@ -197,7 +197,7 @@ pub record Judged (text : List ℕ) (kind : Kind) (max_nodes : ℕ) (items : Lis
     (to : ℕ) : Type 0 where
   pub cut : Cut text kind max_nodes 0 0 items expressions to
   pub ends : IsEnd text to
-  pub settled : late text items ≡ None
+  pub settled : target_fault text items ≡ None
 
 -- the text means this script
 pub record Means (text : List ℕ) (kind : Kind) (max_nodes : ℕ) (s : Program) : Type 0 where
@@ -221,5 +221,5 @@ pub data Faulty (text : List ℕ) (kind : Kind) (max_nodes : ℕ) : ScriptFault 
       Faulty text kind max_nodes f
   -- of a text that is cut to its end
   afterwards : {f : ScriptFault} (items : List Item) (es : List Written) (to : ℕ) →
-      Cut text kind max_nodes 0 0 items es to → IsEnd text to → late text items ≡ Some f →
+      Cut text kind max_nodes 0 0 items es to → IsEnd text to → target_fault text items ≡ Some f →
       Faulty text kind max_nodes f

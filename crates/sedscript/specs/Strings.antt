@@ -1,13 +1,12 @@
 -- Strings between delimiters (XCU sed, "Editing Commands in sed": `s` and `y`).
 use Rattle.std.specs.Prelude.{ℕ, suc, List, [], ◌∷◌, Bool, false, not, ◌&&◌, Option, Some, None, if◌then◌else◌, ◌==◌}
 
--- whether a byte is a backslash in force, with whether one stands before it: such a one takes the force from it
+-- whether a byte is a backslash that escapes the next one, given whether it is escaped itself
 abbrev pub escapes : Bool → ℕ → Bool
 escapes escaped b = b == 92 && not escaped
 
--- where a string ends that stands between delimiters: at the first delimiter that no backslash in force stands before.
--- A newline ends it nowhere. One after a backslash may stand in a replacement, where it breaks lines, but in no string
--- of `y`
+-- where a string between delimiters ends: at the first delimiter that isn't escaped. A newline never ends it. An escaped
+-- one may stand in a replacement, where it breaks lines, but not in a string of `y`
 abbrev pub string_end : Bool → ℕ → Bool → ℕ → List ℕ → Option ℕ
 string_end breaks delimiter escaped at [] = None
 string_end breaks delimiter escaped at (b ∷ bs) =

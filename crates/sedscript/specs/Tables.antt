@@ -48,8 +48,8 @@ abbrev pub tail : List ℕ → List ℕ
 tail [] = []
 tail (x ∷ xs) = xs
 
--- where the closing braces lead that close no block within what follows, the first of them first:
--- those from a function on, with so many commands before it, given those after it
+-- where the closing braces lead that close no block opened in what is left of a script, the first of them first:
+-- those from a function on, with `n` commands before it, given those after it
 abbrev pub unopened_by : ℕ → Function → List ℕ → List ℕ
 unopened_by n f ends = if is_close f then n ∷ ends else if is_open f then tail ends else ends
 
@@ -67,7 +67,7 @@ abbrev pub first : List ℕ → Option ℕ
 first [] = None
 first (x ∷ xs) = Some x
 
--- how many blocks are opened with a function, with so many before it
+-- the number of blocks opened up to a function and with it, given the number before it
 abbrev pub opened : ℕ → Function → ℕ
 opened n f = if is_open f then suc n else n
 

@@ -11,7 +11,7 @@ use Rattle.sedscript.specs.declared.types.Reason.TheVariants.{UnknownLabel, Repe
 use Rattle.sedscript.specs.declared.items.Function.{Function}
 use Rattle.sedscript.specs.declared.items.Function.TheVariants.{Open, Close, Label, Branch, Comment}
 use Rattle.sedscript.specs.declared.items.Item.{Item}
-use Rattle.sedscript.specs.Bytes.{part}
+use Rattle.sedscript.specs.Bytes.{bytes_between}
 
 -- whether a function leaves a command: all but `}`, `:` and `#`
 abbrev pub leaves : Function → Bool
@@ -20,7 +20,7 @@ leaves (Label from to) = false
 leaves Comment = false
 leaves f = true
 
--- how many commands there are with this item, with so many before it
+-- the number of commands up to this item and with it, given the number before it
 abbrev pub counted : ℕ → Item → ℕ
 counted n i = if leaves i.function then suc n else n
 
@@ -31,7 +31,7 @@ commands_in (i ∷ is) = if leaves i.function then suc (commands_in is) else com
 
 -- whether the function is a label of this name
 abbrev pub is_label : List ℕ → List ℕ → Function → Bool
-is_label text name (Label from to) = bytes_eq (part text from to) name
+is_label text name (Label from to) = bytes_eq (bytes_between text from to) name
 is_label text name f = false
 
 -- the number of the command after the first label of this name, with so many commands before the items
@@ -47,9 +47,9 @@ abbrev pub is_close : Function → Bool
 is_close Close = true
 is_close f = false
 
--- how many blocks are open after a function, with so many before it
-abbrev pub depth_behind : ℕ → Function → ℕ
-depth_behind depth f = if is_open f then suc depth else if is_close f then depth - 1 else depth
+-- how many blocks are open after a function, given how many are before it
+abbrev pub depth_after : ℕ → Function → ℕ
+depth_after depth f = if is_open f then suc depth else if is_close f then depth - 1 else depth
 
 -- the number of the command after the brace that closes a block,
 -- with so many inner blocks open and so many commands before the items
@@ -57,7 +57,7 @@ abbrev pub close_in : ℕ → ℕ → List Item → Option ℕ
 close_in depth n [] = None
 close_in depth n (i ∷ is) =
     if is_close i.function && depth == 0 then Some n
-    else close_in (depth_behind depth i.function) (counted n i) is
+    else close_in (depth_after depth i.function) (counted n i) is
 
 -- the end of the block whose brace stands between these items
 abbrev pub block_end : List Item → List Item → Option ℕ
@@ -68,21 +68,21 @@ fault_if wrong reason place = then_some wrong (record { place = place; reason = 
 
 -- what is wrong with a function at a place among all items: those before it with so many open blocks, and those
 -- after it
-abbrev pub late_at : List ℕ → List Item → List Item → ℕ → List Item → ℕ → Function → Option ScriptFault
-late_at text all before depth after place Open = fault_if (is_none (block_end before after)) OpenBlock place
-late_at text all before depth after place Close = fault_if (depth == 0) StrayClose place
-late_at text all before depth after place (Label from to) =
-    fault_if (is_some (label_in text (part text from to) 0 before)) RepeatedLabel place
-late_at text all before depth after place (Branch u from to) =
-    fault_if (not (from == to) && is_none (label_in text (part text from to) 0 all)) UnknownLabel place
-late_at text all before depth after place f = None
+abbrev pub target_fault_at : List ℕ → List Item → List Item → ℕ → List Item → ℕ → Function → Option ScriptFault
+target_fault_at text all before depth after place Open = fault_if (is_none (block_end before after)) OpenBlock place
+target_fault_at text all before depth after place Close = fault_if (depth == 0) StrayClose place
+target_fault_at text all before depth after place (Label from to) =
+    fault_if (is_some (label_in text (bytes_between text from to) 0 before)) RepeatedLabel place
+target_fault_at text all before depth after place (Branch u from to) =
+    fault_if (not (from == to) && is_none (label_in text (bytes_between text from to) 0 all)) UnknownLabel place
+target_fault_at text all before depth after place f = None
 
-abbrev pub late_in : List ℕ → List Item → List Item → ℕ → List Item → Option ScriptFault
-late_in text all before depth [] = None
-late_in text all before depth (i ∷ is) =
-    option_or (late_at text all before depth is i.place i.function)
-    (late_in text all (before ++ i ∷ []) (depth_behind depth i.function) is)
+abbrev pub target_fault_in : List ℕ → List Item → List Item → ℕ → List Item → Option ScriptFault
+target_fault_in text all before depth [] = None
+target_fault_in text all before depth (i ∷ is) =
+    option_or (target_fault_at text all before depth is i.place i.function)
+    (target_fault_in text all (before ++ i ∷ []) (depth_after depth i.function) is)
 
--- the fault of labels and blocks with the least place, judged once the whole text is cut (this project's own)
-abbrev pub late : List ℕ → List Item → Option ScriptFault
-late text items = late_in text items [] 0 items
+-- the first fault of labels and blocks, judged once the whole text is cut (this project's own)
+abbrev pub target_fault : List ℕ → List Item → Option ScriptFault
+target_fault text items = target_fault_in text items [] 0 items

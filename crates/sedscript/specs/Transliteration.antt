@@ -5,13 +5,13 @@ use Rattle.std.specs.List.{list_any, range_with_len}
 use Rattle.std.specs.Option.{option_or}
 use Rattle.sedscript.specs.declared.types.ScriptFault.{ScriptFault}
 use Rattle.sedscript.specs.declared.types.Reason.TheVariants.{LengthsDiffer, RepeatedByte, BadEscape}
-use Rattle.sedscript.specs.Bytes.{part}
+use Rattle.sedscript.specs.Bytes.{bytes_between}
 use Rattle.sedscript.specs.Strings.{escapes}
 use Rattle.sedscript.specs.Targets.{fault_if}
 -- a byte of a string, and its place (of an escape: the place of its backslash)
 pub use Rattle.sedscript.specs.declared.transliteration.Char.{Char}
 
--- what a backslash in force and this byte stand for. The delimiter and the backslash stand for themselves, `n` for a
+-- what this byte stands for where it is escaped. The delimiter and the backslash stand for themselves, `n` for a
 -- newline, `t` for a tab (this project's own); other bytes are refused (this project's own)
 abbrev pub escaped_byte : ℕ → ℕ → Option ℕ
 escaped_byte delimiter b =
@@ -20,7 +20,7 @@ escaped_byte delimiter b =
     else if b == 116 then Some 9
     else None
 
--- the byte of a string that ends with the one at a place, with whether a backslash in force stands before it
+-- the byte of a string that ends with the one at a place, given whether that is escaped
 abbrev pub char_of : ℕ → Bool → ℕ → ℕ → Option Char
 char_of delimiter true at b = option_map (λ x. record { byte = x; place = at - 1 }) (escaped_byte delimiter b)
 char_of delimiter false at b = if b == 92 then None else Some (record { byte = b; place = at })
@@ -29,7 +29,7 @@ abbrev pub with_char : Option Char → List Char → List Char
 with_char None cs = cs
 with_char (Some c) cs = c ∷ cs
 
--- the bytes of a string that begins at a place, with whether a backslash in force stands before it.
+-- the bytes of a string that begins at a place, given whether the first is escaped.
 -- An escape that is refused leaves none
 abbrev pub chars_from : ℕ → Bool → ℕ → List ℕ → List Char
 chars_from delimiter escaped at [] = []
@@ -38,7 +38,7 @@ chars_from delimiter escaped at (b ∷ bs) =
 
 -- the bytes of the string that stands between two places
 abbrev pub chars_of : List ℕ → ℕ → ℕ → ℕ → List Char
-chars_of text delimiter from to = chars_from delimiter false from (part text from to)
+chars_of text delimiter from to = chars_from delimiter false from (bytes_between text from to)
 
 abbrev pub bytes_of : List Char → List ℕ
 bytes_of cs = map (λ c. c.byte) cs
@@ -68,18 +68,18 @@ repeated_fault found = option_map (λ place. record { place = place; reason = Re
 -- have the same length)
 abbrev pub strings_fault : List ℕ → ℕ → ℕ → ℕ → ℕ → ℕ → Option ScriptFault
 strings_fault text delimiter letter from middle to =
-    option_or (string_fault delimiter false from (part text from middle))
-    (option_or (string_fault delimiter false (middle + 1) (part text (middle + 1) to))
+    option_or (string_fault delimiter false from (bytes_between text from middle))
+    (option_or (string_fault delimiter false (middle + 1) (bytes_between text (middle + 1) to))
     (option_or (repeated_fault (repeated_in [] (chars_of text delimiter from middle)))
     (fault_if (not (length (chars_of text delimiter from middle) == length (chars_of text delimiter (middle + 1) to)))
     LengthsDiffer letter)))
 
--- the byte of the target where a byte stands in the source, or the byte itself
+-- the byte of string2 at the place that a byte has in string1, or the byte itself
 abbrev pub counterpart : List ℕ → List ℕ → ℕ → ℕ
-counterpart [] target b = b
-counterpart (s ∷ source) [] b = b
-counterpart (s ∷ source) (t ∷ target) b = if s == b then t else counterpart source target b
+counterpart [] string2 b = b
+counterpart (s ∷ string1) [] b = b
+counterpart (s ∷ string1) (t ∷ string2) b = if s == b then t else counterpart string1 string2 b
 
 -- what stands for each byte
 unfoldable pub table_of : List ℕ → List ℕ → List ℕ
-table_of source target = map (counterpart source target) (range_with_len 0 256)
+table_of string1 string2 = map (counterpart string1 string2) (range_with_len 0 256)

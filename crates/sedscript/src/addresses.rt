@@ -2,15 +2,15 @@
 
 ghost use Rattle.std.specs.Prelude.{◌≡◌, ◌≢◌, ◌≤◌, ◌<◌, ◌+◌, ℕ, List, Option, Some, length, slice_get, IfOk, IfSome};
 ghost use Rattle.sedscript.specs.declared.types.Address.{Address};
-ghost use Rattle.sedscript.specs.Bytes.{part, with_digits};
+ghost use Rattle.sedscript.specs.Bytes.{bytes_between, with_digits};
 ghost use Rattle.sedscript.specs.Addresses.{folds_at, past_flag, empty_match, match_at, own_match, address_at};
-ghost use Rattle.sedscript.specs.Addresses.{behind_first, second_at};
+ghost use Rattle.sedscript.specs.Addresses.{after_first, second_at};
 ghost use Rattle.sedscript.specs.Addresses.{with_second, addresses_at, with_bang, addresses_of, line_of};
 ghost use Rattle.sedscript.specs.Between.{own_delimiter};
 ghost use Rattle.sedscript.specs.Answers.{as_addressed, as_headed, ComesFrom, Agrees};
 
 use crate::between::own_delimiter;
-use crate::bytes::{Sort, byte_at, is_byte, is_digit, number_of, past};
+use crate::bytes::{Sort, byte_at, is_byte, number_of, past};
 use crate::expressions::expression_at;
 use crate::items::{Addresses, Source};
 use crate::types::{Address, Reason, ScriptFault};
@@ -20,7 +20,7 @@ use sedre::{Expr, delimited};
 fn line_at(text: &[u8], from: usize, to: usize) -> Result<(Option<Address>, usize), ScriptFault>
     requires { (from ≤ to) × (to ≤ length text.now) }
     ensures is { (count : ℕ) → Agrees as_addressed count result
-        (line_of count from to (with_digits (Some 0) (part text.now from to))) }
+        (line_of count from to (with_digits (Some 0) (bytes_between text.now from to))) }
     ensures to { IfOk result (λ found. found.1 ≡ to) }
 {
     match number_of(&text[from..to]) {
@@ -89,13 +89,11 @@ fn match_at(
     }
     let folded = folds_at(source.text, to + 1);
     let number = exprs.len();
-    match expression_at(source, exprs, delimiter, folded, from, to) {
-        Err(fault) => Err(fault),
-        Ok(_) => Ok((
-            Some(Address::Match(Some(number))),
-            past_flag(source.text, to + 1),
-        )),
-    }
+    expression_at(source, exprs, delimiter, folded, from, to)?;
+    Ok((
+        Some(Address::Match(Some(number))),
+        past_flag(source.text, to + 1),
+    ))
 }
 
 /// An expression whose own delimiter stands at a place.
@@ -137,7 +135,7 @@ fn address_at(
         Some(b'/') => match_at(source, exprs, b'/', at),
         Some(b'\\') => own_match(source, exprs, at + 1),
         Some(b) => {
-            if is_digit(b) {
+            if b.is_ascii_digit() {
                 line_at(source.text, at, past(Sort::Digit, source.text, at))
             } else {
                 Ok((None, at))
@@ -187,14 +185,12 @@ fn second_at(
         (second_at source.now.text.now (length exprs.old.items) first at) }
     ensures within { IfOk result (λ found. (at ≤ found.1) × (found.1 ≤ length source.now.text.now)) }
 {
-    match address_at(source, exprs, at) {
-        Err(fault) => Err(fault),
-        Ok((second, next)) => with_second(first, at, next, second),
-    }
+    let (second, next) = address_at(source, exprs, at)?;
+    with_second(first, at, next, second)
 }
 
 /// What follows a first address: a comma and a second one, or nothing.
-fn behind_first(
+fn after_first(
     source: &Source,
     exprs: &mut Vec<Expr>,
     first: Option<Address>,
@@ -202,7 +198,7 @@ fn behind_first(
 ) -> Result<(Addresses, usize), ScriptFault>
     requires at { at ≤ length source.now.text.now }
     ensures comes { ComesFrom source.now exprs.old.items exprs.new.items as_headed result
-        (behind_first source.now.text.now (length exprs.old.items) at first) }
+        (after_first source.now.text.now (length exprs.old.items) at first) }
     ensures within { IfOk result (λ found. (at ≤ found.1) × (found.1 ≤ length source.now.text.now)) }
 {
     let Some(address) = first else {
@@ -232,13 +228,11 @@ pub fn addresses_at(
         (addresses_at source.now.text.now (length exprs.old.items) at) }
     ensures within { IfOk result (λ found. (at ≤ found.1) × (found.1 ≤ length source.now.text.now)) }
 {
-    match address_at(source, exprs, at) {
-        Err(fault) => Err(fault),
-        Ok((first, next)) => behind_first(source, exprs, first, next),
-    }
+    let (first, next) = address_at(source, exprs, at)?;
+    after_first(source, exprs, first, next)
 }
 
-/// With the `!` that stands there.
+/// The addresses with the `!` that may follow them at a place, and the place after it.
 pub fn with_bang(text: &[u8], addresses: Addresses, at: usize) -> (Addresses, usize)
     requires { at ≤ length text.now }
     ensures is { as_headed result 0 ≡ with_bang text.now (as_headed (addresses, at) 0) }

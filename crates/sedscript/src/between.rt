@@ -3,8 +3,8 @@
 ghost use Rattle.std.specs.Prelude.{◌≡◌, ◌≢◌, ◌≤◌, ◌<◌, ◌+◌, false, Some, length, slice_get, drop, IfOk, IfSome};
 ghost use Rattle.sedre.specs.Delimited.{delimiter_at};
 ghost use Rattle.sedscript.specs.Strings.{string_end};
-ghost use Rattle.sedscript.specs.Between.{own_delimiter, strings_behind, substitute_strings, transliterate_strings};
-ghost use Rattle.sedscript.specs.Between.{unless_fault, transliterate_at, flags_behind, flagged, substituted};
+ghost use Rattle.sedscript.specs.Between.{own_delimiter, strings_after, substitute_strings, transliterate_strings};
+ghost use Rattle.sedscript.specs.Between.{unless_fault, transliterate_at, flags_after, flagged, substituted};
 ghost use Rattle.sedscript.specs.Flags.{folds};
 ghost use Rattle.sedscript.specs.Answers.{AreStrings};
 
@@ -34,9 +34,9 @@ pub fn own_delimiter(b: Option<u8>) -> Option<u8>
     }
 }
 
-/// The two strings after the delimiter at a place, of which the first ends where another was found. A newline after a
-/// backslash may stand in the second where it `breaks`.
-fn strings_behind(
+/// The two strings after the delimiter at a place, of which the first ends at `first`, where the next delimiter was found.
+/// Where it `breaks`, the second may have a newline after a backslash.
+fn strings_after(
     text: &[u8],
     breaks: bool,
     delimiter: u8,
@@ -45,7 +45,7 @@ fn strings_behind(
 ) -> Result<Strings, ScriptFault>
     requires delimiter { (delimiter ≢ 92) × (delimiter ≢ 10) }
     requires first { IfSome first (λ middle. (place < middle) × (middle < length text.now)) }
-    ensures is { result ≡ strings_behind text.now breaks delimiter place first }
+    ensures is { result ≡ strings_after text.now breaks delimiter place first }
     ensures within { IfOk result (AreStrings (place + 1) (length text.now)) }
 {
     let Some(middle) = first else {
@@ -79,7 +79,7 @@ pub fn substitute_strings(text: &[u8], place: usize) -> Result<Strings, ScriptFa
             place,
             reason: Reason::BadDelimiter,
         }),
-        Some(delimiter) => strings_behind(
+        Some(delimiter) => strings_after(
             text,
             true,
             delimiter,
@@ -100,7 +100,7 @@ fn transliterate_strings(text: &[u8], place: usize) -> Result<Strings, ScriptFau
             place,
             reason: Reason::BadDelimiter,
         }),
-        Some(delimiter) => strings_behind(
+        Some(delimiter) => strings_after(
             text,
             false,
             delimiter,
@@ -132,10 +132,10 @@ pub fn transliterate_at(text: &[u8], at: usize) -> Result<(Function, usize), Scr
 }
 
 /// Whether the flags of `s`, whose regular expression isn't empty, make letters match without regard to case. They
-/// stand after the expression and are looked at before it is read; their faults are told after its own.
+/// stand after the expression but are looked at before it is read; its faults are told before theirs.
 pub fn folds(text: &[u8], strings: Strings) -> bool
     requires { strings.to < length text.now }
-    ensures { result ≡ folds (flags_behind text.now strings false) }
+    ensures { result ≡ folds (flags_after text.now strings false) }
 {
     match flags_at(text, false, strings.to + 1) {
         Ok((flags, _)) => flags.folded,

@@ -1,7 +1,7 @@
 //! Places of a text.
 
 ghost use Rattle.std.specs.Prelude.{◌≡◌, ◌≤◌, ◌<◌, ◌+◌, Some, length, slice_get};
-ghost use Rattle.sedscript.specs.Bytes.{belongs, past, part, with_digit, with_digits};
+ghost use Rattle.sedscript.specs.Bytes.{belongs, past, bytes_between, with_digit, with_digits};
 
 /// Bytes that are passed over together.
 #[derive(Clone, Copy)]
@@ -10,7 +10,7 @@ pub enum Sort {
     Blank,
     /// What may stand between commands: blanks, newlines and semicolons.
     Separator,
-    /// `!`, and the blanks round it.
+    /// `!`, and the blanks around it.
     Bang,
     /// A decimal digit.
     Digit,
@@ -27,13 +27,6 @@ pub fn is_blank(b: u8) -> bool
     b == b' ' || b == b'\t'
 }
 
-/// Whether the byte is a decimal digit.
-pub fn is_digit(b: u8) -> bool
-    ensures { result ≡ Rattle.sedscript.specs.Bytes.is_digit b }
-{
-    b >= b'0' && b <= b'9'
-}
-
 fn belongs(sort: Sort, b: u8) -> bool
     ensures { result ≡ belongs sort b }
 {
@@ -41,13 +34,13 @@ fn belongs(sort: Sort, b: u8) -> bool
         Sort::Blank => is_blank(b),
         Sort::Separator => is_blank(b) || b == b'\n' || b == b';',
         Sort::Bang => is_blank(b) || b == b'!',
-        Sort::Digit => is_digit(b),
+        Sort::Digit => b.is_ascii_digit(),
         Sort::Name => !(is_blank(b) || b == b'\n' || b == b';' || b == b'}'),
         Sort::Line => b != b'\n',
     }
 }
 
-/// The byte at a place, none at the end.
+/// The byte at a place; None at the end.
 pub fn byte_at(text: &[u8], at: usize) -> Option<u8>
     ensures { result ≡ slice_get text.now at }
 {
@@ -82,8 +75,8 @@ pub fn past(sort: Sort, text: &[u8], at: usize) -> usize
 }
 
 /// The bytes from a place up to another, as far as they stand there.
-pub fn part(text: &[u8], from: usize, to: usize) -> &[u8]
-    ensures { result.now ≡ part text.now from to }
+pub fn bytes_between(text: &[u8], from: usize, to: usize) -> &[u8]
+    ensures { result.now ≡ bytes_between text.now from to }
 {
     if to <= from || text.len() <= from {
         &[]

@@ -2,7 +2,7 @@
 
 ghost use Rattle.std.specs.Prelude.{◌≡◌, ◌<◌, ◌≤◌, ◌+◌, ◌-◌, ◌++◌, ℕ, List, [], Some, false, map, length, drop, take};
 ghost use Rattle.std.specs.Prelude.{slice_get, IfOk, OnOk};
-ghost use Rattle.sedscript.specs.Bytes.{part};
+ghost use Rattle.sedscript.specs.Bytes.{bytes_between};
 ghost use Rattle.sedscript.specs.Tables.{TargetsAre, FilesAre, AtMost, blocks_in};
 ghost use Rattle.sedscript.specs.Script.{none_counted, counts_with, simple_action, text_action, branch_action, file_action, sink_of};
 ghost use Rattle.sedscript.specs.Script.{action_of, with_action};
@@ -10,7 +10,7 @@ ghost use Rattle.sedscript.specs.Script.{commands_of, texts_of, substitution_of,
 ghost use Rattle.sedscript.specs.Script.{unescaped_from, is_quiet};
 ghost use Rattle.sedscript.specs.declared.items.Item.{Item};
 
-use crate::bytes::part;
+use crate::bytes::bytes_between;
 use crate::files::Files;
 use crate::items::{
     Addresses, BranchUse, Counts, FileUse, Flags, Function, Item, Simple, Strings, TextUse,
@@ -24,7 +24,7 @@ use crate::transliteration::table_between;
 use crate::types::{Action, Command};
 use std::alloc::{AllocError, Global};
 
-/// How many texts, substitutions and tables there are with this function, with so many before it.
+/// The numbers of texts, substitutions and tables up to this function and with it, given those before it.
 fn counts_with(n: Counts, function: Function) -> Counts
     requires { AtMost (usize.MAX - 1) n }
     ensures is { result ≡ counts_with n function }
@@ -97,7 +97,8 @@ fn file_action(file_use: FileUse, number: usize) -> Action
     }
 }
 
-/// What the item of an index does, with what is counted before it. None where it leaves no command.
+/// What the item at index `k` does, where `before` blocks were opened and `counts` were counted before it. None where it
+/// leaves no command.
 fn action_of<'a>(
     text: &'a [u8],
     items: &Items,
@@ -121,12 +122,18 @@ fn action_of<'a>(
             if from == to {
                 Some(branch_action(branch_use, targets.commands))
             } else {
-                Some(branch_action(branch_use, targets.label(part(text, from, to)).unwrap_or(0)))
+                Some(branch_action(
+                    branch_use,
+                    targets.label(bytes_between(text, from, to)).unwrap_or(0),
+                ))
             }
         }
         Function::Text(text_use, _, _) => Some(text_action(text_use, counts.texts)),
         Function::File(file_use, from, to) => {
-            Some(file_action(file_use, files.number(file_use, part(text, from, to))))
+            Some(file_action(
+                file_use,
+                files.number(file_use, bytes_between(text, from, to)),
+            ))
         }
         Function::Substitute(..) => Some(Action::Substitute(counts.substitutions)),
         Function::Transliterate(_) => Some(Action::Transliterate(counts.tables)),
@@ -220,21 +227,21 @@ pub fn texts_of(alloc: Global, text: &[u8], items: &Items) -> Result<Vec<Vec<u8>
     let mut k = 0;
     'items: while k < items.len() {
         if let Function::Text(_, from, to) = items.get(k).function {
-            texts.push(unescaped(alloc, part(text, from, to))?)?;
+            texts.push(unescaped(alloc, bytes_between(text, from, to))?)?;
         }
         k += 1;
     }
     Ok(texts)
 }
 
-/// The sink that the flag `w` names, where it stands.
+/// The sink that the flag `w` names, if it is there.
 fn sink_of<'a>(text: &'a [u8], files: &Files<'a>, name: Option<(usize, usize)>) -> Option<usize>
     ensures { (items : List Item) →
         FilesAre text.now items files.now → result ≡ sink_of text.now items name }
 {
     match name {
         None => None,
-        Some((from, to)) => Some(files.number(FileUse::Write, part(text, from, to))),
+        Some((from, to)) => Some(files.number(FileUse::Write, bytes_between(text, from, to))),
     }
 }
 

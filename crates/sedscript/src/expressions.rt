@@ -5,7 +5,7 @@ ghost use Rattle.sedre.specs.declared.types.Reason.{Reason as ExprReason};
 ghost use Rattle.sedre.specs.declared.types.TheConstants.{NO_MEMORY as NO_EXPR_MEMORY};
 ghost use Rattle.sedre.specs.Arena.{tree};
 ghost use Rattle.sedre.specs.Grammar.{ReadsAs, ExprFaulty};
-ghost use Rattle.sedscript.specs.Bytes.{part};
+ghost use Rattle.sedscript.specs.Bytes.{bytes_between};
 ghost use Rattle.sedscript.specs.Reading.{plainly, expression};
 ghost use Rattle.sedscript.specs.Answers.{as_groups, ComesFrom, is_no_memory, fault_of};
 
@@ -46,13 +46,13 @@ fn expression_between(
     requires delimiter { (delimiter ≢ 92) × (delimiter ≢ 10) }
     requires place { (from ≤ to) × (to ≤ length source.now.text.now) }
     ensures reads { IfOk result (λ e.
-        ReadsAs source.now.kind folded (Some delimiter) (part source.now.text.now from to) (tree e) e.groups) }
+        ReadsAs source.now.kind folded (Some delimiter) (bytes_between source.now.text.now from to) (tree e) e.groups) }
     ensures fits { IfOk result (λ e. length e.nodes ≤ source.now.max_nodes) }
     ensures no_fault { OnOk result ((place : ℕ) (reason : ExprReason) →
-        ExprFaulty source.now.kind (Some delimiter) (part source.now.text.now from to) source.now.max_nodes
+        ExprFaulty source.now.kind (Some delimiter) (bytes_between source.now.text.now from to) source.now.max_nodes
         place reason → ⊥) }
     ensures fault { IfErr result (λ f.
-        ExprFaulty source.now.kind (Some delimiter) (part source.now.text.now from to) source.now.max_nodes
+        ExprFaulty source.now.kind (Some delimiter) (bytes_between source.now.text.now from to) source.now.max_nodes
         f.place f.reason ⊎ (f ≡ NO_EXPR_MEMORY)) }
     ensures within { IfErr result (λ f. from + f.place ≤ to) }
 {
@@ -76,7 +76,7 @@ fn expression_between(
     }
 }
 
-/// Adds a copy of an expression: what its reading reserved beyond it goes back.
+/// Adds a copy of an expression, so that the room that reading it took beyond its own is given back.
 fn add_copy(alloc: Global, exprs: &mut Vec<Expr>, expr: &Expr) -> Result<(), AllocError>
     ensures { OnOk result (exprs.new.items ≡ exprs.old.items ++ expr.now ∷ []) }
 {
@@ -84,8 +84,8 @@ fn add_copy(alloc: Global, exprs: &mut Vec<Expr>, expr: &Expr) -> Result<(), All
     Ok(())
 }
 
-/// Reads the expression that stands between two places, where case counts or is folded, and adds it. Answers the number
-/// of its groups.
+/// Reads the expression that stands between two places, where case counts or is folded, and adds it. Answers how many
+/// groups it has.
 pub fn expression_at(
     source: &Source,
     exprs: &mut Vec<Expr>,
@@ -102,13 +102,11 @@ pub fn expression_at(
     ensures one { IfOk result (λ groups. length exprs.new.items ≡ length exprs.old.items + 1) }
 {
     match expression_between(source, delimiter, folded, from, to) {
+        Err(fault) => Err(fault_of(from, fault)),
         Ok(expr) => {
             let groups = expr.groups();
-            match add_copy(source.alloc, exprs, &expr) {
-                Err(_) => Err(NO_MEMORY),
-                Ok(_) => Ok(groups),
-            }
+            add_copy(source.alloc, exprs, &expr)?;
+            Ok(groups)
         }
-        Err(fault) => Err(fault_of(from, fault)),
     }
 }

@@ -5,7 +5,7 @@ ghost use Rattle.sedscript.specs.Files.{is_standard_output, is_file, name_in, fi
 ghost use Rattle.sedscript.specs.Tables.{labelled, with_name, first_number, NumbersAre, AreNumbered, FilesAre};
 ghost use Rattle.sedscript.specs.declared.items.Item.{Item};
 
-use crate::bytes::part;
+use crate::bytes::bytes_between;
 use crate::items::{FileUse, Function};
 use crate::kept::Items;
 use std::alloc::{AllocError, Global};
@@ -39,7 +39,7 @@ fn is_standard_output(name: &[u8]) -> bool
     name == STANDARD_OUTPUT
 }
 
-/// Whether a name is one of a file.
+/// Whether a name is that of a file: one that stands for the standard output isn't, where it is written.
 fn is_file(file_use: FileUse, name: &[u8]) -> bool
     ensures { result ≡ is_file file_use name.now }
 {
@@ -49,7 +49,7 @@ fn is_file(file_use: FileUse, name: &[u8]) -> bool
     }
 }
 
-/// Where the name stands by which a function reads, or writes.
+/// Where the name of the file that a function reads, or writes, begins and ends.
 fn name_in(file_use: FileUse, function: Function) -> Option<(usize, usize)>
     ensures { result ≡ name_in file_use function }
 {
@@ -123,7 +123,7 @@ fn add_file<'a>(
     let Some((from, to)) = found else {
         return Ok(());
     };
-    let name = part(text, from, to);
+    let name = bytes_between(text, from, to);
     if !is_file(file_use, name) {
         return Ok(());
     }

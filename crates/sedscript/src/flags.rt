@@ -5,7 +5,7 @@ ghost use Rattle.sedscript.specs.Flags.{no_flags, ends_flags, with_number, with_
 ghost use Rattle.sedscript.specs.Functions.{name_from};
 ghost use Rattle.sedscript.specs.Answers.{with_rest};
 
-use crate::bytes::{Sort, is_blank, is_digit, number_of, part, past};
+use crate::bytes::{Sort, bytes_between, is_blank, number_of, past};
 use crate::functions::{may_end, name_from};
 use crate::items::Flags;
 use crate::types::{Reason, ScriptFault};
@@ -97,9 +97,9 @@ fn flag_at(text: &[u8], empty: bool, flags: Flags, at: usize) -> Result<(Flags, 
     ensures within { IfOk result (λ next. (at < next.1) × (next.1 ≤ length text.now)) }
 {
     let b = text[at];
-    if is_digit(b) {
+    if b.is_ascii_digit() {
         let to = past(Sort::Digit, text, at);
-        Ok((with_number(flags, at, part(text, at, to))?, to))
+        Ok((with_number(flags, at, bytes_between(text, at, to))?, to))
     } else if b == b'w' {
         with_file(text, flags, at)
     } else {

@@ -121,7 +121,7 @@ fn given(address: Option<Address>) -> usize
     }
 }
 
-/// The function of a letter at a place, where it may stand after these addresses.
+/// What the letter at a place stands for, if that may have these addresses.
 pub fn allowed(addresses: Addresses, letter: u8, at: usize) -> Result<Verb, ScriptFault>
     ensures { result ≡ allowed addresses at (verb_of letter) }
 {

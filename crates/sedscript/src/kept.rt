@@ -1,5 +1,5 @@
-//! The items of a script as they are kept until its commands are made of them. A script may have very many, so each takes
-//! little room: what few of them need stands in lists of its own.
+//! The items of a script as they are kept until its commands are made of them. A script may have a great many, so
+//! each takes little room: what only a few of them need stands in lists of its own.
 
 ghost use Rattle.std.specs.Prelude.{◌≡◌, ◌<◌, ◌++◌, ◌∷◌, [], Some, length, slice_get, slice_index_or, IfOk, OnOk};
 ghost use Rattle.sedscript.specs.Kept.{addresses_of, function_of, item_of, IsGiven, IsBrief, IsKept, Longer};
@@ -37,7 +37,7 @@ pub enum Brief {
     Listed,
 }
 
-/// An item in little room.
+/// An item in a compact form.
 #[derive(Clone, Copy)]
 pub struct Kept {
     pub place: usize,
@@ -182,7 +182,7 @@ fn keep(
 #[derive(Drop)]
 pub struct Items {
     kept: Vec<Kept>,
-    /// The addresses of those that have others than one line.
+    /// The addresses of the items that have more than a line's number or `$`.
     heads: Vec<Addresses>,
     /// The functions `s` and `y`.
     longs: Vec<Function>,

@@ -37,7 +37,7 @@ pub enum Shape {
     TakesStrings,
 }
 
-/// What a letter stands for, none where it stands for no function.
+/// What a letter stands for; None where it stands for no function.
 pub fn verb_of(letter: u8) -> Option<Verb>
     ensures { result ≡ verb_of letter }
 {

@@ -1,24 +1,45 @@
 //! The reader of scripts.
 
 ghost use Rattle.std.specs.Prelude.{◌≡◌, ◌≤◌, ◌⊎◌, [], IfOk, IfErr, OnOk};
-ghost use Rattle.sedscript.specs.Script.{Means, Faulty};
+ghost use Rattle.sedscript.specs.Script.{Cut, IsEnd, Means, Faulty};
 ghost use Rattle.sedscript.specs.Answers.{IsJudged};
 ghost use Rattle.sedscript.specs.Parts.{IsNamed};
 ghost use Rattle.sedscript.specs.Tables.{TargetsAre, FilesAre};
 ghost use Rattle.sedscript.specs.declared.types.ScriptFault.{ScriptFault};
 
 use crate::commands::{commands_of, is_quiet, substitutions_of, tables_of, texts_of};
-use crate::cut::cut;
 use crate::files::{Files, files_of};
-use crate::items::Source;
+use crate::item_reader::item_at;
+use crate::items::{Here, Source};
 use crate::kept::Items;
-use crate::late::late;
 use crate::script::{Named, Script};
+use crate::target_faults::target_fault;
 use crate::targets::{Targets, targets_of};
 use crate::types::{Kind, NO_MEMORY, ScriptFault};
 use sedre::Expr;
 use sedre::laws::reads_as_one;
 use std::alloc::{AllocError, Global};
+
+/// Cuts a text into its items and regular expressions up to its end, and answers where the last item ends.
+fn cut(source: &Source, items: &mut Items, exprs: &mut Vec<Expr>) -> Result<usize, ScriptFault>
+    requires empty { (items.old ≡ []) × (exprs.old.items ≡ []) }
+    ensures cut { IfOk result (λ to.
+        Cut source.now.text.now source.now.kind source.now.max_nodes 0 0 items.new exprs.new.items to
+        × IsEnd source.now.text.now to) }
+    ensures fault { IfErr result (λ f.
+        Faulty source.now.text.now source.now.kind source.now.max_nodes f ⊎ (f ≡ NO_MEMORY)) }
+{
+    let mut at = 0;
+    'items: loop {
+        match item_at(source, exprs, at)? {
+            Here::Ends => return Ok(at),
+            Here::Is(item, next) => {
+                items.push(item)?;
+                at = next;
+            }
+        }
+    }
+}
 
 /// Cuts a text into its items and judges its labels and blocks.
 fn judge<'a>(
@@ -34,15 +55,11 @@ fn judge<'a>(
     ensures fault { IfErr result (λ f.
         Faulty source.now.text.now source.now.kind source.now.max_nodes f ⊎ (f ≡ NO_MEMORY)) }
 {
-    match cut(source, items, exprs) {
-        Err(fault) => Err(fault),
-        Ok(_) => match targets_of(source.alloc, source.text, items) {
-            Err(_) => Err(NO_MEMORY),
-            Ok(targets) => match late(source.text, items, &targets) {
-                Some(fault) => Err(fault),
-                None => Ok(targets),
-            },
-        },
+    cut(source, items, exprs)?;
+    let targets = targets_of(source.alloc, source.text, items)?;
+    match target_fault(source.text, items, &targets) {
+        Some(fault) => Err(fault),
+        None => Ok(targets),
     }
 }
 
@@ -97,17 +114,9 @@ pub fn read(alloc: Global, text: &[u8], kind: Kind, max_nodes: usize) -> Result<
         kind,
         max_nodes,
     };
-    match judge(&source, &mut items, &mut exprs) {
-        Err(fault) => Err(fault),
-        Ok(targets) => match files_of(alloc, text, &items) {
-            Err(_) => Err(NO_MEMORY),
-            Ok(files) => match commands_of(alloc, text, &items, &targets, &files) {
-                Err(_) => Err(NO_MEMORY),
-                Ok(commands) => match named_of(alloc, text, &items, exprs, files) {
-                    Err(_) => Err(NO_MEMORY),
-                    Ok(named) => Ok(Script::of(commands, named, is_quiet(text), max_nodes)),
-                },
-            },
-        },
-    }
+    let targets = judge(&source, &mut items, &mut exprs)?;
+    let files = files_of(alloc, text, &items)?;
+    let commands = commands_of(alloc, text, &items, &targets, &files)?;
+    let named = named_of(alloc, text, &items, exprs, files)?;
+    Ok(Script::of(commands, named, is_quiet(text), max_nodes))
 }

@@ -1,24 +1,18 @@
 //! Replacements of `s`.
 
 ghost use Rattle.std.specs.Prelude.{◌≡◌, ◌≤◌, ◌+◌, ◌++◌, ◌∷◌, [], false, length, IfOk, OnOk};
-ghost use Rattle.sedscript.specs.Bytes.{part};
-ghost use Rattle.sedscript.specs.Replacement.{group, is_letter, escaped_piece, plain_piece, piece_of, pieces_of};
+ghost use Rattle.sedscript.specs.Bytes.{bytes_between};
+ghost use Rattle.sedscript.specs.Replacement.{group, escaped_piece, plain_piece, piece_of, pieces_of};
 ghost use Rattle.sedscript.specs.Replacement.{pieces_in, exceeds, escape_fault, replacement_fault, GroupsWithin};
 ghost use Rattle.sedscript.specs.Answers.{pieces_with};
 
-use crate::bytes::{is_digit, part};
+use crate::bytes::bytes_between;
 use crate::strings::escapes;
 use crate::substitution::{Part, Piece};
 use crate::types::{Reason, ScriptFault};
 use std::alloc::{AllocError, Global};
 
-fn is_letter(b: u8) -> bool
-    ensures { result ≡ is_letter b }
-{
-    (b >= b'A' && b <= b'Z') || (b >= b'a' && b <= b'z')
-}
-
-/// What a backslash in force and this byte stand for.
+/// What this byte stands for where it is escaped.
 fn escaped_piece(delimiter: u8, b: u8) -> Option<Piece>
     ensures { result ≡ escaped_piece delimiter b }
 {
@@ -26,13 +20,13 @@ fn escaped_piece(delimiter: u8, b: u8) -> Option<Piece>
         Some(Piece::Literal(b))
     } else if b == b'0' {
         Some(Piece::Whole)
-    } else if is_digit(b) {
+    } else if b.is_ascii_digit() {
         Some(Piece::Group(usize::from(b - b'0')))
     } else if b == b'n' {
         Some(Piece::Literal(b'\n'))
     } else if b == b't' {
         Some(Piece::Literal(b'\t'))
-    } else if is_letter(b) {
+    } else if b.is_ascii_alphabetic() {
         None
     } else {
         Some(Piece::Literal(b))
@@ -98,9 +92,9 @@ pub fn replacement_fault(
     to: usize,
 ) -> Option<ScriptFault>
     requires { (from ≤ to) × (to ≤ length text.now) }
-    ensures { result ≡ replacement_fault delimiter limit false from (part text.now from to) }
+    ensures { result ≡ replacement_fault delimiter limit false from (bytes_between text.now from to) }
 {
-    let bytes = part(text, from, to);
+    let bytes = bytes_between(text, from, to);
     let mut escaped = false;
     let mut k = 0;
     'bytes: while k < bytes.len() {
@@ -116,7 +110,7 @@ pub fn replacement_fault(
     None
 }
 
-/// Adds the bytes after the parts as a part of their own.
+/// Adds the bytes that are gathered, if there are any, as a part of their own.
 fn end_run(parts: &mut Vec<Part>, run: Vec<u8>) -> Result<(), AllocError>
     ensures { OnOk result (pieces_in parts.new.items ≡ pieces_with parts.old.items run.items) }
 {
@@ -126,21 +120,21 @@ fn end_run(parts: &mut Vec<Part>, run: Vec<u8>) -> Result<(), AllocError>
     Ok(())
 }
 
-/// Adds a piece to the parts and the bytes after them, and gives the bytes that then are after them.
+/// Adds a piece to the parts and the bytes gathered after them, and gives the bytes that are gathered then.
 fn add_piece(
     alloc: Global,
     parts: &mut Vec<Part>,
     run: Vec<u8>,
     piece: Piece,
 ) -> Result<Vec<u8>, AllocError>
-    ensures { IfOk result (λ behind.
-        pieces_with parts.new.items behind.items ≡ pieces_with parts.old.items run.items ++ piece ∷ []) }
+    ensures { IfOk result (λ rest.
+        pieces_with parts.new.items rest.items ≡ pieces_with parts.old.items run.items ++ piece ∷ []) }
 {
     match piece {
         Piece::Literal(b) => {
-            let mut behind = run;
-            behind.push(b)?;
-            Ok(behind)
+            let mut rest = run;
+            rest.push(b)?;
+            Ok(rest)
         }
         Piece::Whole => {
             end_run(parts, run)?;

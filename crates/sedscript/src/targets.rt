@@ -10,7 +10,7 @@ ghost use Rattle.sedscript.specs.Tables.{LabelsAre, TargetsAre, ends_in, with_en
 ghost use Rattle.sedscript.specs.Tables.{reversed, first};
 ghost use Rattle.sedscript.specs.Tables.{number, is_earlier, labelled};
 
-use crate::bytes::part;
+use crate::bytes::bytes_between;
 use crate::items::{Function, Item};
 use crate::kept::Items;
 use std::alloc::{AllocError, Global};
@@ -55,7 +55,7 @@ pub fn is_close(function: Function) -> bool
     matches!(function, Function::Close)
 }
 
-/// How many commands there are with this item, with so many before it.
+/// The number of commands up to this item and with it, given the number before it.
 pub fn counted(n: usize, item: Item) -> usize
     requires { n < usize.MAX }
     ensures is { result ≡ counted n item }
@@ -64,7 +64,7 @@ pub fn counted(n: usize, item: Item) -> usize
     if leaves(item.function) { n + 1 } else { n }
 }
 
-/// How many commands there are before this item, with so many up to it.
+/// The number of commands before this item, given the number up to it and with it.
 fn uncounted(n: usize, item: Item) -> usize
     requires { Rattle.sedscript.specs.Targets.leaves item.function ≡ true → 1 ≤ n }
     ensures { n ≡ counted result item }
@@ -85,7 +85,7 @@ fn commands_in(items: &Items) -> usize
     n
 }
 
-/// How many blocks are opened with this function, with so many before it.
+/// The number of blocks opened up to this function and with it, given the number before it.
 pub fn opened(n: usize, function: Function) -> usize
     requires { n < usize.MAX }
     ensures is { result ≡ opened n function }
@@ -106,8 +106,9 @@ fn blocks_in(items: &Items) -> usize
     n
 }
 
-/// Passes an item, from the last one back, with so many commands before it and the ends of the closing braces after it that close
-/// no block there. Answers the end of the block that the item opens, if it opens one.
+/// Passes over an item, going from the last one back: `n` commands stand before it, and `ends` has where the closing braces
+/// lead that stand after it and close no block opened there. Answers the end of the block that the item opens, if it opens
+/// one.
 fn pass_back(
     ends: &mut Vec<usize>,
     n: usize,
@@ -128,7 +129,7 @@ fn pass_back(
     }
 }
 
-/// For each block the number of the command after its end, none where it isn't closed.
+/// For each block the number of the command after its end; None where it isn't closed.
 fn ends_of(alloc: Global, items: &Items, commands: usize) -> Result<Vec<Option<usize>>, AllocError>
     requires { commands ≡ commands_in items.now }
     ensures { IfOk result (λ ends. ends.items ≡ ends_in 0 items.now) }
@@ -149,8 +150,8 @@ fn ends_of(alloc: Global, items: &Items, commands: usize) -> Result<Vec<Option<u
     Ok(ends)
 }
 
-/// Puts the end of the block that a function opens, if it opens one, where so many blocks were opened up to it. Answers
-/// how many were opened before it.
+/// Puts the end of the block that a function opens, if it opens one, into the table; `blocks` were opened up to the
+/// function and with it. Answers how many were opened before it.
 fn put_end(
     ends: &mut Vec<Option<usize>>,
     blocks: usize,
@@ -186,7 +187,7 @@ fn add_label<'a>(
     let Function::Label(from, to) = function else {
         return Ok(());
     };
-    let name = part(text, from, to);
+    let name = bytes_between(text, from, to);
     if labels.contains_key(&name) {
         return Ok(());
     }
@@ -221,7 +222,7 @@ fn labels_of<'a>(
 pub struct Targets<'a> {
     /// The first label of each name.
     pub labels: BTreeMap<&'a [u8], FirstLabel>,
-    /// For each block the number of the command after its end, none where it isn't closed.
+    /// For each block the number of the command after its end; None where it isn't closed.
     pub ends: Vec<Option<usize>>,
     /// How many commands there are.
     pub commands: usize,
@@ -273,7 +274,7 @@ impl<'a> Targets<'a> {
         self.labels.get(&name).copied()
     }
 
-    /// The number of the command after the first label of a name, none where no label has it.
+    /// The number of the command after the first label of a name; None where no label has it.
     pub fn label(&self, name: &'a [u8]) -> Option<usize>
         ensures { (text : List ℕ) (items : List Item) →
             TargetsAre text items self.now.labels self.now.ends.items self.now.commands →
@@ -292,7 +293,7 @@ impl<'a> Targets<'a> {
         is_earlier(k, self.first_label(name))
     }
 
-    /// The number of the command after the end of the block before which so many were opened, none where it isn't
+    /// The number of the command after the end of the block before which `blocks` were opened; None where it isn't
     /// closed.
     pub fn block_end(&self, blocks: usize) -> Option<usize>
         requires { blocks < length self.now.ends.items }

@@ -1,7 +1,7 @@
 //! The texts of `a`, `i` and `c` as they are written.
 
 ghost use Rattle.std.specs.Prelude.{◌≡◌, ◌≤◌, ◌<◌, ◌+◌, length, drop, IfSome};
-ghost use Rattle.sedscript.specs.Functions.{text_end, stops, behind, text_from, ends_line};
+ghost use Rattle.sedscript.specs.Functions.{text_end, stops, inside_after, text_from, ends_line};
 
 use crate::bytes::{byte_at, is_byte};
 
@@ -10,9 +10,9 @@ use crate::bytes::{byte_at, is_byte};
 pub enum Inside {
     /// Within a line.
     InLine,
-    /// After a backslash that is in force.
+    /// After a backslash that escapes the next byte.
     Escape,
-    /// Where a further line has to stand.
+    /// Where a further line has to follow.
     Due,
 }
 
@@ -35,8 +35,8 @@ fn stops(inside: Inside, b: u8) -> bool
     }
 }
 
-fn behind(inside: Inside, b: u8) -> Inside
-    ensures { result ≡ behind inside b }
+fn inside_after(inside: Inside, b: u8) -> Inside
+    ensures { result ≡ inside_after inside b }
 {
     match inside {
         Inside::Escape => if b == b'\n' {
@@ -52,7 +52,7 @@ fn behind(inside: Inside, b: u8) -> Inside
     }
 }
 
-/// Where the text ends whose rest stands at a place.
+/// Where a text ends, of which the rest begins at a place; None where a further line has to follow and doesn't.
 fn text_end(text: &[u8], start: Inside, from: usize) -> Option<usize>
     requires { from ≤ length text.now }
     ensures is { result ≡ text_end start from (drop from text.now) }
@@ -64,7 +64,7 @@ fn text_end(text: &[u8], start: Inside, from: usize) -> Option<usize>
         if stops(inside, text[at]) {
             return Some(at);
         }
-        inside = behind(inside, text[at]);
+        inside = inside_after(inside, text[at]);
         at += 1;
     }
     match inside {
@@ -73,7 +73,7 @@ fn text_end(text: &[u8], start: Inside, from: usize) -> Option<usize>
     }
 }
 
-/// The text after the blanks that follow its letter: where it begins and ends, none where it is missing.
+/// The text after the blanks that follow its letter: where it begins and ends; None where it is missing.
 #[tactic(auto, unfolding(crate::specs::Functions::text_from))]
 pub fn text_from(text: &[u8], from: usize) -> Option<(usize, usize)>
     requires { from ≤ length text.now }

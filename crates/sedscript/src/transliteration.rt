@@ -2,16 +2,16 @@
 
 ghost use Rattle.std.specs.Prelude.{◌≡◌, ◌≤◌, ◌<◌, ◌+◌, ℕ, List, [], ◌∷◌, true, false, length, IfOk};
 ghost use Rattle.std.specs.List.{range_with_len};
-ghost use Rattle.sedscript.specs.Bytes.{part};
+ghost use Rattle.sedscript.specs.Bytes.{bytes_between};
 ghost use Rattle.sedscript.specs.Transliteration.{escaped_byte, char_of, chars_from, chars_of, bytes_of, string_fault};
 ghost use Rattle.sedscript.specs.Transliteration.{is_among, repeated_in, strings_fault, table_of};
 ghost use Rattle.sedscript.specs.Answers.{marks_of};
 ghost use Rattle.sedscript.specs.Script.{table_between};
 
-use crate::bytes::part;
+use crate::bytes::bytes_between;
 use crate::items::Strings;
-use crate::late::fault_if;
 use crate::strings::{escapes, second_of};
+use crate::target_faults::fault_if;
 use crate::types::{Reason, ScriptFault};
 use std::alloc::{AllocError, Global};
 
@@ -22,7 +22,7 @@ pub struct Char {
     pub place: usize,
 }
 
-/// What a backslash in force and this byte stand for.
+/// What this byte stands for where it is escaped.
 fn escaped_byte(delimiter: u8, b: u8) -> Option<u8>
     ensures { result ≡ escaped_byte delimiter b }
 {
@@ -37,7 +37,7 @@ fn escaped_byte(delimiter: u8, b: u8) -> Option<u8>
     }
 }
 
-/// The byte of a string that ends with the one at a place.
+/// The byte of a string, plain or escaped, that ends with the one at a place.
 fn char_of(delimiter: u8, escaped: bool, at: usize, b: u8) -> Option<Char>
     requires { escaped ≡ true → 1 ≤ at }
     ensures { result ≡ char_of delimiter escaped at b }
@@ -139,21 +139,21 @@ pub fn strings_fault(
     requires { (from ≤ middle) × (middle < to) × (to ≤ length text.now) }
     ensures { result ≡ strings_fault text.now delimiter letter from middle to }
 {
-    let source = part(text, from, middle);
-    let target = part(text, middle + 1, to);
-    if let Some(fault) = string_fault(source, delimiter, from) {
+    let string1 = bytes_between(text, from, middle);
+    let string2 = bytes_between(text, middle + 1, to);
+    if let Some(fault) = string_fault(string1, delimiter, from) {
         return Some(fault);
     }
-    if let Some(fault) = string_fault(target, delimiter, middle + 1) {
+    if let Some(fault) = string_fault(string2, delimiter, middle + 1) {
         return Some(fault);
     }
-    if let Some(place) = repeated(source, delimiter, from) {
+    if let Some(place) = repeated(string1, delimiter, from) {
         return Some(ScriptFault {
             place,
             reason: Reason::RepeatedByte,
         });
     }
-    let differ = count(source, delimiter, from) != count(target, delimiter, middle + 1);
+    let differ = count(string1, delimiter, from) != count(string2, delimiter, middle + 1);
     fault_if(differ, Reason::LengthsDiffer, letter)
 }
 
@@ -187,14 +187,14 @@ fn all_bytes(alloc: Global) -> Result<Vec<u8>, AllocError>
 }
 
 /// What stands for each byte where these bytes stand for those.
-fn table_from(alloc: Global, source: &[u8], target: &[u8]) -> Result<Vec<u8>, AllocError>
-    ensures { IfOk result (λ v. v.items ≡ table_of source.now target.now) }
+fn table_from(alloc: Global, string1: &[u8], string2: &[u8]) -> Result<Vec<u8>, AllocError>
+    ensures { IfOk result (λ v. v.items ≡ table_of string1.now string2.now) }
 {
     let mut table = all_bytes(alloc)?;
-    let mut k = source.len().min(target.len());
+    let mut k = string1.len().min(string2.len());
     'pairs: while k > 0 {
         k -= 1;
-        table[usize::from(source[k])] = target[k];
+        table[usize::from(string1[k])] = string2[k];
     }
     Ok(table)
 }
@@ -204,7 +204,11 @@ pub fn table_between(alloc: Global, text: &[u8], strings: Strings) -> Result<Vec
     ensures { IfOk result (λ v. v.items ≡ table_between text.now strings) }
 {
     let delimiter = strings.delimiter;
-    let source = bytes_of(alloc, part(text, strings.from, strings.middle), delimiter)?;
-    let target = bytes_of(alloc, second_of(text, strings), delimiter)?;
-    table_from(alloc, &source, &target)
+    let string1 = bytes_of(
+        alloc,
+        bytes_between(text, strings.from, strings.middle),
+        delimiter,
+    )?;
+    let string2 = bytes_of(alloc, second_of(text, strings), delimiter)?;
+    table_from(alloc, &string1, &string2)
 }

@@ -4,6 +4,7 @@ ghost use Rattle.std.specs.Prelude.{◌≡◌};
 ghost use Rattle.sedscript.specs.Faults.{name_of, number_of};
 
 pub use sedre::{ExprFault, Kind};
+use std::alloc::AllocError;
 
 /// Which pattern spaces a command is for (XCU sed, "Addresses in sed").
 #[derive(Clone, Copy, Debug, PartialEq, Eq)]
@@ -216,3 +217,14 @@ pub const NO_MEMORY: ScriptFault = ScriptFault {
     place: 0,
     reason: Reason::NoMemory,
 };
+
+/// A refused request for memory is the fault `NO_MEMORY`, so that `?` can answer it.
+impl From<AllocError> for ScriptFault {
+    ghost use Rattle.sedscript.specs.declared.types.TheConstants.{NO_MEMORY};
+
+    ghost from_gives = { λ e fault. fault ≡ NO_MEMORY };
+
+    fn from(_error: AllocError) -> ScriptFault {
+        NO_MEMORY
+    }
+}

@@ -143,7 +143,7 @@ impl Machine {
         self.ranges[k] = active;
     }
 
-    /// Judges the addresses of command `k`, and comes to it.
+    /// Judges the addresses of command `k`, and reaches it.
     pub(super) fn judge<R: ByteSource>(
         &mut self,
         k: usize,

@@ -32,7 +32,7 @@ fn tells(command: &Command, end: bool) -> bool
 }
 
 impl Machine {
-    /// Comes to a command, or to the end of the script.
+    /// Reaches a command, or the end of the script.
     pub(super) fn come_to<R: ByteSource, O: Sinks, T: Texts>(
         &mut self,
         k: usize,

@@ -1,6 +1,6 @@
 use Rattle.std.proofs.Common.{drop, take, ◌+◌}
 use Rattle.sedscript.proofs.Blocks.{end_known, end_within}
-use Rattle.sedscript.proofs.LateFaults.{action_open}
+use Rattle.sedscript.proofs.TargetFaults.{action_open}
 use Rattle.sedscript.proofs.commands.action_of.Goals as goal
 
 pub returns-in-Open : goal.returns-in-Open

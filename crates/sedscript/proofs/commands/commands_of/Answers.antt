@@ -1,6 +1,6 @@
 use Rattle.std.proofs.Common.{arith}
 use Rattle.sedscript.proofs.Blocks.{blocks_step}
-use Rattle.sedscript.proofs.LateFaults.{commands_step}
+use Rattle.sedscript.proofs.TargetFaults.{commands_step}
 use Rattle.sedscript.proofs.commands.commands_of.Goals as goal
 
 pub items-preserved : goal.items-preserved

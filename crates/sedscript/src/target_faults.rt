@@ -1,10 +1,10 @@
 //! Faults of labels and blocks, which are judged once the whole text is cut.
 
 ghost use Rattle.std.specs.Prelude.{◌≡◌, ◌<◌, ◌≤◌, ◌+◌, Some, length, drop, take, slice_get};
-ghost use Rattle.sedscript.specs.Targets.{fault_if, late_at, late, depth_behind};
+ghost use Rattle.sedscript.specs.Targets.{fault_if, target_fault_at, target_fault, depth_after};
 ghost use Rattle.sedscript.specs.Tables.{TargetsAre, blocks_in};
 
-use crate::bytes::part;
+use crate::bytes::bytes_between;
 use crate::items::{Function, Item};
 use crate::kept::Items;
 use crate::targets::{Targets, is_close, is_open, opened};
@@ -17,8 +17,8 @@ pub fn fault_if(wrong: bool, reason: Reason, place: usize) -> Option<ScriptFault
     wrong.then_some(ScriptFault { place, reason })
 }
 
-/// What is wrong with the item of an index, before which so many blocks were opened, and so many are open.
-fn late_at<'a>(
+/// What is wrong with the item at index `k`, if anything is: `before` blocks were opened before it, and `depth` are open.
+fn target_fault_at<'a>(
     text: &'a [u8],
     items: &Items,
     targets: &Targets<'a>,
@@ -31,7 +31,7 @@ fn late_at<'a>(
     requires opened { before ≡ blocks_in (take k items.now) }
     requires targets { TargetsAre text.now items.now targets.now.labels targets.now.ends.items targets.now.commands }
     ensures { result ≡
-        late_at text.now items.now (take k items.now) depth (drop (k + 1) items.now) item.place item.function }
+        target_fault_at text.now items.now (take k items.now) depth (drop (k + 1) items.now) item.place item.function }
 {
     match item.function {
         Function::Open => fault_if(
@@ -42,14 +42,14 @@ fn late_at<'a>(
         Function::Close => fault_if(depth == 0, Reason::StrayClose, item.place),
         Function::Label(from, to) => {
             fault_if(
-                targets.is_repeated(part(text, from, to), k),
+                targets.is_repeated(bytes_between(text, from, to), k),
                 Reason::RepeatedLabel,
                 item.place,
             )
         }
         Function::Branch(_, from, to) => {
             fault_if(
-                from != to && targets.label(part(text, from, to)).is_none(),
+                from != to && targets.label(bytes_between(text, from, to)).is_none(),
                 Reason::UnknownLabel,
                 item.place,
             )
@@ -63,9 +63,9 @@ fn late_at<'a>(
     }
 }
 
-fn depth_behind(depth: usize, function: Function) -> usize
+fn depth_after(depth: usize, function: Function) -> usize
     requires { depth < usize.MAX }
-    ensures is { result ≡ depth_behind depth function }
+    ensures is { result ≡ depth_after depth function }
     ensures few { result ≤ depth + 1 }
 {
     if is_open(function) {
@@ -77,22 +77,22 @@ fn depth_behind(depth: usize, function: Function) -> usize
     }
 }
 
-/// The fault of labels and blocks with the least place, if there is one.
-pub fn late<'a>(text: &'a [u8], items: &Items, targets: &Targets<'a>) -> Option<ScriptFault>
+/// The first fault of labels and blocks, if there is one.
+pub fn target_fault<'a>(text: &'a [u8], items: &Items, targets: &Targets<'a>) -> Option<ScriptFault>
     requires targets { TargetsAre text.now items.now targets.now.labels targets.now.ends.items targets.now.commands }
-    ensures { result ≡ late text.now items.now }
+    ensures { result ≡ target_fault text.now items.now }
 {
     let mut blocks = 0;
     let mut depth: usize = 0;
     let mut k = 0;
     'items: while k < items.len() {
         let item = items.get(k);
-        let fault = late_at(text, items, targets, k, blocks, depth, item);
+        let fault = target_fault_at(text, items, targets, k, blocks, depth, item);
         if fault.is_some() {
             return fault;
         }
         blocks = opened(blocks, item.function);
-        depth = depth_behind(depth, item.function);
+        depth = depth_after(depth, item.function);
         k += 1;
     }
     None

@@ -1,7 +1,7 @@
 use Rattle.std.proofs.Common.{◌≡◌, ◌≤◌, ◌-◌, length, drop, take}
-use Rattle.sedscript.specs.Targets.{late, late_in}
+use Rattle.sedscript.specs.Targets.{target_fault, target_fault_in}
 use Rattle.sedscript.specs.Tables.{blocks_in}
-use Rattle.sedscript.proofs.late.late.Given as goal
+use Rattle.sedscript.proofs.target_faults.target_fault.Given as goal
 
 abbrev pub invariant-items : goal.invariant-items
 invariant-items l = record {
@@ -9,7 +9,7 @@ invariant-items l = record {
   few : l.blocks ≤ l.k;
   blocks : l.blocks ≡ blocks_in (take l.k l.items);
   depth : l.depth ≤ l.k;
-  rest : late l.text l.items ≡ late_in l.text l.items (take l.k l.items) l.depth (drop l.k l.items);
+  rest : target_fault l.text l.items ≡ target_fault_in l.text l.items (take l.k l.items) l.depth (drop l.k l.items);
 }
 
 abbrev pub decreases-items : goal.decreases-items

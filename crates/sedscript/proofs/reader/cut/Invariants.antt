@@ -1,6 +1,6 @@
 use Rattle.std.proofs.Common.{◌≤◌, ◌-◌, length}
 use Rattle.sedscript.specs.Script.{Cut}
-use Rattle.sedscript.proofs.cut.cut.Given as goal
+use Rattle.sedscript.proofs.reader.cut.Given as goal
 
 abbrev pub invariant-items : goal.invariant-items
 invariant-items l = record {

@@ -1,5 +1,5 @@
 use Rattle.sedscript.proofs.Coming.{function_comes}
-use Rattle.sedscript.proofs.reading.function_with.Goals as goal
+use Rattle.sedscript.proofs.item_reader.function_with.Goals as goal
 
 pub returns-in-Reads-clause-comes : goal.returns-in-Reads-clause-comes
 returns-in-Reads-clause-comes c =

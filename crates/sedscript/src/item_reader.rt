@@ -1,10 +1,10 @@
-//! The items of a script: functions with their addresses.
+//! The items of a script are read: functions with their addresses.
 
 ghost use Rattle.std.specs.Prelude.{◌≡◌, ◌≤◌, ◌<◌, ◌+◌, Some, length, slice_get, IfOk};
 ghost use Rattle.sedscript.specs.Items.{substitute_at, substitute_with, function_of, function_with, function_at};
-ghost use Rattle.sedscript.specs.Items.{function_behind, item_at};
+ghost use Rattle.sedscript.specs.Items.{function_after, item_at};
 ghost use Rattle.sedscript.specs.Functions.{item_of};
-ghost use Rattle.sedscript.specs.Answers.{as_function, as_headed, as_here, ComesFrom, AreStrings, IsBehind, IsHere};
+ghost use Rattle.sedscript.specs.Answers.{as_function, as_headed, as_here, ComesFrom, AreStrings, IsAfter, IsHere};
 
 use crate::addresses::{addresses_at, with_bang};
 use crate::between::{folds, substitute_strings, substituted, transliterate_at};
@@ -31,17 +31,15 @@ fn substitute_with(
         return substituted(source.text, strings, None, None);
     }
     let number = exprs.len();
-    match expression_at(
+    let groups = expression_at(
         source,
         exprs,
         strings.delimiter,
         folds(source.text, strings),
         strings.from,
         strings.middle,
-    ) {
-        Err(fault) => Err(fault),
-        Ok(groups) => substituted(source.text, strings, Some(number), Some(groups)),
-    }
+    )?;
+    substituted(source.text, strings, Some(number), Some(groups))
 }
 
 /// The command `s`, whose letter stands at a place.
@@ -55,10 +53,8 @@ fn substitute_at(
         (substitute_at source.now.text.now (length exprs.old.items) at) }
     ensures within { IfOk result (λ found. (at < found.1) × (found.1 ≤ length source.now.text.now)) }
 {
-    match substitute_strings(source.text, at + 1) {
-        Err(fault) => Err(fault),
-        Ok(strings) => substitute_with(source, exprs, strings),
-    }
+    let strings = substitute_strings(source.text, at + 1)?;
+    substitute_with(source, exprs, strings)
 }
 
 /// The function of a letter that stands at a place and is not `s`, and the place after it.
@@ -113,7 +109,7 @@ fn item_of(addresses: Addresses, place: usize, function: Function, next: usize) 
     )
 }
 
-/// The item of the function of a letter at a place, where it may stand after these addresses.
+/// The item of the function whose letter stands at a place, if that may have these addresses.
 fn item_with(
     source: &Source,
     exprs: &mut Vec<Expr>,
@@ -124,15 +120,11 @@ fn item_with(
     requires { slice_get source.now.text.now at ≡ Some letter }
     ensures comes { ComesFrom source.now exprs.old.items exprs.new.items as_here result
         (function_at source.now.text.now (length exprs.old.items) addresses at) }
-    ensures within { IfOk result (IsBehind at (length source.now.text.now)) }
+    ensures within { IfOk result (IsAfter at (length source.now.text.now)) }
 {
-    match allowed(addresses, letter, at) {
-        Err(fault) => Err(fault),
-        Ok(verb) => match function_with(source, exprs, verb, at) {
-            Err(fault) => Err(fault),
-            Ok((function, next)) => Ok(item_of(addresses, at, function, next)),
-        },
-    }
+    let verb = allowed(addresses, letter, at)?;
+    let (function, next) = function_with(source, exprs, verb, at)?;
+    Ok(item_of(addresses, at, function, next))
 }
 
 /// The item of the function that is expected at a place, after these addresses.
@@ -145,7 +137,7 @@ fn function_at(
     requires { at ≤ length source.now.text.now }
     ensures comes { ComesFrom source.now exprs.old.items exprs.new.items as_here result
         (function_at source.now.text.now (length exprs.old.items) addresses at) }
-    ensures within { IfOk result (IsBehind at (length source.now.text.now)) }
+    ensures within { IfOk result (IsAfter at (length source.now.text.now)) }
 {
     match byte_at(source.text, at) {
         None => Err(ScriptFault {
@@ -157,7 +149,7 @@ fn function_at(
 }
 
 /// The item of the function after its addresses.
-fn function_behind(
+fn function_after(
     source: &Source,
     exprs: &mut Vec<Expr>,
     addresses: Addresses,
@@ -165,8 +157,8 @@ fn function_behind(
 ) -> Result<Here, ScriptFault>
     requires { at ≤ length source.now.text.now }
     ensures comes { ComesFrom source.now exprs.old.items exprs.new.items as_here result
-        (function_behind source.now.text.now (as_headed (addresses, at) (length exprs.old.items))) }
-    ensures within { IfOk result (IsBehind at (length source.now.text.now)) }
+        (function_after source.now.text.now (as_headed (addresses, at) (length exprs.old.items))) }
+    ensures within { IfOk result (IsAfter at (length source.now.text.now)) }
 {
     let (addresses, next) = with_bang(source.text, addresses, at);
     function_at(source, exprs, addresses, next)
@@ -182,9 +174,9 @@ pub fn item_at(source: &Source, exprs: &mut Vec<Expr>, at: usize) -> Result<Here
     let start = past(Sort::Separator, source.text, at);
     match byte_at(source.text, start) {
         None => Ok(Here::Ends),
-        Some(_) => match addresses_at(source, exprs, start) {
-            Err(fault) => Err(fault),
-            Ok((addresses, next)) => function_behind(source, exprs, addresses, next),
-        },
+        Some(_) => {
+            let (addresses, next) = addresses_at(source, exprs, start)?;
+            function_after(source, exprs, addresses, next)
+        }
     }
 }

@@ -12,8 +12,8 @@ use Rattle.sedscript.specs.declared.items.Item.{Item}
 use Rattle.sedscript.specs.declared.items.Counts.{Counts}
 use Rattle.sedscript.specs.declared.items.Function.{Function}
 use Rattle.sedscript.specs.declared.items.Function.TheVariants.{Open, Label}
-use Rattle.sedscript.specs.Bytes.{part}
-use Rattle.sedscript.specs.Targets.{late_at, late_in, depth_behind, fault_if, block_end, label_in, is_label}
+use Rattle.sedscript.specs.Bytes.{bytes_between}
+use Rattle.sedscript.specs.Targets.{target_fault_at, target_fault_in, depth_after, fault_if, block_end, label_in, is_label}
 use Rattle.sedscript.proofs.Labels.{own_name, none_of, take_item, drop_item}
 
 missing : {A : Type 0} (o : Option A) (b : Bool) → is_some o ≡ not b → b ≡ is_none o
@@ -22,19 +22,19 @@ missing None false e = cc
 missing (Some x) true e = cc
 missing (Some x) false e = refl
 
-pub late_open : (text : List ℕ) (all before after : List Item) (depth place : ℕ) (f : Function) (b : Bool) (o : Option ℕ) (r : Option ScriptFault) →
-    f ≡ Open → o ≡ block_end before after → is_some o ≡ not b → r ≡ fault_if b OpenBlock place → r ≡ late_at text all before depth after place f
-late_open text all before after depth place f b o r is end some e =
+pub target_fault_open : (text : List ℕ) (all before after : List Item) (depth place : ℕ) (f : Function) (b : Bool) (o : Option ℕ) (r : Option ScriptFault) →
+    f ≡ Open → o ≡ block_end before after → is_some o ≡ not b → r ≡ fault_if b OpenBlock place → r ≡ target_fault_at text all before depth after place f
+target_fault_open text all before after depth place f b o r is end some e =
     e ∙ (ap (λ (c : Bool). fault_if c OpenBlock place) (missing o b some ∙ ap (λ (x : Option ℕ). is_none x) end)
-    ∙ ap (late_at text all before depth after place) (sym is))
+    ∙ ap (target_fault_at text all before depth after place) (sym is))
 
-pub late_label : (text name : List ℕ) (all before after : List Item) (depth place from to : ℕ) (f : Function) (b : Bool) (r : Option ScriptFault) →
-    f ≡ Label from to → name ≡ part text from to → (is_label text name f ≡ true → b ≡ is_some (label_in text name 0 before)) → r ≡ fault_if b RepeatedLabel place →
-    r ≡ late_at text all before depth after place f
-late_label text name all before after depth place from to f b r is named earlier e =
+pub target_fault_label : (text name : List ℕ) (all before after : List Item) (depth place from to : ℕ) (f : Function) (b : Bool) (r : Option ScriptFault) →
+    f ≡ Label from to → name ≡ bytes_between text from to → (is_label text name f ≡ true → b ≡ is_some (label_in text name 0 before)) → r ≡ fault_if b RepeatedLabel place →
+    r ≡ target_fault_at text all before depth after place f
+target_fault_label text name all before after depth place from to f b r is named earlier e =
     let own : is_label text name f ≡ true = ap (λ (n : List ℕ). is_label text n f) named ∙ own_name text f from to is in
     e ∙ (ap (λ (c : Bool). fault_if c RepeatedLabel place) (earlier own ∙ ap (λ (n : List ℕ). is_some (label_in text n 0 before)) named)
-    ∙ ap (late_at text all before depth after place) (sym is))
+    ∙ ap (target_fault_at text all before depth after place) (sym is))
 
 pub action_open : (text : List ℕ) (all before after : List Item) (n : Counts) (to : ℕ) (f : Function) (o : Option ℕ) →
     f ≡ Open → o ≡ block_end before after → to ≡ unwrap_or o 0 → ◌≡◌ {A = Option Action} (Some (Block to)) (action_of text all before n after f)
@@ -42,14 +42,14 @@ action_open text all before after n to f o is end e =
     ap (λ (k : ℕ). Some (Block k)) (e ∙ ap (λ (x : Option ℕ). unwrap_or x 0) end) ∙ ap (action_of text all before n after) (sym is)
 
 -- one item more without a fault
-pub late_step : (text : List ℕ) (all : List Item) (k depth next : ℕ) (i : Item) (f : Option ScriptFault) (b : Bool) (whole : Option ScriptFault) → slice_get all k ≡ Some i →
-    f ≡ late_at text all (take k all) depth (drop (k + 1) all) i.place i.function → b ≡ is_some f → b ≡ false → next ≡ depth_behind depth i.function →
-    whole ≡ late_in text all (take k all) depth (drop k all) → whole ≡ late_in text all (take (k + 1) all) next (drop (k + 1) all)
-late_step text all k depth next i f b whole at is some right deeper so_far =
-    so_far ∙ (ap (late_in text all (take k all) depth) (drop_item all k i at)
-    ∙ (ap (λ (o : Option ScriptFault). option_or o (late_in text all (take k all ++ i ∷ []) (depth_behind depth i.function) (drop (k + 1) all))) (sym is ∙ none_of f b some right)
-    ∙ (ap (λ (d : ℕ). late_in text all (take k all ++ i ∷ []) d (drop (k + 1) all)) (sym deeper)
-    ∙ ap (λ (is : List Item). late_in text all is next (drop (k + 1) all)) (sym (take_item all k i at)))))
+pub target_fault_step : (text : List ℕ) (all : List Item) (k depth next : ℕ) (i : Item) (f : Option ScriptFault) (b : Bool) (whole : Option ScriptFault) → slice_get all k ≡ Some i →
+    f ≡ target_fault_at text all (take k all) depth (drop (k + 1) all) i.place i.function → b ≡ is_some f → b ≡ false → next ≡ depth_after depth i.function →
+    whole ≡ target_fault_in text all (take k all) depth (drop k all) → whole ≡ target_fault_in text all (take (k + 1) all) next (drop (k + 1) all)
+target_fault_step text all k depth next i f b whole at is some right deeper so_far =
+    so_far ∙ (ap (target_fault_in text all (take k all) depth) (drop_item all k i at)
+    ∙ (ap (λ (o : Option ScriptFault). option_or o (target_fault_in text all (take k all ++ i ∷ []) (depth_after depth i.function) (drop (k + 1) all))) (sym is ∙ none_of f b some right)
+    ∙ (ap (λ (d : ℕ). target_fault_in text all (take k all ++ i ∷ []) d (drop (k + 1) all)) (sym deeper)
+    ∙ ap (λ (is : List Item). target_fault_in text all is next (drop (k + 1) all)) (sym (take_item all k i at)))))
 
 with_more : (a : Addresses) (o : Option Action) (cs : List Command) → with_action a o cs ≡ with_action a o [] ++ cs
 with_more a None cs = refl
