@@ -24,3 +24,4 @@ pub mod Holding
 pub mod Numbers
 pub mod Ended
 mod Folding
+pub mod ComputedReading
