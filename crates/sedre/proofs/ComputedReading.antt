@@ -1,6 +1,6 @@
 -- The grammar as a computation, so that examples of it can be computed: the items of a text one after the other, and
 -- what they come to.
-use Rattle.std.proofs.Common.{◌≡◌, ◌≢◌, ℕ, zero, suc, ◌+◌, List, [], ◌∷◌, length, Bool, true, false, Option, Some, None, inl, inr, refl, ap, subst, ◌∙◌, sym, arith}
+use Rattle.std.proofs.Common.{◌≡◌, ◌≢◌, ◌≤◌, ℕ, zero, suc, ◌+◌, List, [], ◌∷◌, length, Bool, true, false, Option, Some, None, inl, inr, refl, ap, subst, ◌∙◌, sym, arith}
 use Rattle.std.specs.Prelude.{nat_le}
 use Rattle.std.proofs.lemmas.Bool.Decides.{leb_tells}
 use Rattle.sedre.specs.declared.types.Kind.{Kind}
@@ -13,8 +13,13 @@ use Rattle.sedre.specs.declared.syntax.Item.TheVariants.{Byte, Open, Close, Bar,
 use Rattle.sedre.specs.Tree.{Tree, size, depth}
 use Rattle.sedre.specs.Repeats.{alternation}
 use Rattle.sedre.specs.Items.{item_at}
-use Rattle.sedre.specs.Grammar.{ReadsAs, FaultyWith}
-use Rattle.sedre.specs.Stacks.{Level, State, start, step, all_alternatives}
+use Rattle.sedre.specs.Arena.{Written, tree}
+use Rattle.sedre.specs.Grammar.{ReadsAs, FaultyWith, ExprFaulty}
+use Rattle.sedre.specs.Stacks.{Level, State, start, step, all_alternatives, postorder}
+use Rattle.sedre.proofs.Exclusive.{no_fault}
+use Rattle.sedre.proofs.Folding.{faulty_alike}
+use Rattle.sedre.proofs.Holding.{whole_tree}
+use Rattle.sedre.proofs.Written.{length-postorder}
 use Rattle.sedre.proofs.Reading.{Reading, reading_start, reading_step, reading_whole, reading_bad, reading_stray, reading_unclosed, reading_limits}
 
 -- what a text comes to: an expression with so many groups, or a fault; unfinished where more items stand than were asked
@@ -61,7 +66,7 @@ module _ (kind : Kind) (folded : Bool) (delimiter : Option ℕ) (text : List ℕ
 
   -- what the grammar says where the computation comes to this
   abbrev pub Holds : Outcome → Type 0
-  Holds (reads t groups) = ReadsAs kind folded delimiter text t groups
+  Holds (reads t groups) = ReadsAs kind folded delimiter text t groups × (depth t ≤ 600) × (size t ≤ max_nodes)
   Holds (faulty place reason) = FaultyWith kind folded delimiter text max_nodes place reason
   Holds unfinished = Unit {0}
 
@@ -78,7 +83,7 @@ module _ (kind : Kind) (folded : Bool) (delimiter : Option ℕ) (text : List ℕ
               | inr n ↦ subst (λ (b : Bool). Holds (limited true b (length text) t s.opened)) (sym n.0)
                   ((reading_limits kind folded delimiter text max_nodes r f e).1 d.1 n.1)
               | inl n ↦ subst (λ (b : Bool). Holds (limited true b (length text) t s.opened)) (sym n.0)
-                  (reading_whole kind folded delimiter text r f e)
+                  (reading_whole kind folded delimiter text r f e, d.1, n.1)
             ])
       ]
   ended_holds s (l ∷ ls) e r f = reading_unclosed kind folded delimiter text max_nodes r f (omega (arith, ap length e))
@@ -126,7 +131,7 @@ module _ (kind : Kind) (folded : Bool) (delimiter : Option ℕ) (text : List ℕ
 pub reads_as : {kind : Kind} {folded : Bool} {delimiter : Option ℕ} {text : List ℕ} {t : Tree} {groups : ℕ} →
     outcome kind folded delimiter text 65536 ≡ reads t groups → ReadsAs kind folded delimiter text t groups
 reads_as {kind = kind} {folded = folded} {delimiter = delimiter} {text = text} e =
-    subst (Holds kind folded delimiter text 65536) e (outcome_holds kind folded delimiter text 65536)
+    (subst (Holds kind folded delimiter text 65536) e (outcome_holds kind folded delimiter text 65536)).0
 
 -- where it comes to a fault, the text has this one first
 pub faulty_with : {kind : Kind} {folded : Bool} {delimiter : Option ℕ} {text : List ℕ} {max_nodes place : ℕ} {reason : Reason} →
@@ -134,3 +139,25 @@ pub faulty_with : {kind : Kind} {folded : Bool} {delimiter : Option ℕ} {text :
     FaultyWith kind folded delimiter text max_nodes place reason
 faulty_with {kind = kind} {folded = folded} {delimiter = delimiter} {text = text} {max_nodes = max_nodes} e =
     subst (Holds kind folded delimiter text max_nodes) e (outcome_holds kind folded delimiter text max_nodes)
+
+-- an expression as it is written out
+abbrev pub written : Tree → ℕ → Written
+written t groups = record { nodes = postorder 0 t; groups = groups }
+
+pub tree_of_written : (t : Tree) (groups : ℕ) → tree (written t groups) ≡ t
+tree_of_written t groups = whole_tree t (postorder 0 t) refl
+
+pub nodes_of_written : (t : Tree) → length (postorder 0 t) ≡ size t
+nodes_of_written t = length-postorder 0 t
+
+-- whether case is folded makes no difference to the fault
+pub fault_either_way : (kind : Kind) (folded : Bool) (delimiter : Option ℕ) (text : List ℕ) (max_nodes : ℕ) {place : ℕ} {reason : Reason} →
+    FaultyWith kind folded delimiter text max_nodes place reason → ExprFaulty kind delimiter text max_nodes place reason
+fault_either_way kind folded delimiter text max_nodes f = faulty_alike kind folded false delimiter text f
+
+-- a text that comes to an expression has no fault
+pub no_fault_within : (kind : Kind) (folded : Bool) (delimiter : Option ℕ) (text : List ℕ) (max_nodes : ℕ) {t : Tree} {groups : ℕ} →
+    Holds kind folded delimiter text max_nodes (reads t groups) → (place : ℕ) (reason : Reason) →
+    ExprFaulty kind delimiter text max_nodes place reason → ⊥
+no_fault_within kind folded delimiter text max_nodes h place reason f =
+    no_fault kind folded delimiter text h.0 h.1 h.2 (faulty_alike kind false folded delimiter text f)

@@ -25,3 +25,12 @@ pub mod Numbers
 pub mod Ended
 mod Folding
 pub mod ComputedReading
+mod WrittenExamples
+mod SymbolExamples
+mod ExampleWords
+mod FaultExamples
+mod DelimitedExamples
+mod HostileExamples
+mod ListExamples
+mod ClassExamples
+mod FoldedExamples
