@@ -1,10 +1,10 @@
 -- The character classes of the POSIX locale (XBD 7.3.1) as lists of a bracket expression, computed by the definition:
 -- all bytes of each. Bytes from 128 on are in none (this project's own).
-use Rattle.std.proofs.Common.{List, [], ◌∷◌, ◌++◌, true, false, Some, None, refl}
+use Rattle.std.proofs.Common.{[], ◌∷◌, false, Some, None, refl}
 use Rattle.std.specs.Prelude.{codes, ◌≡◌}
 use Rattle.sedre.specs.Sets.{set_of}
 use Rattle.sedre.specs.Brackets.{list_at}
-use Rattle.sedre.proofs.ExampleWords.{members, others}
+use Rattle.sedre.proofs.ExampleWords.{members}
 
 upper : members (list_at false None (codes "[[:upper:]]") 0) ≡ Some (codes "ABCDEFGHIJKLMNOPQRSTUVWXYZ", 11)
 unfolding list_at set_of

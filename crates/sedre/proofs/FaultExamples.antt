@@ -1,17 +1,16 @@
 -- Examples of the faults of expressions (XBD 9.3, 9.4) with their places, computed by the grammar. Which fault a text
 -- has, and where, is this project's own.
-use Rattle.std.proofs.Common.{List, [], ◌∷◌, ◌++◌, true, false, Some, None, refl}
-use Rattle.std.specs.Prelude.{codes, ◌≡◌}
+use Rattle.std.proofs.Common.{Some, None, refl}
+use Rattle.std.specs.Prelude.{codes}
 use Rattle.sedre.specs.declared.types.Kind.TheVariants.{Basic, Extended}
 use Rattle.sedre.specs.declared.types.Reason.TheVariants.{OpenBracket, UnknownClass, LongCollating, BadRange, OpenGroup}
 use Rattle.sedre.specs.declared.types.Reason.TheVariants.{StrayClose, BadInterval, NothingToRepeat, LastBackslash}
-use Rattle.sedre.specs.declared.types.Reason.TheVariants.{UnknownEscape, BackReference, TooManyNodes, TooDeep}
+use Rattle.sedre.specs.declared.types.Reason.TheVariants.{UnknownEscape, BackReference, TooManyNodes}
 use Rattle.sedre.specs.Items.{item_at}
 use Rattle.sedre.specs.Brackets.{list_at}
 use Rattle.sedre.specs.Intervals.{interval}
 use Rattle.sedre.specs.Grammar.{ExprFaulty}
 use Rattle.sedre.proofs.ComputedReading.{outcome, rest_of, faulty_with}
-use Rattle.sedre.proofs.ExampleWords.{times}
 
 -- A bracket expression, or a form in it, isn't closed: the place of its [.
 

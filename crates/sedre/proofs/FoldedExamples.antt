@@ -1,16 +1,15 @@
 -- Examples of expressions where case is folded (this project's own): a literal byte and each list stand for both cases
 -- of their letters, a list before its ^ is applied.
-use Rattle.std.proofs.Common.{List, [], ◌∷◌, ◌++◌, true, false, Some, None, refl}
+use Rattle.std.proofs.Common.{true, false, Some, None, refl}
 use Rattle.std.specs.Prelude.{codes, ◌≡◌}
 use Rattle.sedre.specs.declared.types.Kind.TheVariants.{Basic, Extended}
-use Rattle.sedre.specs.Tree.{empty, set, begin, end, seq, alt, group, star, opt, size, depth}
-use Rattle.sedre.specs.Sets.{only, any_byte}
+use Rattle.sedre.specs.Tree.{set, begin, end, seq, group, star}
+use Rattle.sedre.specs.Sets.{only}
 use Rattle.sedre.specs.Items.{item_at}
 use Rattle.sedre.specs.Brackets.{list_at}
-use Rattle.sedre.specs.Intervals.{interval}
 use Rattle.sedre.specs.Grammar.{ReadsAs}
 use Rattle.sedre.proofs.ComputedReading.{outcome, rest_of, reads_as}
-use Rattle.sedre.proofs.ExampleWords.{a, b, c, x, byte, any, literally, times, Counts, counted}
+use Rattle.sedre.proofs.ExampleWords.{byte, any}
 use Rattle.sedre.specs.Sets.{set_of, folded_set}
 use Rattle.sedre.proofs.ExampleWords.{members, others, members_from}
 

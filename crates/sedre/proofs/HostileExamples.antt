@@ -1,13 +1,10 @@
 -- Examples of the limits of expressions, computed by the grammar: 600 is the greatest depth, and no more nodes may be
 -- written out than are allowed (both this project's own).
-use Rattle.std.proofs.Common.{List, [], ◌∷◌, ◌++◌, true, false, Some, None, refl}
-use Rattle.std.specs.Prelude.{codes, ◌≡◌}
-use Rattle.sedre.specs.declared.types.Kind.TheVariants.{Basic, Extended}
-use Rattle.sedre.specs.declared.types.Reason.TheVariants.{OpenBracket, UnknownClass, LongCollating, BadRange, OpenGroup}
-use Rattle.sedre.specs.declared.types.Reason.TheVariants.{StrayClose, BadInterval, NothingToRepeat, LastBackslash}
-use Rattle.sedre.specs.declared.types.Reason.TheVariants.{UnknownEscape, BackReference, TooManyNodes, TooDeep}
+use Rattle.std.proofs.Common.{◌++◌, None, refl}
+use Rattle.std.specs.Prelude.{codes}
+use Rattle.sedre.specs.declared.types.Kind.TheVariants.{Extended}
+use Rattle.sedre.specs.declared.types.Reason.TheVariants.{TooManyNodes, TooDeep}
 use Rattle.sedre.specs.Items.{item_at}
-use Rattle.sedre.specs.Brackets.{list_at}
 use Rattle.sedre.specs.Intervals.{interval}
 use Rattle.sedre.specs.Grammar.{ExprFaulty}
 use Rattle.sedre.proofs.ComputedReading.{outcome, rest_of, faulty_with}

@@ -1,5 +1,5 @@
 -- Examples of what bracket expressions match (XBD 9.3.5, 9.4.4) and of the place after them, computed by the definition.
-use Rattle.std.proofs.Common.{List, [], ◌∷◌, ◌++◌, true, false, Some, None, refl}
+use Rattle.std.proofs.Common.{false, Some, None, refl}
 use Rattle.std.specs.Prelude.{codes, ◌≡◌}
 use Rattle.sedre.specs.Sets.{set_of}
 use Rattle.sedre.specs.Brackets.{list_at}

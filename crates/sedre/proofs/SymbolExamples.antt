@@ -1,16 +1,15 @@
 -- Examples of what symbols mean (XBD 9.3.2, 9.3.3, 9.3.6, 9.3.8, 9.4.2, 9.4.3, 9.4.6 to 9.4.9), computed by the
 -- grammar.
-use Rattle.std.proofs.Common.{List, [], ◌∷◌, ◌++◌, true, false, Some, None, refl}
-use Rattle.std.specs.Prelude.{codes, ◌≡◌}
+use Rattle.std.proofs.Common.{true, false, Some, None, refl}
+use Rattle.std.specs.Prelude.{codes}
 use Rattle.sedre.specs.declared.types.Kind.TheVariants.{Basic, Extended}
-use Rattle.sedre.specs.Tree.{empty, set, begin, end, seq, alt, group, star, opt, size, depth}
-use Rattle.sedre.specs.Sets.{only, any_byte}
+use Rattle.sedre.specs.Tree.{empty, begin, end, seq, alt, group, star, opt}
 use Rattle.sedre.specs.Items.{item_at}
 use Rattle.sedre.specs.Brackets.{list_at}
 use Rattle.sedre.specs.Intervals.{interval}
 use Rattle.sedre.specs.Grammar.{ReadsAs}
 use Rattle.sedre.proofs.ComputedReading.{outcome, rest_of, reads_as}
-use Rattle.sedre.proofs.ExampleWords.{a, b, c, x, byte, any, literally, times, Counts, counted}
+use Rattle.sedre.proofs.ExampleWords.{a, b, byte, any, literally, Counts, counted}
 
 -- Groups, alternations and any byte. An alternation in a basic expression is this project's own.
 

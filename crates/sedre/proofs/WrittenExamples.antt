@@ -1,15 +1,13 @@
 -- Examples of what expressions are written out to (XBD 9.3.6, 9.4.4, 9.4.6, 9.4.7), computed by the grammar.
-use Rattle.std.proofs.Common.{List, [], ◌∷◌, ◌++◌, true, false, Some, None, refl}
-use Rattle.std.specs.Prelude.{codes, ◌≡◌}
+use Rattle.std.proofs.Common.{true, false, None, refl}
+use Rattle.std.specs.Prelude.{codes}
 use Rattle.sedre.specs.declared.types.Kind.TheVariants.{Basic, Extended}
-use Rattle.sedre.specs.Tree.{empty, set, begin, end, seq, alt, group, star, opt, size, depth}
-use Rattle.sedre.specs.Sets.{only, any_byte}
+use Rattle.sedre.specs.Tree.{empty, seq, alt, group, star, opt}
 use Rattle.sedre.specs.Items.{item_at}
-use Rattle.sedre.specs.Brackets.{list_at}
 use Rattle.sedre.specs.Intervals.{interval}
 use Rattle.sedre.specs.Grammar.{ReadsAs}
 use Rattle.sedre.proofs.ComputedReading.{outcome, rest_of, reads_as}
-use Rattle.sedre.proofs.ExampleWords.{a, b, c, x, byte, any, literally, times, Counts, counted}
+use Rattle.sedre.proofs.ExampleWords.{a, b, c, Counts, counted}
 
 -- Concatenations and alternations: of three parts the first stands before the other two.
 
