@@ -50,6 +50,10 @@ form_of_no_byte : ExprFaulty Basic None (codes "[[::]]") 65536 0 OpenBracket
 unfolding outcome rest_of item_at list_at
 form_of_no_byte = faulty_with refl
 
+plain_opening_as_delimiter : ExprFaulty Basic (Some 91) (codes "[a") 65536 0 OpenBracket
+unfolding outcome rest_of item_at list_at
+plain_opening_as_delimiter = faulty_with refl
+
 escaped_closing_as_delimiter : ExprFaulty Basic (Some 93) (codes "[\\]") 65536 0 OpenBracket
 unfolding outcome rest_of item_at list_at
 escaped_closing_as_delimiter = faulty_with refl

@@ -1,8 +1,8 @@
 -- Examples of what expressions are written out to (XBD 9.3.6, 9.4.4, 9.4.6, 9.4.7), computed by the grammar.
-use Rattle.std.proofs.Common.{true, false, None, refl}
+use Rattle.std.proofs.Common.{◌≡◌, true, false, None, refl}
 use Rattle.std.specs.Prelude.{codes}
 use Rattle.sedre.specs.declared.types.Kind.TheVariants.{Basic, Extended}
-use Rattle.sedre.specs.Tree.{empty, seq, alt, group, star, opt}
+use Rattle.sedre.specs.Tree.{empty, seq, alt, group, star, opt, depth}
 use Rattle.sedre.specs.Items.{item_at}
 use Rattle.sedre.specs.Intervals.{interval}
 use Rattle.sedre.specs.Grammar.{ReadsAs}
@@ -212,3 +212,24 @@ counts_no_copy = counted refl
 counts_255_options : Counts Extended (codes "x{0,255}") 764 0
 unfolding outcome rest_of item_at interval
 counts_255_options = counted refl
+
+-- How deep an expression nests: a group and a repetition add one, an alternation adds one for all its alternatives, a
+-- concatenation nothing.
+
+depth_of_a_concatenation : depth (seq a (seq b c)) ≡ 0
+depth_of_a_concatenation = refl
+
+depth_of_a_group : depth (group 1 a) ≡ 1
+depth_of_a_group = refl
+
+depth_of_a_repetition : depth (seq a (star a false)) ≡ 1
+depth_of_a_repetition = refl
+
+depth_of_an_option : depth (opt a true) ≡ 1
+depth_of_an_option = refl
+
+depth_of_three_alternatives : depth (alt a (alt b c)) ≡ 1
+depth_of_three_alternatives = refl
+
+depth_of_an_alternation_in_another : depth (alt a (group 1 (alt b c))) ≡ 3
+depth_of_an_alternation_in_another = refl

@@ -7,6 +7,7 @@ use Rattle.sedre.specs.Tree.{set, seq}
 use Rattle.sedre.specs.Sets.{folded_set, only}
 use Rattle.sedscript.specs.declared.types.Action.TheVariants as action
 use Rattle.sedscript.specs.declared.types.Address.TheVariants as address
+use Rattle.sedscript.specs.ScriptText.{with_part}
 use Rattle.sedscript.specs.Replacement.{literal, whole, group as part}
 use Rattle.sedscript.specs.Transliteration.{table_of}
 use Rattle.sedscript.proofs.ComputedScript.{verdict, cutting, walked, Script, is_script}
@@ -238,3 +239,17 @@ empty_strings = is_script refl
 y_before_a_closing : Script (codes "{y/a/b/}") Basic (λ s. s.commands ≡ always (action.Block 2) ∷ always (action.Transliterate 0) ∷ [])
 unfolding verdict cutting walked item_at past function_at addresses_at address_at match_at substitute_at substituted delimiter_at outcome rest_of expression_item_at interval transliterate_at text_from
 y_before_a_closing = is_script refl
+
+-- The text of a script that is put together from parts: each ends with a newline (this project's own).
+
+part_without_a_newline : with_part [] (codes "p") ≡ codes "p\n"
+part_without_a_newline = refl
+
+part_with_a_newline : with_part (codes "p\n") (codes "d\n") ≡ codes "p\nd\n"
+part_with_a_newline = refl
+
+empty_part : with_part (codes "p\n") [] ≡ codes "p\n\n"
+empty_part = refl
+
+continued_part : with_part (with_part [] (codes "i\\")) (codes "  X") ≡ codes "i\\\n  X\n"
+continued_part = refl
