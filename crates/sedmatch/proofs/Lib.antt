@@ -40,3 +40,4 @@ pub mod QuickLemmas
 pub mod LinearLemmas
 pub mod LongestLemmas
 pub mod CutLemmas
+mod MatchExamples
