@@ -41,3 +41,4 @@ pub mod LinearLemmas
 pub mod LongestLemmas
 pub mod CutLemmas
 mod MatchExamples
+mod GroupExamples
