@@ -1,10 +1,10 @@
 -- Examples of the groups that a match reports, derived from the definition.
-use Rattle.std.proofs.Common.{◌≡◌, ◌≤◌, ◌<◌, ℕ, List, [], ◌∷◌, Bool, false, true, Some, None, inl, inr, refl, subst, arith}
+use Rattle.std.proofs.Common.{◌≡◌, ◌≤◌, ℕ, [], ◌∷◌, false, true, Some, None, inl, inr, refl, subst, arith}
 use Rattle.std.specs.Prelude.{codes, slice_set}
 use Rattle.sedre.specs.Sets.{set_of, only}
 use Rattle.sedre.specs.Tree.{Tree, set, alt, group, star}
-use Rattle.sedmatch.specs.Spans.{Spans, IsIn, Copies, no_copy, one_more}
-use Rattle.sedmatch.specs.Caps.{Groups, LastCopy, only as only_copy, then, no_groups, IsReport}
+use Rattle.sedmatch.specs.Spans.{Spans, IsIn, no_copy, one_more}
+use Rattle.sedmatch.specs.Caps.{LastCopy, only as only_copy, then, no_groups, IsReport}
 
 -- a group of an a in a group, or a b
 abbrev either : Tree

@@ -1,5 +1,5 @@
 -- Examples of the match that is sought (XBD 9.1): the span or that there is none, derived from the definition.
-use Rattle.std.proofs.Common.{◌≡◌, ◌≤◌, ℕ, zero, suc, List, [], ◌∷◌, Bool, false, true, Some, inl, inr, refl, subst, arith}
+use Rattle.std.proofs.Common.{◌≡◌, ◌≤◌, ℕ, zero, suc, [], ◌∷◌, false, true, Some, inl, inr, refl, subst, arith}
 use Rattle.std.specs.Prelude.{codes, slice_get}
 use Rattle.sedre.specs.Sets.{set_of, only, any_byte}
 use Rattle.sedre.specs.Tree.{set, begin, end, seq, alt, star}
