@@ -42,3 +42,5 @@ pub mod LinearLemmas
 pub mod FirstStartLemmas
 pub mod LongestLemmas
 pub mod CutLemmas
+mod MatchExamples
+mod GroupExamples

@@ -1,4 +1,5 @@
--- Which span each group of a match has.
+-- Which span each group of a match has. XBD 9.1 leaves open what repeated groups and empty copies report: which copy is
+-- the last, and which groups are forgotten, is this project's own.
 use Rattle.std.specs.Prelude.{◌≡◌, ℕ, ◌<◌, ◌≤◌, ◌⊎◌, List, replicate, slice_set, Option, Some, None, IsTrue}
 use Rattle.sedre.specs.Tree.{Tree, empty, set, begin, end, seq, alt, group, star, opt}
 use Rattle.sedmatch.specs.Spans.{Copies, Spans}

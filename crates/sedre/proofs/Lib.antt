@@ -24,3 +24,13 @@ pub mod Holding
 pub mod Numbers
 pub mod Ended
 mod Folding
+pub mod ComputedReading
+mod WrittenExamples
+mod SymbolExamples
+mod ExampleWords
+mod FaultExamples
+mod DelimitedExamples
+mod HostileExamples
+mod ListExamples
+mod ClassExamples
+mod FoldedExamples

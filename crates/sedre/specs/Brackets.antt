@@ -167,7 +167,8 @@ abbrev pub is_negated : List ℕ → Bool
 is_negated [] = false
 is_negated (b ∷ bs) = b == 94
 
--- the bytes that a list matches: those that match for the listed ones, and for a non-matching list the others
+-- the bytes that a list matches: those that match for the listed ones, and for a non-matching list the others, byte 0
+-- among them (this project's own)
 abbrev pub matched : (folded negated : Bool) → List Bool → List Bool
 matched folded negated set = if negated then complement (matching folded set) else matching folded set
 

@@ -17,7 +17,8 @@ behind d place (b ∷ bs) =
     else Some (place + 1)
 
 -- the place of the first delimiter outside of these, from a place on; `skip` bytes are stepped over,
--- and a newline ends the line wherever it stands. A [ that is the delimiter ends the expression: this project's own
+-- and a newline ends the line wherever it stands. A [ that is the delimiter ends the expression, and a delimiter within a
+-- bracket expression doesn't (both this project's own)
 abbrev pub first_delimiter : (delimiter skip place : ℕ) → List ℕ → Option ℕ
 first_delimiter d skip place [] = None
 first_delimiter d (suc skip) place (b ∷ bs) = if b == 10 then None else first_delimiter d skip (place + 1) bs

@@ -74,7 +74,8 @@ pub record ReadsAs (kind : Kind) (folded : Bool) (delimiter : Option ℕ) (text 
   pub grammar : AreAlternatives 0 items alternatives groups
   pub is : alternation alternatives ≡ e
 
--- the fault after these items, of which so many groups are open
+-- the fault after these items, of which so many groups are open. The places, the greatest depth of 600 and the limit of
+-- nodes are this project's own
 pub data Row (kind : Kind) (folded : Bool) (delimiter : Option ℕ) (text : List ℕ) (max_nodes : ℕ) :
     List Item → (opened to place : ℕ) → Reason → Type 0 where
   -- the next item is none

@@ -28,7 +28,8 @@ is_first (Some Open) = true
 is_first (Some Bar) = true
 is_first before = false
 
--- whether a repetition may follow: after an anchor none may (XBD 9.3.6, 9.4.6, 9.4.9)
+-- whether a repetition may follow: after an anchor none may (XBD 9.3.6, 9.4.6, 9.4.9), and after another repetition one
+-- may (this project's own)
 abbrev pub is_repeatable : Option Item → Bool
 is_repeatable (Some (Byte members)) = true
 is_repeatable (Some Close) = true
@@ -49,7 +50,7 @@ ends_alternative next = false
 abbrev pub fault : ℕ → Reason → Here
 fault place reason = Bad (record { place = place; reason = reason })
 
--- a repetition of what stands before, or else NothingToRepeat
+-- a repetition of what stands before, or else NothingToRepeat (for all repetitions but * this project's own)
 abbrev pub repeats : Bool → (at : ℕ) → Here → Here
 repeats true at repeat = repeat
 repeats false at repeat = fault at NothingToRepeat
@@ -74,20 +75,23 @@ abbrev pub question_item : Kind → (may repeated : Bool) → (at behind : ℕ) 
 question_item Basic may repeated at behind = repeats may at (Is (Repeat 0 (Some 1)) behind)
 question_item Extended may repeated at behind = repeats (may && not repeated) at (Is (Repeat 0 (Some 1)) behind)
 
--- ^ is an anchor where it is first in a basic expression, and everywhere in an extended one (XBD 9.3.8, 9.4.9)
+-- ^ is an anchor where it is first in a basic expression, and everywhere in an extended one (XBD 9.3.8, 9.4.9); that it
+-- is first after an opening or an alternation symbol is this project's own
 abbrev pub caret_item : Kind → (first : Bool) → (behind : ℕ) → Here
 caret_item Basic true behind = Is AtBegin behind
 caret_item Basic false behind = Is (Byte (only 94)) behind
 caret_item Extended first behind = Is AtBegin behind
 
--- $ is an anchor where an alternative of a basic expression ends, and everywhere in an extended one
+-- $ is an anchor where an alternative of a basic expression ends, and everywhere in an extended one (XBD 9.3.8, 9.4.9);
+-- before a closing or an alternation symbol of a basic one this is this project's own
 abbrev pub dollar_item : Kind → (last : Bool) → (behind : ℕ) → Here
 dollar_item Basic true behind = Is AtEnd behind
 dollar_item Basic false behind = Is (Byte (only 36)) behind
 dollar_item Extended last behind = Is AtEnd behind
 
 -- what a symbol is, after an item. Where case is folded, a literal byte stands for both cases of its letter (this
--- project's own); those of * ^ and $ are no letters
+-- project's own); those of * ^ and $ are no letters. An interval's closing that stands alone is refused
+-- (this project's own)
 abbrev pub item_for : Kind → (folded : Bool) → Option ℕ → List ℕ → Option Item → (at : ℕ) → Option (Symbol × ℕ) → Here
 item_for kind folded delimiter text before at None = Ends
 item_for kind folded delimiter text before at (Some (Literal b, n)) = Is (Byte (matching folded (only b))) (at + n)

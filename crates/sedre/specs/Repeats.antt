@@ -2,7 +2,8 @@
 use Rattle.std.specs.Prelude.{ℕ, zero, suc, ◌-◌, ◌≤◌, List, [], ◌∷◌, Bool, false, Option, Some, None, nat_eq}
 use Rattle.sedre.specs.Tree.{Tree, empty, seq, alt, star, opt}
 
--- pieces one after the other
+-- pieces one after the other; where there are none, in an empty text, group or alternative, they match the null string
+-- (this project's own)
 abbrev pub concatenation : List Tree → Tree
 concatenation [] = empty
 concatenation (a ∷ []) = a

@@ -37,7 +37,8 @@ alone Extended b =
     else Literal b
 
 -- a byte after a backslash that is no symbol there: \n is a newline (XCU sed), \t a tab (this project's own);
--- back-references are left out by name, other letters and digits and < > ' ` are refused (this project's own)
+-- back-references are left out by name, other letters and digits and < > ' ` are refused, and an ordinary byte is itself
+-- (both this project's own)
 abbrev pub escaped_literal : ℕ → Symbol
 escaped_literal b =
     if b == 110 then Literal 10  -- n

@@ -15,7 +15,7 @@ pub data Tree : Type 0 where
   alt : Tree → Tree → Tree
   -- a group and its number
   group : ℕ → Tree → Tree
-  -- any number of copies, and at most one; the mark says that no copy stands before it
+  -- any number of copies, and at most one; the mark, this project's own, says that no copy stands before it
   star : Tree → Bool → Tree
   opt : Tree → Bool → Tree
 

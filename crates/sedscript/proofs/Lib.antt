@@ -13,3 +13,10 @@ pub mod FileTables
 pub mod Blocks
 pub mod TargetFaults
 pub mod Bounds
+pub mod ComputedScript
+mod AddressFaultExamples
+mod FunctionFaultExamples
+mod SubstitutionFaultExamples
+mod ScriptExamples
+mod TextExamples
+mod ScriptWords

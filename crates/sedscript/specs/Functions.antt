@@ -30,7 +30,7 @@ abbrev pub ◌>>=◌ : {A B : Type 0} → Result A ScriptFault → (A → Result
 (Err e) >>= f = Err e
 
 -- whether a command may end before this byte: a newline, a semicolon or the end of the text,
--- a closing brace or a comment (these two: this project's own)
+-- a closing brace or a comment (these two, and a semicolon after a closing brace: this project's own)
 abbrev pub may_end : Option ℕ → Bool
 may_end None = true
 may_end (Some b) = b == 10 || b == 59 || b == 125 || b == 35

@@ -48,7 +48,7 @@ verb_of letter =
     else if letter == 120 then Some (Reads (Alone Exchange))
     else None
 
--- the most addresses of a function
+-- the most addresses of a function; that `a`, `i`, `r` and `=` take two is this project's own, POSIX gives them one
 abbrev pub most_addresses : Verb → ℕ
 most_addresses (Reads NamesLabel) = 0
 most_addresses (Reads ClosesBlock) = 0

@@ -20,7 +20,8 @@ is_letter b = (nat_le 65 b && nat_le b 90) || (nat_le 97 b && nat_le b 122)
 
 -- what this byte stands for where it is escaped. The delimiter stands for itself, whatever byte it is; 0 for the
 -- whole match (this project's own), and another digit for that group of it; `n` for a newline, `t` for a tab (this
--- project's own); a byte that is neither letter nor digit for itself, a newline among them. Other letters are refused
+-- project's own); a newline for itself, as do other bytes that are neither letters nor digits (this
+-- project's own). Other letters are refused
 abbrev pub escaped_piece : ℕ → ℕ → Option Piece
 escaped_piece delimiter b =
     if b == delimiter then Some (literal b)

@@ -213,7 +213,7 @@ pub record Means (text : List ℕ) (kind : Kind) (max_nodes : ℕ) (s : Program)
   pub quiet : s.quiet ≡ is_quiet text
   pub nodes : s.max_nodes ≡ max_nodes
 
--- the first fault of the text
+-- the first fault of the text; its place, and which fault comes first, are this project's own
 pub data Faulty (text : List ℕ) (kind : Kind) (max_nodes : ℕ) : ScriptFault → Type 0 where
   -- after these items, which have none
   early : {f : ScriptFault} (items : List Item) (es : List Written) (to : ℕ) →
