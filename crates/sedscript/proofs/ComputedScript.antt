@@ -13,12 +13,12 @@ use Rattle.sedscript.specs.declared.items.Here.{Here}
 use Rattle.sedscript.specs.declared.items.Here.TheVariants.{Is, Ends}
 use Rattle.sedscript.specs.declared.items.FileUse.TheVariants.{Read, Write}
 use Rattle.sedscript.specs.declared.bytes.Sort.TheVariants.{Separator}
-use Rattle.sedscript.specs.Bytes.{part, past}
+use Rattle.sedscript.specs.Bytes.{bytes_between, past}
 use Rattle.sedscript.specs.Reading.{Pattern, Reading, plainly, expression}
-use Rattle.sedscript.specs.Expressions.{IsRead, in_script, Gives, value, behind, Fails, own, no_expression, later}
+use Rattle.sedscript.specs.Expressions.{IsRead, in_script, Gives, value, after_expression, Fails, own, no_expression, later}
 use Rattle.sedscript.specs.Items.{item_at}
 use Rattle.sedscript.specs.Files.{files_in}
-use Rattle.sedscript.specs.Targets.{late}
+use Rattle.sedscript.specs.Targets.{target_fault}
 use Rattle.sedscript.specs.Script.{Program, Cut, done, IsEnd, texts_of, none_counted, substitutions_of, tables_of, commands_of, is_quiet, Means, Faulty, early, afterwards}
 use Rattle.sedscript.proofs.Cuts.{cut_more}
 
@@ -67,7 +67,7 @@ module _ (text : List ℕ) (kind : Kind) (max_nodes : ℕ) where
   walked (plainly (Err f)) = failed f
   walked (expression p k) =
       found_after p (λ groups. walked (k groups))
-      (outcome kind p.folded (Some p.delimiter) (part text p.from p.to) max_nodes)
+      (outcome kind p.folded (Some p.delimiter) (bytes_between text p.from p.to) max_nodes)
 
   -- the text from a place on, after these items and expressions, with at most so many items
   unfoldable pub cutting : ℕ → List Item → List Written → ℕ → Cutting
@@ -90,12 +90,12 @@ module _ (text : List ℕ) (kind : Kind) (max_nodes : ℕ) where
     max_nodes = max_nodes;
   }
 
-  abbrev pub judged_late : List Item → List Written → Option ScriptFault → Verdict
-  judged_late is es None = means (program_of is es)
-  judged_late is es (Some f) = faulty f
+  abbrev pub judged_targets : List Item → List Written → Option ScriptFault → Verdict
+  judged_targets is es None = means (program_of is es)
+  judged_targets is es (Some f) = faulty f
 
   abbrev pub judged : Cutting → Verdict
-  judged (cut_to is es at) = judged_late is es (late text is)
+  judged (cut_to is es at) = judged_targets is es (target_fault text is)
   judged (stopped f) = faulty f
   judged endless = unknown
 
@@ -110,29 +110,29 @@ module _ (text : List ℕ) (kind : Kind) (max_nodes : ℕ) where
   Says r unsettled = Unit {0}
 
   read_so : (p : Pattern) (t : Tree) (groups : ℕ) →
-      Holds kind p.folded (Some p.delimiter) (part text p.from p.to) max_nodes (reads t groups) →
+      Holds kind p.folded (Some p.delimiter) (bytes_between text p.from p.to) max_nodes (reads t groups) →
       IsRead text kind max_nodes p (written t groups)
   read_so p t groups h = record {
-    reads = subst (λ (s : Tree). ReadsAs kind p.folded (Some p.delimiter) (part text p.from p.to) s groups)
+    reads = subst (λ (s : Tree). ReadsAs kind p.folded (Some p.delimiter) (bytes_between text p.from p.to) s groups)
         (sym (tree_of_written t groups)) h.0;
-    no_fault = no_fault_within kind p.folded (Some p.delimiter) (part text p.from p.to) max_nodes h;
+    no_fault = no_fault_within kind p.folded (Some p.delimiter) (bytes_between text p.from p.to) max_nodes h;
     fits = subst (λ (n : ℕ). n ≤ max_nodes) (sym (nodes_of_written t)) h.2;
   }
 
-  behind_says : {A : Type 0} (p : Pattern) (k : ℕ → Reading A) (e : Written) → IsRead text kind max_nodes p e →
+  after_expression_says : {A : Type 0} (p : Pattern) (k : ℕ → Reading A) (e : Written) → IsRead text kind max_nodes p e →
       (rest : Found A) → Says (k e.groups) rest → Says (expression p k) (with_expression e rest)
-  behind_says p k e is (found es x) h = behind e is h
-  behind_says p k e is (failed f) h = later e is h
-  behind_says p k e is unsettled h = tt
+  after_expression_says p k e is (found es x) h = after_expression e is h
+  after_expression_says p k e is (failed f) h = later e is h
+  after_expression_says p k e is unsettled h = tt
 
   after_says : {A : Type 0} (p : Pattern) (k : ℕ → Reading A) (rest : ℕ → Found A) (o : Outcome) →
-      Holds kind p.folded (Some p.delimiter) (part text p.from p.to) max_nodes o →
+      Holds kind p.folded (Some p.delimiter) (bytes_between text p.from p.to) max_nodes o →
       ((groups : ℕ) → Says (k groups) (rest groups)) → Says (expression p k) (found_after p rest o)
   after_says p k rest (reads t groups) h on =
-      behind_says p k (written t groups) (read_so p t groups h) (rest groups) (on groups)
+      after_expression_says p k (written t groups) (read_so p t groups h) (rest groups) (on groups)
   after_says p k rest (bad_expression place reason) h on =
       no_expression {f = record { place = place; reason = reason }}
-      (fault_either_way kind p.folded (Some p.delimiter) (part text p.from p.to) max_nodes h)
+      (fault_either_way kind p.folded (Some p.delimiter) (bytes_between text p.from p.to) max_nodes h)
   after_says p k rest unfinished h on = tt
 
   walked_says : {A : Type 0} (r : Reading A) → Says r (walked r)
@@ -141,8 +141,8 @@ module _ (text : List ℕ) (kind : Kind) (max_nodes : ℕ) where
   walked_says (plainly (Err f)) = own
   walked_says (expression p k) =
       after_says p k (λ groups. walked (k groups))
-      (outcome kind p.folded (Some p.delimiter) (part text p.from p.to) max_nodes)
-      (outcome_holds kind p.folded (Some p.delimiter) (part text p.from p.to) max_nodes)
+      (outcome kind p.folded (Some p.delimiter) (bytes_between text p.from p.to) max_nodes)
+      (outcome_holds kind p.folded (Some p.delimiter) (bytes_between text p.from p.to) max_nodes)
       (λ groups. walked_says (k groups))
 
   -- what they say where cutting comes to this
@@ -179,9 +179,9 @@ module _ (text : List ℕ) (kind : Kind) (max_nodes : ℕ) where
   IsSo (faulty f) = Faulty text kind max_nodes f
   IsSo unknown = Unit {0}
 
-  late_so : (is : List Item) (es : List Written) (at : ℕ) (o : Option ScriptFault) → CutsTo (cut_to is es at) →
-      late text is ≡ o → IsSo (judged_late is es o)
-  late_so is es at None c e = record {
+  targets_so : (is : List Item) (es : List Written) (at : ℕ) (o : Option ScriptFault) → CutsTo (cut_to is es at) →
+      target_fault text is ≡ o → IsSo (judged_targets is es o)
+  targets_so is es at None c e = record {
     items = is;
     to = at;
     judged = record { cut = c.0; ends = c.1; settled = e };
@@ -194,10 +194,10 @@ module _ (text : List ℕ) (kind : Kind) (max_nodes : ℕ) where
     quiet = refl;
     nodes = refl;
   }
-  late_so is es at (Some f) c e = afterwards is es at c.0 c.1 e
+  targets_so is es at (Some f) c e = afterwards is es at c.0 c.1 e
 
   judged_so : (c : Cutting) → CutsTo c → IsSo (judged c)
-  judged_so (cut_to is es at) h = late_so is es at (late text is) h refl
+  judged_so (cut_to is es at) h = targets_so is es at (target_fault text is) h refl
   judged_so (stopped f) h = h
   judged_so endless h = tt
 
