@@ -66,9 +66,9 @@ returns-clause-follows c =
     let place : c.loop-place.place ≡ c.args.to = omega arith in
     let T = c.args.table.now in
     subst (λ q. Follows c.args.expr.now.nodes c.args.root T c.args.text.now c.args.from c.args.state c.args.to q) (sym c.state_at-2.ensures.state)
-        (subst (λ p. Follows c.args.expr.now.nodes c.args.root T c.args.text.now c.args.from c.args.state p ((c.loop-place.code - 32768) / T.columns)) place c.loop-place.invariant.follows)
+    (subst (λ p. Follows c.args.expr.now.nodes c.args.root T c.args.text.now c.args.from c.args.state p ((c.loop-place.code - 32768) / T.columns)) place c.loop-place.invariant.follows)
 
 pub returns-then-cell-lt-PLAIN-clause-follows : goal.returns-then-cell-lt-PLAIN-clause-follows
 returns-then-cell-lt-PLAIN-clause-follows c =
     subst (λ q. Follows c.args.expr.now.nodes c.args.root c.args.table.now c.args.text.now c.args.from c.args.state c.loop-place.place q) (sym c.state_at.ensures.state)
-        c.loop-place.invariant.follows
+    c.loop-place.invariant.follows

@@ -19,7 +19,7 @@ returns-then-cell-ge-PLAIN-clause-to c =
     let to = known_plain c.args.expr.now.nodes c.args.root c.args.table.now.sweeps c.args.table.now.classes.items c.args.table.now.columns c.args.table.now.rows c.args.table.now.ends.items c.args.table.now.count c.args.table.now.cells.items c.args.table.now.index.items c.args.table.now.at_begin c.args.table.now.later c.requires.table c.args.state class cell c.requires.state small is c.if-cell-ge-PLAIN.true in
     let q = (cell - 32768) / T.columns in
     subst (λ q. (q < T.count) × LeadsOn c.args.expr.now.nodes c.args.root T.sweeps T.classes.items (row_of T.rows c.args.state) (ends_of T.ends.items c.args.state) (slice_index_or T.classes.items c.args.byte 0) (row_of T.rows q) (ends_of T.ends.items q)) (sym c.state_at.ensures.state)
-        (to.0, subst (λ k. LeadsOn c.args.expr.now.nodes c.args.root T.sweeps T.classes.items (row_of T.rows c.args.state) (ends_of T.ends.items c.args.state) k (row_of T.rows q) (ends_of T.ends.items q)) same to.3)
+    (to.0, subst (λ k. LeadsOn c.args.expr.now.nodes c.args.root T.sweeps T.classes.items (row_of T.rows c.args.state) (ends_of T.ends.items c.args.state) k (row_of T.rows q) (ends_of T.ends.items q)) same to.3)
 
 pub returns-then-cell-gt0-clause-to : goal.returns-then-cell-gt0-clause-to
 returns-then-cell-gt0-clause-to c =
@@ -35,4 +35,4 @@ returns-then-cell-gt0-clause-to c =
     let to = known_low c.args.expr.now.nodes c.args.root c.args.table.now.sweeps c.args.table.now.classes.items c.args.table.now.columns c.args.table.now.rows c.args.table.now.ends.items c.args.table.now.count c.args.table.now.cells.items c.args.table.now.index.items c.args.table.now.at_begin c.args.table.now.later c.requires.table c.args.state class cell c.requires.state small is (omega arith) (omega arith) in
     let q = (cell - 1) / T.columns in
     subst (λ q. (q < T.count) × LeadsOn c.args.expr.now.nodes c.args.root T.sweeps T.classes.items (row_of T.rows c.args.state) (ends_of T.ends.items c.args.state) (slice_index_or T.classes.items c.args.byte 0) (row_of T.rows q) (ends_of T.ends.items q)) (sym c.state_at-then-cell-gt0.ensures.state)
-        (to.0, subst (λ k. LeadsOn c.args.expr.now.nodes c.args.root T.sweeps T.classes.items (row_of T.rows c.args.state) (ends_of T.ends.items c.args.state) k (row_of T.rows q) (ends_of T.ends.items q)) same to.1)
+    (to.0, subst (λ k. LeadsOn c.args.expr.now.nodes c.args.root T.sweeps T.classes.items (row_of T.rows c.args.state) (ends_of T.ends.items c.args.state) k (row_of T.rows q) (ends_of T.ends.items q)) same to.1)
