@@ -1,9 +1,10 @@
 //! The lines of a source, read ahead by a fixed number of bytes.
 //!
 //! XCU sed reads its input a line at a time, each without its newline; a last line without one is a line too. What is
-//! read ahead stands in a buffer of fixed size from a moving front on: no byte that is left is moved, and the source is
-//! read only where the buffer is used up.
-ghost use Rattle.std.specs.Prelude.{◌≡◌, ◌↔◌, ◌+◌, ◌-◌, ◌<◌, ◌≤◌, ◌^◌, ℕ, List, [], ◌∷◌, ◌++◌, length, true, false, IsTrue, is_ok, if◌then◌else◌, None, Some, IfOk, IfSome, OnOk, OnErr, Contains};
+//! read ahead stands in a buffer from a moving front on: no byte that is left is moved, and the source is read only where
+//! the buffer is used up. A read asks for few bytes at first, and for twice as many after each read that gave all that it
+//! asked for: of an input of which little is wanted, little is read, and the rest of the buffer's memory stays untouched.
+ghost use Rattle.std.specs.Prelude.{◌≡◌, ◌↔◌, ◌+◌, ◌-◌, ◌<◌, ◌≤◌, ◌^◌, ℕ, List, [], ◌∷◌, ◌++◌, length, true, false, IsTrue, is_ok, if◌then◌else◌, None, Some, IfOk, IfSome, OnOk, OnErr, Contains, vec_len, vec_capacity};
 ghost use Rattle.std.specs.List.{position, before_first};
 ghost use Rattle.std.specs.Result.{result_err};
 ghost use Rattle.std.specs.Io.KnownBytes.{Consumes, Keeps, IsAtEnd};
@@ -13,6 +14,9 @@ ghost use Rattle.sedspace.specs.Lines.{is_newline, HasNoNewline};
 use super::{Broken, ByteSource, Full, LineFault, Space};
 use std::alloc::{AllocError, Global};
 use std::marker::Model;
+
+// How many bytes the first read asks for, where there is room for them.
+const FIRST: usize = 4096;
 
 /// What a call for the next line found.
 #[derive(Clone, Copy, Debug, PartialEq, Eq)]
@@ -26,38 +30,46 @@ pub enum Got {
 /// Room for the bytes that are read ahead. Contracts see how many it has room for.
 #[derive(Drop)]
 pub struct Room {
+    // As long as the next read may give; more is reserved.
     buffer: Vec<u8>,
+    look: usize,
 }
 
 impl Model for Room {
-    ghost use Rattle.std.specs.Prelude.{ℕ, ◌<◌, vec_len};
+    ghost use Rattle.std.specs.Prelude.{ℕ, ◌<◌, ◌≤◌, vec_len, vec_capacity};
 
     ghost Value = { ℕ };
 
-    ghost view = { λ r. vec_len r.buffer };
+    ghost view = { λ r. r.look };
 
-    ghost invariant = { λ r. 0 < vec_len r.buffer };
+    ghost invariant = { λ r. (0 < vec_len r.buffer) × (vec_len r.buffer ≤ r.look) × (r.look ≤ vec_capacity r.buffer) };
 }
 
 impl Room {
-    /// Room for `look` bytes, 1 to 2^30, reserved here.
+    /// Room for `look` bytes, 1 to 2^30, reserved here. Little of it is used before the reads ask for more.
     pub fn new(alloc: Global, look: usize) -> Result<Room, AllocError>
         requires positive { 0 < look }
         requires bound { look ≤ 2 ^ 30 }
         ensures { IfOk result (λ room. room ≡ look) }
     {
-        let buffer = vec![in alloc; 0; look]?;
-        Ok(Room { buffer })
+        let mut buffer = Vec::with_capacity(alloc, look)?;
+        buffer.resize(look.min(FIRST), 0)?;
+        Ok(Room { buffer, look })
     }
 }
 
 /// The lines of a source, which is read ahead by at most `look` bytes. After the making no call asks for memory.
 ///
+/// The first read asks for 4096 bytes, or for `look` where that is less. Each read that gives all that it asked for makes
+/// the next one ask for twice as many, up to `look`.
+///
 /// A fault is kept: each later call answers it again, without reading.
 #[derive(Drop)]
 pub struct Lines<R: ByteSource> {
     from: R,
+    // As long as the next read may give; more is reserved.
     buffer: Vec<u8>,
+    look: usize,
     front: usize,
     filled: usize,
     is_ended: bool,
@@ -65,7 +77,7 @@ pub struct Lines<R: ByteSource> {
 }
 
 impl<R: ByteSource> Model for Lines<R> {
-    ghost use Rattle.std.specs.Prelude.{◌≤◌, ◌<◌, IsTrue, take, drop, vec_len};
+    ghost use Rattle.std.specs.Prelude.{◌≤◌, ◌<◌, IsTrue, take, drop, vec_len, vec_capacity};
     ghost use Rattle.std.specs.Io.KnownBytes.{IsAtEnd};
     ghost use Rattle.sedspace.specs.Stream.{Stream};
 
@@ -74,12 +86,13 @@ impl<R: ByteSource> Model for Lines<R> {
     ghost view = { λ s. record {
       source = s.from;
       ahead = drop s.front (take s.filled s.buffer.items);
-      look = vec_len s.buffer;
+      look = s.look;
       ended = s.is_ended;
       fault = s.answered;
     } };
 
     ghost invariant = { λ s. (s.front ≤ s.filled) × (s.filled ≤ vec_len s.buffer) × (0 < vec_len s.buffer)
+        × (vec_len s.buffer ≤ s.look) × (s.look ≤ vec_capacity s.buffer)
         × (IsTrue s.is_ended → IsAtEnd (R.remaining s.from)) };
 }
 
@@ -105,10 +118,11 @@ impl<R: ByteSource> Lines<R> {
     pub fn over(source: R, room: Room) -> Lines<R>
         ensures { result ≡ record { source = source; ahead = []; look = room; ended = false; fault = None } }
     {
-        let Room { buffer } = room;
+        let Room { buffer, look } = room;
         Lines {
             from: source,
             buffer,
+            look,
             front: 0,
             filled: 0,
             is_ended: false,
@@ -123,6 +137,7 @@ impl<R: ByteSource> Lines<R> {
         let Lines {
             from,
             buffer: _,
+            look: _,
             front: _,
             filled: _,
             is_ended: _,
@@ -240,6 +255,7 @@ impl<R: ByteSource> Lines<R> {
         if self.is_ended {
             return Ok(false);
         }
+        widen(&mut self.buffer, self.filled, self.look);
         self.front = 0;
         self.filled = 0;
         let count = self.from.read(self.buffer.as_mut_slice())?;
@@ -298,6 +314,23 @@ impl<R: ByteSource> Lines<R> {
                 Ok(false) => return Ok(Got::End),
                 Err(Broken) => return Err(LineFault::Broken),
             }
+        }
+    }
+}
+
+// Doubles the buffer's length, up to `look`, where the last read filled it. All of it is reserved.
+fn widen(buffer: &mut Vec<u8>, filled: usize, look: usize)
+    requires within { vec_len buffer.old ≤ look }
+    requires reserved { look ≤ vec_capacity buffer.old }
+    ensures longer { vec_len buffer.old ≤ vec_len buffer.new }
+    ensures bound { vec_len buffer.new ≤ look }
+    ensures capacity { look ≤ vec_capacity buffer.new }
+{
+    let len = buffer.len();
+    if filled == len && len < look {
+        match buffer.resize(len + len.min(look - len), 0) {
+            Ok(()) => {}
+            Err(_) => unreachable!(),
         }
     }
 }
