@@ -28,3 +28,10 @@ pub mod OccurrenceExamples
 pub mod ListingExamples
 pub mod ListingLines
 pub mod ListingTokens
+mod ComputedRun
+mod ComputedEnds
+mod AddressRunExamples
+mod SubstitutionRunExamples
+mod SpaceRunExamples
+mod CaseRunExamples
+mod EndRunExamples

@@ -1,0 +1,61 @@
+-- Examples of whole runs, computed by the definitions, from the bytes of a script and of its input: the functions `s`, `t`
+-- and `y` (XCU sed, "Editing Commands in sed").
+use Rattle.std.proofs.Common.{refl}
+use Rattle.std.specs.Prelude.{codes}
+use Rattle.sedre.proofs.ComputedReading.{outcome, rest_of}
+use Rattle.sedre.specs.Arena.{tree_at, tree_within}
+use Rattle.sedre.specs.Brackets.{list_at, list_end}
+use Rattle.sedre.specs.Delimited.{delimiter_at}
+use Rattle.sedre.specs.Intervals.{interval}
+use Rattle.sedre.specs.Items.{item_at as expression_item_at}
+use Rattle.sedre.specs.Sets.{set_of}
+use Rattle.sedmatch.specs.Matching.{any, greatest, copies, spans, longest, found_from, found, cut, first_copy, last_start, caps, report}
+use Rattle.sedscript.proofs.ComputedScript.{verdict, cutting, walked, is_script}
+use Rattle.sedscript.specs.Addresses.{match_at, address_at, second_at, addresses_at}
+use Rattle.sedscript.specs.Between.{substituted, transliterate_at}
+use Rattle.sedscript.specs.Bytes.{past}
+use Rattle.sedscript.specs.Functions.{name_from, text_from}
+use Rattle.sedscript.specs.Items.{substitute_at, function_at, item_at}
+use Rattle.sedscript.specs.Transliteration.{table_of}
+use Rattle.sedspace.specs.Lines.{lines}
+use Rattle.sedengine.specs.Move.{move}
+use Rattle.sedengine.specs.Select.{selects}
+use Rattle.sedengine.specs.Substitute.{occurrences_from}
+use Rattle.sedengine.proofs.ComputedRun.{course, ends_after, Writes, QuietlyWrites}
+
+second_occurrence : Writes (codes "s/b/[&]/2") (codes "abab\n") (codes "aba[b]\n")
+unfolding verdict cutting walked item_at past function_at addresses_at address_at second_at text_from name_from lines course move selects match_at substitute_at substituted delimiter_at outcome rest_of expression_item_at interval set_of tree_at tree_within list_at list_end found found_from longest greatest spans any copies report caps cut first_copy last_start occurrences_from
+second_occurrence = is_script (ends_after 200 refl refl)
+
+-- With -n, and the flag `p`.
+escaped_delimiter : QuietlyWrites (codes "s/x/\\//p") (codes "x\n") (codes "/\n")
+unfolding verdict cutting walked item_at past function_at addresses_at address_at second_at text_from name_from lines course move selects match_at substitute_at substituted delimiter_at outcome rest_of expression_item_at interval set_of tree_at tree_within list_at list_end found found_from longest greatest spans any copies report caps cut first_copy last_start occurrences_from
+escaped_delimiter = is_script (ends_after 200 refl refl)
+
+-- `t` branches on the first line and not on the second.
+test_after_a_substitution : Writes (codes "s/a/b/;ta;s/$/!/;:a") (codes "a\nc\n") (codes "b\nc!\n")
+unfolding verdict cutting walked item_at past function_at addresses_at address_at second_at text_from name_from lines course move selects match_at substitute_at substituted delimiter_at outcome rest_of expression_item_at interval set_of tree_at tree_within list_at list_end found found_from longest greatest spans any copies report caps cut first_copy last_start occurrences_from
+test_after_a_substitution = is_script (ends_after 200 refl refl)
+
+all_of_the_expression_last_used : Writes (codes "/a/s//[&]/g") (codes "aba\n") (codes "[a]b[a]\n")
+unfolding verdict cutting walked item_at past function_at addresses_at address_at second_at text_from name_from lines course move selects match_at substitute_at substituted delimiter_at outcome rest_of expression_item_at interval set_of tree_at tree_within list_at list_end found found_from longest greatest spans any copies report caps cut first_copy last_start occurrences_from
+all_of_the_expression_last_used = is_script (ends_after 200 refl refl)
+
+-- In a bracket expression the backslash and the `n` stand for themselves.
+newline_in_a_list : Writes (codes "s/[\\n]/x/g") (codes "an\\b\n") (codes "axxb\n")
+unfolding verdict cutting walked item_at past function_at addresses_at address_at second_at text_from name_from lines course move selects match_at substitute_at substituted delimiter_at outcome rest_of expression_item_at interval set_of tree_at tree_within list_at list_end found found_from longest greatest spans any copies report caps cut first_copy last_start occurrences_from
+newline_in_a_list = is_script (ends_after 200 refl refl)
+
+-- A group that took no part in the match gives nothing.
+group_without_a_span : Writes (codes "s/\\(a\\)*b/<\\1>/") (codes "b\n") (codes "<>\n")
+unfolding verdict cutting walked item_at past function_at addresses_at address_at second_at text_from name_from lines course move selects match_at substitute_at substituted delimiter_at outcome rest_of expression_item_at interval set_of tree_at tree_within list_at list_end found found_from longest greatest spans any copies report caps cut first_copy last_start occurrences_from
+group_without_a_span = is_script (ends_after 200 refl refl)
+
+transliterate : Writes (codes "y/a\\/\\n/x:y/") (codes "a/b\n") (codes "x:b\n")
+unfolding verdict cutting walked item_at past function_at addresses_at address_at second_at text_from name_from lines course move selects transliterate_at table_of
+transliterate = is_script (ends_after 200 refl refl)
+
+-- The delimiter with a backslash before it stands for the byte itself.
+bar_as_a_delimiter : Writes (codes "s|a\\|b|x|") (codes "a|b\n") (codes "x\n")
+unfolding verdict cutting walked item_at past function_at addresses_at address_at second_at text_from name_from lines course move selects match_at substitute_at substituted delimiter_at outcome rest_of expression_item_at interval set_of tree_at tree_within list_at list_end found found_from longest greatest spans any copies report caps cut first_copy last_start occurrences_from
+bar_as_a_delimiter = is_script (ends_after 200 refl refl)
