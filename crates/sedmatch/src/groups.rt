@@ -4,7 +4,7 @@
 ghost use Rattle.std.specs.Prelude.{◌≡◌, ℕ, false, [], ◌∷◌, ◌++◌, reverse, ◌+◌, ◌-◌, ◌*◌, ◌^◌, ◌<◌, ◌≤◌, length};
 ghost use Rattle.std.specs.Prelude.{vec_len, vec_capacity, slice_get, Some, None, slice_set, IsTrue, ◌↔◌};
 ghost use Rattle.sedre.specs.Tree.{size};
-ghost use Rattle.sedre.specs.Arena.{tree_at, tree};
+ghost use Rattle.sedre.specs.Arena.{IsArena, tree_at, tree};
 ghost use Rattle.sedmatch.specs.Spans.{Spans};
 ghost use Rattle.sedmatch.specs.Caps.{Caps, forget, IsReport};
 ghost use Rattle.sedmatch.specs.Fits.{AllDone, Fits, FitsCuts, FitsGroups, HasStack, KeepsGroups, KeepsPlan, KeepsStack, SameMarks, SameRoom};
@@ -87,7 +87,6 @@ fn forget_inside(
     ensures grows { steps.old ≤ steps.new }
     ensures cost { steps.new ≤ steps.old + size (tree_at expr.now.nodes root) }
 {
-    let _count = expr.nodes();
     put(stack, root);
     while let Some(x) = stack.pop() {
         let node = expr.look(expr.id(x), steps);
@@ -115,7 +114,6 @@ fn has_group(expr: &Expr, root: usize, stack: &mut Vec<usize>, steps: &mut Steps
     ensures room { vec_capacity stack.old ≤ vec_capacity stack.new }
     ensures cost { Takes steps.old steps.new (size (tree_at expr.now.nodes root)) }
 {
-    let _count = expr.nodes();
     put(stack, root);
     while let Some(x) = stack.pop() {
         let node = expr.look(expr.id(x), steps);
@@ -163,6 +161,7 @@ fn split_node(
     stack: &mut Vec<usize>,
     steps: &mut Steps,
 ) -> Split
+    requires arena { IsArena expr.now.nodes }
     requires inside { x < length expr.now.nodes }
     requires order { InOrder start stop (length text.now) }
     requires fits { FitsCuts (length expr.now.nodes) (length text.now) sets.old places.old }
@@ -177,7 +176,6 @@ fn split_node(
     ensures cost { let m = length expr.now.nodes in let n = length text.now in
         Takes steps.old steps.new (node_cost (46 * m * (n + 1) * (n + 1) + 1) node.now) }
 {
-    let _count = expr.nodes();
     match node {
         Node::Empty => Split::Done,
         Node::Set(_) => Split::Done,
@@ -347,7 +345,6 @@ fn work(
         Task::Close(k, start, stop) => close_group(groups, *k, *start, *stop),
         Task::Enter(x, start, stop) => {
             let (x, start, stop) = (*x, *start, *stop);
-            let _count = expr.nodes();
             let node = expr.look(expr.id(x), steps);
             let stack = &mut plan.stack;
             let parts = split_node(
