@@ -4,7 +4,7 @@ use Rattle.std.specs.Prelude.{◌≡◌, ℕ, ◌+◌, true, length, Option}
 use Rattle.sedre.specs.Tree.{Tree}
 use Rattle.sedre.specs.Arena.{Written, tree}
 use Rattle.sedre.specs.Mirror.{seen}
-use Rattle.sedmatch.specs.Skip.{AllBegin}
+use Rattle.sedmatch.specs.Beginnings.{AllBegin}
 use Rattle.sedmatch.specs.Needed.{IsNeeded}
 use Rattle.sedmatch.specs.Rare.{AllRare}
 use Rattle.sedmatch.specs.Sight.{IsSightOf}

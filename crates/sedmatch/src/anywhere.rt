@@ -16,7 +16,7 @@ use crate::quick::longest_in;
 use crate::rare::first_place;
 use crate::ready::{Known, Tables};
 use crate::scratch::Sets;
-use crate::skip::Begins;
+use crate::beginnings::Begins;
 use crate::tables::Table;
 use sedre::{Expr, Steps};
 

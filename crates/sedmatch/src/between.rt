@@ -10,7 +10,7 @@ ghost use Rattle.sedmatch.specs.Between.{AreOutside, GoesClear, ClearTo, LastTai
 use crate::counted::Text;
 use crate::few::{Few, with_byte};
 use crate::needed::{Literal, literal_from};
-use crate::runs::star_set;
+use crate::far_ahead::star_set;
 use memchr::memmem::{Finder, FinderRev};
 use sedre::{ByteSet, Expr, Node, Steps};
 use std::alloc::{AllocError, Global};

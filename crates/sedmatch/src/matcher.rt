@@ -12,7 +12,7 @@ use crate::counted::Text;
 use crate::groups::report;
 use crate::scratch::Scratch;
 use crate::search::{leftmost, scan};
-use crate::skip::how_begins;
+use crate::beginnings::how_begins;
 use sedre::{Expr, Steps};
 
 /// A match, and which part of the text each group reports.

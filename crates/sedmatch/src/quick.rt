@@ -24,7 +24,7 @@ use crate::ready::{Known, Tables, find_known, new_tables};
 use crate::scratch::{Scratch, Sets};
 use crate::search::{better, longest_on};
 use crate::sight::{Sight, sight_find, sight_matches, sight_of, sight_span};
-use crate::skip::Begins;
+use crate::beginnings::Begins;
 use crate::states::ends_at;
 use crate::tables::{Next, Table, first_state, follow_past, go, stay};
 use sedre::{Expr, Nodes, Steps};

@@ -8,7 +8,7 @@ ghost use Rattle.sedmatch.specs.Tables.{IsCut, IsTable};
 use crate::classes::{Classes, find_classes};
 use crate::needed::{Needed, find_needed};
 use crate::rare::{Rare, rare_of};
-use crate::skip::{Begins, how_begins};
+use crate::beginnings::{Begins, how_begins};
 use crate::tables::{Table, new_table};
 use sedre::{Expr, Nodes, Steps};
 use std::alloc::{AllocError, Global};

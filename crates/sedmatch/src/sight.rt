@@ -20,7 +20,7 @@ use crate::counted::Text;
 use crate::few::{Few, members_of};
 use crate::groups::report;
 use crate::matcher::Found;
-use crate::runs::star_set;
+use crate::far_ahead::star_set;
 use crate::scratch::Scratch;
 use crate::times::{find_times, times_of};
 use crate::trail::{trail_end, trail_start};
