@@ -13,8 +13,8 @@ ghost use Rattle.sedmatch.specs.Cuts.{GreatestBelow, LastCopyIn, LeastFrom, Repe
 
 use crate::ahead::{Lead, lead_from};
 use crate::counted::{Bytes, Marks, Text};
-use crate::passes::Here;
 use crate::far_ahead::{Far, far_from, none_before};
+use crate::passes::Here;
 use crate::scratch::Sets;
 use crate::search::{advance_from, advance_seen};
 use sedre::{Expr, Node, Nodes, Steps};

@@ -11,9 +11,9 @@ ghost use Rattle.sedmatch.specs.Reach.{At};
 ghost use Rattle.sedmatch.specs.FarAhead.{EndsFar, GoesFar, IsNearer, AllRepeat, IsRun, IsFirst, IsApart};
 ghost use Rattle.sedmatch.specs.FarAhead.{NoneBefore, far_of, further_of};
 
-use crate::ahead::{Lead, Rest, rest_behind, rest_of_node};
-use crate::counted::Text;
+use crate::ahead::{Lead, Rest, rest_behind, rest_of_node, rest_of_seq};
 use crate::beginnings::left_part;
+use crate::counted::Text;
 use sedre::{ByteSet, Expr, Node, Steps};
 
 /// Where the longest of the spans ends that begin at a place.
@@ -76,7 +76,26 @@ fn star_set_of(expr: &Expr, index: usize, node: &Node, steps: &mut Steps) -> Opt
     }
 }
 
-/// The set of which the node at the index is a repetition, alone or in a group, if it is one.
+/// The set of which the node is a repetition, alone or in a group, if it is one. It stands at the index.
+fn repeated_set(expr: &Expr, index: usize, node: &Node, steps: &mut Steps) -> Option<ByteSet>
+    requires node { slice_get expr.now.nodes index ≡ Some node.now }
+    requires arena { IsArena expr.now.nodes }
+    requires inside { index < length expr.now.nodes }
+    requires room { steps.old ≤ 2 ^ 118 }
+    ensures repeats { IfSome result (λ s. AllRepeat expr.now.nodes index s) }
+    ensures grows { steps.old ≤ steps.new }
+    ensures cost { steps.new ≤ steps.old + 2 }
+{
+    match node {
+        Node::Group(_, a) => {
+            let inner = expr.look(*a, steps);
+            star_set_of(expr, a.index(), &inner, steps)
+        }
+        _ => star_set_of(expr, index, node, steps),
+    }
+}
+
+/// The same of the node at the index.
 pub fn star_set(expr: &Expr, index: usize, steps: &mut Steps) -> Option<ByteSet>
     requires inside { index < length expr.now.nodes }
     requires room { steps.old < 2 ^ 118 }
@@ -85,13 +104,7 @@ pub fn star_set(expr: &Expr, index: usize, steps: &mut Steps) -> Option<ByteSet>
     ensures cost { steps.new ≤ steps.old + 3 }
 {
     let node = expr.look(expr.id(index), steps);
-    match node {
-        Node::Group(_, a) => {
-            let inner = expr.look(a, steps);
-            star_set_of(expr, a.index(), &inner, steps)
-        }
-        _ => star_set_of(expr, index, &node, steps),
-    }
+    repeated_set(expr, index, &node, steps)
 }
 
 /// The node with which the spans of the node at the index begin, at most two parts deep.
@@ -255,13 +268,16 @@ fn seq_behind(
     ensures cost { steps.new ≤ steps.old + 6 + length text.now }
 {
     match node {
-        Node::Seq(a, b) => match star_set(expr, a.index(), steps) {
-            Some(set) => match run_before(expr, b.index(), &set, text, place, steps) {
-                Some(end) => Further::Part(b.index(), end),
-                None => Further::End(Far::Unknown),
-            },
-            None => further_of(rest_of_node(expr, index, node, text, place, steps)),
-        },
+        Node::Seq(a, b) => {
+            let first = expr.look(*a, steps);
+            match repeated_set(expr, a.index(), &first, steps) {
+                Some(set) => match run_before(expr, b.index(), &set, text, place, steps) {
+                    Some(end) => Further::Part(b.index(), end),
+                    None => Further::End(Far::Unknown),
+                },
+                None => further_of(rest_of_seq(expr, index, *a, *b, &first, text, place, steps)),
+            }
+        }
         _ => Further::End(Far::Unknown),
     }
 }
@@ -282,7 +298,8 @@ fn far_behind(expr: &Expr, index: usize, text: &Text, place: usize, steps: &mut 
         Node::Seq(_, _) => seq_behind(expr, index, &node, text, place, steps),
         Node::Star(_, _) => Further::End(star_end(expr, index, &node, text, place, steps)),
         Node::Opt(_, _) => Further::End(opt_end(expr, index, &node, text, place, steps)),
-        _ => further_of(rest_behind(expr, index, text, place, steps)),
+        Node::Alt(_, _) => further_of(rest_behind(expr, index, text, place, steps)),
+        _ => further_of(rest_of_node(expr, index, &node, text, place, steps)),
     }
 }
 

@@ -11,10 +11,10 @@ ghost use Rattle.sedmatch.specs.Beginnings.{AllBegin};
 ghost use Rattle.sedmatch.specs.Search.{Sought, sought_to};
 
 use crate::ahead::{Lead, look_ahead};
+use crate::beginnings::{Begins, Either, next_start};
 use crate::counted::Text;
 use crate::few::{Few, few_in, few_of, members_of};
 use crate::needed::{Link, link_of};
-use crate::beginnings::{Begins, Either, next_start};
 use sedre::{ByteSet, Expr, Node, Steps};
 
 /// How many bytes a table tells in the time of one look ahead.

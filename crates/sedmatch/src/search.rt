@@ -17,12 +17,12 @@ ghost use Rattle.sedmatch.specs.Answer.{SpanAnswer};
 ghost use Rattle.sedmatch.specs.Costs.{Takes};
 
 use crate::ahead::{Lead, look_ahead};
+use crate::beginnings::{Begins, how_begins, next_start};
 use crate::counted::{Bytes, Text};
+use crate::far_ahead::{Far, look_far};
 use crate::passes::{Here, Starts, advance};
 use crate::region::{Region, earliest};
-use crate::far_ahead::{Far, look_far};
 use crate::scratch::Sets;
-use crate::beginnings::{Begins, how_begins, next_start};
 use crate::states::{Ends, ends_at};
 use sedre::{Expr, Nodes, Steps};
 

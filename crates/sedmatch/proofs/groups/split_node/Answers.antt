@@ -97,16 +97,16 @@ returns-else-spans-clause-step c =
     λ at. both_ways _ c.if-spans.false (c.reaches-spans.ensures.spans.1 (subst (λ n. At c.args.expr.now.nodes c.args.text.now n c.args.start c.args.stop) (sym c.index-left-in-Alt.ensures) at)) in
     rw c.index-right-in-Alt.ensures (step_alt_right c.args.expr.now.nodes c.args.text.now c.requires.arena c.args.x c.requires.inside c.in-Alt.a c.in-Alt.b is c.args.start c.args.stop c.requires.order.0 c.requires.order.1 missing c.requires.spans)
 
-pub returns-then-has_group-clause-step : goal.returns-then-has_group-clause-step
-returns-then-has_group-clause-step c =
+pub returns-then-may_have_group-clause-step : goal.returns-then-may_have_group-clause-step
+returns-then-may_have_group-clause-step c =
     let is : slice_get c.args.expr.now.nodes c.args.x ≡ Some (Group c.in-Group.k c.in-Group.a) = c.requires.node ∙ ap Some c.in-Group.is in
     rw c.index-inner.ensures (step_group c.args.expr.now.nodes c.args.text.now c.requires.arena c.args.x c.requires.inside c.in-Group.k c.in-Group.a is c.args.start c.args.stop c.requires.order.0 c.requires.order.1 c.requires.spans)
 
-pub returns-else-has_group-clause-step : goal.returns-else-has_group-clause-step
-returns-else-has_group-clause-step c =
+pub returns-else-may_have_group-clause-step : goal.returns-else-may_have_group-clause-step
+returns-else-may_have_group-clause-step c =
     let is : slice_get c.args.expr.now.nodes c.args.x ≡ Some (Group c.in-Group.k c.in-Group.a) = c.requires.node ∙ ap Some c.in-Group.is in
     step_group_alone c.args.expr.now.nodes c.args.text.now c.requires.arena c.args.x c.requires.inside c.in-Group.k c.in-Group.a is
-    (subst (λ n. NoGroups (tree_at c.args.expr.now.nodes n)) c.index-inner.ensures (c.has_group.ensures.none c.if-has_group.false)) c.args.start c.args.stop c.requires.spans
+    (subst (λ n. NoGroups (tree_at c.args.expr.now.nodes n)) c.index-inner.ensures (c.may_have_group.ensures.none c.if-may_have_group.false)) c.args.start c.args.stop c.requires.spans
 
 pub returns-then-start-stop-clause-step : goal.returns-then-start-stop-clause-step
 returns-then-start-stop-clause-step c =
@@ -155,39 +155,44 @@ returns-else-has_empty_copy-2-clause-step c =
     (λ is_first at. both_ways _ c.if-has_empty_copy-2.false (c.has_empty_copy-else-start-stop-2.ensures.copy.1
     (is_first, subst (λ v. At c.args.expr.now.nodes c.args.text.now v c.args.start c.args.start) (sym c.index-inner-in-Opt.ensures) at))))
 
-pub has_group-requires-clause-inside : goal.has_group-requires-clause-inside
-has_group-requires-clause-inside c =
+pub may_have_group-requires-clause-inside : goal.may_have_group-requires-clause-inside
+may_have_group-requires-clause-inside c =
     let is : slice_get c.args.expr.now.nodes c.args.x ≡ Some (Group c.in-Group.k c.in-Group.a) = c.requires.node ∙ ap Some c.in-Group.is in
     rw c.index-inner.ensures (part_inside _ c.requires.arena _ _ _ c.requires.inside is refl)
 
-pub has_group-requires-clause-room : goal.has_group-requires-clause-room
-has_group-requires-clause-room c =
+pub may_have_group-requires-clause-flat : goal.may_have_group-requires-clause-flat
+may_have_group-requires-clause-flat c = λ flat.
+    let is : slice_get c.args.expr.now.nodes c.args.x ≡ Some (Group c.in-Group.k c.in-Group.a) = c.requires.node ∙ ap Some c.in-Group.is in
+    rw c.index-inner.ensures (c.requires.flat flat c.args.x c.in-Group.k c.in-Group.a is)
+
+pub may_have_group-requires-clause-room : goal.may_have_group-requires-clause-room
+may_have_group-requires-clause-room c =
     let is : slice_get c.args.expr.now.nodes c.args.x ≡ Some (Group c.in-Group.k c.in-Group.a) = c.requires.node ∙ ap Some c.in-Group.is in
     rw c.index-inner.ensures (omega (arith, group_size c.args.expr.now.nodes c.requires.arena c.args.x c.in-Group.k c.in-Group.a is))
 
-pub has_group-requires-clause-few : goal.has_group-requires-clause-few
-has_group-requires-clause-few c =
+pub may_have_group-requires-clause-few : goal.may_have_group-requires-clause-few
+may_have_group-requires-clause-few c =
     let is : slice_get c.args.expr.now.nodes c.args.x ≡ Some (Group c.in-Group.k c.in-Group.a) = c.requires.node ∙ ap Some c.in-Group.is in
     rw c.index-inner.ensures (omega (arith, group_size c.args.expr.now.nodes c.requires.arena c.args.x c.in-Group.k c.in-Group.a is))
 
-pub returns-then-has_group-clause-cost : goal.returns-then-has_group-clause-cost
-returns-then-has_group-clause-cost c =
+pub returns-then-may_have_group-clause-cost : goal.returns-then-may_have_group-clause-cost
+returns-then-may_have_group-clause-cost c =
     let nodes = c.args.expr.now.nodes in
     let n = length c.args.text.now in
     let is : slice_get nodes c.args.x ≡ Some (Group c.in-Group.k c.in-Group.a) = c.requires.node ∙ ap Some c.in-Group.is in
-    let looked : c.has_group.new.steps ≤ c.args.steps.now + size (tree_at nodes c.in-Group.a.index) = rw c.index-inner.ensures at c.has_group.ensures.cost.1 in (
+    let looked : c.may_have_group.new.steps ≤ c.args.steps.now + size (tree_at nodes c.in-Group.a.index) = rw c.index-inner.ensures at c.may_have_group.ensures.cost.1 in (
       omega arith,
-      subst (λ z. c.has_group.new.steps ≤ c.args.steps.now + node_cost (46 * length nodes * (n + 1) * (n + 1) + 1) z) (sym c.in-Group.is)
+      subst (λ z. c.may_have_group.new.steps ≤ c.args.steps.now + node_cost (46 * length nodes * (n + 1) * (n + 1) + 1) z) (sym c.in-Group.is)
           (omega (arith, looked, group_size nodes c.requires.arena c.args.x c.in-Group.k c.in-Group.a is)),
     )
 
-pub returns-else-has_group-clause-cost : goal.returns-else-has_group-clause-cost
-returns-else-has_group-clause-cost c =
+pub returns-else-may_have_group-clause-cost : goal.returns-else-may_have_group-clause-cost
+returns-else-may_have_group-clause-cost c =
     let nodes = c.args.expr.now.nodes in
     let n = length c.args.text.now in
     let is : slice_get nodes c.args.x ≡ Some (Group c.in-Group.k c.in-Group.a) = c.requires.node ∙ ap Some c.in-Group.is in
-    let looked : c.has_group.new.steps ≤ c.args.steps.now + size (tree_at nodes c.in-Group.a.index) = rw c.index-inner.ensures at c.has_group.ensures.cost.1 in (
+    let looked : c.may_have_group.new.steps ≤ c.args.steps.now + size (tree_at nodes c.in-Group.a.index) = rw c.index-inner.ensures at c.may_have_group.ensures.cost.1 in (
       omega arith,
-      subst (λ z. c.has_group.new.steps ≤ c.args.steps.now + node_cost (46 * length nodes * (n + 1) * (n + 1) + 1) z) (sym c.in-Group.is)
+      subst (λ z. c.may_have_group.new.steps ≤ c.args.steps.now + node_cost (46 * length nodes * (n + 1) * (n + 1) + 1) z) (sym c.in-Group.is)
           (omega (arith, looked, group_size nodes c.requires.arena c.args.x c.in-Group.k c.in-Group.a is)),
     )
