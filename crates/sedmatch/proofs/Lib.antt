@@ -44,3 +44,8 @@ pub mod LongestLemmas
 pub mod CutLemmas
 mod MatchExamples
 mod GroupExamples
+mod ComputedSearch
+mod SearchExamples
+mod ReportExamples
+mod NestedStarExamples
+mod StandardExamples
