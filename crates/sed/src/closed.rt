@@ -6,9 +6,26 @@
 use std::fs::File;
 use std::os::fd::AsRawFd;
 
-/// A file that keeps the number of a standard stream that is closed, where one is. A read of the standard input still
-/// fails then, and so does a write to the standard output or the standard error.
-pub(crate) fn placeholder(rt: &HostRuntime) -> Option<File> {
+/// Files that keep the numbers of the standard streams that are closed. A read of the standard input still fails then, and
+/// so does a write to the standard output or the standard error.
+pub(crate) fn placeholders(rt: &HostRuntime) -> (Option<File>, Option<File>, Option<File>) {
+    // The lowest free number is given: where one wasn't a standard stream's, none of those is free.
+    let first = placeholder(rt);
+    let second = if first.is_some() {
+        placeholder(rt)
+    } else {
+        None
+    };
+    let third = if second.is_some() {
+        placeholder(rt)
+    } else {
+        None
+    };
+    (first, second, third)
+}
+
+/// A file that keeps the number of a standard stream that is closed, where one is.
+fn placeholder(rt: &HostRuntime) -> Option<File> {
     let written = File::options().write(true).open(rt, "/dev/null").ok()?;
     match written.as_raw_fd() {
         0 => Some(written),

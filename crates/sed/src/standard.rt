@@ -6,7 +6,7 @@ ghost use Rattle.sedengine.specs.Limits.{limits_of};
 ghost use Rattle.sededit.specs.CommandLine.{IsCommandLine};
 ghost use Rattle.sededit.specs.Program.{AsksHelp};
 
-use crate::closed::placeholder;
+use crate::closed::placeholders;
 use crate::devices::Devices;
 use crate::inputs::FileInputs;
 use crate::names::FileNames;
@@ -41,7 +41,7 @@ pub(crate) fn program_limits() -> Limits
 pub(crate) fn run(rt: &HostRuntime) -> u8
     ensures { (result ≡ 0) ⊎ ((result ≡ 1) ⊎ ((result ≡ 2) ⊎ (result ≡ 4))) }
 {
-    let _closed = (placeholder(rt), placeholder(rt), placeholder(rt));
+    let _closed = placeholders(rt);
     let mut errors = rt.stderr();
     match words(rt) {
         Ok(words) => run_words(rt, words.as_slice(), &mut errors),

@@ -15,7 +15,7 @@ use Rattle.sedmatch.specs.declared.needed.Literal.{Literal}
 use Rattle.sedmatch.specs.Few.{HasFew, FirstFew, AreBytes}
 use Rattle.sedmatch.specs.Needed.{IsLiteral, GoesOnAs, FirstLiteral, LastLiteral}
 use Rattle.sedmatch.specs.Reach.{At}
-use Rattle.sedmatch.specs.Runs.{Repeated, AllRepeat}
+use Rattle.sedmatch.specs.FarAhead.{Repeated, AllRepeat}
 use Rattle.sedmatch.specs.Between.{Parted, AreOutside, IsClear, PartedAt, PartedSpans, AllParted, GoesClear, ClearTo, LastTail, PartedEnd, CanPart, PartedNowhere, FirstParted}
 use Rattle.sedmatch.proofs.SpanLemmas.{Copies-forward}
 use Rattle.sedmatch.proofs.FewLemmas.{few_inside}

@@ -8,7 +8,7 @@ use Rattle.sedre.specs.declared.types.Node.TheVariants.{Set}
 use Rattle.sedmatch.specs.Spans.{Copies, no_copy, one_more}
 use Rattle.sedmatch.specs.Caps.{LastCut, LastCopy, only, then}
 use Rattle.sedmatch.specs.Reach.{At}
-use Rattle.sedmatch.specs.Runs.{NoneBefore}
+use Rattle.sedmatch.specs.FarAhead.{NoneBefore}
 use Rattle.sedmatch.proofs.ReachLemmas.{open_at}
 use Rattle.sedmatch.proofs.SpanLemmas.{Spans-forward, Copies-forward}
 

@@ -7,9 +7,9 @@ use Rattle.std.proofs.lemmas.Option.{slice_get_within, get_or_from_slice_get, sl
 use Rattle.memchr.specs.Find.{Passes, IsFirstByte, is_byte, is_byte2, is_byte3}
 use Rattle.sedmatch.specs.Spans.{IsIn}
 use Rattle.sedmatch.specs.Bytes.{looked_at}
-use Rattle.sedmatch.specs.Skip.{EitherHas}
-use Rattle.sedmatch.specs.declared.skip.Begins.TheVariants.{WithByte, WithSet, WithEither}
-use Rattle.sedmatch.specs.declared.skip.Either.{Either}
+use Rattle.sedmatch.specs.Beginnings.{EitherHas}
+use Rattle.sedmatch.specs.declared.beginnings.Begins.TheVariants.{WithByte, WithSet, WithEither}
+use Rattle.sedmatch.specs.declared.beginnings.Either.{Either}
 use Rattle.sedmatch.specs.Few.{HasFew, FewAt, FirstFew, Gathered, AreMembers, IsFewOf, FewOf}
 use Rattle.sedmatch.specs.declared.few.Few.{Few}
 use Rattle.sedmatch.specs.declared.few.Few.TheVariants.{One, Two, Three}

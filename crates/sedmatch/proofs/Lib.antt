@@ -6,13 +6,13 @@ pub mod MatchingLemmas
 pub mod WorkLemmas
 pub mod TailLemmas
 pub mod AheadLemmas
-pub mod RunLemmas
+pub mod FarLemmas
 pub mod TimesLemmas
 pub mod BetweenLemmas
 pub mod CostLemmas
 pub mod SweepLemmas
 pub mod RegionLemmas
-pub mod SkipLemmas
+pub mod BeginningLemmas
 pub mod NeededLemmas
 pub mod NarrowLemmas
 pub mod ChoiceLemmas
@@ -44,3 +44,8 @@ pub mod LongestLemmas
 pub mod CutLemmas
 mod MatchExamples
 mod GroupExamples
+mod ComputedSearch
+mod SearchExamples
+mod ReportExamples
+mod NestedStarExamples
+mod StandardExamples

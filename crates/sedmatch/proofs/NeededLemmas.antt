@@ -12,8 +12,8 @@ use Rattle.sedre.specs.declared.types.NodeId.{NodeId}
 use Rattle.sedre.specs.declared.types.Node.TheVariants.{Set, Seq, Group}
 use Rattle.sedmatch.specs.Spans.{NotFound}
 use Rattle.sedmatch.specs.Reach.{At}
-use Rattle.sedmatch.specs.Skip.{CanBegin}
-use Rattle.sedmatch.specs.declared.skip.Begins.TheVariants.{WithSet}
+use Rattle.sedmatch.specs.Beginnings.{CanBegin}
+use Rattle.sedmatch.specs.declared.beginnings.Begins.TheVariants.{WithSet}
 use Rattle.sedmatch.specs.Needed.{IsOfSet, LinksTo, BeginsAs, IsLiteral, GoesOnAs, IsUpTo, IsSole, LastLiteral, AllHold, AllEndWith, IsNeeded, FirstLiteral, Narrowed}
 use Rattle.sedmatch.specs.declared.needed.Needed.{Needed}
 use Rattle.sedmatch.specs.declared.needed.Literal.{Literal}

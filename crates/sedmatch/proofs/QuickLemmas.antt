@@ -14,8 +14,8 @@ use Rattle.sedmatch.specs.declared.tables.Next.TheVariants.{To, Full}
 use Rattle.sedre.specs.Tree.{Tree}
 use Rattle.sedmatch.specs.Spans.{SomeFound}
 use Rattle.sedmatch.specs.Reach.{At, SomeSpan}
-use Rattle.sedmatch.specs.Skip.{AllBegin, CanBegin}
-use Rattle.sedmatch.specs.declared.skip.Begins.{Begins}
+use Rattle.sedmatch.specs.Beginnings.{AllBegin, CanBegin}
+use Rattle.sedmatch.specs.declared.beginnings.Begins.{Begins}
 use Rattle.sedmatch.specs.Tables.{StateAt, StartsAre, Follows, Stays, look_cost, LeadsFrom, NextIs, ends_of, starts_from}
 use Rattle.sedmatch.specs.Words.{row_of}
 use Rattle.sedmatch.proofs.SpanLemmas.{Spans-forward, Spans-within}

@@ -53,11 +53,6 @@ module _ (nodes : List Node) (w : List ℕ) (r : ℕ) (starts : Starts) (arena :
             (cases_lt some.0 place),
       )
 
-  -- the same where the nodes are known to be an arena
-  pub clear_entered : (marks : List Bool) (place : ℕ) → place ≡ starts.first → ((c : ℕ) → c < r + 1 → slice_index_or marks c false ≡ false) →
-      Marked marks (Below (r + 1)) (λ c. Entered nodes w r starts c place)
-  clear_entered = none_entered nodes w r starts
-
 -- at the next place, what is entered now was entered before
 pub next_entered : (nodes : List Node) (w : List ℕ) (r : ℕ) (starts : Starts) (marks : List Bool) (place : ℕ) →
     Marked marks (Below (r + 1)) (λ c. Enters nodes w r starts c place) →

@@ -11,22 +11,22 @@ use Rattle.sedmatch.specs.Spans.{Spans, Found, NotFound, SomeFound, IsIn, no_cop
 use Rattle.sedmatch.specs.Few.{AreBytes, FirstFew}
 use Rattle.sedmatch.specs.declared.few.Few.{Few}
 use Rattle.sedmatch.specs.Reach.{At}
-use Rattle.sedmatch.specs.Skip.{CanBegin, NextStart}
-use Rattle.sedmatch.specs.declared.skip.Begins.TheVariants.{WithSet}
+use Rattle.sedmatch.specs.Beginnings.{CanBegin, NextStart}
+use Rattle.sedmatch.specs.declared.beginnings.Begins.TheVariants.{WithSet}
 use Rattle.sedmatch.specs.Times.{AllTimes, FirstTimes}
 use Rattle.sedmatch.specs.Between.{Parted, AllParted, FirstParted}
 use Rattle.sedmatch.specs.Needed.{IsLiteral, GoesOnAs, FirstLiteral}
 use Rattle.sedmatch.specs.declared.needed.Literal.{Literal}
 use Rattle.sedmatch.specs.Word.{WordSpans, AllWord}
 use Rattle.sedmatch.specs.Choice.{AllChoice, FirstChoice}
-use Rattle.sedmatch.specs.Runs.{Repeated, AllRepeat, IsRun}
+use Rattle.sedmatch.specs.FarAhead.{Repeated, AllRepeat, IsRun}
 use Rattle.sedmatch.specs.Sight.{IsFirst, StartsWith, SightSpans, IsSight, CanStart, FirstWith, FirstStart, EndsAt}
 use Rattle.sedmatch.specs.declared.sight.First.{First}
 use Rattle.sedmatch.specs.declared.sight.First.TheVariants.{Among, Member}
 use Rattle.sedmatch.specs.declared.sight.Sight.{Sight}
 use Rattle.sedmatch.specs.declared.sight.Sight.TheVariants.{One, Run, Led, Trail, Times, Between, Word, Choice}
 use Rattle.sedmatch.proofs.ReachLemmas.{open_at, close_at}
-use Rattle.sedmatch.proofs.RunLemmas.{run_far}
+use Rattle.sedmatch.proofs.FarLemmas.{run_far}
 use Rattle.sedmatch.proofs.TimesLemmas.{repeated_within}
 use Rattle.sedmatch.proofs.SpanLemmas.{Copies-forward}
 

@@ -8,8 +8,8 @@ use Rattle.sedre.specs.declared.types.Node.{Node}
 use Rattle.sedmatch.specs.Spans.{Spans, Found, SomeFound}
 use Rattle.sedmatch.specs.Ahead.{LeadsTo}
 use Rattle.sedmatch.specs.declared.ahead.Lead.TheVariants.{Nowhere}
-use Rattle.sedmatch.specs.Skip.{AllBegin, CanBegin}
-use Rattle.sedmatch.specs.declared.skip.Begins.{Begins}
+use Rattle.sedmatch.specs.Beginnings.{AllBegin, CanBegin}
+use Rattle.sedmatch.specs.declared.beginnings.Begins.{Begins}
 use Rattle.sedmatch.specs.Reach.{At, SomeSpan, OpenAt, Longest}
 use Rattle.sedmatch.specs.Search.{NoneIn, Scanned}
 use Rattle.sedmatch.specs.declared.passes.Starts.{Starts}

@@ -17,7 +17,7 @@ use Rattle.sedmatch.specs.Places.{ComesAfter}
 use Rattle.sedmatch.specs.States.{IsAt}
 use Rattle.sedmatch.specs.Tables.{ends_of, stops, code_of, AreClasses, LeadsOn, IsFirst, FirstKnown, AreStates}
 use Rattle.sedmatch.proofs.ReachLemmas.{Enters-inside}
-use Rattle.sedmatch.proofs.SearchLemmas.{next_entered, clear_entered}
+use Rattle.sedmatch.proofs.SearchLemmas.{next_entered, none_entered}
 
 or_false_left : (a b : Bool) → (a || b) ≡ false → a ≡ false
 or_false_left false b is = refl
@@ -294,7 +294,7 @@ module _ (nodes : List Node) (r : ℕ) (arena : IsArena nodes) (root : r < lengt
       tells w s s.first begins
       ((λ h. (omega arith, some)), (λ h. refl))
       (λ i x members e is_set marked. absurd (true≢false (sym marked ∙ none x (slice_get_within nodes x (Set members) is_set))))
-      (clear_entered nodes w r s arena old s.first refl (λ k below. none k (omega arith)))
+      (none_entered nodes w r s old s.first refl (λ k below. none k (omega arith)))
 
   pub first_agree : (begin : Bool) (new other : List Bool) (after : Ends) → AgreeBelow (length nodes) new other → IsFirst nodes r begin new after → IsFirst nodes r begin other after
   first_agree begin new other after same is w s begins some = at_agree nodes w r s s.first (length nodes) new other after root same (is w s begins some)

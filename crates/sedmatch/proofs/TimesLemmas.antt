@@ -9,9 +9,9 @@ use Rattle.sedre.specs.declared.types.Node.{Node}
 use Rattle.sedre.specs.declared.types.NodeId.{NodeId}
 use Rattle.sedre.specs.declared.types.Node.TheVariants.{Set, Seq, Group}
 use Rattle.sedmatch.specs.Spans.{Spans, Copies, no_copy, one_more}
-use Rattle.sedmatch.specs.Runs.{Repeated}
-use Rattle.sedmatch.specs.Skip.{CanBegin}
-use Rattle.sedmatch.specs.declared.skip.Begins.TheVariants.{WithSet}
+use Rattle.sedmatch.specs.FarAhead.{Repeated}
+use Rattle.sedmatch.specs.Beginnings.{CanBegin}
+use Rattle.sedmatch.specs.declared.beginnings.Begins.TheVariants.{WithSet}
 use Rattle.sedmatch.specs.Times.{SameBytes, HasTimes, AllTimes, AreWidths, FirstTimes}
 use Rattle.sedmatch.proofs.SpanLemmas.{Spans-within}
 use Rattle.sedmatch.proofs.TableLemmas.{default_same}

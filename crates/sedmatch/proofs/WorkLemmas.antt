@@ -1,6 +1,7 @@
 -- One task is replaced by those of the node's parts.
 use Rattle.std.proofs.Common.{◌≡◌, ℕ, zero, suc, ◌+◌, ◌<◌, ◌≤◌, ◌⊎◌, Bool, true, false, List, [], ◌∷◌, ◌++◌, reverse, length, Some, None, IsTrue, refl, sym, ap, ◌∙◌, subst, inl, inr, ⊎_elim, arith, mul-le-mul_left, ◌-◌, ◌*◌}
 use Rattle.std.specs.Prelude.{slice_get, slice_set}
+use Rattle.std.proofs.lemmas.Bool.{cases_lt}
 use Rattle.sedre.specs.Arena.{IsArena, IsPart, tree_of, tree_at}
 use Rattle.sedre.specs.Tree.{Tree, empty, set, begin, end, seq, alt, group, star, opt, size}
 use Rattle.sedre.specs.declared.types.Node.{Node}
@@ -448,3 +449,20 @@ pub report_free : (m n s : ℕ) → 1 ≤ m → s + 48 * m * (n + 1) * (n + 1) �
 report_free m n s some =
     let more = mul-le-mul_left (48 * m * (n + 1) * (n + 1)) some in
     omega (arith, more)
+
+-- no group within another so far, and the next node holds none within it
+pub flat_next : (nodes : List Node) (x : ℕ) →
+    ((y k : ℕ) (a : NodeId) → y < x → slice_get nodes y ≡ Some (Group k a) → NoGroups (tree_at nodes a.index)) →
+    ((k : ℕ) (a : NodeId) → slice_get nodes x ≡ Some (Group k a) → NoGroups (tree_at nodes a.index)) →
+    (y k : ℕ) (a : NodeId) → y < x + 1 → slice_get nodes y ≡ Some (Group k a) → NoGroups (tree_at nodes a.index)
+flat_next nodes x before here y k a lt is =
+    ⊎_elim
+    (λ (less : y < x). before y k a less is)
+    (λ (same : x ≤ y). here k a (subst (λ z. slice_get nodes z ≡ Some (Group k a)) (omega arith) is))
+    (cases_lt y x)
+
+-- what was looked at until a group was found within another, among m nodes
+pub flat_cost : (m x s t : ℕ) → x + 1 ≤ m → t ≤ s + (m + 1) * x + m + 1 → t ≤ s + m * (m + 1)
+flat_cost m x s t within spent =
+    let all : (m + 1) * (x + 1) ≤ (m + 1) * m = mul-le-mul_left (m + 1) within in
+    omega (arith, all, spent)

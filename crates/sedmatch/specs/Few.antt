@@ -1,8 +1,8 @@
 -- Private to this crate: up to three bytes, one of which is sought.
 use Rattle.std.specs.Prelude.{◌≡◌, ◌⊎◌, ℕ, ◌<◌, ◌≤◌, ◌↔◌, List, length, slice_get, slice_index, Option, Some, None}
-use Rattle.sedmatch.specs.Skip.{CanBegin, EitherHas}
-use Rattle.sedmatch.specs.declared.skip.Begins.{Begins}
-use Rattle.sedmatch.specs.declared.skip.Either.{Either}
+use Rattle.sedmatch.specs.Beginnings.{CanBegin, EitherHas}
+use Rattle.sedmatch.specs.declared.beginnings.Begins.{Begins}
+use Rattle.sedmatch.specs.declared.beginnings.Either.{Either}
 use Rattle.sedmatch.specs.declared.few.Few.{Few}
 use Rattle.sedmatch.specs.declared.few.Few.TheVariants.{One, Two, Three}
 

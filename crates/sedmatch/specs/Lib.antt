@@ -15,10 +15,10 @@ pub mod States
 pub mod Tables
 pub mod Linear
 pub mod Ready
-pub mod Skip
+pub mod Beginnings
 pub mod Needed
 pub mod Ahead
-pub mod Runs
+pub mod FarAhead
 pub mod Times
 pub mod Between
 pub mod Word

@@ -6,8 +6,8 @@ use Rattle.sedre.specs.declared.types.Node.{Node}
 use Rattle.sedmatch.specs.Spans.{Spans, NotFound, IsIn}
 use Rattle.sedmatch.specs.Reach.{At}
 use Rattle.sedmatch.specs.Search.{NoneIn}
-use Rattle.sedmatch.specs.Skip.{CanBegin}
-use Rattle.sedmatch.specs.declared.skip.Begins.TheVariants.{WithSet}
+use Rattle.sedmatch.specs.Beginnings.{CanBegin}
+use Rattle.sedmatch.specs.declared.beginnings.Begins.TheVariants.{WithSet}
 use Rattle.sedmatch.specs.declared.needed.Link.{Link}
 use Rattle.sedmatch.specs.declared.needed.Link.TheVariants.{OneOf, Last, Inner, Other}
 use Rattle.sedmatch.specs.declared.needed.Literal.{Literal}

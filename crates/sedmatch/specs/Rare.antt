@@ -5,8 +5,8 @@ use Rattle.sedre.specs.declared.types.Node.{Node}
 use Rattle.sedmatch.specs.Spans.{Spans}
 use Rattle.sedmatch.specs.Reach.{At}
 use Rattle.sedmatch.specs.Few.{FewAt, AreBytes}
-use Rattle.sedmatch.specs.Skip.{CanBegin}
-use Rattle.sedmatch.specs.declared.skip.Begins.TheVariants.{WithSet}
+use Rattle.sedmatch.specs.Beginnings.{CanBegin}
+use Rattle.sedmatch.specs.declared.beginnings.Begins.TheVariants.{WithSet}
 use Rattle.sedmatch.specs.declared.rare.Fixed.{Fixed}
 use Rattle.sedmatch.specs.declared.rare.Rare.{Rare}
 

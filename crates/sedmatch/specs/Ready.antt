@@ -1,14 +1,15 @@
 -- Private to the proofs: no contract of a public item cites what stands here.
 -- An expression with what is known of it, and its tables.
-use Rattle.std.specs.Prelude.{◌≡◌, ℕ, ◌+◌, true, length, Option}
+use Rattle.std.specs.Prelude.{◌≡◌, ℕ, ◌+◌, true, length, IsTrue, Option}
 use Rattle.sedre.specs.Tree.{Tree}
 use Rattle.sedre.specs.Arena.{Written, tree}
 use Rattle.sedre.specs.Mirror.{seen}
-use Rattle.sedmatch.specs.Skip.{AllBegin}
+use Rattle.sedmatch.specs.Beginnings.{AllBegin}
 use Rattle.sedmatch.specs.Needed.{IsNeeded}
 use Rattle.sedmatch.specs.Rare.{AllRare}
 use Rattle.sedmatch.specs.Sight.{IsSightOf}
 use Rattle.sedmatch.specs.Tables.{IsSingle, IsSweep}
+use Rattle.sedmatch.specs.Work.{AreFlat}
 use Rattle.sedmatch.specs.declared.sight.Sight.{Sight}
 use Rattle.sedmatch.specs.declared.ready.Known.{Known}
 use Rattle.sedmatch.specs.declared.ready.Tables.{Tables}
@@ -33,5 +34,6 @@ IsPrepared e root k t = (root + 1 ≡ length e.nodes) × IsKnown (tree e) k × A
 pub record IsReady (e : Written) (root : ℕ) (known : Known) (sight : Option Sight) (tables : Tables) : Type 0 where
   pub whole : root + 1 ≡ length e.nodes
   pub known_so : IsKnown (tree e) known
+  pub flat_so : IsTrue known.flat → AreFlat e.nodes
   pub sight_so : IsSightOf (tree e) sight
   pub tables_so : AreTables e root tables

@@ -4,7 +4,7 @@ use Rattle.std.specs.Prelude.{◌≡◌, ℕ, ◌+◌, ◌<◌, ◌≤◌, ◌�
 use Rattle.memchr.specs.Find.{OccursAt}
 use Rattle.sedre.specs.Tree.{Tree}
 use Rattle.sedmatch.specs.Spans.{Spans, IsIn}
-use Rattle.sedmatch.specs.Runs.{Repeated}
+use Rattle.sedmatch.specs.FarAhead.{Repeated}
 use Rattle.sedmatch.specs.Times.{HasTimes}
 use Rattle.sedmatch.specs.Between.{PartedSpans, CanPart}
 use Rattle.sedmatch.specs.Word.{WordSpans}

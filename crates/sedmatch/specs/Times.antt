@@ -5,9 +5,9 @@ use Rattle.sedre.specs.declared.types.Node.{Node}
 use Rattle.sedmatch.specs.Reach.{At}
 use Rattle.sedmatch.specs.Spans.{IsIn}
 use Rattle.sedmatch.specs.Few.{AreBytes}
-use Rattle.sedmatch.specs.Runs.{Repeated}
-use Rattle.sedmatch.specs.Skip.{CanBegin}
-use Rattle.sedmatch.specs.declared.skip.Begins.TheVariants.{WithSet}
+use Rattle.sedmatch.specs.FarAhead.{Repeated}
+use Rattle.sedmatch.specs.Beginnings.{CanBegin}
+use Rattle.sedmatch.specs.declared.beginnings.Begins.TheVariants.{WithSet}
 
 -- the sets have the same bytes
 abbrev pub SameBytes : List Bool → List Bool → Type 0

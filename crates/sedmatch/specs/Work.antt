@@ -1,9 +1,10 @@
 -- Private to the proofs: no contract of a public item cites what stands here.
 -- What is left to do while the groups of a match are decided.
-use Rattle.std.specs.Prelude.{◌≡◌, ℕ, ◌+◌, ◌-◌, ◌*◌, ◌<◌, ◌≤◌, Bool, true, false, if◌then◌else◌, List, [], ◌∷◌, ◌++◌, length, slice_set, Some, None}
+use Rattle.std.specs.Prelude.{◌≡◌, ℕ, ◌+◌, ◌-◌, ◌*◌, ◌<◌, ◌≤◌, Bool, true, false, if◌then◌else◌, List, [], ◌∷◌, ◌++◌, length, slice_get, slice_set, Some, None}
 use Rattle.sedre.specs.Arena.{tree_at}
 use Rattle.sedre.specs.Tree.{Tree, empty, set, begin, end, seq, alt, group, star, opt, size}
 use Rattle.sedre.specs.declared.types.Node.{Node}
+use Rattle.sedre.specs.declared.types.NodeId.{NodeId}
 use Rattle.sedre.specs.declared.types.Node.TheVariants.{Empty, Set, Begin, End, Seq, Alt, Group, Star, Opt}
 use Rattle.sedmatch.specs.declared.scratch.Task.{Task}
 use Rattle.sedmatch.specs.declared.groups.Split.{Split}
@@ -94,6 +95,10 @@ NoGroups (alt a b) = NoGroups a × NoGroups b
 NoGroups (group k a) = ⊥
 NoGroups (star a first) = NoGroups a
 NoGroups (opt a first) = NoGroups a
+
+-- no group stands within another
+abbrev pub AreFlat : List Node → Type 0
+AreFlat nodes = (x k : ℕ) (a : NodeId) → slice_get nodes x ≡ Some (Group k a) → NoGroups (tree_at nodes a.index)
 
 -- there is none in the trees at the nodes
 abbrev pub AllWithout : List Node → List ℕ → Type 0

@@ -4,13 +4,14 @@
 //! goes one way only. Most places at which none begins are told by one or two of these parts.
 ghost use Rattle.std.specs.Prelude.{◌≡◌, ℕ, ◌+◌, ◌*◌, ◌^◌, ◌<◌, ◌≤◌, length, slice_get, Some, IsTrue};
 ghost use Rattle.sedre.specs.Arena.{IsArena, tree, tree_of};
+ghost use Rattle.sedre.specs.declared.types.Node.TheVariants.{Seq};
 ghost use Rattle.sedre.specs.Tree.{Tree, set as a_set};
 ghost use Rattle.sedmatch.specs.Spans.{Spans};
 ghost use Rattle.sedmatch.specs.Reach.{At};
 ghost use Rattle.sedmatch.specs.Ahead.{LeadsTo, anchor_lead, GoesOn, IsBelow};
 
 use crate::counted::Text;
-use sedre::{ByteSet, Expr, Node, Steps};
+use sedre::{ByteSet, Expr, Node, NodeId, Steps};
 
 /// Where the spans end that begin at a place.
 #[derive(Clone, Copy)]
@@ -75,6 +76,36 @@ pub enum Rest {
     End(Lead),
 }
 
+/// What is left of the spans of a concatenation, which stands at the index, after its first part.
+#[inline(always)]
+pub fn rest_of_seq(
+    expr: &Expr,
+    index: usize,
+    a: NodeId,
+    b: NodeId,
+    first: &Node,
+    text: &Text,
+    place: usize,
+    steps: &mut Steps,
+) -> Rest
+    requires node { slice_get expr.now.nodes index ≡ Some (Seq a b) }
+    requires first { slice_get expr.now.nodes a.index ≡ Some first.now }
+    requires arena { IsArena expr.now.nodes }
+    requires inside { index < length expr.now.nodes }
+    requires place { place ≤ length text.now }
+    requires room { steps.old < 2 ^ 120 }
+    ensures goes { GoesOn expr.now.nodes text.now (At expr.now.nodes text.now index place) result }
+    ensures below { IsBelow index (length text.now) result }
+    ensures grows { steps.old ≤ steps.new }
+    ensures cost { steps.new ≤ steps.old + 1 }
+{
+    match node_lead(first, text, place, steps) {
+        Lead::Nowhere => Rest::End(Lead::Nowhere),
+        Lead::To(end) => Rest::Part(b.index(), end),
+        Lead::Unknown => Rest::End(Lead::Unknown),
+    }
+}
+
 /// What is left of the spans of the node, which stands at the index, after its first part.
 #[inline(always)]
 pub fn rest_of_node(
@@ -98,11 +129,7 @@ pub fn rest_of_node(
     match node {
         Node::Seq(a, b) => {
             let first = expr.look(*a, steps);
-            match node_lead(&first, text, place, steps) {
-                Lead::Nowhere => Rest::End(Lead::Nowhere),
-                Lead::To(end) => Rest::Part(b.index(), end),
-                Lead::Unknown => Rest::End(Lead::Unknown),
-            }
+            rest_of_seq(expr, index, *a, *b, &first, text, place, steps)
         }
         Node::Group(_, a) => Rest::Part(a.index(), place),
         _ => Rest::End(node_lead(node, text, place, steps)),

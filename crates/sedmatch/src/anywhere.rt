@@ -9,6 +9,7 @@ ghost use Rattle.sedmatch.specs.Answer.{SpanAnswer};
 ghost use Rattle.sedmatch.specs.Costs.{Pays, Takes};
 
 use crate::ahead::Lead;
+use crate::beginnings::Begins;
 use crate::counted::Text;
 use crate::linear::{first_end_in, region_by, span_by, start_to};
 use crate::needed::narrowed;
@@ -16,7 +17,6 @@ use crate::quick::longest_in;
 use crate::rare::first_place;
 use crate::ready::{Known, Tables};
 use crate::scratch::Sets;
-use crate::skip::Begins;
 use crate::tables::Table;
 use sedre::{Expr, Steps};
 

@@ -8,9 +8,9 @@ ghost use Rattle.sedmatch.specs.Needed.{FirstLiteral};
 ghost use Rattle.sedmatch.specs.Between.{AreOutside, GoesClear, ClearTo, LastTail, AllParted, CanPart, PartedEnd, FirstParted, IsShort};
 
 use crate::counted::Text;
+use crate::far_ahead::star_set;
 use crate::few::{Few, with_byte};
 use crate::needed::{Literal, literal_from};
-use crate::runs::star_set;
 use memchr::memmem::{Finder, FinderRev};
 use sedre::{ByteSet, Expr, Node, Steps};
 use std::alloc::{AllocError, Global};

@@ -10,9 +10,9 @@ ghost use Rattle.sedmatch.specs.Few.{AreBytes, FirstFew};
 ghost use Rattle.sedmatch.specs.Needed.{FirstLiteral, LastLiteral, passed_to};
 ghost use Rattle.sedmatch.specs.Openings.{OpenLiterals};
 ghost use Rattle.sedmatch.specs.Rare.{ApartIn};
-ghost use Rattle.sedmatch.specs.Runs.{IsRun};
-ghost use Rattle.sedmatch.specs.Skip.{CanBegin, NextStart, skip_cost};
-ghost use Rattle.sedmatch.specs.declared.skip.Begins.TheVariants.{WithSet};
+ghost use Rattle.sedmatch.specs.FarAhead.{IsRun};
+ghost use Rattle.sedmatch.specs.Beginnings.{CanBegin, NextStart, skip_cost};
+ghost use Rattle.sedmatch.specs.declared.beginnings.Begins.TheVariants.{WithSet};
 ghost use Rattle.sedmatch.specs.Trail.{RunBegins, LastWith};
 ghost use Rattle.sedmatch.specs.Words.{marks_of};
 

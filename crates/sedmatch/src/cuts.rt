@@ -1,6 +1,7 @@
 //! Where the parts of a node that matches a given span begin and end.
 ghost use Rattle.std.specs.Prelude.{◌≡◌, ℕ, false, true, ◌+◌, ◌-◌, ◌*◌, ◌^◌, ◌<◌, ◌≤◌, ◌↔◌, length};
 ghost use Rattle.std.specs.Prelude.{slice_index_or, IfSome, IfNone, IsTrue};
+ghost use Rattle.sedre.specs.Arena.{IsArena};
 ghost use Rattle.sedmatch.specs.Spans.{Copies};
 ghost use Rattle.sedmatch.specs.Fits.{Fits, FitsCuts, FitsFew, SameMarks, SameRoom};
 ghost use Rattle.sedmatch.specs.Costs.{Takes};
@@ -12,8 +13,8 @@ ghost use Rattle.sedmatch.specs.Cuts.{GreatestBelow, LastCopyIn, LeastFrom, Repe
 
 use crate::ahead::{Lead, lead_from};
 use crate::counted::{Bytes, Marks, Text};
+use crate::far_ahead::{Far, far_from, none_before};
 use crate::passes::Here;
-use crate::runs::{Far, far_from, none_before};
 use crate::scratch::Sets;
 use crate::search::{advance_from, advance_seen};
 use sedre::{Expr, Node, Nodes, Steps};
@@ -38,7 +39,6 @@ pub fn reaches(
     ensures grows { steps.old ≤ steps.new }
     ensures cost { steps.new ≤ steps.old + 28 * length expr.now.nodes * (length text.now + 1) }
 {
-    let _count = expr.nodes();
     match lead_from(expr, root, text, start, steps) {
         Lead::Nowhere => false,
         Lead::To(end) => end == stop,
@@ -66,7 +66,6 @@ fn reaches_by_pass(
     ensures grows { steps.old ≤ steps.new }
     ensures cost { steps.new ≤ steps.old + 21 * length expr.now.nodes * (length text.now + 1) }
 {
-    let _count = expr.nodes();
     sets.entered.clear(root + 1, steps);
     let mut last = false;
     for place in start..stop + 1 {
@@ -135,7 +134,6 @@ fn ends_from(
     ensures grows { steps.old ≤ steps.new }
     ensures cost { steps.new ≤ steps.old + 22 * length expr.now.nodes * (length text.now + 1) }
 {
-    let _count = expr.nodes();
     sets.entered.clear(root + 1, steps);
     let mut more = true;
     for place in start..stop + 1 {
@@ -168,7 +166,6 @@ fn first_end(
     ensures grows { steps.old ≤ steps.new }
     ensures cost { steps.new ≤ steps.old + 22 * length nodes.now.nodes * (length bytes.now + 1) }
 {
-    let _count = nodes.nodes();
     let len = bytes.len();
     sets.entered.clear(root + 1, steps);
     for place in start..stop + 1 {
@@ -206,7 +203,6 @@ fn far_cut(
     ensures cost { let m = length expr.now.nodes in let n = length text.now in
         steps.new ≤ steps.old + (n + 8) * m + 3 + n }
 {
-    let _count = expr.nodes();
     match far_from(expr, left, text, start, steps) {
         Far::To(end) => if none_before(expr, right, text, start, end, steps) {
             Some(end)
@@ -241,7 +237,6 @@ fn cut_at_sight(
     ensures cost { let m = length expr.now.nodes in let n = length text.now in
         steps.new ≤ steps.old + (n + 15) * m + 4 + n }
 {
-    let _count = expr.nodes();
     if start == stop {
         return Some(start);
     }
@@ -350,7 +345,6 @@ fn copy_to(
     ensures grows { steps.old ≤ steps.new }
     ensures cost { steps.new ≤ steps.old + 22 * length expr.now.nodes * (length text.now + 1) }
 {
-    let _count = expr.nodes();
     sets.entered.clear(root + 1, steps);
     let mut best = None;
     for place in start..stop + 1 {
@@ -388,7 +382,6 @@ fn mark_ends(
     ensures grows { steps.old ≤ steps.new }
     ensures cost { steps.new ≤ steps.old + 23 * length nodes.now.nodes * (length bytes.now + 1) }
 {
-    let _count = nodes.nodes();
     let len = bytes.len();
     sets.entered.clear(root + 1, steps);
     ends.clear(len - start + 1, steps);
@@ -465,7 +458,6 @@ pub fn last_copy(
     ensures cost { let m = length expr.now.nodes in let n = length text.now in
         steps.new ≤ steps.old + 31 * m * (n + 1) * (n + 1) + 2 }
 {
-    let _count = expr.nodes();
     match expr.look(expr.id(root), steps) {
         Node::Set(_) => stop - 1,
         _ => match copy_at_sight(expr, root, text, start, stop, steps) {
@@ -523,6 +515,7 @@ fn copy_by_passes(
     places: &mut Marks,
     steps: &mut Steps,
 ) -> usize
+    requires arena { IsArena expr.now.nodes }
     requires star { star < length expr.now.nodes }
     requires root { root < length expr.now.nodes }
     requires repeats { Repeats expr.now.nodes star root }
@@ -537,7 +530,6 @@ fn copy_by_passes(
     ensures cost { let m = length expr.now.nodes in let n = length text.now in
         steps.new ≤ steps.old + 23 * m * (n + 1) * (n + 1) + 1 }
 {
-    let _count = expr.nodes();
     starts_to(expr, star, text, start, stop, sets, places, steps);
     let mut copy = start;
     'copies: loop {

@@ -4,7 +4,7 @@ ghost use Rattle.sedmatch.specs.Spans.{IsIn};
 ghost use Rattle.sedmatch.specs.Few.{FewOf, AreMembers, Gathered, HasFew, HasZeros, FirstFew};
 ghost use Rattle.sedmatch.specs.declared.few.Few.TheVariants.{Two, Three};
 
-use crate::skip::{Begins, Either};
+use crate::beginnings::{Begins, Either};
 use memchr::{memchr, memchr2, memchr3};
 use sedre::ByteSet;
 use std::simd::prelude::*;

@@ -2,22 +2,23 @@
 //!
 //! The tasks of a plan take the place of a recursion over the expression, so that its depth costs no stack.
 ghost use Rattle.std.specs.Prelude.{◌≡◌, ℕ, false, [], ◌∷◌, ◌++◌, reverse, ◌+◌, ◌-◌, ◌*◌, ◌^◌, ◌<◌, ◌≤◌, length};
-ghost use Rattle.std.specs.Prelude.{vec_len, vec_capacity, slice_get, Some, None, slice_set, IsTrue, ◌↔◌};
+ghost use Rattle.std.specs.Prelude.{vec_len, vec_capacity, slice_get, Some, None, slice_set, IfOk, IsTrue, ◌↔◌};
 ghost use Rattle.sedre.specs.Tree.{size};
-ghost use Rattle.sedre.specs.Arena.{tree_at, tree};
+ghost use Rattle.sedre.specs.Arena.{IsArena, tree_at, tree};
 ghost use Rattle.sedmatch.specs.Spans.{Spans};
 ghost use Rattle.sedmatch.specs.Caps.{Caps, forget, IsReport};
 ghost use Rattle.sedmatch.specs.Fits.{AllDone, Fits, FitsCuts, FitsGroups, HasStack, KeepsGroups, KeepsPlan, KeepsStack, SameMarks, SameRoom};
 ghost use Rattle.sedmatch.specs.Places.{InOrder};
 ghost use Rattle.sedmatch.specs.Reach.{At};
 ghost use Rattle.sedmatch.specs.Work.{IsStep, IsReady, LeavesLess, weights, inners, wholes, node_cost, forget_if};
-ghost use Rattle.sedmatch.specs.Work.{tasks_of, forgets_of, has_span, is_group, sizes, parts_of, forget_node, NoGroups};
+ghost use Rattle.sedmatch.specs.Work.{tasks_of, forgets_of, has_span, is_group, sizes, parts_of, forget_node, AreFlat, NoGroups};
 ghost use Rattle.sedmatch.specs.Costs.{Takes};
 
 use crate::counted::{Marks, Text};
 use crate::cuts::{last_copy, last_cut, reaches};
 use crate::scratch::{Plan, Sets, Task};
 use sedre::{Expr, Node, Steps};
+use std::alloc::{AllocError, Global};
 
 /// What is done in place of one task, and whether the groups inside are forgotten before.
 #[derive(Clone, Copy)]
@@ -87,7 +88,6 @@ fn forget_inside(
     ensures grows { steps.old ≤ steps.new }
     ensures cost { steps.new ≤ steps.old + size (tree_at expr.now.nodes root) }
 {
-    let _count = expr.nodes();
     put(stack, root);
     while let Some(x) = stack.pop() {
         let node = expr.look(expr.id(x), steps);
@@ -115,7 +115,6 @@ fn has_group(expr: &Expr, root: usize, stack: &mut Vec<usize>, steps: &mut Steps
     ensures room { vec_capacity stack.old ≤ vec_capacity stack.new }
     ensures cost { Takes steps.old steps.new (size (tree_at expr.now.nodes root)) }
 {
-    let _count = expr.nodes();
     put(stack, root);
     while let Some(x) = stack.pop() {
         let node = expr.look(expr.id(x), steps);
@@ -126,6 +125,54 @@ fn has_group(expr: &Expr, root: usize, stack: &mut Vec<usize>, steps: &mut Steps
         put_parts(&node, stack);
     }
     false
+}
+
+/// Whether no group stands within another.
+pub fn are_flat(alloc: Global, expr: &Expr, steps: &mut Steps) -> Result<bool, AllocError>
+    requires few { length expr.now.nodes ≤ 65536 }
+    requires room { steps.old < 2 ^ 100 }
+    ensures flat { IfOk result (λ flat. IsTrue flat → AreFlat expr.now.nodes) }
+    ensures cost { let m = length expr.now.nodes in Takes steps.old steps.new (m * (m + 1)) }
+{
+    let count = expr.nodes();
+    if expr.groups() == 0 {
+        return Ok(true);
+    }
+    let mut stack = Vec::with_capacity(alloc, count + 1)?;
+    for x in 0..count {
+        if let Node::Group(_, inner) = expr.look(expr.id(x), steps) {
+            if has_group(expr, inner.index(), &mut stack, steps) {
+                return Ok(false);
+            }
+        }
+    }
+    Ok(true)
+}
+
+/// Whether there may be a group in the inside of a group, given that there is none where no group stands within another.
+fn may_have_group(
+    expr: &Expr,
+    flat: bool,
+    inside: usize,
+    stack: &mut Vec<usize>,
+    steps: &mut Steps,
+) -> bool
+    requires inside { inside < length expr.now.nodes }
+    requires flat { IsTrue flat → NoGroups (tree_at expr.now.nodes inside) }
+    requires empty { stack.old.items ≡ [] }
+    requires room { size (tree_at expr.now.nodes inside) < vec_capacity stack.old }
+    requires few { size (tree_at expr.now.nodes inside) ≤ 65536 }
+    requires steps { steps.old < 2 ^ 119 }
+    ensures none { result ≡ false → NoGroups (tree_at expr.now.nodes inside) }
+    ensures empty { stack.new.items ≡ [] }
+    ensures room { vec_capacity stack.old ≤ vec_capacity stack.new }
+    ensures cost { Takes steps.old steps.new (size (tree_at expr.now.nodes inside)) }
+{
+    if flat {
+        false
+    } else {
+        has_group(expr, inside, stack, steps)
+    }
 }
 
 /// Whether a repetition that matches the null string takes one empty copy of its part: the first one it could have.
@@ -153,6 +200,7 @@ fn has_empty_copy(
 /// How to go on with a node that matches a span.
 fn split_node(
     expr: &Expr,
+    flat: bool,
     x: usize,
     node: &Node,
     start: usize,
@@ -163,6 +211,8 @@ fn split_node(
     stack: &mut Vec<usize>,
     steps: &mut Steps,
 ) -> Split
+    requires arena { IsArena expr.now.nodes }
+    requires flat { IsTrue flat → AreFlat expr.now.nodes }
     requires inside { x < length expr.now.nodes }
     requires order { InOrder start stop (length text.now) }
     requires fits { FitsCuts (length expr.now.nodes) (length text.now) sets.old places.old }
@@ -177,7 +227,6 @@ fn split_node(
     ensures cost { let m = length expr.now.nodes in let n = length text.now in
         Takes steps.old steps.new (node_cost (46 * m * (n + 1) * (n + 1) + 1) node.now) }
 {
-    let _count = expr.nodes();
     match node {
         Node::Empty => Split::Done,
         Node::Set(_) => Split::Done,
@@ -204,7 +253,7 @@ fn split_node(
         Node::Group(k, a) => {
             let inner = a.index();
             let close = Task::Close(*k, start, stop);
-            if has_group(expr, inner, stack, steps) {
+            if may_have_group(expr, flat, inner, stack, steps) {
                 Split::Two(true, Task::Enter(inner, start, stop), close)
             } else {
                 Split::One(true, close)
@@ -322,6 +371,7 @@ fn forget_first(
 /// Does one task.
 fn work(
     expr: &Expr,
+    flat: bool,
     task: &Task,
     text: &Text,
     groups: &mut [Option<(usize, usize)>],
@@ -330,6 +380,7 @@ fn work(
     places: &mut Marks,
     steps: &mut Steps,
 )
+    requires flat { IsTrue flat → AreFlat expr.now.nodes }
     requires sizes { (x : ℕ) → x < length expr.now.nodes → size (tree_at expr.now.nodes x) ≤ length expr.now.nodes }
     requires fits { FitsCuts (length expr.now.nodes) (length text.now) sets.old places.old }
     requires stack { HasStack (length expr.now.nodes) plan.old.stack }
@@ -347,11 +398,10 @@ fn work(
         Task::Close(k, start, stop) => close_group(groups, *k, *start, *stop),
         Task::Enter(x, start, stop) => {
             let (x, start, stop) = (*x, *start, *stop);
-            let _count = expr.nodes();
             let node = expr.look(expr.id(x), steps);
             let stack = &mut plan.stack;
             let parts = split_node(
-                expr, x, &node, start, stop, text, sets, places, stack, steps,
+                expr, flat, x, &node, start, stop, text, sets, places, stack, steps,
             );
             forget_first(expr, x, forgets(&parts), &mut plan.stack, groups, steps);
             put_split(&parts, &mut plan.tasks);
@@ -362,6 +412,7 @@ fn work(
 /// Which span each group has in a match of the node `root`, given the groups decided before.
 pub fn decide(
     expr: &Expr,
+    flat: bool,
     root: usize,
     start: usize,
     stop: usize,
@@ -375,6 +426,7 @@ pub fn decide(
     requires root { root < length expr.now.nodes }
     requires order { InOrder start stop (length text.now) }
     requires spans { At expr.now.nodes text.now root start stop }
+    requires flat { IsTrue flat → AreFlat expr.now.nodes }
     requires sizes { (x : ℕ) → x < length expr.now.nodes → size (tree_at expr.now.nodes x) ≤ length expr.now.nodes }
     requires fits { FitsGroups (length expr.now.nodes) (length text.now) sets.old places.old plan.old }
     requires room { let m = length expr.now.nodes in let n = length text.now in
@@ -388,13 +440,15 @@ pub fn decide(
 {
     put_task(&mut plan.tasks, Task::Enter(root, start, stop));
     while let Some(task) = plan.tasks.pop() {
-        work(expr, &task, text, groups, plan, sets, places, steps);
+        work(expr, flat, &task, text, groups, plan, sets, places, steps);
     }
 }
 
-/// The groups of the match `start..stop` of a whole expression. Entry 0 is the whole match.
+/// The groups of the match `start..stop` of a whole expression, which may be known to have no group within another. Entry 0
+/// is the whole match.
 pub fn report(
     expr: &Expr,
+    flat: bool,
     text: &Text,
     start: usize,
     stop: usize,
@@ -403,6 +457,7 @@ pub fn report(
     places: &mut Marks,
     steps: &mut Steps,
 ) -> [Option<(usize, usize)>; 10]
+    requires flat { IsTrue flat → AreFlat expr.now.nodes }
     requires start { start ≤ stop }
     requires stop { stop ≤ length text.now }
     requires spans { Spans (tree expr.now) text.now start stop }
@@ -421,6 +476,7 @@ pub fn report(
     if expr.groups() > 0 {
         decide(
             expr,
+            flat,
             root,
             start,
             stop,

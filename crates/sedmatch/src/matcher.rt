@@ -8,11 +8,11 @@ ghost use Rattle.sedmatch.specs.Parts.{SpanIn, span_of, part_of};
 ghost use Rattle.sedmatch.specs.Costs.{Takes};
 ghost use Rattle.sedmatch.specs.Room.{FitInto};
 
+use crate::beginnings::how_begins;
 use crate::counted::Text;
 use crate::groups::report;
 use crate::scratch::Scratch;
 use crate::search::{leftmost, scan};
-use crate::skip::how_begins;
 use sedre::{Expr, Steps};
 
 /// A match, and which part of the text each group reports.
@@ -67,6 +67,7 @@ pub fn find(
     let (start, end) = leftmost(expr, text, from, &mut scratch.sets, steps)?;
     let groups = report(
         expr,
+        false,
         text,
         start,
         end,

@@ -1,10 +1,10 @@
 //! Bytes of a set in a slice: the first one, the last one, and how far a run of them goes, forwards and backwards. Nothing
 //! is counted here, but by what calls it.
 ghost use Rattle.std.specs.Prelude.{◌≡◌, ◌<◌, ◌≤◌, length, slice_get, Some, IfSome};
-ghost use Rattle.sedmatch.specs.Runs.{IsRun};
-ghost use Rattle.sedmatch.specs.Skip.{CanBegin, NextStart};
+ghost use Rattle.sedmatch.specs.FarAhead.{IsRun};
+ghost use Rattle.sedmatch.specs.Beginnings.{CanBegin, NextStart};
 ghost use Rattle.sedmatch.specs.Trail.{RunBegins, LastWith};
-ghost use Rattle.sedmatch.specs.declared.skip.Begins.TheVariants.{WithSet};
+ghost use Rattle.sedmatch.specs.declared.beginnings.Begins.TheVariants.{WithSet};
 
 use crate::sight::First;
 use sedre::ByteSet;

@@ -295,6 +295,7 @@ impl TableMatcher {
     {
         report(
             &self.expr,
+            self.known.flat,
             text,
             start,
             end,

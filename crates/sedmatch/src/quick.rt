@@ -11,9 +11,11 @@ ghost use Rattle.sedmatch.specs.Matching.{found};
 ghost use Rattle.sedmatch.specs.Ready.{AreTables, IsKnown, IsPrepared};
 ghost use Rattle.sedmatch.specs.Costs.{Takes};
 ghost use Rattle.sedmatch.specs.Room.{FitInto};
+ghost use Rattle.sedmatch.specs.Work.{AreFlat};
 
 use crate::ahead::Lead;
 use crate::anywhere::{anchored_by, leftmost_by};
+use crate::beginnings::Begins;
 use crate::counted::{Bytes, Text};
 use crate::groups::report;
 use crate::linear::first_end_in;
@@ -24,7 +26,6 @@ use crate::ready::{Known, Tables, find_known, new_tables};
 use crate::scratch::{Scratch, Sets};
 use crate::search::{better, longest_on};
 use crate::sight::{Sight, sight_find, sight_matches, sight_of, sight_span};
-use crate::skip::Begins;
 use crate::states::ends_at;
 use crate::tables::{Next, Table, first_state, follow_past, go, stay};
 use sedre::{Expr, Nodes, Steps};
@@ -218,6 +219,7 @@ fn find_by(
     steps: &mut Steps,
 ) -> Option<Found>
     requires ready { (2 ≤ length expr.now.nodes) × IsPrepared expr.now root known.now tables.old }
+    requires flat { IsTrue known.now.flat → AreFlat expr.now.nodes }
     requires from { from ≤ length text.now }
     requires fits { FitInto (length text.now) (length expr.now.nodes) scratch.old }
     requires room { steps.old ≤ 2 ^ 100 }
@@ -236,6 +238,7 @@ fn find_by(
     let (start, end) = leftmost_by(expr, root, known, text, from, tables, sets, steps)?;
     let groups = report(
         expr,
+        known.flat,
         text,
         start,
         end,
@@ -261,7 +264,7 @@ const STATES: usize = 64;
 pub struct TableMatcher {
     pub(crate) expr: Expr,
     pub(crate) root: usize,
-    known: Known,
+    pub(crate) known: Known,
     // Where a look at the text tells as much as the tables would.
     sight: Option<Sight>,
     tables: Tables,

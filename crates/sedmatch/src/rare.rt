@@ -7,14 +7,14 @@ ghost use Rattle.sedmatch.specs.Bytes.{looked_at};
 ghost use Rattle.sedmatch.specs.Rare.{StandsAt, HeldAt, FirstFixed, FirstRare, RareNowhere, AllStand, AllHave, AllHeld, AllRare, AllSecond};
 ghost use Rattle.sedmatch.specs.Few.{HasFew};
 ghost use Rattle.sedmatch.specs.Spans.{IsIn};
-ghost use Rattle.sedmatch.specs.Skip.{AllBegin};
+ghost use Rattle.sedmatch.specs.Beginnings.{AllBegin};
 ghost use Rattle.sedmatch.specs.Search.{Sought, sought_to};
 
 use crate::ahead::{Lead, look_ahead};
+use crate::beginnings::{Begins, Either, next_start};
 use crate::counted::Text;
 use crate::few::{Few, few_in, few_of, members_of};
 use crate::needed::{Link, link_of};
-use crate::skip::{Begins, Either, next_start};
 use sedre::{ByteSet, Expr, Node, Steps};
 
 /// How many bytes a table tells in the time of one look ahead.

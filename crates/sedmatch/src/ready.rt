@@ -1,14 +1,16 @@
 //! What is found out of an expression when its matcher is made, and its tables.
-ghost use Rattle.std.specs.Prelude.{IfOk, true, false, ◌≡◌, ℕ, ◌+◌, ◌^◌, ◌<◌, ◌≤◌, length};
+ghost use Rattle.std.specs.Prelude.{IfOk, true, false, ◌≡◌, ℕ, ◌+◌, ◌^◌, ◌<◌, ◌≤◌, length, IsTrue};
 ghost use Rattle.sedre.specs.Arena.{tree};
 ghost use Rattle.sedre.specs.Mirror.{seen};
 ghost use Rattle.sedmatch.specs.Ready.{AreTables, IsKnown};
 ghost use Rattle.sedmatch.specs.Tables.{IsCut, IsTable};
+ghost use Rattle.sedmatch.specs.Work.{AreFlat};
 
+use crate::beginnings::{Begins, how_begins};
 use crate::classes::{Classes, find_classes};
+use crate::groups::are_flat;
 use crate::needed::{Needed, find_needed};
 use crate::rare::{Rare, rare_of};
-use crate::skip::{Begins, how_begins};
 use crate::tables::{Table, new_table};
 use sedre::{Expr, Nodes, Steps};
 use std::alloc::{AllocError, Global};
@@ -22,6 +24,8 @@ pub struct Known {
     pub needed: Option<Needed>,
     /// The rarest bytes at fixed distances after their beginning, if they are told.
     pub rare: Option<Rare>,
+    /// Whether no group stands within another, as far as that was found out.
+    pub flat: bool,
 }
 
 /// The tables of an expression.
@@ -46,22 +50,26 @@ pub fn find_known(
 ) -> Result<Known, AllocError>
     requires nodes { length expr.now.nodes ≤ 65536 }
     requires room { steps.old < 2 ^ 80 }
-    ensures { IfOk result (λ k. IsKnown (tree expr.now) k) }
+    ensures known { IfOk result (λ k. IsKnown (tree expr.now) k) }
+    ensures flat { IfOk result (λ k. IsTrue k.flat → AreFlat expr.now.nodes) }
 {
     if seen {
         return Ok(Known {
             begins: Begins::Anyhow,
             needed: None,
             rare: None,
+            flat: false,
         });
     }
     let begins = how_begins(expr, steps);
     let rare = rare_of(expr, &begins, steps);
     let needed = find_needed(alloc, expr, steps)?;
+    let flat = are_flat(alloc, expr, steps)?;
     Ok(Known {
         begins,
         needed,
         rare,
+        flat,
     })
 }
 

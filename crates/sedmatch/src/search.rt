@@ -11,18 +11,18 @@ ghost use Rattle.sedmatch.specs.Reach.{TellEntered, TellBegun};
 ghost use Rattle.sedmatch.specs.Reach.{OpenFrom, OpenAt, SomeSpan};
 ghost use Rattle.sedmatch.specs.Search.{IsSwept, swept_to, Sought, sought_to, Scanned, IsRegion, IsRegionFrom, IsBest, starts_to};
 ghost use Rattle.sedmatch.specs.Ahead.{LeadsTo};
-ghost use Rattle.sedmatch.specs.Skip.{AllBegin};
+ghost use Rattle.sedmatch.specs.Beginnings.{AllBegin};
 ghost use Rattle.sedmatch.specs.States.{IsAt};
 ghost use Rattle.sedmatch.specs.Answer.{SpanAnswer};
 ghost use Rattle.sedmatch.specs.Costs.{Takes};
 
 use crate::ahead::{Lead, look_ahead};
+use crate::beginnings::{Begins, how_begins, next_start};
 use crate::counted::{Bytes, Text};
+use crate::far_ahead::{Far, look_far};
 use crate::passes::{Here, Starts, advance};
 use crate::region::{Region, earliest};
-use crate::runs::{Far, look_far};
 use crate::scratch::Sets;
-use crate::skip::{Begins, how_begins, next_start};
 use crate::states::{Ends, ends_at};
 use sedre::{Expr, Nodes, Steps};
 

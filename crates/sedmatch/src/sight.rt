@@ -17,10 +17,10 @@ ghost use Rattle.sedmatch.specs.Room.{FitInto};
 use crate::between::{Between, between_of};
 use crate::choice::{Choice, choice_of};
 use crate::counted::Text;
+use crate::far_ahead::star_set;
 use crate::few::{Few, members_of};
 use crate::groups::report;
 use crate::matcher::Found;
-use crate::runs::star_set;
 use crate::scratch::Scratch;
 use crate::times::{find_times, times_of};
 use crate::trail::{trail_end, trail_start};
@@ -272,6 +272,7 @@ pub fn sight_find(
     let (start, end) = sight_span(sight, text, from, steps)?;
     let groups = report(
         expr,
+        false,
         text,
         start,
         end,

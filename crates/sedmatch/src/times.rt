@@ -3,7 +3,7 @@
 //! The last of so many bytes is looked at first. Where it isn't in the set, no match begins before it, and those before
 //! it aren't looked at: where such bytes are rare, most of a text is passed over unseen.
 ghost use Rattle.std.specs.Prelude.{◌≡◌, ℕ, ◌+◌, ◌^◌, ◌<◌, ◌≤◌, ◌-◌, length, slice_get, Some, IfOk, IfSome, IsTrue};
-ghost use Rattle.sedmatch.specs.Runs.{Repeated};
+ghost use Rattle.sedmatch.specs.FarAhead.{Repeated};
 ghost use Rattle.sedmatch.specs.Times.{SameBytes, AllTimes, AreWidths, LastOutside, FirstTimes};
 
 use crate::counted::Text;

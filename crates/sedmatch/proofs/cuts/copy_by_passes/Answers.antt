@@ -11,14 +11,14 @@ copy_to-requires-clause-room c =
 pub unreachable-requires : goal.unreachable-requires
 unreachable-requires c =
     let inv = c.copies.invariant in
-    next_some c.args.expr.now.nodes c.args.text.now c.args.star c.args.root c.args.start c.args.stop c.starts_to.new.starts c.nodes-count.ensures.arena c.requires.repeats c.starts_to.ensures.starts
+    next_some c.args.expr.now.nodes c.args.text.now c.args.star c.args.root c.args.start c.args.stop c.starts_to.new.starts c.requires.arena c.requires.repeats c.starts_to.ensures.starts
     c.copies.copy inv.after inv.before inv.rest c.in-None.ensures.greatest
 
 pub copies-preserved : goal.copies-preserved
 copies-preserved c =
     let R = At c.args.expr.now.nodes c.args.text.now c.args.root in
     let inv = c.copies.invariant in
-    let next = next_is c.args.expr.now.nodes c.args.text.now c.args.star c.args.root c.args.start c.args.stop c.starts_to.new.starts c.nodes-count.ensures.arena c.requires.repeats c.starts_to.ensures.starts
+    let next = next_is c.args.expr.now.nodes c.args.text.now c.args.star c.args.root c.args.start c.args.stop c.starts_to.new.starts c.requires.arena c.requires.repeats c.starts_to.ensures.starts
     c.copies.copy c.in-Some.end inv.after c.in-Some.ensures.greatest in
     let before : c.in-Some.end < c.args.stop = omega arith in
     let up = next.after in
@@ -36,7 +36,7 @@ pub returns-then-end-stop-clause-last : goal.returns-then-end-stop-clause-last
 returns-then-end-stop-clause-last c =
     let R = At c.args.expr.now.nodes c.args.text.now c.args.root in
     let inv = c.copies.invariant in
-    let next = next_is c.args.expr.now.nodes c.args.text.now c.args.star c.args.root c.args.start c.args.stop c.starts_to.new.starts c.nodes-count.ensures.arena c.requires.repeats c.starts_to.ensures.starts
+    let next = next_is c.args.expr.now.nodes c.args.text.now c.args.star c.args.root c.args.start c.args.stop c.starts_to.new.starts c.requires.arena c.requires.repeats c.starts_to.ensures.starts
     c.copies.copy c.in-Some.end inv.after c.in-Some.ensures.greatest in
     (inv.last c.copies.copy (LastCopy-end R c.args.stop c.copies.copy c.in-Some.end next (omega arith)), inv.after, inv.before)
 
@@ -47,7 +47,7 @@ returns-then-end-stop-clause-cost c =
 pub copies-smaller : goal.copies-smaller
 copies-smaller c =
     let inv = c.copies.invariant in
-    let next = next_is c.args.expr.now.nodes c.args.text.now c.args.star c.args.root c.args.start c.args.stop c.starts_to.new.starts c.nodes-count.ensures.arena c.requires.repeats c.starts_to.ensures.starts
+    let next = next_is c.args.expr.now.nodes c.args.text.now c.args.star c.args.root c.args.start c.args.stop c.starts_to.new.starts c.requires.arena c.requires.repeats c.starts_to.ensures.starts
     c.copies.copy c.in-Some.end inv.after c.in-Some.ensures.greatest in
     let up = next.after in
     omega arith

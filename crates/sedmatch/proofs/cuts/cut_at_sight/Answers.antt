@@ -15,5 +15,5 @@ returns-in-To-clause-cut c =
 pub returns-in-Set-clause-cut : goal.returns-in-Set-clause-cut
 returns-in-Set-clause-cut c =
     let nodes = c.args.expr.now.nodes in
-    cut_last nodes c.args.text.now c.args.left c.args.right c.args.start c.args.stop c.in-Set.field-0 c.nodes-count.ensures.arena
+    cut_last nodes c.args.text.now c.args.left c.args.right c.args.start c.args.stop c.in-Set.field-0 c.look.ensures.arena
     (subst (λ x. slice_get nodes x ≡ Some (Set c.in-Set.field-0)) c.id.ensures c.in-Set.ensures.node) c.requires.spans

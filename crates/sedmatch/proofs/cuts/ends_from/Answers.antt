@@ -1,6 +1,6 @@
 use Rattle.std.proofs.Common.{length, refl, arith}
 use Rattle.sedmatch.specs.Reach.{one_start}
-use Rattle.sedmatch.proofs.SearchLemmas.{clear_entered, pass_cost}
+use Rattle.sedmatch.proofs.SearchLemmas.{none_entered, pass_cost}
 use Rattle.sedmatch.proofs.cuts.ends_from.Goals as goal
 
 pub loop-place-init : goal.loop-place-init
@@ -9,7 +9,7 @@ loop-place-init c = record {
   ends_len = refl;
   grows = omega arith;
   cost = omega arith;
-  entered = λ is_more. clear_entered c.args.expr.now.nodes c.args.text.now c.args.root (one_start c.args.start) c.nodes-count.ensures.arena c.clear.new.self c.args.start refl (λ n below. c.clear.ensures.clear n below);
+  entered = λ is_more. none_entered c.args.expr.now.nodes c.args.text.now c.args.root (one_start c.args.start) c.clear.new.self c.args.start refl (λ n below. c.clear.ensures.clear n below);
   ends = λ k on before. absurd (omega arith);
   closed = λ k on at. refl;
 }

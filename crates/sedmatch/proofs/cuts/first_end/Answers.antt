@@ -1,6 +1,6 @@
 use Rattle.std.proofs.Common.{length, refl, arith}
 use Rattle.sedmatch.specs.Reach.{one_start}
-use Rattle.sedmatch.proofs.SearchLemmas.{clear_entered, pass_cost}
+use Rattle.sedmatch.proofs.SearchLemmas.{none_entered, pass_cost}
 use Rattle.sedmatch.proofs.cuts.first_end.Goals as goal
 
 pub loop-place-init : goal.loop-place-init
@@ -8,7 +8,7 @@ loop-place-init c = record {
   marks = (refl, refl, refl);
   grows = omega arith;
   cost = omega arith;
-  entered = clear_entered c.args.nodes.now.nodes c.args.bytes.now c.args.root (one_start c.args.start) c.nodes-count.ensures.arena c.clear.new.self c.args.start refl (λ n below. c.clear.ensures.clear n below);
+  entered = none_entered c.args.nodes.now.nodes c.args.bytes.now c.args.root (one_start c.args.start) c.clear.new.self c.args.start refl (λ n below. c.clear.ensures.clear n below);
   missed = λ q low lt at is. absurd (omega arith);
 }
 

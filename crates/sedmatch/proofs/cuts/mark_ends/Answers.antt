@@ -1,6 +1,6 @@
 use Rattle.std.proofs.Common.{◌-◌, length, refl, arith}
 use Rattle.sedmatch.specs.Reach.{one_start}
-use Rattle.sedmatch.proofs.SearchLemmas.{clear_entered}
+use Rattle.sedmatch.proofs.SearchLemmas.{none_entered}
 use Rattle.sedmatch.proofs.TailLemmas.{mark_cost}
 use Rattle.sedmatch.proofs.cuts.mark_ends.Goals as goal
 
@@ -10,7 +10,7 @@ loop-place-init c = record {
   ends_len = omega arith;
   grows = omega arith;
   cost = omega arith;
-  entered = clear_entered c.args.nodes.now.nodes c.args.bytes.now c.args.root (one_start c.args.start) c.nodes-count.ensures.arena c.clear.new.self c.args.start refl (λ n below. c.clear.ensures.clear n below);
+  entered = none_entered c.args.nodes.now.nodes c.args.bytes.now c.args.root (one_start c.args.start) c.clear.new.self c.args.start refl (λ n below. c.clear.ensures.clear n below);
   told = λ k on before. absurd (omega arith);
   unset = λ k on up. c.clear-2.ensures.clear (length c.args.bytes.now - k) (omega arith);
 }

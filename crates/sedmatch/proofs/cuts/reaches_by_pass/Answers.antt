@@ -1,6 +1,6 @@
 use Rattle.std.proofs.Common.{length, refl, arith}
 use Rattle.sedmatch.specs.Reach.{one_start}
-use Rattle.sedmatch.proofs.SearchLemmas.{clear_entered, pass_cost}
+use Rattle.sedmatch.proofs.SearchLemmas.{none_entered, pass_cost}
 use Rattle.sedmatch.proofs.cuts.reaches_by_pass.Goals as goal
 
 pub loop-place-init : goal.loop-place-init
@@ -8,7 +8,7 @@ loop-place-init c = record {
   marks = (refl, refl, refl);
   grows = omega arith;
   cost = omega arith;
-  entered = clear_entered c.args.expr.now.nodes c.args.text.now c.args.root (one_start c.args.start) c.nodes-count.ensures.arena c.clear.new.self c.args.start refl (λ n below. c.clear.ensures.clear n below);
+  entered = none_entered c.args.expr.now.nodes c.args.text.now c.args.root (one_start c.args.start) c.clear.new.self c.args.start refl (λ n below. c.clear.ensures.clear n below);
   here = λ k next on. absurd (omega arith);
 }
 

@@ -29,7 +29,7 @@ loop-x-smaller c =
     let popped : reverse c.loop-x.stack.items ≡ c.in-Some.x ∷ reverse old = ap reverse c.in-Some.ensures.items ∙ reverse-append old (c.in-Some.x ∷ []) in
     let range : InRange (length nodes) (c.in-Some.x ∷ reverse old) = subst (λ xs. InRange (length nodes) xs) popped c.loop-x.invariant.range in
     let is : slice_get nodes c.in-Some.x ≡ Some c.look-node.result = cc in
-    let after = stack_after nodes c.nodes-count.ensures.arena c.in-Some.x c.look-node.result is range.0 old c.put_parts.new.stack.items
+    let after = stack_after nodes c.look-node.ensures.arena c.in-Some.x c.look-node.result is range.0 old c.put_parts.new.stack.items
     c.put_parts.ensures.items [] (forget_node c.look-node.result []) refl range.1 in
     let less : sizes nodes (reverse c.put_parts.new.stack.items) + 1 ≡ sizes nodes (reverse c.loop-x.stack.items) = after.1 ∙ ap (sizes nodes) (sym popped) in
     omega (arith, less)
@@ -41,7 +41,7 @@ loop-x-preserved c =
     let popped : reverse c.loop-x.stack.items ≡ c.in-Some.x ∷ reverse old = ap reverse c.in-Some.ensures.items ∙ reverse-append old (c.in-Some.x ∷ []) in
     let range : InRange (length nodes) (c.in-Some.x ∷ reverse old) = subst (λ xs. InRange (length nodes) xs) popped c.loop-x.invariant.range in
     let is : slice_get nodes c.in-Some.x ≡ Some c.look-node.result = cc in
-    let after = stack_after nodes c.nodes-count.ensures.arena c.in-Some.x c.look-node.result is range.0 old c.put_parts.new.stack.items
+    let after = stack_after nodes c.look-node.ensures.arena c.in-Some.x c.look-node.result is range.0 old c.put_parts.new.stack.items
     c.put_parts.ensures.items [] (forget_node c.look-node.result []) refl range.1 in
     let less : sizes nodes (reverse c.put_parts.new.stack.items) + 1 ≡ sizes nodes (reverse c.loop-x.stack.items) = after.1 ∙ ap (sizes nodes) (sym popped) in
     record {
@@ -50,5 +50,5 @@ loop-x-preserved c =
       cost = omega (arith, less);
       range = after.2;
       without = λ all. c.loop-x.invariant.without
-          (subst (AllWithout nodes) (sym popped) (without_after nodes c.nodes-count.ensures.arena c.in-Some.x c.look-node.result is (search rules) old c.put_parts.new.stack.items c.put_parts.ensures.items all));
+          (subst (AllWithout nodes) (sym popped) (without_after nodes c.look-node.ensures.arena c.in-Some.x c.look-node.result is (search rules) old c.put_parts.new.stack.items c.put_parts.ensures.items all));
     }

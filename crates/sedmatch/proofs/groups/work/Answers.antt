@@ -29,6 +29,6 @@ returns-in-Enter-clause-cost c =
     let is : slice_get nodes c.in-Enter.x ≡ Some c.look-node.result = cc in
     subst (λ t. c.forget_first.new.steps + (k + m) * inners nodes new + 3 * wholes nodes new ≤ c.args.steps.now + (k + m) * inners nodes (t ∷ rest) + 3 * wholes nodes (t ∷ rest))
     (sym c.in-Enter.is)
-    (enter_cost nodes w c.nodes-count.ensures.arena c.in-Enter.x c.in-Enter.start c.in-Enter.stop c.look-node.result is k m c.args.steps.now c.look-node.new.steps c.split_node-parts.new.steps c.forget_first.new.steps
+    (enter_cost nodes w c.look-node.ensures.arena c.in-Enter.x c.in-Enter.start c.in-Enter.stop c.look-node.result is k m c.args.steps.now c.look-node.new.steps c.split_node-parts.new.steps c.forget_first.new.steps
     (forgets_of c.split_node-parts.result) (tasks_of c.split_node-parts.result) new rest c.put_split.ensures.items c.split_node-parts.ensures.step
     c.look-node.ensures.cost c.split_node-parts.ensures.cost.1 c.forget_first.ensures.cost (c.requires.sizes c.in-Enter.x ready.0))

@@ -1,6 +1,6 @@
 use Rattle.std.proofs.Common.{arith}
 use Rattle.std.proofs.lemmas.Option.{slice_get_within}
-use Rattle.sedmatch.proofs.SkipLemmas.{member_step}
+use Rattle.sedmatch.proofs.BeginningLemmas.{member_step}
 use Rattle.sedmatch.proofs.members.first_member.Goals as goal
 
 pub loop-place-preserved : goal.loop-place-preserved

@@ -1,6 +1,6 @@
 use Rattle.std.proofs.Common.{ℕ, ◌<◌, ◌≤◌}
-use Rattle.sedmatch.specs.Skip.{CanBegin}
-use Rattle.sedmatch.specs.declared.skip.Begins.TheVariants.{WithSet}
+use Rattle.sedmatch.specs.Beginnings.{CanBegin}
+use Rattle.sedmatch.specs.declared.beginnings.Begins.TheVariants.{WithSet}
 use Rattle.sedmatch.proofs.members.first_member.Given as goal
 
 abbrev pub invariant-loop-place : goal.invariant-loop-place

@@ -1,5 +1,5 @@
 use Rattle.std.proofs.Common.{◌≤◌}
-use Rattle.sedmatch.specs.Runs.{Repeated}
+use Rattle.sedmatch.specs.FarAhead.{Repeated}
 use Rattle.sedmatch.proofs.members.run_back.Given as goal
 
 abbrev pub invariant-loop-place : goal.invariant-loop-place

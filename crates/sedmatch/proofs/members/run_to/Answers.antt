@@ -1,7 +1,7 @@
 use Rattle.std.proofs.Common.{◌≡◌, length, subst, arith}
 use Rattle.sedmatch.specs.Spans.{no_copy}
-use Rattle.sedmatch.specs.Runs.{IsRun}
-use Rattle.sedmatch.proofs.RunLemmas.{longer_run, stops_behind}
+use Rattle.sedmatch.specs.FarAhead.{IsRun}
+use Rattle.sedmatch.proofs.FarLemmas.{longer_run, stops_behind}
 use Rattle.sedmatch.proofs.members.run_to.Goals as goal
 
 pub loop-place-init : goal.loop-place-init

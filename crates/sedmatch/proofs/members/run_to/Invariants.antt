@@ -1,4 +1,4 @@
-use Rattle.sedmatch.specs.Runs.{Repeated}
+use Rattle.sedmatch.specs.FarAhead.{Repeated}
 use Rattle.sedmatch.proofs.members.run_to.Given as goal
 
 abbrev pub invariant-loop-place : goal.invariant-loop-place

@@ -1,6 +1,6 @@
 use Rattle.std.proofs.Common.{◌↔◌, IsTrue, length, sym, subst, arith}
 use Rattle.sedre.specs.Arena.{tree}
-use Rattle.sedmatch.specs.Skip.{CanBegin}
+use Rattle.sedmatch.specs.Beginnings.{CanBegin}
 use Rattle.sedmatch.specs.Spans.{SomeFound}
 use Rattle.sedmatch.proofs.LinearLemmas.{found_tells}
 use Rattle.sedmatch.proofs.StartLemmas.{some_linear}

@@ -1,7 +1,7 @@
 use Rattle.std.proofs.Common.{◌+◌, refl, sym, subst, arith}
 use Rattle.sedre.specs.Arena.{tree}
 use Rattle.sedmatch.specs.Search.{LastEnd, starts_to}
-use Rattle.sedmatch.proofs.SearchLemmas.{clear_entered, next_entered}
+use Rattle.sedmatch.proofs.SearchLemmas.{none_entered, next_entered}
 use Rattle.sedmatch.proofs.RegionLemmas.{LastEnd-none, LastEnd-hit, LastEnd-miss}
 use Rattle.sedmatch.proofs.region.last_end.Goals as goal
 use Rattle.sedmatch.proofs.region.last_end.Goals.{then-here, else-here}
@@ -11,7 +11,7 @@ loop-place-init c = record {
   marks = (refl, refl, refl);
   grows = omega arith;
   cost = omega arith;
-  entered = clear_entered c.args.nodes.now.nodes c.args.bytes.now c.index-root.result (starts_to c.args.first c.len.result) c.root.ensures.arena c.clear.new.self c.args.first refl (λ n below. c.clear.ensures.clear n (omega arith));
+  entered = none_entered c.args.nodes.now.nodes c.args.bytes.now c.index-root.result (starts_to c.args.first c.len.result) c.clear.new.self c.args.first refl (λ n below. c.clear.ensures.clear n (omega arith));
   last = LastEnd-none (tree c.args.nodes.now) c.args.bytes.now c.args.first;
 }
 

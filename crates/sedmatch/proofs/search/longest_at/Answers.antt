@@ -1,7 +1,7 @@
 use Rattle.std.proofs.Common.{length, refl, arith, rules}
 use Rattle.sedre.specs.Arena.{tree}
 use Rattle.sedmatch.specs.Reach.{one_start}
-use Rattle.sedmatch.proofs.SearchLemmas.{clear_entered, LongestBelow-none, Longest-from_below, pass_whole}
+use Rattle.sedmatch.proofs.SearchLemmas.{none_entered, LongestBelow-none, Longest-from_below, pass_whole}
 use Rattle.sedmatch.proofs.search.longest_at.Goals as goal
 
 pub loop-place-init : goal.loop-place-init
@@ -9,7 +9,7 @@ loop-place-init c = record {
   marks = (refl, refl, refl);
   grows = omega arith;
   cost = omega arith;
-  entered = clear_entered c.args.expr.now.nodes c.args.text.now c.index-root.result (one_start c.args.start) c.root.ensures.arena c.clear.new.self c.args.start refl (λ n below. c.clear.ensures.clear n (omega arith));
+  entered = none_entered c.args.expr.now.nodes c.args.text.now c.index-root.result (one_start c.args.start) c.clear.new.self c.args.start refl (λ n below. c.clear.ensures.clear n (omega arith));
   longest = LongestBelow-none (tree c.args.expr.now) c.args.text.now c.args.start;
   lies = search rules;
 }

@@ -2,9 +2,9 @@ use Rattle.std.proofs.Common.{length, refl, subst, arith}
 use Rattle.sedre.specs.Arena.{tree}
 use Rattle.sedmatch.specs.Spans.{Spans}
 use Rattle.sedmatch.specs.Ahead.{LeadsTo}
-use Rattle.sedmatch.specs.Runs.{EndsFar}
+use Rattle.sedmatch.specs.FarAhead.{EndsFar}
 use Rattle.sedmatch.specs.declared.ahead.Lead.TheVariants.{To}
-use Rattle.sedmatch.specs.declared.runs.Far.TheVariants.{To as FarTo}
+use Rattle.sedmatch.specs.declared.far_ahead.Far.TheVariants.{To as FarTo}
 use Rattle.sedmatch.proofs.CostLemmas.{far_cost}
 use Rattle.sedmatch.proofs.SpanLemmas.{Spans-forward}
 use Rattle.sedmatch.proofs.search.longest_from.Goals as goal

@@ -2,7 +2,7 @@ use Rattle.std.proofs.Common.{◌≡◌, ◌+◌, refl, subst, arith}
 use Rattle.std.proofs.lemmas.Bool.{not-true}
 use Rattle.sedre.specs.Arena.{tree}
 use Rattle.sedmatch.specs.Search.{NoneIn}
-use Rattle.sedmatch.proofs.SearchLemmas.{clear_entered, next_entered}
+use Rattle.sedmatch.proofs.SearchLemmas.{none_entered, next_entered}
 use Rattle.sedmatch.proofs.SweepLemmas.{missed_init, missed_step, missed_closed, missed_end}
 use Rattle.sedmatch.proofs.search.sweep.Goals as goal
 
@@ -11,7 +11,7 @@ loop-place-init c = record {
   marks = (refl, refl, refl);
   grows = omega arith;
   cost = omega arith;
-  entered = clear_entered c.args.expr.now.nodes c.args.text.now c.index-root.result (record { first = c.args.start; last = c.len.result }) c.root.ensures.arena c.clear.new.self c.args.start refl (λ n below. c.clear.ensures.clear n (omega arith));
+  entered = none_entered c.args.expr.now.nodes c.args.text.now c.index-root.result (record { first = c.args.start; last = c.len.result }) c.clear.new.self c.args.start refl (λ n below. c.clear.ensures.clear n (omega arith));
   missed = missed_init c.args.expr.now.nodes c.args.text.now c.index-root.result c.args.start c.len.result (omega arith) c.len.ensures;
 }
 

@@ -1,5 +1,5 @@
 use Rattle.std.proofs.Common.{ℕ, ◌+◌, ◌-◌, ◌<◌, ◌≤◌, length}
-use Rattle.sedmatch.specs.Runs.{Repeated}
+use Rattle.sedmatch.specs.FarAhead.{Repeated}
 use Rattle.sedmatch.proofs.times.find_times.Given as goal
 
 abbrev pub invariant-loop-start : goal.invariant-loop-start

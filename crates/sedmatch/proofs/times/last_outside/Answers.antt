@@ -1,6 +1,6 @@
 use Rattle.std.proofs.Common.{◌≡◌, ◌-◌, subst, arith}
 use Rattle.sedmatch.specs.Spans.{no_copy}
-use Rattle.sedmatch.specs.Runs.{Repeated}
+use Rattle.sedmatch.specs.FarAhead.{Repeated}
 use Rattle.sedmatch.proofs.TimesLemmas.{repeated_more}
 use Rattle.sedmatch.proofs.times.last_outside.Goals as goal
 

@@ -1,6 +1,6 @@
 use Rattle.std.proofs.Common.{ℕ, List, Some, None, subst}
-use Rattle.sedmatch.specs.Skip.{NextStart}
-use Rattle.sedmatch.specs.declared.skip.Begins.TheVariants.{WithSet}
+use Rattle.sedmatch.specs.Beginnings.{NextStart}
+use Rattle.sedmatch.specs.declared.beginnings.Begins.TheVariants.{WithSet}
 use Rattle.sedmatch.proofs.counted.Text.find_member.Goals as goal
 
 pub returns-in-None-clause-next : goal.returns-in-None-clause-next

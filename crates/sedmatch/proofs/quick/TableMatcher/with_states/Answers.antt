@@ -7,7 +7,8 @@ invariant_of-result c =
     subst (λ e. IsReady e c.index-root.result c.in_ok-known.known c.in_ok-sight.sight c.in_ok-tables.tables) (sym c.in_ok-copy.ensures)
     (record {
       whole = omega arith;
-      known_so = c.in_ok-known.ensures;
+      known_so = c.in_ok-known.ensures.known;
+      flat_so = c.in_ok-known.ensures.flat;
       sight_so = c.in_ok-sight.ensures.sight;
       tables_so = c.in_ok-tables.ensures;
     })
