@@ -1,7 +1,8 @@
 -- One task is replaced by those of the node's parts.
-use Rattle.std.proofs.Common.{◌≡◌, ℕ, zero, suc, ◌+◌, ◌<◌, ◌≤◌, ◌⊎◌, Bool, true, false, List, [], ◌∷◌, ◌++◌, reverse, length, Some, None, IsTrue, refl, sym, ap, ◌∙◌, subst, inl, inr, ⊎_elim, arith, mul-le-mul_left, ◌-◌, ◌*◌}
+use Rattle.std.proofs.Common.{◌≡◌, ℕ, zero, suc, ◌+◌, ◌<◌, ◌≤◌, ◌⊎◌, Bool, true, false, List, [], ◌∷◌, ◌++◌, reverse, length, Some, None, IsTrue, refl, sym, ap, ◌∙◌, subst, inl, inr, ⊎_elim, arith, mul-le-mul_left, ◌-◌, ◌*◌, ◌^◌}
 use Rattle.std.specs.Prelude.{slice_get, slice_set}
 use Rattle.std.proofs.lemmas.Bool.{cases_lt}
+use Rattle.std.proofs.lemmas.Nat.{mul-le}
 use Rattle.sedre.specs.Arena.{IsArena, IsPart, tree_of, tree_at}
 use Rattle.sedre.specs.Tree.{Tree, empty, set, begin, end, seq, alt, group, star, opt, size}
 use Rattle.sedre.specs.declared.types.Node.{Node}
@@ -462,7 +463,7 @@ flat_next nodes x before here y k a lt is =
     (cases_lt y x)
 
 -- what was looked at until a group was found within another, among m nodes
-pub flat_cost : (m x s t : ℕ) → x + 1 ≤ m → t ≤ s + (m + 1) * x + m + 1 → t ≤ s + m * (m + 1)
-flat_cost m x s t within spent =
-    let all : (m + 1) * (x + 1) ≤ (m + 1) * m = mul-le-mul_left (m + 1) within in
+pub flat_cost : (m x s t : ℕ) → m ≤ 65536 → x ≤ m → t ≤ s + (m + 1) * x → t ≤ s + 2 ^ 33
+flat_cost m x s t few within spent =
+    let all : (m + 1) * x ≤ 65537 * 65536 = mul-le (m + 1) x 65537 65536 (omega arith) (omega arith) in
     omega (arith, all, spent)

@@ -132,7 +132,7 @@ pub fn are_flat(alloc: Global, expr: &Expr, steps: &mut Steps) -> Result<bool, A
     requires few { length expr.now.nodes ≤ 65536 }
     requires room { steps.old < 2 ^ 100 }
     ensures flat { IfOk result (λ flat. IsTrue flat → AreFlat expr.now.nodes) }
-    ensures cost { let m = length expr.now.nodes in Takes steps.old steps.new (m * (m + 1)) }
+    ensures cost { Takes steps.old steps.new (2 ^ 33) }
 {
     let count = expr.nodes();
     if expr.groups() == 0 {

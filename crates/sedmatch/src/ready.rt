@@ -63,8 +63,8 @@ pub fn find_known(
     }
     let begins = how_begins(expr, steps);
     let rare = rare_of(expr, &begins, steps);
-    let needed = find_needed(alloc, expr, steps)?;
     let flat = are_flat(alloc, expr, steps)?;
+    let needed = find_needed(alloc, expr, steps)?;
     Ok(Known {
         begins,
         needed,
