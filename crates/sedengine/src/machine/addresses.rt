@@ -171,14 +171,10 @@ impl Machine {
                 active,
             });
         }
-        match self.decide(command, active, lines) {
-            Ok(matched) => {
-                let choice = choose(command, active, self.number, matched);
-                self.set_active(k, choice.active);
-                self.come(k);
-                Ok(choice)
-            }
-            Err(end) => Err(end),
-        }
+        let matched = self.decide(command, active, lines)?;
+        let choice = choose(command, active, self.number, matched);
+        self.set_active(k, choice.active);
+        self.come(k);
+        Ok(choice)
     }
 }

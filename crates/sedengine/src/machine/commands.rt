@@ -59,10 +59,7 @@ impl Machine {
             return Err(Ended::TurnsSpent);
         }
         let command = *self.script.command(k);
-        let choice = match self.judge(k, &command, lines) {
-            Ok(choice) => choice,
-            Err(end) => return Err(end),
-        };
+        let choice = self.judge(k, &command, lines)?;
         if choice.yes {
             self.act(
                 k,

@@ -41,10 +41,8 @@ impl Machine {
         if !tells {
             return self.end_cycle(Place::Begin, outputs, texts);
         }
-        match write_line(outputs, 0, self.script.text(text)) {
-            Ok(()) => self.end_cycle(Place::Begin, outputs, texts),
-            Err(end) => Err(end),
-        }
+        write_line(outputs, 0, self.script.text(text))?;
+        self.end_cycle(Place::Begin, outputs, texts)
     }
 
     /// The command `d`: deletes the pattern space, writes the queue, and the next cycle starts.

@@ -44,13 +44,11 @@ impl Machine {
         ensures same { KeepsRun self.old self.new }
         ensures kept { (j : ℕ) → Keeps (T.text texts.old j) (T.text texts.new j) }
     {
-        match is_last(lines) {
-            Ok(true) => {
-                self.place = Place::Quit;
-                Ok(())
-            }
-            Ok(false) => self.print_and_fetch(lines, outputs, texts),
-            Err(end) => Err(end),
+        if is_last(lines)? {
+            self.place = Place::Quit;
+            Ok(())
+        } else {
+            self.print_and_fetch(lines, outputs, texts)
         }
     }
 
@@ -76,10 +74,8 @@ impl Machine {
         ensures same { KeepsRun self.old self.new }
         ensures kept { (j : ℕ) → Keeps (T.text texts.old j) (T.text texts.new j) }
     {
-        match self.print_and_flush(outputs, texts) {
-            Ok(()) => self.fetch(lines),
-            Err(end) => Err(end),
-        }
+        self.print_and_flush(outputs, texts)?;
+        self.fetch(lines)
     }
 
     /// Puts the next line in place of the pattern space.
@@ -99,13 +95,9 @@ impl Machine {
         self.pattern.clear();
         // There are more turns than lines, so the next number fits.
         let _turns = self.turns;
-        match bring_line(&mut self.pattern, lines, self.number + 1) {
-            Ok(got) => {
-                self.go_on(got);
-                Ok(())
-            }
-            Err(end) => Err(end),
-        }
+        let got = bring_line(&mut self.pattern, lines, self.number + 1)?;
+        self.go_on(got);
+        Ok(())
     }
 
     /// Goes on with the line that was brought, or ends the run where there was none.
@@ -147,10 +139,8 @@ impl Machine {
         ensures same { KeepsRun self.old self.new }
         ensures kept { (j : ℕ) → Keeps (T.text texts.old j) (T.text texts.new j) }
     {
-        match self.flush(outputs, texts) {
-            Ok(()) => self.join(lines),
-            Err(end) => Err(end),
-        }
+        self.flush(outputs, texts)?;
+        self.join(lines)
     }
 
     /// Appends a newline and the next line to the pattern space.
@@ -169,13 +159,9 @@ impl Machine {
     {
         // There are more turns than lines, so the next number fits.
         let _turns = self.turns;
-        match join_line(&mut self.pattern, lines, self.number + 1) {
-            Ok(got) => {
-                self.go_on(got);
-                Ok(())
-            }
-            Err(end) => Err(end),
-        }
+        let got = join_line(&mut self.pattern, lines, self.number + 1)?;
+        self.go_on(got);
+        Ok(())
     }
 }
 
@@ -209,10 +195,10 @@ fn bring_none<R: ByteSource>(lines: &mut Lines<R>, number: u64) -> Result<Got, E
     ensures output { NoSinkFailed result }
     ensures none { result ≢ Ok Got.Line }
 {
-    match is_last(lines) {
-        Ok(true) => Ok(Got::End),
-        Ok(false) => Err(Ended::PatternFull(number)),
-        Err(end) => Err(end),
+    if is_last(lines)? {
+        Ok(Got::End)
+    } else {
+        Err(Ended::PatternFull(number))
     }
 }
 

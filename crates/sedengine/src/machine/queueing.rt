@@ -50,7 +50,7 @@ impl Machine {
         ensures input { result ≡ Err Ended.InputBroken → ⊥ }
         ensures kept { (j : ℕ) → Keeps (T.text texts.old j) (T.text texts.new j) }
     {
-        let flushed = flush_queue(
+        flush_queue(
             &self.script,
             &self.queue,
             &self.limits,
@@ -58,14 +58,9 @@ impl Machine {
             &mut self.build,
             outputs,
             texts,
-        );
-        match flushed {
-            Ok(()) => {
-                self.queue.clear();
-                Ok(())
-            }
-            Err(end) => Err(end),
-        }
+        )?;
+        self.queue.clear();
+        Ok(())
     }
 
     /// Writes the pattern space, unless default output is suppressed, and then the queue.
@@ -87,10 +82,8 @@ impl Machine {
         ensures input { result ≡ Err Ended.InputBroken → ⊥ }
         ensures kept { (j : ℕ) → Keeps (T.text texts.old j) (T.text texts.new j) }
     {
-        match print_by_default(&self.script, &self.pattern, outputs) {
-            Ok(()) => self.flush(outputs, texts),
-            Err(end) => Err(end),
-        }
+        print_by_default(&self.script, &self.pattern, outputs)?;
+        self.flush(outputs, texts)
     }
 
     /// Writes the queue, and the next cycle starts at this place.
@@ -111,13 +104,9 @@ impl Machine {
         ensures same { KeepsRun self.old self.new }
         ensures kept { (j : ℕ) → Keeps (T.text texts.old j) (T.text texts.new j) }
     {
-        match self.flush(outputs, texts) {
-            Ok(()) => {
-                self.place = place;
-                Ok(())
-            }
-            Err(end) => Err(end),
-        }
+        self.flush(outputs, texts)?;
+        self.place = place;
+        Ok(())
     }
 }
 

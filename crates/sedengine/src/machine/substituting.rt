@@ -99,10 +99,10 @@ impl Machine {
     {
         // The engine is open from here on, so its state is known to be within the limits.
         let _ = &self.turns;
-        match self.replace(k) {
-            Ok(true) => self.write_replaced(k, outputs),
-            Ok(false) => Ok(()),
-            Err(end) => Err(end),
+        if self.replace(k)? {
+            self.write_replaced(k, outputs)
+        } else {
+            Ok(())
         }
     }
 
@@ -175,10 +175,8 @@ impl Machine {
         ensures output { Delivers O.tally O.count outputs.old outputs.new result }
         ensures input { result ≡ Err Ended.InputBroken → ⊥ }
     {
-        match self.print_replaced(k, outputs) {
-            Ok(()) => self.file_replaced(k, outputs),
-            Err(end) => Err(end),
-        }
+        self.print_replaced(k, outputs)?;
+        self.file_replaced(k, outputs)
     }
 
     /// Writes the pattern space if the substitution of number `k` has the flag `p`.

@@ -93,14 +93,10 @@ impl Machine {
         ensures same { KeepsRun self.old self.new }
         ensures kept { (j : ℕ) → Keeps (T.text texts.old j) (T.text texts.new j) }
     {
-        match self.print_and_flush(outputs, texts) {
-            Ok(()) => {
-                self.pattern.clear();
-                self.place = Place::Begin;
-                Ok(())
-            }
-            Err(end) => Err(end),
-        }
+        self.print_and_flush(outputs, texts)?;
+        self.pattern.clear();
+        self.place = Place::Begin;
+        Ok(())
     }
 
     /// Ends the run: writes the pattern space and the queue for the last time.
@@ -120,12 +116,8 @@ impl Machine {
         ensures same { KeepsRun self.old self.new }
         ensures kept { (j : ℕ) → Keeps (T.text texts.old j) (T.text texts.new j) }
     {
-        match self.print_and_flush(outputs, texts) {
-            Ok(()) => {
-                self.place = Place::Ended;
-                Ok(())
-            }
-            Err(end) => Err(end),
-        }
+        self.print_and_flush(outputs, texts)?;
+        self.place = Place::Ended;
+        Ok(())
     }
 }

@@ -1,4 +1,5 @@
 use Rattle.std.proofs.Common.{◌∷◌, true, refl}
+use Rattle.std.proofs.lemmas.Result.{err_from_is_err_and}
 use Rattle.sedscript.specs.declared.types.Action.TheVariants.{NextLine}
 use Rattle.sedengine.specs.State.{print_pattern, flush, empty_pattern, fetch}
 use Rattle.sedengine.specs.Move.{acts, then_do}
@@ -7,27 +8,28 @@ use Rattle.sedengine.proofs.Streams.{Reads-then, Reads-told}
 use Rattle.sedengine.proofs.NextLines.{looked_then, next_broken, next_goes, next_stops, performs_then}
 use Rattle.sedengine.proofs.machine.Machine.act_next_line.Goals as goal
 
-pub returns-in-Ok-true-clause-acts : goal.returns-in-Ok-true-clause-acts
-returns-in-Ok-true-clause-acts g c = λ sound ls known files told.
-    let w = c.in-Ok-true.ensures in
-    next_stops g.R.ByteSource.remaining c.args.lines.now c.is_last.new.lines ls files c.self.inside c.args.self.now (g.O.Sinks.tally c.args.outputs.now) c.in-Ok-true.field-0 c.self.view_is c.self.invariant (w.left ls known) (w.last sound ls known) c.in-Ok-true.field-0-test
+pub returns-then-branch-clause-acts : goal.returns-then-branch-clause-acts
+returns-then-branch-clause-acts g c = λ sound ls known files told.
+    let w = c.in_ok-is_last.ensures in
+    next_stops g.R.ByteSource.remaining c.args.lines.now c.is_last.new.lines ls files c.self.inside c.args.self.now (g.O.Sinks.tally c.args.outputs.now) c.in_ok-is_last.field-0 c.self.view_is c.self.invariant (w.left ls known) (w.last sound ls known) c.if-branch.true
 
-pub returns-in-Ok-false-clause-acts : goal.returns-in-Ok-false-clause-acts
-returns-in-Ok-false-clause-acts g c = λ sound ls known files told.
-    let w = c.in-Ok-false.ensures in
+pub returns-else-branch-clause-acts : goal.returns-else-branch-clause-acts
+returns-else-branch-clause-acts g c = λ sound ls known files told.
+    let w = c.in_ok-is_last.ensures in
     let e = c.args.self.now in
     let taken = w.left ls known in
     performs_then g.R.ByteSource.remaining c.args.lines.now c.print_and_fetch.new.lines ls e.limits (setting e files) (acts (setting e files) (at_lines e ls) true NextLine) true (at_lines e ls)
     (then_do (print_pattern ∷ flush ∷ empty_pattern ∷ fetch ∷ e.state.tasks) (at_lines e ls)) c.print_and_fetch.new.self (g.O.Sinks.tally c.args.outputs.now) (g.O.Sinks.tally c.print_and_fetch.new.outputs) c.print_and_fetch.result
-    (next_goes e e files ls c.in-Ok-false.field-0 (w.last sound ls known) c.in-Ok-false.field-0-test) refl refl
+    (next_goes e e files ls c.in_ok-is_last.field-0 (w.last sound ls known) c.if-branch.false) refl refl
     (looked_then g.R.ByteSource.remaining c.args.lines.now c.is_last.new.lines c.print_and_fetch.new.lines ls e.limits (setting e files) _ c.print_and_fetch.new.self _ c.print_and_fetch.result taken
     (c.print_and_fetch.ensures.steps (w.input.sound sound) ls taken.known files told))
 
-pub returns-in-Ok-false-clause-input : goal.returns-in-Ok-false-clause-input
-returns-in-Ok-false-clause-input g c = Reads-then _ _ _ _ _ _ _ (Reads-told _ _ _ _ _ _ c.in-Ok-false.ensures.input) c.print_and_fetch.ensures.input
+pub returns-else-branch-clause-input : goal.returns-else-branch-clause-input
+returns-else-branch-clause-input g c = Reads-then _ _ _ _ _ _ _ (Reads-told _ _ _ _ _ _ c.in_ok-is_last.ensures.input) c.print_and_fetch.ensures.input
 
-pub returns-in-Err-clause-acts : goal.returns-in-Err-clause-acts
-returns-in-Err-clause-acts g c = λ sound ls known files told.
-    let w = c.in-Err.ensures in
+pub returns-in_err-is_last-clause-acts : goal.returns-in_err-is_last-clause-acts
+returns-in_err-is_last-clause-acts g c = λ sound ls known files told.
+    let w = c.in_err-is_last.ensures in
     let e = c.args.self.now in
-    next_broken g.R.ByteSource.remaining c.args.lines.now c.is_last.new.lines ls (setting e files) (acts (setting e files) (at_lines e ls) true NextLine) e (g.O.Sinks.tally c.args.outputs.now) c.in-Err.end (w.left ls known) (w.last sound ls known)
+    let p = err_from_is_err_and c.from_residual.result c.from_residual.ensures.1 in
+    rw (p.1, p.2) (next_broken g.R.ByteSource.remaining c.args.lines.now c.is_last.new.lines ls (setting e files) (acts (setting e files) (at_lines e ls) true NextLine) e (g.O.Sinks.tally c.args.outputs.now) c.in_err-is_last.field-0.0 (w.left ls known) (w.last sound ls known))

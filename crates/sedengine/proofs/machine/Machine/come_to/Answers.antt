@@ -1,4 +1,5 @@
 use Rattle.std.proofs.Common.{sym, ◌∙◌, arith}
+use Rattle.std.proofs.lemmas.Result.{err_from_is_err_and}
 use Rattle.sedengine.proofs.Writing.{Delivers-unwritten}
 use Rattle.sedengine.proofs.Streams.{Reads-then, Reads-told}
 use Rattle.sedengine.proofs.Tasks.{steps_by_moves}
@@ -13,30 +14,33 @@ pub returns-then-self-turns-clause-steps : goal.returns-then-self-turns-clause-s
 returns-then-self-turns-clause-steps g c = λ sound ls known files told.
     steps_spent g.R.ByteSource.remaining c.args.lines.now c.self.inside c.args.self.now c.self.view_is c.self.invariant files ls known _ c.args.k c.requires.at (omega arith) (c.if-self-turns.true ∙ c.turns.ensures)
 
-pub returns-in-Err-clause-output : goal.returns-in-Err-clause-output
-returns-in-Err-clause-output g c = Delivers-unwritten _ _ _ c.in-Err.end c.in-Err.ensures.output
+pub returns-in_err-choice-clause-output : goal.returns-in_err-choice-clause-output
+returns-in_err-choice-clause-output g c =
+    let p = err_from_is_err_and c.from_residual.result c.from_residual.ensures.1 in
+    rw (p.1, p.2) (Delivers-unwritten _ _ _ c.in_err-choice.field-0.0 c.in_err-choice.ensures.output)
 
-pub returns-in-Err-clause-steps : goal.returns-in-Err-clause-steps
-returns-in-Err-clause-steps g c = λ sound ls known files told.
-    comes_stopping g.R.ByteSource.remaining c.args.lines.now c.judge.new.lines c.self.inside c.args.self.now c.self.view_is c.self.invariant files ls c.args.k c.command.result.now
-    c.requires.at c.command.ensures.is (λ e. c.if-self-turns.false (e ∙ sym c.turns.ensures)) (c.in-Err.ensures.left ls known)
-    (g.O.Sinks.tally c.args.outputs.now) c.judge.new.self.state.used c.in-Err.end c.judge.new.self c.in-Err.ensures.comes (c.in-Err.ensures.judges sound ls known)
+pub returns-in_err-choice-clause-steps : goal.returns-in_err-choice-clause-steps
+returns-in_err-choice-clause-steps g c = λ sound ls known files told.
+    let p = err_from_is_err_and c.from_residual.result c.from_residual.ensures.1 in
+    rw (p.1, p.2) (comes_stopping g.R.ByteSource.remaining c.args.lines.now c.judge.new.lines c.self.inside c.args.self.now c.self.view_is c.self.invariant files ls c.args.k c.command.result.now
+    c.requires.at c.command.ensures.is (λ e. c.if-self-turns.false (e ∙ sym c.turns.ensures)) (c.in_err-choice.ensures.left ls known)
+    (g.O.Sinks.tally c.args.outputs.now) c.judge.new.self.state.used c.in_err-choice.field-0.0 c.judge.new.self c.in_err-choice.ensures.comes (c.in_err-choice.ensures.judges sound ls known))
 
 pub returns-then-choice-clause-steps : goal.returns-then-choice-clause-steps
 returns-then-choice-clause-steps g c = λ sound ls known files told.
-    let w = c.in-Ok.ensures in
+    let w = c.in_ok-choice.ensures in
     let taken = w.left ls known in
     comes_acting g.R.ByteSource.remaining c.args.lines.now c.judge.new.lines c.self.inside c.args.self.now c.self.view_is c.self.invariant files ls c.args.k c.command.result.now
     c.requires.at c.command.ensures.is (λ e. c.if-self-turns.false (e ∙ sym c.turns.ensures)) taken
-    c.in-Ok.choice c.judge.new.self.state.used c.judge.new.self c.act.new.self (w.judges sound ls known) w.comes
+    c.in_ok-choice.choice c.judge.new.self.state.used c.judge.new.self c.act.new.self (w.judges sound ls known) w.comes
     c.act.new.lines _ _ c.tells.result c.if-choice.true c.tells.ensures (c.act.ensures.acts (w.input.sound sound) ls taken.known files told)
 
 pub returns-else-choice-clause-steps : goal.returns-else-choice-clause-steps
 returns-else-choice-clause-steps g c = λ sound ls known files told.
     comes_passing g.R.ByteSource.remaining c.args.lines.now c.judge.new.lines c.self.inside c.args.self.now c.self.view_is c.self.invariant files ls c.args.k c.command.result.now
-    c.requires.at c.command.ensures.is (λ e. c.if-self-turns.false (e ∙ sym c.turns.ensures)) (c.in-Ok.ensures.left ls known)
-    c.in-Ok.choice c.judge.new.self.state.used c.judge.new.self c.pass.new.self (c.in-Ok.ensures.judges sound ls known) c.in-Ok.ensures.comes
+    c.requires.at c.command.ensures.is (λ e. c.if-self-turns.false (e ∙ sym c.turns.ensures)) (c.in_ok-choice.ensures.left ls known)
+    c.in_ok-choice.choice c.judge.new.self.state.used c.judge.new.self c.pass.new.self (c.in_ok-choice.ensures.judges sound ls known) c.in_ok-choice.ensures.comes
     _ c.if-choice.false (c.pass.ensures.passes files _ ls)
 
 pub returns-then-choice-clause-input : goal.returns-then-choice-clause-input
-returns-then-choice-clause-input g c = Reads-then _ _ _ _ _ _ _ (Reads-told _ _ _ _ _ _ c.in-Ok.ensures.input) c.act.ensures.input
+returns-then-choice-clause-input g c = Reads-then _ _ _ _ _ _ _ (Reads-told _ _ _ _ _ _ c.in_ok-choice.ensures.input) c.act.ensures.input

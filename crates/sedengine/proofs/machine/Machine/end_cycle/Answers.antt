@@ -1,4 +1,5 @@
 use Rattle.std.proofs.Common.{◌≤◌, ◌∷◌, ◌∙◌, ap, sym, refl, subst}
+use Rattle.std.proofs.lemmas.Result.{err_from_is_err_and}
 use Rattle.sedengine.specs.State.{State, flush}
 use Rattle.sedengine.specs.Move.{then_do}
 use Rattle.sedengine.specs.Meters.{Sent}
@@ -8,19 +9,20 @@ use Rattle.sedengine.specs.Inside.{run_of, tasks_of}
 use Rattle.sedengine.proofs.Ending.{stopped_anyway, weight_ended}
 use Rattle.sedengine.proofs.machine.Machine.end_cycle.Goals as goal
 
-pub returns-in-Ok-clause-moves : goal.returns-in-Ok-clause-moves
-returns-in-Ok-clause-moves g c = λ files told ls.
+pub returns-clause-moves : goal.returns-clause-moves
+returns-clause-moves g c = λ files told ls.
     let e = c.args.self.now in
     let s : State = then_do (flush ∷ tasks_of c.args.place) (at_lines e ls) in
     let Q : Run → Type 0 = λ e'. Ran e.limits (setting e files) s (then_do (tasks_of c.args.place) (at_lines e' ls)) (Sent (g.O.Sinks.tally c.args.outputs.now) (g.O.Sinks.tally c.flush.new.outputs)) in
-    subst Q (sym c.self.view_is) (c.in-Ok.ensures.moves files told ls (tasks_of c.args.place))
+    subst Q (sym c.self.view_is) (c.in_ok-flush.ensures.moves files told ls (tasks_of c.args.place))
 
-pub returns-in-Err-clause-moves : goal.returns-in-Err-clause-moves
-returns-in-Err-clause-moves g c = λ files told ls.
-    stopped_anyway _ _ _ c.flush.new.self ls (tasks_of c.args.place) _ c.in-Err.end (c.in-Err.ensures.moves files told ls (tasks_of c.args.place))
+pub returns-in_err-flush-clause-moves : goal.returns-in_err-flush-clause-moves
+returns-in_err-flush-clause-moves g c = λ files told ls.
+    let p = err_from_is_err_and c.from_residual.result c.from_residual.ensures.1 in
+    rw (p.1, p.2) (stopped_anyway _ _ _ c.flush.new.self ls (tasks_of c.args.place) _ c.in_err-flush.field-0.0 (c.in_err-flush.ensures.moves files told ls (tasks_of c.args.place)))
 
-pub returns-in-Ok-clause-falls : goal.returns-in-Ok-clause-falls
-returns-in-Ok-clause-falls g c =
+pub returns-clause-falls : goal.returns-clause-falls
+returns-clause-falls g c =
     let e = c.args.self.now in
     let L : Run → Type 0 = λ e'. e.state.turns ≤ e'.state.turns in
-    weight_ended e (run_of (record c.self.inside { place = c.args.place })) c.args.place (ap (λ (e : Run). e.limits) (c.self.view_is ∙ c.in-Ok.ensures.ok)) (subst L (sym c.self.view_is) c.in-Ok.ensures.later) refl
+    weight_ended e (run_of (record c.self.inside { place = c.args.place })) c.args.place (ap (λ (e : Run). e.limits) (c.self.view_is ∙ c.in_ok-flush.ensures.ok)) (subst L (sym c.self.view_is) c.in_ok-flush.ensures.later) refl

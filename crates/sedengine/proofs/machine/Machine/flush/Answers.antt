@@ -1,4 +1,5 @@
 use Rattle.std.proofs.Common.{ap, Ok, Err}
+use Rattle.std.proofs.lemmas.Result.{err_from_is_err_and}
 use Rattle.sedengine.specs.Meters.{Sent}
 use Rattle.sedengine.specs.Run.{Run, setting}
 use Rattle.sedengine.specs.Inside.{run_of}
@@ -6,16 +7,17 @@ use Rattle.sedengine.specs.Queueing.{flushed, with_turns}
 use Rattle.sedengine.proofs.Ending.{flush_moves}
 use Rattle.sedengine.proofs.machine.Machine.flush.Goals as goal
 
-pub returns-in-Ok-clause-moves : goal.returns-in-Ok-clause-moves
-returns-in-Ok-clause-moves g c = λ files told ls rest.
-    let w = c.flush_queue-flushed.new in
+pub returns-clause-moves : goal.returns-clause-moves
+returns-clause-moves g c = λ files told ls rest.
+    let w = c.flush_queue.new in
     flush_moves c.self.inside c.args.self.now (run_of (record c.self.inside { build = w.build; turns = w.turns; queue = c.clear.new.self })) (setting c.args.self.now files) ls rest w.turns
-    (Sent (g.O.Sinks.tally c.args.outputs.now) (g.O.Sinks.tally w.outputs)) (Ok tt) c.self.view_is c.self.invariant (c.in-Ok.ensures.flushes (setting c.args.self.now files) told)
+    (Sent (g.O.Sinks.tally c.args.outputs.now) (g.O.Sinks.tally w.outputs)) (Ok tt) c.self.view_is c.self.invariant (c.in_ok-flush_queue.ensures.flushes (setting c.args.self.now files) told)
     (rw c.clear.ensures (ap (λ (e : Run). flushed e w.turns) c.self.view_is)) (tt {0})
 
-pub returns-in-Err-clause-moves : goal.returns-in-Err-clause-moves
-returns-in-Err-clause-moves g c = λ files told ls rest.
-    let w = c.flush_queue-flushed.new in
-    flush_moves c.self.inside c.args.self.now (run_of (record c.self.inside { build = w.build; turns = w.turns })) (setting c.args.self.now files) ls rest w.turns
-    (Sent (g.O.Sinks.tally c.args.outputs.now) (g.O.Sinks.tally w.outputs)) (Err c.in-Err.end) c.self.view_is c.self.invariant (c.in-Err.ensures.flushes (setting c.args.self.now files) told)
-    (tt {0}) (ap (λ (e : Run). with_turns e w.turns) c.self.view_is)
+pub returns-in_err-flush_queue-clause-moves : goal.returns-in_err-flush_queue-clause-moves
+returns-in_err-flush_queue-clause-moves g c = λ files told ls rest.
+    let w = c.flush_queue.new in
+    let p = err_from_is_err_and c.from_residual.result c.from_residual.ensures.1 in
+    rw (p.1, p.2) (flush_moves c.self.inside c.args.self.now (run_of (record c.self.inside { build = w.build; turns = w.turns })) (setting c.args.self.now files) ls rest w.turns
+    (Sent (g.O.Sinks.tally c.args.outputs.now) (g.O.Sinks.tally w.outputs)) (Err c.in_err-flush_queue.field-0.0) c.self.view_is c.self.invariant (c.in_err-flush_queue.ensures.flushes (setting c.args.self.now files) told)
+    (tt {0}) (ap (λ (e : Run). with_turns e w.turns) c.self.view_is))
