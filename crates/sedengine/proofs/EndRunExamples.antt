@@ -22,7 +22,7 @@ use Rattle.sedengine.specs.Select.{selects}
 use Rattle.sedengine.specs.Substitute.{occurrences_from}
 use Rattle.sedengine.proofs.ComputedRun.{course, course, plain, no_files}
 use Rattle.sedengine.specs.Limits.{Limits, limits_of}
-use Rattle.sedengine.specs.declared.ends.Ended.TheVariants.{Done, PatternFull, QueueFull, TurnsSpent, NoPrevious}
+use Rattle.sedengine.specs.declared.ends.Ended.TheVariants.{Done, PatternFull, HoldFull, QueueFull, TurnsSpent, NoPrevious}
 use Rattle.sedengine.proofs.ComputedEnds.{all_fit, stops_after, EndsBy}
 
 -- the program's own limits, but for the turns, the space or the queue
@@ -114,3 +114,35 @@ least_room_to_substitute = is_script (stops_after 20 refl refl refl refl)
 hold_space_past_the_space : EndsBy (space 1) plain no_files (codes "G") (codes "a\n") (PatternFull 1) (codes "")
 unfolding verdict cutting walked item_at past function_at addresses_at address_at second_at text_from name_from lines course move selects all_fit
 hold_space_past_the_space = is_script (stops_after 1 refl refl refl refl)
+
+next_line_read_past_the_space : EndsBy (space 3) plain no_files (codes "p") (codes "ab\nabcd\n") (PatternFull 2) (codes "ab\nab\n")
+unfolding verdict cutting walked item_at past function_at addresses_at address_at second_at text_from name_from lines course move selects all_fit
+next_line_read_past_the_space = is_script (stops_after 6 refl refl refl refl)
+
+line_of_the_space : EndsBy (space 3) plain no_files (codes "p") (codes "abc\n") Done (codes "abc\nabc\n")
+unfolding verdict cutting walked item_at past function_at addresses_at address_at second_at text_from name_from lines course move selects all_fit
+line_of_the_space = is_script (stops_after 20 refl refl refl refl)
+
+appended_past_the_space : EndsBy (space 3) plain no_files (codes "G;G;G") (codes "a\n") (PatternFull 1) (codes "")
+unfolding verdict cutting walked item_at past function_at addresses_at address_at second_at text_from name_from lines course move selects all_fit
+appended_past_the_space = is_script (stops_after 3 refl refl refl refl)
+
+hold_past_the_space : EndsBy (space 3) plain no_files (codes "H;H") (codes "ab\n") (HoldFull 1) (codes "")
+unfolding verdict cutting walked item_at past function_at addresses_at address_at second_at text_from name_from lines course move selects all_fit
+hold_past_the_space = is_script (stops_after 2 refl refl refl refl)
+
+second_entry_of_the_queue : EndsBy (queue 1) plain no_files (codes "a X\na Y") (codes "a\n") (QueueFull 1) (codes "")
+unfolding verdict cutting walked item_at past function_at addresses_at address_at second_at text_from name_from lines course move selects all_fit
+second_entry_of_the_queue = is_script (stops_after 2 refl refl refl refl)
+
+endless_branches : EndsBy (turns 100) plain no_files (codes ":a;ba") (codes "a\n") TurnsSpent (codes "")
+unfolding verdict cutting walked item_at past function_at addresses_at address_at second_at text_from name_from lines course move selects all_fit
+endless_branches = is_script (stops_after 100 refl refl refl refl)
+
+turns_spent_at_a_command : EndsBy (turns 3) plain no_files (codes "p") (codes "a\nb\n") TurnsSpent (codes "a\na\n")
+unfolding verdict cutting walked item_at past function_at addresses_at address_at second_at text_from name_from lines course move selects all_fit
+turns_spent_at_a_command = is_script (stops_after 7 refl refl refl refl)
+
+turns_enough : EndsBy (turns 4) plain no_files (codes "p") (codes "a\nb\n") Done (codes "a\na\nb\nb\n")
+unfolding verdict cutting walked item_at past function_at addresses_at address_at second_at text_from name_from lines course move selects all_fit
+turns_enough = is_script (stops_after 20 refl refl refl refl)

@@ -35,3 +35,4 @@ mod SubstitutionRunExamples
 mod SpaceRunExamples
 mod CaseRunExamples
 mod EndRunExamples
+mod TextRunExamples

@@ -20,7 +20,7 @@ use Rattle.sedspace.specs.Lines.{lines}
 use Rattle.sedengine.specs.Move.{move, to_sink}
 use Rattle.sedengine.specs.Select.{selects}
 use Rattle.sedengine.specs.Substitute.{occurrences_from}
-use Rattle.sedengine.proofs.ComputedRun.{course, ends_after, Writes, Edits, plain, no_files}
+use Rattle.sedengine.proofs.ComputedRun.{course, ends_after, Writes, QuietlyWrites, Edits, plain, no_files}
 use Rattle.sedre.specs.declared.types.Kind.TheVariants.{Basic}
 
 reversed_lines : Writes (codes "1!G;h;$!d") (codes "1\n2\n3\n") (codes "3\n2\n1\n")
@@ -87,3 +87,30 @@ three_lines_deleted = is_script (ends_after 200 refl refl)
 two_lines_deleted : Writes (codes "N;D") (codes "1\n2\n3\n4\n") (codes "")
 unfolding verdict cutting walked item_at past function_at addresses_at address_at second_at text_from name_from lines course move selects
 two_lines_deleted = is_script (ends_after 200 refl refl)
+
+-- `N` without a next line ends the run, and the pattern space isn't written.
+last_line_alone : Writes (codes "N") (codes "1\n2\n3\n") (codes "1\n2\n")
+unfolding verdict cutting walked item_at past function_at addresses_at address_at second_at text_from name_from lines course move selects
+last_line_alone = is_script (ends_after 200 refl refl)
+
+next_and_delete : Writes (codes "n;d") (codes "1\n2\n3\n") (codes "1\n3\n")
+unfolding verdict cutting walked item_at past function_at addresses_at address_at second_at text_from name_from lines course move selects
+next_and_delete = is_script (ends_after 200 refl refl)
+
+text_and_quit : Writes (codes "1a X\n1q") (codes "a\nb\n") (codes "a\nX\n")
+unfolding verdict cutting walked item_at past function_at addresses_at address_at second_at text_from name_from lines course move selects
+text_and_quit = is_script (ends_after 200 refl refl)
+
+text_before_no_next_line : Writes (codes "a X\nN") (codes "1\n") (codes "X\n")
+unfolding verdict cutting walked item_at past function_at addresses_at address_at second_at text_from name_from lines course move selects
+text_before_no_next_line = is_script (ends_after 200 refl refl)
+
+-- The next line follows where the file ends.
+file_without_a_newline : Edits Basic plain (λ k. codes "F") (codes "1r f") (codes "a\nb\n") (to_sink 0 (codes "a\nFb\n"))
+unfolding verdict cutting walked item_at past function_at addresses_at address_at second_at text_from name_from lines course move selects
+file_without_a_newline = is_script (ends_after 200 refl refl)
+
+-- With -n.
+hold_space_by_the_end : QuietlyWrites (codes "H;${x;s/\\n/,/g;p}") (codes "a\nb\n") (codes ",a,b\n")
+unfolding verdict cutting walked item_at past function_at addresses_at address_at second_at text_from name_from lines course move selects match_at substitute_at substituted delimiter_at outcome rest_of expression_item_at interval set_of tree_at tree_within list_at list_end found found_from longest greatest spans any copies report caps cut first_copy last_start occurrences_from
+hold_space_by_the_end = is_script (ends_after 200 refl refl)

@@ -18,10 +18,11 @@ use Rattle.sedscript.specs.Functions.{name_from, text_from}
 use Rattle.sedscript.specs.Items.{substitute_at, function_at, item_at}
 use Rattle.sedscript.specs.Transliteration.{table_of}
 use Rattle.sedspace.specs.Lines.{lines}
-use Rattle.sedengine.specs.Move.{move}
+use Rattle.sedengine.specs.Move.{move, to_sink}
 use Rattle.sedengine.specs.Select.{selects}
 use Rattle.sedengine.specs.Substitute.{occurrences_from}
-use Rattle.sedengine.proofs.ComputedRun.{course, ends_after, Writes, QuietlyWrites}
+use Rattle.sedengine.proofs.ComputedRun.{course, ends_after, Writes, QuietlyWrites, Edits, plain, no_files}
+use Rattle.sedre.specs.declared.types.Kind.TheVariants.{Extended}
 
 second_occurrence : Writes (codes "s/b/[&]/2") (codes "abab\n") (codes "aba[b]\n")
 unfolding verdict cutting walked item_at past function_at addresses_at address_at second_at text_from name_from lines course move selects match_at substitute_at substituted delimiter_at outcome rest_of expression_item_at interval set_of tree_at tree_within list_at list_end found found_from longest greatest spans any copies report caps cut first_copy last_start occurrences_from
@@ -59,3 +60,54 @@ transliterate = is_script (ends_after 200 refl refl)
 bar_as_a_delimiter : Writes (codes "s|a\\|b|x|") (codes "a|b\n") (codes "x\n")
 unfolding verdict cutting walked item_at past function_at addresses_at address_at second_at text_from name_from lines course move selects match_at substitute_at substituted delimiter_at outcome rest_of expression_item_at interval set_of tree_at tree_within list_at list_end found found_from longest greatest spans any copies report caps cut first_copy last_start occurrences_from
 bar_as_a_delimiter = is_script (ends_after 200 refl refl)
+
+empty_matches : Writes (codes "s/x*/-/g") (codes "abc\n") (codes "-a-b-c-\n")
+unfolding verdict cutting walked item_at past function_at addresses_at address_at second_at text_from name_from lines course move selects match_at substitute_at substituted delimiter_at outcome rest_of expression_item_at interval set_of tree_at tree_within list_at list_end found found_from longest greatest spans any copies report caps cut first_copy last_start occurrences_from
+empty_matches = is_script (ends_after 200 refl refl)
+
+no_empty_match_after_an_occurrence : Writes (codes "s/a*/x/g") (codes "baaac\n") (codes "xbxcx\n")
+unfolding verdict cutting walked item_at past function_at addresses_at address_at second_at text_from name_from lines course move selects match_at substitute_at substituted delimiter_at outcome rest_of expression_item_at interval set_of tree_at tree_within list_at list_end found found_from longest greatest spans any copies report caps cut first_copy last_start occurrences_from
+no_empty_match_after_an_occurrence = is_script (ends_after 200 refl refl)
+
+-- Extended.
+longest_parts_first : Edits Extended plain no_files (codes "s/(a|ab)(c|bcd)(d*)/[\\1][\\2][\\3]/") (codes "abcd\n") (to_sink 0 (codes "[ab][c][d]\n"))
+unfolding verdict cutting walked item_at past function_at addresses_at address_at second_at text_from name_from lines course move selects match_at substitute_at substituted delimiter_at outcome rest_of expression_item_at interval set_of tree_at tree_within list_at list_end found found_from longest greatest spans any copies report caps cut first_copy last_start occurrences_from
+longest_parts_first = is_script (ends_after 200 refl refl)
+
+group_of_an_empty_copy : Writes (codes "s/\\(a*\\)*/<\\1>/") (codes "bc\n") (codes "<>bc\n")
+unfolding verdict cutting walked item_at past function_at addresses_at address_at second_at text_from name_from lines course move selects match_at substitute_at substituted delimiter_at outcome rest_of expression_item_at interval set_of tree_at tree_within list_at list_end found found_from longest greatest spans any copies report caps cut first_copy last_start occurrences_from
+group_of_an_empty_copy = is_script (ends_after 200 refl refl)
+
+-- Extended. A copy forgets the groups within the one before.
+groups_of_the_last_copy : Edits Extended plain no_files (codes "s/((a)|b)*/[\\1][\\2]/") (codes "ab\n") (to_sink 0 (codes "[b][]\n"))
+unfolding verdict cutting walked item_at past function_at addresses_at address_at second_at text_from name_from lines course move selects match_at substitute_at substituted delimiter_at outcome rest_of expression_item_at interval set_of tree_at tree_within list_at list_end found found_from longest greatest spans any copies report caps cut first_copy last_start occurrences_from
+groups_of_the_last_copy = is_script (ends_after 200 refl refl)
+
+-- Extended.
+group_repeated : Edits Extended plain no_files (codes "s/(a*)+/<\\1>/") (codes "aa\n") (to_sink 0 (codes "<aa>\n"))
+unfolding verdict cutting walked item_at past function_at addresses_at address_at second_at text_from name_from lines course move selects match_at substitute_at substituted delimiter_at outcome rest_of expression_item_at interval set_of tree_at tree_within list_at list_end found found_from longest greatest spans any copies report caps cut first_copy last_start occurrences_from
+group_repeated = is_script (ends_after 200 refl refl)
+
+second_occurrence_and_all_later : Writes (codes "s/a/x/2g") (codes "aaaa\n") (codes "axxx\n")
+unfolding verdict cutting walked item_at past function_at addresses_at address_at second_at text_from name_from lines course move selects match_at substitute_at substituted delimiter_at outcome rest_of expression_item_at interval set_of tree_at tree_within list_at list_end found found_from longest greatest spans any copies report caps cut first_copy last_start occurrences_from
+second_occurrence_and_all_later = is_script (ends_after 200 refl refl)
+
+anchor_with_all : Writes (codes "s/^a/x/g") (codes "aaa\n") (codes "xaa\n")
+unfolding verdict cutting walked item_at past function_at addresses_at address_at second_at text_from name_from lines course move selects match_at substitute_at substituted delimiter_at outcome rest_of expression_item_at interval set_of tree_at tree_within list_at list_end found found_from longest greatest spans any copies report caps cut first_copy last_start occurrences_from
+anchor_with_all = is_script (ends_after 200 refl refl)
+
+delimiter_in_a_list : Writes (codes "s/[/]/x/") (codes "a/b\n") (codes "axb\n")
+unfolding verdict cutting walked item_at past function_at addresses_at address_at second_at text_from name_from lines course move selects match_at substitute_at substituted delimiter_at outcome rest_of expression_item_at interval set_of tree_at tree_within list_at list_end found found_from longest greatest spans any copies report caps cut first_copy last_start occurrences_from
+delimiter_in_a_list = is_script (ends_after 200 refl refl)
+
+bracket_and_hyphen_in_a_list : Writes (codes "s/[]-]/x/g") (codes "a]b-c\n") (codes "axbxc\n")
+unfolding verdict cutting walked item_at past function_at addresses_at address_at second_at text_from name_from lines course move selects match_at substitute_at substituted delimiter_at outcome rest_of expression_item_at interval set_of tree_at tree_within list_at list_end found found_from longest greatest spans any copies report caps cut first_copy last_start occurrences_from
+bracket_and_hyphen_in_a_list = is_script (ends_after 200 refl refl)
+
+star_after_an_anchor : Writes (codes "s/^*/x/") (codes "*a\n") (codes "xa\n")
+unfolding verdict cutting walked item_at past function_at addresses_at address_at second_at text_from name_from lines course move selects match_at substitute_at substituted delimiter_at outcome rest_of expression_item_at interval set_of tree_at tree_within list_at list_end found found_from longest greatest spans any copies report caps cut first_copy last_start occurrences_from
+star_after_an_anchor = is_script (ends_after 200 refl refl)
+
+newline_transliterated : Writes (codes "N;y/\\n/,/") (codes "1\n2\n") (codes "1,2\n")
+unfolding verdict cutting walked item_at past function_at addresses_at address_at second_at text_from name_from lines course move selects transliterate_at table_of
+newline_transliterated = is_script (ends_after 200 refl refl)
