@@ -1,6 +1,6 @@
 use Rattle.std.proofs.Common.{◌≡◌, ℕ, ◌+◌, ◌*◌, ◌<◌, ◌≤◌, [], Some, length, vec_capacity}
 use Rattle.std.specs.Prelude.{slice_get}
-use Rattle.sedre.specs.Arena.{tree_at, IsExpr}
+use Rattle.sedre.specs.Arena.{tree_at}
 use Rattle.sedre.specs.declared.types.NodeId.{NodeId}
 use Rattle.sedre.specs.declared.types.Node.TheVariants.{Group}
 use Rattle.sedmatch.specs.Work.{NoGroups}
