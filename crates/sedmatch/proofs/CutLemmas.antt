@@ -102,15 +102,6 @@ passes_cost m n s t u some byte first rest =
     let low = mul-le-mul_left m some_n in
     omega (arith, first, rest, all, square, low)
 
--- the steps of a walk over copies, each of which takes some bytes: there is room to count them
-pub walk_room : (m n copy start s0 s : ℕ) → m ≤ 65536 → n ≤ 2 ^ 30 → copy ≤ n → s0 ≤ 2 ^ 114 + 1 → s + (n + 8) * m * start ≤ s0 + (n + 8) * m * copy → s < 2 ^ 115
-walk_room m n copy start s0 s few short inside room cost =
-    let up : n + 8 ≤ 2 ^ 30 + 8 = omega arith in
-    let line : (n + 8) * m ≤ (2 ^ 30 + 8) * 65536 = mul-le-mul up few in
-    let within : copy ≤ 2 ^ 30 = omega arith in
-    let all : (n + 8) * m * copy ≤ (2 ^ 30 + 8) * 65536 * 2 ^ 30 = mul-le-mul line within in
-    omega (arith, all, room, cost)
-
 -- one more copy
 pub walk_step : (k copy end start s0 s t : ℕ) → copy < end → s + k * start ≤ s0 + k * copy → t ≤ s + k → t + k * start ≤ s0 + k * end
 walk_step k copy end start s0 s t up cost one =

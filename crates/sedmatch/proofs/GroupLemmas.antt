@@ -93,34 +93,12 @@ module _ (nodes : List Node) (groups : ℕ) (expr : IsExpr nodes groups) (few : 
 pub sizes_fit : (nodes : List Node) (groups : ℕ) → IsExpr nodes groups → (x : ℕ) → x < length nodes → size (tree_at nodes x) ≤ length nodes
 sizes_fit nodes groups expr x inside = let fits = expr.sizes x inside in omega arith
 
--- there is room to count the steps of a report
-pub report_room : (m n s t : ℕ) → m ≤ 65536 → n ≤ 2 ^ 30 → s ≤ 2 ^ 100 → t ≤ s + 48 * m * (n + 1) * (n + 1) →
-    t + (46 * m * (n + 1) * (n + 1) + 1 + m) * m + 3 * m < 2 ^ 114
-report_room m n s t few short low first =
-    let mn : m * n ≤ 65536 * 2 ^ 30 = mul-le-mul few short in
-    let mm : m * m ≤ 65536 * 65536 = mul-le-mul few few in
-    let mnn : m * n * n ≤ 65536 * 2 ^ 30 * 2 ^ 30 = mul-le-mul mn short in
-    let mmn : m * m * n ≤ 65536 * 65536 * 2 ^ 30 = mul-le-mul mm short in
-    let mmnn : m * m * n * n ≤ 65536 * 65536 * 2 ^ 30 * 2 ^ 30 = mul-le-mul mmn short in
-    omega (arith, mn, mm, mnn, mmn, mmnn)
-
 -- a search that finds nothing costs no more than one that does
 pub miss_cost : (m n s t : ℕ) → 0 < m → t ≤ s + 48 * m * (n + 1) * (n + 1) → t ≤ s + 64 * m * m * (n + 1) * (n + 1)
 miss_cost m n s t some first =
     let one : 1 ≤ m = omega arith in
     let all = mul-le-mul_left (48 * m * (n + 1) * (n + 1)) one in
     omega (arith, first, all)
-
--- the same bounds for a search by tables
-pub by_room : (m n s t : ℕ) → m ≤ 65536 → n ≤ 2 ^ 30 → s ≤ 2 ^ 100 → t ≤ s + 64 * m * (n + 1) * (n + 1) →
-    t + (46 * m * (n + 1) * (n + 1) + 1 + m) * m + 3 * m < 2 ^ 114
-by_room m n s t few short low first =
-    let mn : m * n ≤ 65536 * 2 ^ 30 = mul-le-mul few short in
-    let mm : m * m ≤ 65536 * 65536 = mul-le-mul few few in
-    let mnn : m * n * n ≤ 65536 * 2 ^ 30 * 2 ^ 30 = mul-le-mul mn short in
-    let mmn : m * m * n ≤ 65536 * 65536 * 2 ^ 30 = mul-le-mul mm short in
-    let mmnn : m * m * n * n ≤ 65536 * 65536 * 2 ^ 30 * 2 ^ 30 = mul-le-mul mmn short in
-    omega (arith, mn, mm, mnn, mmn, mmnn)
 
 pub by_miss : (m n s t : ℕ) → 0 < m → t ≤ s + 64 * m * (n + 1) * (n + 1) → t ≤ s + 64 * m * m * (n + 1) * (n + 1)
 by_miss m n s t some first =

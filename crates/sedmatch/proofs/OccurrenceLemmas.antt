@@ -24,11 +24,6 @@ few_places m n nodes places =
     let one : m * (n + 1) ≤ m * (2 ^ 31) = mul-le-mul_left m up in
     omega arith
 
-pub search_room : (m n s t : ℕ) → m ≤ 65536 → n ≤ 2 ^ 30 → s ≤ 2 ^ 100 → t ≤ s + 128 * m * (n + 1) → t ≤ 2 ^ 101
-search_room m n s t nodes places low cost =
-    let few = few_places m n nodes places in
-    omega arith
-
 -- the pass from the end, and what is owed after it
 pub met_paid : (m n at low s t : ℕ) → low ≤ n → t ≤ s + 25 * m * (n + 1) → t + (79 * m * (n + 1 - at) + 24 * m * low) ≤ s + 128 * m * (n + 1)
 met_paid m n at low s t inside cost =

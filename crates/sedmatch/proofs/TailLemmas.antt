@@ -143,16 +143,6 @@ module _ (R : ℕ → ℕ → Type 0) (j : ℕ) where
       let same : l ≡ j = (let low = next.within in omega arith) in
       only x (let up = next.after in omega arith) (subst (λ v. R x v) same next.copy)
 
--- the steps of the walk: there is room to count them
-pub copies_room : (m n copy start s0 s1 s : ℕ) → m ≤ 65536 → n ≤ 2 ^ 30 → copy ≤ n → s0 < 2 ^ 115 → s1 ≤ s0 + 23 * m * (n + 1) →
-    s + 22 * m * (n + 1) * start ≤ s1 + 22 * m * (n + 1) * copy → s < 2 ^ 116
-copies_room m n copy start s0 s1 s few short inside room first cost =
-    let up : n + 1 ≤ 2 ^ 30 + 1 = omega arith in
-    let line : m * (n + 1) ≤ 65536 * (2 ^ 30 + 1) = mul-le-mul few up in
-    let within : copy ≤ 2 ^ 30 = omega arith in
-    let all : m * (n + 1) * copy ≤ 65536 * (2 ^ 30 + 1) * 2 ^ 30 = mul-le-mul line within in
-    omega (arith, all, line, room, first, cost)
-
 -- and all together
 pub copies_cost : (m n copy start stop s0 s1 s t : ℕ) → copy < stop → stop ≤ n → s1 ≤ s0 + 23 * m * (n + 1) →
     s + 22 * m * (n + 1) * start ≤ s1 + 22 * m * (n + 1) * copy → t ≤ s + 22 * m * (n + 1) → t ≤ s0 + 23 * m * (n + 1) * (n + 1) + 1

@@ -1,10 +1,6 @@
 -- What a call costs: how many steps it takes.
 use Rattle.std.specs.Prelude.{ℕ, ◌+◌, ◌≤◌}
 
--- the steps grew from s to t, by k at most
-abbrev pub Takes : ℕ → ℕ → ℕ → Type 0
-Takes s t k = (s ≤ t) × (t ≤ s + k)
-
 -- the steps grew from s to t, and `before` pays for them and for `after`
 abbrev pub Pays : ℕ → ℕ → ℕ → ℕ → Type 0
 Pays s t before after = (s ≤ t) × (t + after ≤ s + before)

@@ -9,6 +9,7 @@ ghost use Rattle.sedre.specs.Tree.{Tree, set as a_set};
 ghost use Rattle.sedmatch.specs.Spans.{Spans};
 ghost use Rattle.sedmatch.specs.Reach.{At};
 ghost use Rattle.sedmatch.specs.Ahead.{LeadsTo, anchor_lead, GoesOn, IsBelow};
+ghost use Rattle.sedre.specs.Steps.{Takes};
 
 use crate::counted::Text;
 use sedre::{ByteSet, Expr, Node, NodeId, Steps};
@@ -27,10 +28,8 @@ pub enum Lead {
 /// Where the spans of a set end that begin at the place.
 fn set_lead(set: &ByteSet, text: &Text, place: usize, steps: &mut Steps) -> Lead
     requires place { place ≤ length text.now }
-    requires room { steps.old < 2 ^ 120 }
     ensures leads { LeadsTo (length text.now) (Spans (a_set set.now) text.now place) result }
-    ensures grows { steps.old ≤ steps.new }
-    ensures cost { steps.new ≤ steps.old + 1 }
+    ensures cost { Takes steps.old steps.new 1 }
 {
     if place < text.len() && set.has(text.byte(place, steps)) {
         Lead::To(place + 1)
@@ -53,10 +52,8 @@ fn anchor_lead(holds: bool, place: usize) -> Lead
 /// Where the spans of a node end that begin at the place.
 fn node_lead(node: &Node, text: &Text, place: usize, steps: &mut Steps) -> Lead
     requires place { place ≤ length text.now }
-    requires room { steps.old < 2 ^ 120 }
     ensures leads { (part : ℕ → Tree) → LeadsTo (length text.now) (Spans (tree_of part node.now) text.now place) result }
-    ensures grows { steps.old ≤ steps.new }
-    ensures cost { steps.new ≤ steps.old + 1 }
+    ensures cost { Takes steps.old steps.new 1 }
 {
     match node {
         Node::Empty => Lead::To(place),
@@ -93,11 +90,9 @@ pub fn rest_of_seq(
     requires arena { IsArena expr.now.nodes }
     requires inside { index < length expr.now.nodes }
     requires place { place ≤ length text.now }
-    requires room { steps.old < 2 ^ 120 }
     ensures goes { GoesOn expr.now.nodes text.now (At expr.now.nodes text.now index place) result }
     ensures below { IsBelow index (length text.now) result }
-    ensures grows { steps.old ≤ steps.new }
-    ensures cost { steps.new ≤ steps.old + 1 }
+    ensures cost { Takes steps.old steps.new 1 }
 {
     match node_lead(first, text, place, steps) {
         Lead::Nowhere => Rest::End(Lead::Nowhere),
@@ -120,11 +115,9 @@ pub fn rest_of_node(
     requires arena { IsArena expr.now.nodes }
     requires inside { index < length expr.now.nodes }
     requires place { place ≤ length text.now }
-    requires room { steps.old < 2 ^ 119 }
     ensures goes { GoesOn expr.now.nodes text.now (At expr.now.nodes text.now index place) result }
     ensures below { IsBelow index (length text.now) result }
-    ensures grows { steps.old ≤ steps.new }
-    ensures cost { steps.new ≤ steps.old + 2 }
+    ensures cost { Takes steps.old steps.new 2 }
 {
     match node {
         Node::Seq(a, b) => {
@@ -140,10 +133,8 @@ pub fn rest_of_node(
 fn fails_early(expr: &Expr, index: usize, text: &Text, place: usize, steps: &mut Steps) -> bool
     requires inside { index < length expr.now.nodes }
     requires place { place ≤ length text.now }
-    requires room { steps.old ≤ 2 ^ 118 }
     ensures fails { IsTrue result → (j : ℕ) → At expr.now.nodes text.now index place j → ⊥ }
-    ensures grows { steps.old ≤ steps.new }
-    ensures cost { steps.new ≤ steps.old + 6 }
+    ensures cost { Takes steps.old steps.new 6 }
 {
     let node = expr.look(expr.id(index), steps);
     match rest_of_node(expr, index, &node, text, place, steps) {
@@ -164,11 +155,9 @@ fn fails_early(expr: &Expr, index: usize, text: &Text, place: usize, steps: &mut
 pub fn rest_behind(expr: &Expr, index: usize, text: &Text, place: usize, steps: &mut Steps) -> Rest
     requires inside { index < length expr.now.nodes }
     requires place { place ≤ length text.now }
-    requires room { steps.old < 2 ^ 118 }
     ensures goes { GoesOn expr.now.nodes text.now (At expr.now.nodes text.now index place) result }
     ensures below { IsBelow index (length text.now) result }
-    ensures grows { steps.old ≤ steps.new }
-    ensures cost { steps.new ≤ steps.old + 7 }
+    ensures cost { Takes steps.old steps.new 7 }
 {
     let node = expr.look(expr.id(index), steps);
     match node {
@@ -187,10 +176,8 @@ pub fn rest_behind(expr: &Expr, index: usize, text: &Text, place: usize, steps: 
 pub fn look_ahead(expr: &Expr, text: &Text, place: usize, steps: &mut Steps) -> Lead
     requires place { place ≤ length text.now }
     requires few { length expr.now.nodes ≤ 65536 }
-    requires room { steps.old < 2 ^ 117 }
     ensures leads { LeadsTo (length text.now) (Spans (tree expr.now) text.now place) result }
-    ensures grows { steps.old ≤ steps.new }
-    ensures cost { steps.new ≤ steps.old + 7 * length expr.now.nodes }
+    ensures cost { Takes steps.old steps.new (7 * length expr.now.nodes) }
 {
     let root = expr.root().index();
     lead_from(expr, root, text, place, steps)
@@ -201,10 +188,8 @@ pub fn lead_from(expr: &Expr, root: usize, text: &Text, place: usize, steps: &mu
     requires root { root < length expr.now.nodes }
     requires place { place ≤ length text.now }
     requires few { length expr.now.nodes ≤ 65536 }
-    requires room { steps.old < 2 ^ 117 }
     ensures leads { LeadsTo (length text.now) (At expr.now.nodes text.now root place) result }
-    ensures grows { steps.old ≤ steps.new }
-    ensures cost { steps.new ≤ steps.old + 7 * length expr.now.nodes }
+    ensures cost { Takes steps.old steps.new (7 * length expr.now.nodes) }
 {
     let mut index = root;
     let mut at = place;

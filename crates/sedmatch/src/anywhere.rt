@@ -6,7 +6,8 @@ ghost use Rattle.sedmatch.specs.Spans.{Spans};
 ghost use Rattle.sedmatch.specs.Tables.{IsSingle};
 ghost use Rattle.sedmatch.specs.Ready.{AreTables, IsPrepared};
 ghost use Rattle.sedmatch.specs.Answer.{SpanAnswer};
-ghost use Rattle.sedmatch.specs.Costs.{Pays, Takes};
+ghost use Rattle.sedmatch.specs.Costs.{Pays};
+ghost use Rattle.sedre.specs.Steps.{Takes};
 
 use crate::ahead::Lead;
 use crate::beginnings::Begins;
@@ -35,7 +36,6 @@ pub fn anchored_by(
     requires begins { (i j : ℕ) → Spans (tree expr.now) text.now i j → i ≡ 0 }
     requires single { IsSingle expr.now.nodes root single.old }
     requires fits { Fits (length expr.now.nodes) (length text.now) sets.old }
-    requires room { steps.old < 2 ^ 110 }
     ensures single { IsSingle expr.now.nodes root single.new }
     ensures marks { SameMarks sets.old sets.new }
     ensures answer { SpanAnswer (tree expr.now) text.now from result }
@@ -64,7 +64,6 @@ pub fn leftmost_by(
     requires ready { IsPrepared expr.now root known.now tables.old }
     requires from { from ≤ length text.now }
     requires fits { Fits (length expr.now.nodes) (length text.now) sets.old }
-    requires room { steps.old ≤ 2 ^ 101 }
     ensures tables { AreTables expr.now root tables.new }
     ensures marks { SameMarks sets.old sets.new }
     ensures answer { SpanAnswer (tree expr.now) text.now from result }
@@ -98,7 +97,6 @@ fn anywhere_by(
     requires ready { IsPrepared expr.now root known.now tables.old }
     requires from { from ≤ length text.now }
     requires fits { Fits (length expr.now.nodes) (length text.now) sets.old }
-    requires room { steps.old ≤ 2 ^ 102 }
     ensures tables { AreTables expr.now root tables.new }
     ensures marks { SameMarks sets.old sets.new }
     ensures answer { SpanAnswer (tree expr.now) text.now from result }
@@ -132,7 +130,6 @@ fn span_from(
     requires start { start ≤ length text.now }
     requires tables { AreTables expr.now root tables.old }
     requires fits { Fits (length expr.now.nodes) (length text.now) sets.old }
-    requires room { steps.old ≤ 2 ^ 103 }
     ensures tables { AreTables expr.now root tables.new }
     ensures marks { SameMarks sets.old sets.new }
     ensures answer { SpanAnswer (tree expr.now) text.now start result }

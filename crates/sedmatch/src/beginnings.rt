@@ -4,6 +4,8 @@ ghost use Rattle.sedre.specs.Arena.{IsArena, tree};
 ghost use Rattle.sedmatch.specs.declared.beginnings.Begins.TheVariants.{WithSet, WithEither};
 ghost use Rattle.sedmatch.specs.Beginnings.{AllBegin, AllAt, CanBegin, NextStart, skip_cost, left_part, LeafBegins, IsLeaf};
 ghost use Rattle.sedmatch.specs.Beginnings.{EitherHas, with_set, alternatives};
+ghost use Rattle.sedmatch.specs.Costs.{Pays};
+ghost use Rattle.sedre.specs.Steps.{Takes};
 
 use crate::counted::Text;
 use crate::passes::takes_byte;
@@ -89,10 +91,8 @@ fn begins_of(node: &Node) -> Begins
 fn left_leaf(expr: &Expr, from: usize, steps: &mut Steps) -> Node
     requires inside { from < length expr.now.nodes }
     requires few { length expr.now.nodes ≤ 65536 }
-    requires room { steps.old < 2 ^ 119 }
     ensures leaf { IsLeaf expr.now.nodes from result }
-    ensures grows { steps.old ≤ steps.new }
-    ensures cost { steps.new ≤ steps.old + from + 1 }
+    ensures cost { Takes steps.old steps.new (from + 1) }
     ensures arena { IsArena expr.now.nodes }
 {
     let mut index = from;
@@ -109,10 +109,8 @@ fn left_leaf(expr: &Expr, from: usize, steps: &mut Steps) -> Node
 fn first_set(expr: &Expr, from: usize, steps: &mut Steps) -> Option<ByteSet>
     requires inside { from < length expr.now.nodes }
     requires few { length expr.now.nodes ≤ 65536 }
-    requires room { steps.old < 2 ^ 119 }
     ensures begins { IfSome result (λ s. AllAt expr.now.nodes from (WithSet s)) }
-    ensures grows { steps.old ≤ steps.new }
-    ensures cost { steps.new ≤ steps.old + from + 1 }
+    ensures cost { Takes steps.old steps.new (from + 1) }
 {
     match left_leaf(expr, from, steps) {
         Node::Set(set) => Some(set),
@@ -135,11 +133,9 @@ fn begins_either(expr: &Expr, left: usize, right: usize, steps: &mut Steps) -> B
     requires left { left < length expr.now.nodes }
     requires right { right < length expr.now.nodes }
     requires few { length expr.now.nodes ≤ 65536 }
-    requires room { steps.old < 2 ^ 118 }
     ensures left { AllAt expr.now.nodes left result }
     ensures right { AllAt expr.now.nodes right result }
-    ensures grows { steps.old ≤ steps.new }
-    ensures cost { steps.new ≤ steps.old + 8 * length expr.now.nodes }
+    ensures cost { Takes steps.old steps.new (8 * length expr.now.nodes) }
 {
     let Some(set) = first_set(expr, left, steps) else {
         return Begins::Anyhow;
@@ -175,10 +171,8 @@ fn begins_either(expr: &Expr, left: usize, right: usize, steps: &mut Steps) -> B
 /// How every span of the expression begins, by the nodes that can stand first in one.
 pub fn how_begins(expr: &Expr, steps: &mut Steps) -> Begins
     requires few { length expr.now.nodes ≤ 65536 }
-    requires room { steps.old < 2 ^ 117 }
     ensures begins { AllBegin (tree expr.now) result }
-    ensures grows { steps.old ≤ steps.new }
-    ensures cost { steps.new ≤ steps.old + 9 * length expr.now.nodes }
+    ensures cost { Takes steps.old steps.new (9 * length expr.now.nodes) }
     ensures arena { IsArena expr.now.nodes }
 {
     let root = expr.root().index();
@@ -193,10 +187,8 @@ pub fn how_begins(expr: &Expr, steps: &mut Steps) -> Begins
 fn find_either(sets: &Either, text: &Text, from: usize, steps: &mut Steps) -> Option<usize>
     requires from { from ≤ length text.now }
     requires short { length text.now ≤ 2 ^ 30 }
-    requires room { steps.old < 2 ^ 117 }
     ensures next { NextStart (WithEither sets.now) text.now from result }
-    ensures grows { steps.old ≤ steps.new }
-    ensures cost { steps.new + from ≤ steps.old + skip_cost (length text.now) result }
+    ensures cost { Pays steps.old steps.new (skip_cost (length text.now) result) from }
 {
     for at in from..text.len() {
         let byte = text.byte(at, steps);
@@ -211,10 +203,8 @@ fn find_either(sets: &Either, text: &Text, from: usize, steps: &mut Steps) -> Op
 pub fn next_start(begins: &Begins, text: &Text, from: usize, steps: &mut Steps) -> Option<usize>
     requires from { from ≤ length text.now }
     requires short { length text.now ≤ 2 ^ 30 }
-    requires room { steps.old < 2 ^ 117 }
     ensures next { NextStart begins.now text.now from result }
-    ensures grows { steps.old ≤ steps.new }
-    ensures cost { steps.new + from ≤ steps.old + skip_cost (length text.now) result }
+    ensures cost { Pays steps.old steps.new (skip_cost (length text.now) result) from }
 {
     match begins {
         Begins::Anyhow => Some(from),

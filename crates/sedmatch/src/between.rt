@@ -6,6 +6,8 @@
 ghost use Rattle.std.specs.Prelude.{◌≡◌, ℕ, ◌+◌, ◌*◌, ◌^◌, ◌<◌, ◌≤◌, ◌-◌, length, None, IfOk, IfSome, IsTrue};
 ghost use Rattle.sedmatch.specs.Needed.{FirstLiteral};
 ghost use Rattle.sedmatch.specs.Between.{AreOutside, GoesClear, ClearTo, LastTail, AllParted, CanPart, PartedEnd, FirstParted, IsShort};
+ghost use Rattle.sedmatch.specs.Costs.{Pays};
+ghost use Rattle.sedre.specs.Steps.{Takes};
 
 use crate::counted::Text;
 use crate::far_ahead::star_set;
@@ -78,10 +80,8 @@ fn outside_of(set: &ByteSet) -> Option<Few>
 /// after them.
 fn middle_of(expr: &Expr, index: usize, steps: &mut Steps) -> Option<(Few, usize)>
     requires inside { index < length expr.now.nodes }
-    requires room { steps.old < 2 ^ 117 }
     ensures goes { IfSome result (λ f. GoesClear expr.now.nodes index f.0 f.1) }
-    ensures grows { steps.old ≤ steps.new }
-    ensures cost { steps.new ≤ steps.old + 4 }
+    ensures cost { Takes steps.old steps.new 4 }
 {
     match expr.look(expr.id(index), steps) {
         Node::Seq(a, b) => {
@@ -113,10 +113,8 @@ pub fn between_of(
     steps: &mut Steps,
 ) -> Result<Option<Between>, AllocError>
     requires few { length expr.now.nodes ≤ 65536 }
-    requires room { steps.old < 2 ^ 108 }
     ensures parted { IfOk result (λ r. IfSome r (λ b. AllParted expr.now.nodes (length expr.now.nodes - 1) b)) }
-    ensures grows { steps.old ≤ steps.new }
-    ensures cost { steps.new ≤ steps.old + 262152 }
+    ensures cost { Takes steps.old steps.new 262152 }
 {
     let root = expr.root().index();
     let Literal { bytes: head, rest } = literal_from(alloc, expr, root, steps)?;
@@ -156,10 +154,8 @@ fn tail_len(tail: &FinderRev) -> usize
 /// The first place from `from` on at which one of the few stands, or the end of the text.
 fn clear_end(few: &Few, text: &Text, from: usize, steps: &mut Steps) -> usize
     requires from { from ≤ length text.now }
-    requires room { steps.old < 2 ^ 118 }
     ensures clear { ClearTo few.now text.now from result }
-    ensures grows { steps.old ≤ steps.new }
-    ensures cost { steps.new + from ≤ steps.old + (result + 1) }
+    ensures cost { Pays steps.old steps.new (result + 1) from }
 {
     match text.find_few(few, from, steps) {
         None => text.len(),
@@ -179,10 +175,8 @@ fn last_tail(
     requires short { length text.now ≤ 2 ^ 30 }
     requires from { from ≤ to }
     requires to { to ≤ length text.now }
-    requires room { steps.old < 2 ^ 118 }
     ensures last { LastTail tail.now text.now from to result }
-    ensures grows { steps.old ≤ steps.new }
-    ensures cost { steps.new + from ≤ steps.old + (to + length tail.now) }
+    ensures cost { Pays steps.old steps.new (to + length tail.now) from }
 {
     let end = text.len().min(to + tail_len(tail));
     text.find_last(tail, from, end, steps)
@@ -200,10 +194,8 @@ fn first_parted(
     requires literals { IsShort head.now tail.now }
     requires short { length text.now ≤ 2 ^ 30 }
     requires from { from ≤ length text.now }
-    requires room { steps.old < 2 ^ 117 }
     ensures first { FirstParted (record { head = head.now; outside = outside.now; tail = tail.now }) text.now from result }
-    ensures grows { steps.old ≤ steps.new }
-    ensures cost { steps.new + 24 * from ≤ steps.old + 24 * (length text.now + 1) }
+    ensures cost { Pays steps.old steps.new (24 * (length text.now + 1)) (24 * from) }
 {
     let mut place = from;
     while let Some(start) = text.find_literal(head, place, steps) {
@@ -223,10 +215,8 @@ fn first_parted(
 /// Whether the second literal, where it is the longer one, tells that no match begins at `from` or later.
 fn lacks_tail(head: &Finder, ahead: &Finder, text: &Text, from: usize, steps: &mut Steps) -> bool
     requires from { from ≤ length text.now }
-    requires room { steps.old < 2 ^ 118 }
     ensures lacks { IsTrue result → FirstLiteral text.now ahead.now from None }
-    ensures grows { steps.old ≤ steps.new }
-    ensures cost { steps.new + from ≤ steps.old + length text.now }
+    ensures cost { Pays steps.old steps.new (length text.now) from }
 {
     if ahead.needle().len() <= head.needle().len() {
         return false;
@@ -251,10 +241,8 @@ fn parted_start(
     requires same { ahead.now ≡ tail.now }
     requires short { length text.now ≤ 2 ^ 30 }
     requires from { from ≤ length text.now }
-    requires room { steps.old < 2 ^ 116 }
     ensures first { FirstParted (record { head = head.now; outside = outside.now; tail = tail.now }) text.now from result }
-    ensures grows { steps.old ≤ steps.new }
-    ensures cost { steps.new + 25 * from ≤ steps.old + 25 * (length text.now + 1) }
+    ensures cost { Pays steps.old steps.new (25 * (length text.now + 1)) (25 * from) }
 {
     if lacks_tail(head, ahead, text, from, steps) {
         return None;
@@ -274,10 +262,8 @@ fn parted_end(
     requires literals { IsShort head.now tail.now }
     requires short { length text.now ≤ 2 ^ 30 }
     requires can { CanPart (record { head = head.now; outside = outside.now; tail = tail.now }) text.now start }
-    requires room { steps.old < 2 ^ 117 }
     ensures end { PartedEnd (record { head = head.now; outside = outside.now; tail = tail.now }) text.now start result }
-    ensures grows { steps.old ≤ steps.new }
-    ensures cost { steps.new ≤ steps.old + 25 * (length text.now + 1) }
+    ensures cost { Takes steps.old steps.new (25 * (length text.now + 1)) }
 {
     let behind = place_behind(head, text, start);
     let stop = clear_end(outside, text, behind, steps);
@@ -293,10 +279,8 @@ impl Between {
     pub fn start(&self, text: &Text, from: usize, steps: &mut Steps) -> Option<usize>
         requires short { length text.now ≤ 2 ^ 30 }
         requires from { from ≤ length text.now }
-        requires room { steps.old < 2 ^ 116 }
         ensures first { FirstParted self.now text.now from result }
-        ensures grows { steps.old ≤ steps.new }
-        ensures cost { steps.new + 25 * from ≤ steps.old + 25 * (length text.now + 1) }
+        ensures cost { Pays steps.old steps.new (25 * (length text.now + 1)) (25 * from) }
     {
         parted_start(
             &self.head,
@@ -314,10 +298,8 @@ impl Between {
     pub fn end(&self, text: &Text, start: usize, steps: &mut Steps) -> usize
         requires short { length text.now ≤ 2 ^ 30 }
         requires can { CanPart self.now text.now start }
-        requires room { steps.old < 2 ^ 117 }
         ensures end { PartedEnd self.now text.now start result }
-        ensures grows { steps.old ≤ steps.new }
-        ensures cost { steps.new ≤ steps.old + 25 * (length text.now + 1) }
+        ensures cost { Takes steps.old steps.new (25 * (length text.now + 1)) }
     {
         parted_end(&self.head, &self.outside, &self.tail, text, start, steps)
     }

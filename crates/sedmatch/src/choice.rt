@@ -10,6 +10,7 @@ ghost use Rattle.sedmatch.specs.Word.{AllWord};
 ghost use Rattle.sedmatch.specs.Choice.{AllChoice, AreHeads, AreShort, BranchesOf, ChoiceAt, ChoiceEnd, FirstChoice, Longer, LongestAt, RareHeads};
 ghost use Rattle.sedmatch.specs.Few.{Gathered, HasFew};
 ghost use Rattle.sedmatch.specs.Openings.{PairAt};
+ghost use Rattle.sedre.specs.Steps.{Takes, Counted};
 
 use crate::counted::Text;
 use crate::few::{Few, with_byte};
@@ -110,9 +111,9 @@ pub enum Branches {
 /// The alternatives of the node, or what stands in it where it is a group.
 fn branches_of(expr: &Expr, index: usize, steps: &mut Steps) -> Branches
     requires inside { index < length expr.now.nodes }
-    requires room { steps.old < 2 ^ 118 }
     ensures branches { BranchesOf expr.now.nodes index result }
-    ensures cost { steps.new ≡ steps.old + 1 }
+    ensures cost { Takes steps.old steps.new 1 }
+    ensures counts { Counted steps.old steps.new 1 }
 {
     let node = expr.look(expr.id(index), steps);
     match node {
@@ -132,11 +133,9 @@ fn literal_at(
 ) -> Result<Option<Alternative>, AllocError>
     requires inside { index < length expr.now.nodes }
     requires few { length expr.now.nodes ≤ 65536 }
-    requires room { steps.old < 2 ^ 117 }
     ensures literal { IfOk result (λ r. IfSome r (λ a. AllWord expr.now.nodes index a)) }
     ensures long { IfOk result (λ r. IfSome r (λ a. (0 < length a) × (length a ≤ most))) }
-    ensures grows { steps.old ≤ steps.new }
-    ensures cost { steps.new ≤ steps.old + 131074 }
+    ensures cost { Takes steps.old steps.new 131074 }
 {
     let Literal { bytes, rest } = literal_from(alloc, expr, index, steps)?;
     if rest.is_some() || bytes.is_empty() || bytes.len() > most {
@@ -153,11 +152,9 @@ fn literals_of(
     steps: &mut Steps,
 ) -> Result<Option<Vec<Alternative>>, AllocError>
     requires few { length expr.now.nodes ≤ 65536 }
-    requires room { steps.old < 2 ^ 110 }
     ensures choice { IfOk result (λ r. IfSome r (λ v. AllChoice expr.now.nodes (length expr.now.nodes - 1) v.items)) }
     ensures short { IfOk result (λ r. IfSome r (λ v. AreShort v.items)) }
-    ensures grows { steps.old ≤ steps.new }
-    ensures cost { steps.new ≤ steps.old + 1114144 }
+    ensures cost { Takes steps.old steps.new 1114144 }
 {
     let mut literals = Vec::new(alloc);
     let mut index = expr.root().index();
@@ -235,10 +232,8 @@ pub fn choice_of(
     steps: &mut Steps,
 ) -> Result<Option<Choice>, AllocError>
     requires few { length expr.now.nodes ≤ 65536 }
-    requires room { steps.old < 2 ^ 110 }
     ensures choice { IfOk result (λ r. IfSome r (λ c. AllChoice expr.now.nodes (length expr.now.nodes - 1) c)) }
-    ensures grows { steps.old ≤ steps.new }
-    ensures cost { steps.new ≤ steps.old + 1114144 }
+    ensures cost { Takes steps.old steps.new 1114144 }
 {
     let Some(literals) = literals_of(alloc, expr, steps)? else {
         return Ok(None);
@@ -345,10 +340,8 @@ fn rare_choice(
     requires literals { AreShort literals.now }
     requires from { from ≤ length text.now }
     requires short { length text.now ≤ 2 ^ 30 }
-    requires room { steps.old < 2 ^ 116 }
     ensures first { FirstChoice literals.now text.now from result }
-    ensures grows { steps.old ≤ steps.new }
-    ensures cost { steps.new ≤ steps.old + 21 * (length text.now + 1) }
+    ensures cost { Takes steps.old steps.new (21 * (length text.now + 1)) }
 {
     let mut place = from;
     while let Some(at) = text.find_few(few, place, steps) {
@@ -365,10 +358,8 @@ impl Choice {
     pub fn start(&self, text: &Text, from: usize, steps: &mut Steps) -> Option<usize>
         requires from { from ≤ length text.now }
         requires short { length text.now ≤ 2 ^ 30 }
-        requires room { steps.old < 2 ^ 116 }
         ensures first { FirstChoice self.now text.now from result }
-        ensures grows { steps.old ≤ steps.new }
-        ensures cost { steps.new ≤ steps.old + 22 * (length text.now + 1) }
+        ensures cost { Takes steps.old steps.new (22 * (length text.now + 1)) }
     {
         let literals = &self.literals;
         match (&self.rare, &self.openings) {
@@ -384,10 +375,8 @@ impl Choice {
     pub fn end(&self, text: &Text, start: usize, steps: &mut Steps) -> usize
         requires short { length text.now ≤ 2 ^ 30 }
         requires can { ChoiceAt self.now text.now start }
-        requires room { steps.old < 2 ^ 117 }
         ensures end { ChoiceEnd self.now text.now start result }
-        ensures grows { steps.old ≤ steps.new }
-        ensures cost { steps.new ≤ steps.old + 20 }
+        ensures cost { Takes steps.old steps.new 20 }
     {
         match text.longest_choice(&self.literals, start, steps) {
             Some(len) => start + len,

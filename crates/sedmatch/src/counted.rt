@@ -15,6 +15,8 @@ ghost use Rattle.sedmatch.specs.Beginnings.{CanBegin, NextStart, skip_cost};
 ghost use Rattle.sedmatch.specs.declared.beginnings.Begins.TheVariants.{WithSet};
 ghost use Rattle.sedmatch.specs.Trail.{RunBegins, LastWith};
 ghost use Rattle.sedmatch.specs.Words.{marks_of};
+ghost use Rattle.sedmatch.specs.Costs.{Pays};
+ghost use Rattle.sedre.specs.Steps.{Takes, Counted};
 
 mod rows;
 
@@ -89,9 +91,9 @@ impl<'a> Text<'a> {
     /// The byte at a place. Counts one look.
     pub fn byte(&self, i: usize, steps: &mut Steps) -> u8
         requires inside { i < length self.now }
-        requires room { steps.old < 2 ^ 120 }
         ensures byte { slice_get self.now i ≡ Some result }
-        ensures cost { steps.new ≡ steps.old + 1 }
+        ensures cost { Takes steps.old steps.new 1 }
+        ensures counts { Counted steps.old steps.new 1 }
     {
         steps.add(1);
         self.bytes[i]
@@ -101,9 +103,9 @@ impl<'a> Text<'a> {
     /// Counts a look for each byte from `from` to that place, or to the end where there is none.
     pub fn find_byte(&self, value: u8, from: usize, steps: &mut Steps) -> Option<usize>
         requires from { from ≤ length self.now }
-        requires room { steps.old < 2 ^ 120 }
         ensures first { FirstAt self.now value from result }
-        ensures cost { steps.new ≡ steps.old + looked_at (length self.now) from result }
+        ensures cost { Takes steps.old steps.new (looked_at (length self.now) from result) }
+        ensures counts { Counted steps.old steps.new (looked_at (length self.now) from result) }
     {
         let rest = &self.bytes[from..];
         match memchr(value, rest) {
@@ -122,9 +124,9 @@ impl<'a> Text<'a> {
     /// Counts a look for each byte from `from` to the literal's end, or to the end where there is none.
     pub fn find_literal(&self, finder: &Finder, from: usize, steps: &mut Steps) -> Option<usize>
         requires from { from ≤ length self.now }
-        requires room { steps.old < 2 ^ 120 }
         ensures first { FirstLiteral self.now finder.now from result }
-        ensures cost { steps.new ≡ steps.old + passed_to (length self.now) from (length finder.now) result }
+        ensures cost { Takes steps.old steps.new (passed_to (length self.now) from (length finder.now) result) }
+        ensures counts { Counted steps.old steps.new (passed_to (length self.now) from (length finder.now) result) }
     {
         let behind = &self.bytes[from..];
         match finder.find(behind) {
@@ -150,10 +152,8 @@ impl<'a> Text<'a> {
     ) -> Option<usize>
         requires from { from ≤ to }
         requires to { to ≤ length self.now }
-        requires room { steps.old < 2 ^ 119 }
         ensures last { LastLiteral self.now finder.now from to result }
-        ensures grows { steps.old ≤ steps.new }
-        ensures cost { steps.new + from ≤ steps.old + to }
+        ensures cost { Pays steps.old steps.new to from }
     {
         let part = &self.bytes[from..to];
         match finder.rfind(part) {
@@ -173,11 +173,11 @@ impl<'a> Text<'a> {
     pub fn pass_apart(&self, first: &Fixed, second: &Fixed, from: usize, steps: &mut Steps) -> usize
         requires from { from ≤ length self.now }
         requires short { length self.now ≤ 2 ^ 30 }
-        requires room { steps.old < 2 ^ 119 }
         ensures after { from ≤ result }
         ensures within { result ≤ length self.now }
         ensures apart { ApartIn first.now second.now self.now from result }
-        ensures cost { steps.new + 2 * from ≡ steps.old + 2 * result }
+        ensures cost { Takes steps.old steps.new (2 * (result - from)) }
+        ensures counts { Counted steps.old steps.new (2 * (result - from)) }
     {
         let place = apart_to(self.bytes, first, second, from);
         steps.add(2 * (place - from));
@@ -189,9 +189,9 @@ impl<'a> Text<'a> {
     #[inline(always)]
     pub fn find_few(&self, few: &Few, from: usize, steps: &mut Steps) -> Option<usize>
         requires from { from ≤ length self.now }
-        requires room { steps.old < 2 ^ 120 }
         ensures first { FirstFew few.now self.now from result }
-        ensures cost { steps.new ≡ steps.old + looked_at (length self.now) from result }
+        ensures cost { Takes steps.old steps.new (looked_at (length self.now) from result) }
+        ensures counts { Counted steps.old steps.new (looked_at (length self.now) from result) }
     {
         let behind = &self.bytes[from..];
         match few.find(behind) {
@@ -212,11 +212,9 @@ impl<'a> Text<'a> {
     pub(crate) fn find_member(&self, set: &ByteSet, from: usize, steps: &mut Steps) -> Option<usize>
         requires from { from ≤ length self.now }
         requires short { length self.now ≤ 2 ^ 30 }
-        requires room { steps.old < 2 ^ 117 }
         ensures next { NextStart (WithSet set.now) self.now from result }
         ensures here { IfSome result (λ k. CanBegin (WithSet set.now) self.now k) }
-        ensures grows { steps.old ≤ steps.new }
-        ensures cost { steps.new + from ≤ steps.old + skip_cost (length self.now) result }
+        ensures cost { Pays steps.old steps.new (skip_cost (length self.now) result) from }
     {
         match first_member(set, self.bytes, from) {
             None => {
@@ -244,10 +242,8 @@ impl<'a> Text<'a> {
         requires literals { AreShort literals.now }
         requires from { from ≤ length self.now }
         requires short { length self.now ≤ 2 ^ 30 }
-        requires room { steps.old < 2 ^ 117 }
         ensures first { FirstChoice literals.now self.now from result }
-        ensures grows { steps.old ≤ steps.new }
-        ensures cost { steps.new ≤ steps.old + 21 * (length self.now + 1) }
+        ensures cost { Takes steps.old steps.new (21 * (length self.now + 1)) }
     {
         match first_choice(heads, literals, self.bytes, from) {
             None => {
@@ -277,10 +273,8 @@ impl<'a> Text<'a> {
         requires literals { AreShort literals.now }
         requires from { from ≤ length self.now }
         requires short { length self.now ≤ 2 ^ 30 }
-        requires room { steps.old < 2 ^ 117 }
         ensures first { FirstChoice literals.now self.now from result }
-        ensures grows { steps.old ≤ steps.new }
-        ensures cost { steps.new ≤ steps.old + 22 * (length self.now + 1) }
+        ensures cost { Takes steps.old steps.new (22 * (length self.now + 1)) }
     {
         match first_opened(heads, openings, literals, self.bytes, from) {
             None => {
@@ -304,9 +298,9 @@ impl<'a> Text<'a> {
     ) -> Option<usize>
         requires literals { AreShort literals.now }
         requires at { at ≤ length self.now }
-        requires room { steps.old < 2 ^ 117 }
         ensures longest { LongestAt literals.now self.now at (length literals.now) result }
-        ensures cost { steps.new ≡ steps.old + 20 }
+        ensures cost { Takes steps.old steps.new 20 }
+        ensures counts { Counted steps.old steps.new 20 }
     {
         steps.add(MAX_BYTES);
         longest_at(literals, self.bytes, at)
@@ -318,10 +312,8 @@ impl<'a> Text<'a> {
     pub(crate) fn run_end(&self, set: &ByteSet, from: usize, steps: &mut Steps) -> usize
         requires from { from ≤ length self.now }
         requires short { length self.now ≤ 2 ^ 30 }
-        requires room { steps.old < 2 ^ 119 }
         ensures run { IsRun set.now self.now from result }
-        ensures grows { steps.old ≤ steps.new }
-        ensures cost { steps.new ≤ steps.old + length self.now }
+        ensures cost { Takes steps.old steps.new (length self.now) }
     {
         let end = run_to(set, self.bytes, from);
         steps.add(end - from);
@@ -343,10 +335,8 @@ impl<'a> Text<'a> {
     ) -> usize
         requires from { from ≤ to }
         requires to { to ≤ length self.now }
-        requires room { steps.old < 2 ^ 119 }
         ensures begins { RunBegins set.now self.now from to result }
-        ensures grows { steps.old ≤ steps.new }
-        ensures cost { steps.new + from ≤ steps.old + to }
+        ensures cost { Pays steps.old steps.new to from }
     {
         let begin = run_back(set, self.bytes, from, to);
         steps.add(to - begin);
@@ -368,10 +358,8 @@ impl<'a> Text<'a> {
     ) -> Option<usize>
         requires from { from ≤ to }
         requires to { to ≤ length self.now }
-        requires room { steps.old < 2 ^ 119 }
         ensures last { LastWith sought.now self.now from to result }
-        ensures grows { steps.old ≤ steps.new }
-        ensures cost { steps.new + from ≤ steps.old + to }
+        ensures cost { Pays steps.old steps.new to from }
     {
         match last_with(sought, self.bytes, from, to) {
             None => {
@@ -417,9 +405,9 @@ impl<'a> Bytes<'a> {
     /// The byte at a place. Counts one look.
     pub fn byte(&self, i: usize, steps: &mut Steps) -> u8
         requires inside { i < length self.now }
-        requires room { steps.old < 2 ^ 120 }
         ensures byte { slice_get self.now i ≡ Some result }
-        ensures cost { steps.new ≡ steps.old + 1 }
+        ensures cost { Takes steps.old steps.new 1 }
+        ensures counts { Counted steps.old steps.new 1 }
     {
         steps.add(1);
         if self.backwards {
@@ -466,9 +454,9 @@ impl Marks {
     /// Whether the mark is set. Counts one look.
     pub fn get(&self, i: usize, steps: &mut Steps) -> bool
         requires inside { i < length self.now }
-        requires room { steps.old < 2 ^ 120 }
         ensures mark { result ≡ slice_index_or self.now i false }
-        ensures cost { steps.new ≡ steps.old + 1 }
+        ensures cost { Takes steps.old steps.new 1 }
+        ensures counts { Counted steps.old steps.new 1 }
     {
         steps.add(1);
         has_bit(self.words[i / 64], i % 64)
@@ -477,9 +465,9 @@ impl Marks {
     /// Sets the mark, or takes it away. Counts one look.
     pub fn set(&mut self, i: usize, mark: bool, steps: &mut Steps)
         requires inside { i < length self.old }
-        requires room { steps.old < 2 ^ 120 }
         ensures marks { self.new ≡ slice_set self.old i mark }
-        ensures cost { steps.new ≡ steps.old + 1 }
+        ensures cost { Takes steps.old steps.new 1 }
+        ensures counts { Counted steps.old steps.new 1 }
     {
         steps.add(1);
         let word = put_bit(self.words[i / 64], i % 64, mark);
@@ -490,10 +478,10 @@ impl Marks {
     /// Counts a look for each of the `count`.
     pub fn clear(&mut self, count: usize, steps: &mut Steps)
         requires inside { count ≤ length self.old }
-        requires room { steps.old < 2 ^ 120 }
         ensures len { length self.new ≡ length self.old }
         ensures clear { (c : ℕ) → c < count → slice_index_or self.new c false ≡ false }
-        ensures cost { steps.new ≡ steps.old + count }
+        ensures cost { Takes steps.old steps.new count }
+        ensures counts { Counted steps.old steps.new count }
     {
         steps.add(count);
         clear_words(&mut self.words, count.div_ceil(64));
@@ -503,8 +491,8 @@ impl Marks {
     /// Counts a look for each of the `count`.
     pub fn digest(&self, count: usize, steps: &mut Steps) -> u64
         requires inside { count ≤ length self.now }
-        requires room { steps.old < 2 ^ 120 }
-        ensures cost { steps.new ≡ steps.old + count }
+        ensures cost { Takes steps.old steps.new count }
+        ensures counts { Counted steps.old steps.new count }
     {
         steps.add(count);
         digest_words(&self.words, count.div_ceil(64))

@@ -4,12 +4,12 @@ ghost use Rattle.std.specs.Prelude.{slice_index_or, IfSome, IfNone, IsTrue};
 ghost use Rattle.sedre.specs.Arena.{IsArena};
 ghost use Rattle.sedmatch.specs.Spans.{Copies};
 ghost use Rattle.sedmatch.specs.Fits.{Fits, FitsCuts, FitsFew, SameMarks, SameRoom};
-ghost use Rattle.sedmatch.specs.Costs.{Takes};
 ghost use Rattle.sedmatch.specs.Places.{InOrder};
 ghost use Rattle.sedmatch.specs.Reach.{At, one_start, OpenFrom};
 ghost use Rattle.sedmatch.specs.Reach.{TellEntered, TellBegun};
 ghost use Rattle.sedmatch.specs.Caps.{LastCut};
 ghost use Rattle.sedmatch.specs.Cuts.{GreatestBelow, LastCopyIn, LeastFrom, Repeats, TellStarts};
+ghost use Rattle.sedre.specs.Steps.{Takes};
 
 use crate::ahead::{Lead, lead_from};
 use crate::counted::{Bytes, Marks, Text};
@@ -33,11 +33,9 @@ pub fn reaches(
     requires start { start ≤ stop }
     requires stop { stop ≤ length text.now }
     requires fits { Fits (length expr.now.nodes) (length text.now) sets.old }
-    requires room { steps.old < 2 ^ 115 }
     ensures marks { SameMarks sets.old sets.new }
     ensures spans { IsTrue result ↔ At expr.now.nodes text.now root start stop }
-    ensures grows { steps.old ≤ steps.new }
-    ensures cost { steps.new ≤ steps.old + 28 * length expr.now.nodes * (length text.now + 1) }
+    ensures cost { Takes steps.old steps.new (28 * length expr.now.nodes * (length text.now + 1)) }
 {
     match lead_from(expr, root, text, start, steps) {
         Lead::Nowhere => false,
@@ -60,11 +58,9 @@ fn reaches_by_pass(
     requires start { start ≤ stop }
     requires stop { stop ≤ length text.now }
     requires fits { Fits (length expr.now.nodes) (length text.now) sets.old }
-    requires room { steps.old < 2 ^ 116 }
     ensures marks { SameMarks sets.old sets.new }
     ensures spans { IsTrue result ↔ At expr.now.nodes text.now root start stop }
-    ensures grows { steps.old ≤ steps.new }
-    ensures cost { steps.new ≤ steps.old + 21 * length expr.now.nodes * (length text.now + 1) }
+    ensures cost { Takes steps.old steps.new (21 * length expr.now.nodes * (length text.now + 1)) }
 {
     sets.entered.clear(root + 1, steps);
     let mut last = false;
@@ -94,7 +90,6 @@ fn advance_if(
     requires fits { FitsFew (length expr.now.nodes) sets.old }
     requires entered { IsTrue more → TellEntered expr.now.nodes text.now root (one_start start) place sets.old.entered }
     requires closed { (k : ℕ) → place ≤ k → At expr.now.nodes text.now root start k → IsTrue more }
-    requires room { steps.old < 2 ^ 117 }
     ensures marks { SameMarks sets.old sets.new }
     ensures entered { IsTrue result.more → TellBegun expr.now.nodes text.now root (one_start start) place sets.new.entered }
     ensures spans { IsTrue result.matched ↔ At expr.now.nodes text.now root start place }
@@ -127,12 +122,10 @@ fn ends_from(
     requires stop { stop ≤ length text.now }
     requires fits { Fits (length expr.now.nodes) (length text.now) sets.old }
     requires ends_fit { length text.now < length ends.old }
-    requires room { steps.old < 2 ^ 116 }
     ensures marks { SameMarks sets.old sets.new }
     ensures ends_len { length ends.new ≡ length ends.old }
     ensures ends { (k : ℕ) → start ≤ k → k ≤ stop → IsTrue (slice_index_or ends.new k false) ↔ At expr.now.nodes text.now root start k }
-    ensures grows { steps.old ≤ steps.new }
-    ensures cost { steps.new ≤ steps.old + 22 * length expr.now.nodes * (length text.now + 1) }
+    ensures cost { Takes steps.old steps.new (22 * length expr.now.nodes * (length text.now + 1)) }
 {
     sets.entered.clear(root + 1, steps);
     let mut more = true;
@@ -160,11 +153,9 @@ fn first_end(
     requires stop { stop ≤ length bytes.now }
     requires fits { Fits (length nodes.now.nodes) (length bytes.now) sets.old }
     requires ends_fit { length bytes.now < length ends.now }
-    requires room { steps.old < 2 ^ 116 }
     ensures marks { SameMarks sets.old sets.new }
     ensures first { LeastFrom (λ q. At nodes.now.nodes bytes.now root start q × IsTrue (slice_index_or ends.now (length bytes.now - q) false)) start (stop + 1) result }
-    ensures grows { steps.old ≤ steps.new }
-    ensures cost { steps.new ≤ steps.old + 22 * length nodes.now.nodes * (length bytes.now + 1) }
+    ensures cost { Takes steps.old steps.new (22 * length nodes.now.nodes * (length bytes.now + 1)) }
 {
     let len = bytes.len();
     sets.entered.clear(root + 1, steps);
@@ -197,11 +188,9 @@ fn far_cut(
     requires short { length text.now ≤ 2 ^ 30 }
     requires start { start ≤ length text.now }
     requires spans { (k : ℕ) × At expr.now.nodes text.now left start k × At expr.now.nodes text.now right k stop }
-    requires room { steps.old < 2 ^ 115 }
     ensures cut { IfSome result (LastCut (At expr.now.nodes text.now left) (At expr.now.nodes text.now right) start stop) }
-    ensures grows { steps.old ≤ steps.new }
     ensures cost { let m = length expr.now.nodes in let n = length text.now in
-        steps.new ≤ steps.old + (n + 8) * m + 3 + n }
+        Takes steps.old steps.new ((n + 8) * m + 3 + n) }
 {
     match far_from(expr, left, text, start, steps) {
         Far::To(end) => if none_before(expr, right, text, start, end, steps) {
@@ -230,12 +219,10 @@ fn cut_at_sight(
     requires short { length text.now ≤ 2 ^ 30 }
     requires order { InOrder start stop (length text.now) }
     requires spans { (k : ℕ) × At expr.now.nodes text.now left start k × At expr.now.nodes text.now right k stop }
-    requires room { steps.old ≤ 2 ^ 114 }
     ensures cut { IfSome result (LastCut (At expr.now.nodes text.now left) (At expr.now.nodes text.now right) start stop) }
     ensures some_byte { IfNone result (start < stop) }
-    ensures grows { steps.old ≤ steps.new }
     ensures cost { let m = length expr.now.nodes in let n = length text.now in
-        steps.new ≤ steps.old + (n + 15) * m + 4 + n }
+        Takes steps.old steps.new ((n + 15) * m + 4 + n) }
 {
     if start == stop {
         return Some(start);
@@ -268,7 +255,6 @@ pub fn last_cut(
     requires fits { Fits (length expr.now.nodes) (length text.now) sets.old }
     requires ends_fit { length text.now < length ends.old }
     requires spans { (k : ℕ) × At expr.now.nodes text.now left start k × At expr.now.nodes text.now right k stop }
-    requires room { steps.old ≤ 2 ^ 114 }
     ensures marks { SameMarks sets.old sets.new }
     ensures ends_len { length ends.new ≡ length ends.old }
     ensures cut { LastCut (At expr.now.nodes text.now left) (At expr.now.nodes text.now right) start stop result }
@@ -298,7 +284,6 @@ fn cut_by_passes(
     requires fits { Fits (length expr.now.nodes) (length text.now) sets.old }
     requires ends_fit { length text.now < length ends.old }
     requires spans { (k : ℕ) × At expr.now.nodes text.now left start k × At expr.now.nodes text.now right k stop }
-    requires room { steps.old < 2 ^ 115 }
     ensures marks { SameMarks sets.old sets.new }
     ensures ends_len { length ends.new ≡ length ends.old }
     ensures cut { LastCut (At expr.now.nodes text.now left) (At expr.now.nodes text.now right) start stop result }
@@ -339,11 +324,9 @@ fn copy_to(
     requires stop { stop ≤ length text.now }
     requires fits { Fits (length expr.now.nodes) (length text.now) sets.old }
     requires tail_fits { length text.now < length tail.now }
-    requires room { steps.old < 2 ^ 116 }
     ensures marks { SameMarks sets.old sets.new }
     ensures greatest { GreatestBelow (λ l. (start < l) × At expr.now.nodes text.now root start l × IsTrue (slice_index_or tail.now l false)) (stop + 1) result }
-    ensures grows { steps.old ≤ steps.new }
-    ensures cost { steps.new ≤ steps.old + 22 * length expr.now.nodes * (length text.now + 1) }
+    ensures cost { Takes steps.old steps.new (22 * length expr.now.nodes * (length text.now + 1)) }
 {
     sets.entered.clear(root + 1, steps);
     let mut best = None;
@@ -375,12 +358,10 @@ fn mark_ends(
     requires order { InOrder start stop (length bytes.now) }
     requires fits { Fits (length nodes.now.nodes) (length bytes.now) sets.old }
     requires ends_fit { length bytes.now < length ends.old }
-    requires room { steps.old < 2 ^ 116 }
     ensures marks { SameMarks sets.old sets.new }
     ensures ends_len { length ends.new ≡ length ends.old }
     ensures ends { (q : ℕ) → start ≤ q → q ≤ stop → IsTrue (slice_index_or ends.new (length bytes.now - q) false) ↔ At nodes.now.nodes bytes.now root start q }
-    ensures grows { steps.old ≤ steps.new }
-    ensures cost { steps.new ≤ steps.old + 23 * length nodes.now.nodes * (length bytes.now + 1) }
+    ensures cost { Takes steps.old steps.new (23 * length nodes.now.nodes * (length bytes.now + 1)) }
 {
     let len = bytes.len();
     sets.entered.clear(root + 1, steps);
@@ -409,12 +390,10 @@ fn starts_to(
     requires order { InOrder start stop (length text.now) }
     requires fits { Fits (length expr.now.nodes) (length text.now) sets.old }
     requires starts_fit { length text.now < length starts.old }
-    requires room { steps.old < 2 ^ 115 }
     ensures marks { SameMarks sets.old sets.new }
     ensures starts_len { length starts.new ≡ length starts.old }
     ensures starts { TellStarts expr.now.nodes text.now root start stop starts.new }
-    ensures grows { steps.old ≤ steps.new }
-    ensures cost { steps.new ≤ steps.old + 23 * length expr.now.nodes * (length text.now + 1) }
+    ensures cost { Takes steps.old steps.new (23 * length expr.now.nodes * (length text.now + 1)) }
 {
     let len = text.len();
     let nodes = Nodes::mirrored(expr);
@@ -451,12 +430,10 @@ pub fn last_copy(
     requires stop { stop ≤ length text.now }
     requires fits { FitsCuts (length expr.now.nodes) (length text.now) sets.old places.old }
     requires spans { Copies (At expr.now.nodes text.now root) stop start }
-    requires room { steps.old ≤ 2 ^ 114 }
     ensures same { SameRoom sets.old sets.new places.old places.new }
     ensures last { LastCopyIn (At expr.now.nodes text.now root) stop start result }
-    ensures grows { steps.old ≤ steps.new }
     ensures cost { let m = length expr.now.nodes in let n = length text.now in
-        steps.new ≤ steps.old + 31 * m * (n + 1) * (n + 1) + 2 }
+        Takes steps.old steps.new (31 * m * (n + 1) * (n + 1) + 2) }
 {
     match expr.look(expr.id(root), steps) {
         Node::Set(_) => stop - 1,
@@ -481,11 +458,9 @@ fn copy_at_sight(
     requires few { length expr.now.nodes ≤ 65536 }
     requires short { length text.now ≤ 2 ^ 30 }
     requires order { (start < stop) × (stop ≤ length text.now) }
-    requires room { steps.old ≤ 2 ^ 114 + 1 }
     ensures last { IfSome result (LastCopyIn (At expr.now.nodes text.now root) stop start) }
-    ensures grows { steps.old ≤ steps.new }
     ensures cost { let m = length expr.now.nodes in let n = length text.now in
-        steps.new ≤ steps.old + (n + 8) * m * n }
+        Takes steps.old steps.new ((n + 8) * m * n) }
 {
     let mut copy = start;
     'copies: loop {
@@ -523,12 +498,10 @@ fn copy_by_passes(
     requires stop { stop ≤ length text.now }
     requires fits { FitsCuts (length expr.now.nodes) (length text.now) sets.old places.old }
     requires spans { Copies (At expr.now.nodes text.now root) stop start }
-    requires room { steps.old < 2 ^ 115 }
     ensures same { SameRoom sets.old sets.new places.old places.new }
     ensures last { LastCopyIn (At expr.now.nodes text.now root) stop start result }
-    ensures grows { steps.old ≤ steps.new }
     ensures cost { let m = length expr.now.nodes in let n = length text.now in
-        steps.new ≤ steps.old + 23 * m * (n + 1) * (n + 1) + 1 }
+        Takes steps.old steps.new (23 * m * (n + 1) * (n + 1) + 1) }
 {
     starts_to(expr, star, text, start, stop, sets, places, steps);
     let mut copy = start;

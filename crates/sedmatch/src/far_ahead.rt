@@ -10,6 +10,7 @@ ghost use Rattle.sedmatch.specs.Spans.{Spans};
 ghost use Rattle.sedmatch.specs.Reach.{At};
 ghost use Rattle.sedmatch.specs.FarAhead.{EndsFar, GoesFar, IsNearer, AllRepeat, IsRun, IsFirst, IsApart};
 ghost use Rattle.sedmatch.specs.FarAhead.{NoneBefore, far_of, further_of};
+ghost use Rattle.sedre.specs.Steps.{Takes};
 
 use crate::ahead::{Lead, Rest, rest_behind, rest_of_node, rest_of_seq};
 use crate::beginnings::left_part;
@@ -62,10 +63,8 @@ fn star_set_of(expr: &Expr, index: usize, node: &Node, steps: &mut Steps) -> Opt
     requires node { slice_get expr.now.nodes index ≡ Some node.now }
     requires arena { IsArena expr.now.nodes }
     requires inside { index < length expr.now.nodes }
-    requires room { steps.old < 2 ^ 119 }
     ensures repeats { IfSome result (λ s. AllRepeat expr.now.nodes index s) }
-    ensures grows { steps.old ≤ steps.new }
-    ensures cost { steps.new ≤ steps.old + 1 }
+    ensures cost { Takes steps.old steps.new 1 }
 {
     match node {
         Node::Star(a, _) => match expr.look(*a, steps) {
@@ -81,10 +80,8 @@ fn repeated_set(expr: &Expr, index: usize, node: &Node, steps: &mut Steps) -> Op
     requires node { slice_get expr.now.nodes index ≡ Some node.now }
     requires arena { IsArena expr.now.nodes }
     requires inside { index < length expr.now.nodes }
-    requires room { steps.old ≤ 2 ^ 118 }
     ensures repeats { IfSome result (λ s. AllRepeat expr.now.nodes index s) }
-    ensures grows { steps.old ≤ steps.new }
-    ensures cost { steps.new ≤ steps.old + 2 }
+    ensures cost { Takes steps.old steps.new 2 }
 {
     match node {
         Node::Group(_, a) => {
@@ -98,10 +95,8 @@ fn repeated_set(expr: &Expr, index: usize, node: &Node, steps: &mut Steps) -> Op
 /// The same of the node at the index.
 pub fn star_set(expr: &Expr, index: usize, steps: &mut Steps) -> Option<ByteSet>
     requires inside { index < length expr.now.nodes }
-    requires room { steps.old < 2 ^ 118 }
     ensures repeats { IfSome result (λ s. AllRepeat expr.now.nodes index s) }
-    ensures grows { steps.old ≤ steps.new }
-    ensures cost { steps.new ≤ steps.old + 3 }
+    ensures cost { Takes steps.old steps.new 3 }
 {
     let node = expr.look(expr.id(index), steps);
     repeated_set(expr, index, &node, steps)
@@ -110,10 +105,8 @@ pub fn star_set(expr: &Expr, index: usize, steps: &mut Steps) -> Option<ByteSet>
 /// The node with which the spans of the node at the index begin, at most two parts deep.
 fn near_first(expr: &Expr, index: usize, steps: &mut Steps) -> Node
     requires inside { index < length expr.now.nodes }
-    requires room { steps.old < 2 ^ 118 }
     ensures first { IsFirst expr.now.nodes index result }
-    ensures grows { steps.old ≤ steps.new }
-    ensures cost { steps.new ≤ steps.old + 3 }
+    ensures cost { Takes steps.old steps.new 3 }
     ensures arena { IsArena expr.now.nodes }
 {
     let node = expr.look(expr.id(index), steps);
@@ -137,11 +130,9 @@ fn run_apart(
 ) -> Option<usize>
     requires from { from ≤ length text.now }
     requires short { length text.now ≤ 2 ^ 30 }
-    requires room { steps.old < 2 ^ 119 }
     ensures run { IfSome result (λ k. IsRun set.now text.now from k) }
     ensures apart { IfSome result (λ k. IsApart next.now text.now from k) }
-    ensures grows { steps.old ≤ steps.new }
-    ensures cost { steps.new ≤ steps.old + length text.now }
+    ensures cost { Takes steps.old steps.new (length text.now) }
 {
     for place in from..text.len() {
         let byte = text.byte(place, steps);
@@ -167,11 +158,9 @@ fn run_before(
     requires inside { index < length expr.now.nodes }
     requires from { from ≤ length text.now }
     requires short { length text.now ≤ 2 ^ 30 }
-    requires room { steps.old < 2 ^ 118 }
     ensures run { IfSome result (λ k. IsRun set.now text.now from k) }
     ensures none { IfSome result (λ k. NoneBefore expr.now.nodes text.now index from k) }
-    ensures grows { steps.old ≤ steps.new }
-    ensures cost { steps.new ≤ steps.old + 3 + length text.now }
+    ensures cost { Takes steps.old steps.new (3 + length text.now) }
 {
     match near_first(expr, index, steps) {
         Node::Set(next) => run_apart(set, &next, text, from, steps),
@@ -183,10 +172,8 @@ fn run_before(
 /// Where the longest of one copy of the set and none ends.
 fn one_or_none(set: &ByteSet, text: &Text, place: usize, steps: &mut Steps) -> Far
     requires place { place ≤ length text.now }
-    requires room { steps.old < 2 ^ 119 }
     ensures far { EndsFar (length text.now) (λ j. (place ≡ j) ⊎ Spans (a_set set.now) text.now place j) result }
-    ensures grows { steps.old ≤ steps.new }
-    ensures cost { steps.new ≤ steps.old + 1 }
+    ensures cost { Takes steps.old steps.new 1 }
 {
     if place < text.len() && set.has(text.byte(place, steps)) {
         Far::To(place + 1)
@@ -209,10 +196,8 @@ fn star_end(
     requires inside { index < length expr.now.nodes }
     requires place { place ≤ length text.now }
     requires short { length text.now ≤ 2 ^ 30 }
-    requires room { steps.old < 2 ^ 118 }
     ensures far { EndsFar (length text.now) (At expr.now.nodes text.now index place) result }
-    ensures grows { steps.old ≤ steps.new }
-    ensures cost { steps.new ≤ steps.old + 1 + length text.now }
+    ensures cost { Takes steps.old steps.new (1 + length text.now) }
 {
     match star_set_of(expr, index, node, steps) {
         Some(set) => Far::To(text.run_end(&set, place, steps)),
@@ -233,10 +218,8 @@ fn opt_end(
     requires arena { IsArena expr.now.nodes }
     requires inside { index < length expr.now.nodes }
     requires place { place ≤ length text.now }
-    requires room { steps.old < 2 ^ 118 }
     ensures far { EndsFar (length text.now) (At expr.now.nodes text.now index place) result }
-    ensures grows { steps.old ≤ steps.new }
-    ensures cost { steps.new ≤ steps.old + 2 }
+    ensures cost { Takes steps.old steps.new 2 }
 {
     match node {
         Node::Opt(a, _) => match expr.look(*a, steps) {
@@ -261,11 +244,9 @@ fn seq_behind(
     requires inside { index < length expr.now.nodes }
     requires place { place ≤ length text.now }
     requires short { length text.now ≤ 2 ^ 30 }
-    requires room { steps.old < 2 ^ 117 }
     ensures goes { GoesFar expr.now.nodes text.now (At expr.now.nodes text.now index place) result }
     ensures nearer { IsNearer index (length text.now) result }
-    ensures grows { steps.old ≤ steps.new }
-    ensures cost { steps.new ≤ steps.old + 6 + length text.now }
+    ensures cost { Takes steps.old steps.new (6 + length text.now) }
 {
     match node {
         Node::Seq(a, b) => {
@@ -287,11 +268,9 @@ fn far_behind(expr: &Expr, index: usize, text: &Text, place: usize, steps: &mut 
     requires inside { index < length expr.now.nodes }
     requires place { place ≤ length text.now }
     requires short { length text.now ≤ 2 ^ 30 }
-    requires room { steps.old < 2 ^ 116 }
     ensures goes { GoesFar expr.now.nodes text.now (At expr.now.nodes text.now index place) result }
     ensures nearer { IsNearer index (length text.now) result }
-    ensures grows { steps.old ≤ steps.new }
-    ensures cost { steps.new ≤ steps.old + (length text.now + 8) }
+    ensures cost { Takes steps.old steps.new ((length text.now + 8)) }
 {
     let node = expr.look(expr.id(index), steps);
     match node {
@@ -308,10 +287,8 @@ pub fn look_far(expr: &Expr, text: &Text, place: usize, steps: &mut Steps) -> Fa
     requires place { place ≤ length text.now }
     requires few { length expr.now.nodes ≤ 65536 }
     requires short { length text.now ≤ 2 ^ 30 }
-    requires room { steps.old < 2 ^ 113 }
     ensures far { EndsFar (length text.now) (Spans (tree expr.now) text.now place) result }
-    ensures grows { steps.old ≤ steps.new }
-    ensures cost { steps.new ≤ steps.old + (length text.now + 8) * length expr.now.nodes }
+    ensures cost { Takes steps.old steps.new ((length text.now + 8) * length expr.now.nodes) }
 {
     let root = expr.root().index();
     far_from(expr, root, text, place, steps)
@@ -323,10 +300,8 @@ pub fn far_from(expr: &Expr, root: usize, text: &Text, place: usize, steps: &mut
     requires place { place ≤ length text.now }
     requires few { length expr.now.nodes ≤ 65536 }
     requires short { length text.now ≤ 2 ^ 30 }
-    requires room { steps.old < 2 ^ 115 }
     ensures far { EndsFar (length text.now) (At expr.now.nodes text.now root place) result }
-    ensures grows { steps.old ≤ steps.new }
-    ensures cost { steps.new ≤ steps.old + (length text.now + 8) * length expr.now.nodes }
+    ensures cost { Takes steps.old steps.new ((length text.now + 8) * length expr.now.nodes) }
 {
     let mut index = root;
     let mut at = place;
@@ -345,10 +320,8 @@ pub fn far_from(expr: &Expr, root: usize, text: &Text, place: usize, steps: &mut
 fn none_in(set: &ByteSet, text: &Text, from: usize, to: usize, steps: &mut Steps) -> bool
     requires to { to ≤ length text.now }
     requires short { length text.now ≤ 2 ^ 30 }
-    requires room { steps.old < 2 ^ 119 }
     ensures apart { IsTrue result → IsApart set.now text.now from to }
-    ensures grows { steps.old ≤ steps.new }
-    ensures cost { steps.new ≤ steps.old + length text.now }
+    ensures cost { Takes steps.old steps.new (length text.now) }
 {
     for place in from..to {
         let byte = text.byte(place, steps);
@@ -371,10 +344,8 @@ pub fn none_before(
     requires inside { index < length expr.now.nodes }
     requires to { to ≤ length text.now }
     requires short { length text.now ≤ 2 ^ 30 }
-    requires room { steps.old < 2 ^ 118 }
     ensures none { IsTrue result → NoneBefore expr.now.nodes text.now index from to }
-    ensures grows { steps.old ≤ steps.new }
-    ensures cost { steps.new ≤ steps.old + 3 + length text.now }
+    ensures cost { Takes steps.old steps.new (3 + length text.now) }
 {
     match near_first(expr, index, steps) {
         Node::Set(next) => none_in(&next, text, from, to, steps),

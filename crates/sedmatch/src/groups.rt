@@ -12,7 +12,8 @@ ghost use Rattle.sedmatch.specs.Places.{InOrder};
 ghost use Rattle.sedmatch.specs.Reach.{At};
 ghost use Rattle.sedmatch.specs.Work.{IsStep, IsReady, LeavesLess, weights, inners, wholes, node_cost, forget_if};
 ghost use Rattle.sedmatch.specs.Work.{tasks_of, forgets_of, has_span, is_group, sizes, parts_of, forget_node, AreFlat, NoGroups};
-ghost use Rattle.sedmatch.specs.Costs.{Takes};
+ghost use Rattle.sedmatch.specs.Costs.{Pays};
+ghost use Rattle.sedre.specs.Steps.{Takes};
 
 use crate::counted::{Marks, Text};
 use crate::cuts::{last_copy, last_cut, reaches};
@@ -81,12 +82,10 @@ fn forget_inside(
     requires empty { stack.old.items ≡ [] }
     requires room { size (tree_at expr.now.nodes root) < vec_capacity stack.old }
     requires few { size (tree_at expr.now.nodes root) ≤ 65536 }
-    requires steps { steps.old < 2 ^ 119 }
     ensures groups { groups.new ≡ forget (tree_at expr.now.nodes root) groups.old }
     ensures empty { stack.new.items ≡ [] }
     ensures room { vec_capacity stack.old ≤ vec_capacity stack.new }
-    ensures grows { steps.old ≤ steps.new }
-    ensures cost { steps.new ≤ steps.old + size (tree_at expr.now.nodes root) }
+    ensures cost { Takes steps.old steps.new (size (tree_at expr.now.nodes root)) }
 {
     put(stack, root);
     while let Some(x) = stack.pop() {
@@ -109,7 +108,6 @@ fn has_group(expr: &Expr, root: usize, stack: &mut Vec<usize>, steps: &mut Steps
     requires empty { stack.old.items ≡ [] }
     requires room { size (tree_at expr.now.nodes root) < vec_capacity stack.old }
     requires few { size (tree_at expr.now.nodes root) ≤ 65536 }
-    requires steps { steps.old < 2 ^ 119 }
     ensures none { result ≡ false → NoGroups (tree_at expr.now.nodes root) }
     ensures empty { stack.new.items ≡ [] }
     ensures room { vec_capacity stack.old ≤ vec_capacity stack.new }
@@ -130,7 +128,6 @@ fn has_group(expr: &Expr, root: usize, stack: &mut Vec<usize>, steps: &mut Steps
 /// Whether no group stands within another.
 pub fn are_flat(alloc: Global, expr: &Expr, steps: &mut Steps) -> Result<bool, AllocError>
     requires few { length expr.now.nodes ≤ 65536 }
-    requires room { steps.old < 2 ^ 100 }
     ensures flat { IfOk result (λ flat. IsTrue flat → AreFlat expr.now.nodes) }
     ensures cost { Takes steps.old steps.new (2 ^ 33) }
 {
@@ -162,7 +159,6 @@ fn may_have_group(
     requires empty { stack.old.items ≡ [] }
     requires room { size (tree_at expr.now.nodes inside) < vec_capacity stack.old }
     requires few { size (tree_at expr.now.nodes inside) ≤ 65536 }
-    requires steps { steps.old < 2 ^ 119 }
     ensures none { result ≡ false → NoGroups (tree_at expr.now.nodes inside) }
     ensures empty { stack.new.items ≡ [] }
     ensures room { vec_capacity stack.old ≤ vec_capacity stack.new }
@@ -188,11 +184,9 @@ fn has_empty_copy(
     requires part { part < length expr.now.nodes }
     requires place { place ≤ length text.now }
     requires fits { Fits (length expr.now.nodes) (length text.now) sets.old }
-    requires room { steps.old < 2 ^ 115 }
     ensures marks { SameMarks sets.old sets.new }
     ensures copy { IsTrue result ↔ (IsTrue first × At expr.now.nodes text.now part place place) }
-    ensures grows { steps.old ≤ steps.new }
-    ensures cost { steps.new ≤ steps.old + 28 * length expr.now.nodes * (length text.now + 1) }
+    ensures cost { Takes steps.old steps.new (28 * length expr.now.nodes * (length text.now + 1)) }
 {
     first && reaches(expr, part, text, place, place, sets, steps)
 }
@@ -220,7 +214,6 @@ fn split_node(
     requires spans { At expr.now.nodes text.now x start stop }
     requires stack { HasStack (size (tree_at expr.now.nodes x)) stack.old }
     requires few { size (tree_at expr.now.nodes x) ≤ length expr.now.nodes }
-    requires room { steps.old ≤ 2 ^ 114 }
     ensures same { SameRoom sets.old sets.new places.old places.new }
     ensures stack { KeepsStack stack.old stack.new }
     ensures step { IsStep expr.now.nodes text.now x start stop (forgets_of result) (tasks_of result) }
@@ -356,12 +349,10 @@ fn forget_first(
     requires empty { stack.old.items ≡ [] }
     requires room { size (tree_at expr.now.nodes x) < vec_capacity stack.old }
     requires few { size (tree_at expr.now.nodes x) ≤ 65536 }
-    requires steps { steps.old < 2 ^ 119 }
     ensures groups { groups.new ≡ forget_if before (tree_at expr.now.nodes x) groups.old }
     ensures empty { stack.new.items ≡ [] }
     ensures room { vec_capacity stack.old ≤ vec_capacity stack.new }
-    ensures grows { steps.old ≤ steps.new }
-    ensures cost { steps.new ≤ steps.old + size (tree_at expr.now.nodes x) }
+    ensures cost { Takes steps.old steps.new (size (tree_at expr.now.nodes x)) }
 {
     if before && has_span(groups) {
         forget_inside(expr, x, stack, groups, steps);
@@ -386,13 +377,10 @@ fn work(
     requires stack { HasStack (length expr.now.nodes) plan.old.stack }
     requires ready { IsReady expr.now.nodes text.now (task.now ∷ reverse plan.old.tasks.items) }
     requires tasks_room { weights expr.now.nodes (task.now ∷ reverse plan.old.tasks.items) < vec_capacity plan.old.tasks }
-    requires room { steps.old < 2 ^ 114 }
     ensures same { SameRoom sets.old sets.new places.old places.new }
     ensures plan { KeepsPlan plan.old plan.new }
     ensures less { LeavesLess expr.now.nodes text.now (task.now ∷ reverse plan.old.tasks.items) groups.old (reverse plan.new.tasks.items) groups.new }
-    ensures grows { steps.old ≤ steps.new }
-    ensures cost { steps.new + (46 * length expr.now.nodes * (length text.now + 1) * (length text.now + 1) + 1 + length expr.now.nodes) * inners expr.now.nodes (reverse plan.new.tasks.items) + 3 * wholes expr.now.nodes (reverse plan.new.tasks.items)
-        ≤ steps.old + (46 * length expr.now.nodes * (length text.now + 1) * (length text.now + 1) + 1 + length expr.now.nodes) * inners expr.now.nodes (task.now ∷ reverse plan.old.tasks.items) + 3 * wholes expr.now.nodes (task.now ∷ reverse plan.old.tasks.items) }
+    ensures cost { Pays steps.old steps.new ((46 * length expr.now.nodes * (length text.now + 1) * (length text.now + 1) + 1 + length expr.now.nodes) * inners expr.now.nodes (task.now ∷ reverse plan.old.tasks.items) + 3 * wholes expr.now.nodes (task.now ∷ reverse plan.old.tasks.items)) ((46 * length expr.now.nodes * (length text.now + 1) * (length text.now + 1) + 1 + length expr.now.nodes) * inners expr.now.nodes (reverse plan.new.tasks.items) + 3 * wholes expr.now.nodes (reverse plan.new.tasks.items)) }
 {
     match task {
         Task::Close(k, start, stop) => close_group(groups, *k, *start, *stop),
@@ -429,14 +417,11 @@ pub fn decide(
     requires flat { IsTrue flat → AreFlat expr.now.nodes }
     requires sizes { (x : ℕ) → x < length expr.now.nodes → size (tree_at expr.now.nodes x) ≤ length expr.now.nodes }
     requires fits { FitsGroups (length expr.now.nodes) (length text.now) sets.old places.old plan.old }
-    requires room { let m = length expr.now.nodes in let n = length text.now in
-        steps.old + (46 * m * (n + 1) * (n + 1) + 1 + m) * m + 3 * m < 2 ^ 114 }
     ensures same { SameRoom sets.old sets.new places.old places.new }
     ensures done { AllDone plan.old plan.new }
     ensures caps { Caps (tree_at expr.now.nodes root) text.now start stop groups.old groups.new }
-    ensures grows { steps.old ≤ steps.new }
     ensures cost { let m = length expr.now.nodes in let n = length text.now in
-        steps.new + (46 * m * (n + 1) * (n + 1) + 1 + m) ≤ steps.old + (46 * m * (n + 1) * (n + 1) + 1 + m) * m + 3 * m }
+        Pays steps.old steps.new ((46 * m * (n + 1) * (n + 1) + 1 + m) * m + 3 * m) ((46 * m * (n + 1) * (n + 1) + 1 + m)) }
 {
     put_task(&mut plan.tasks, Task::Enter(root, start, stop));
     while let Some(task) = plan.tasks.pop() {
@@ -462,14 +447,11 @@ pub fn report(
     requires stop { stop ≤ length text.now }
     requires spans { Spans (tree expr.now) text.now start stop }
     requires fits { FitsGroups (length expr.now.nodes) (length text.now) sets.old places.old plan.old }
-    requires room { let m = length expr.now.nodes in let n = length text.now in
-        steps.old + (46 * m * (n + 1) * (n + 1) + 1 + m) * m + 3 * m < 2 ^ 114 }
     ensures done { KeepsGroups sets.old sets.new places.old places.new plan.old plan.new }
     ensures report { IsReport (tree expr.now) text.now start stop result }
-    ensures grows { steps.old ≤ steps.new }
     ensures none_cost { expr.now.groups ≡ 0 → steps.new ≡ steps.old }
     ensures cost { let m = length expr.now.nodes in let n = length text.now in
-        steps.new + 48 * m * (n + 1) * (n + 1) ≤ steps.old + 51 * m * m * (n + 1) * (n + 1) }
+        Pays steps.old steps.new (51 * m * m * (n + 1) * (n + 1)) (48 * m * (n + 1) * (n + 1)) }
 {
     let root = expr.root().index();
     let mut groups = [None; 10];

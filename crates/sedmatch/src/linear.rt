@@ -12,6 +12,7 @@ ghost use Rattle.sedmatch.specs.Tables.{IsSingle, IsSweep, IsTable, NextIs, star
 ghost use Rattle.sedmatch.specs.Linear.{NoneBefore, IsFirstEnd, ended_to, IsBound, IsFirstStart, IsThere};
 ghost use Rattle.sedmatch.specs.Ready.{AreTables};
 ghost use Rattle.sedmatch.specs.Costs.{Pays};
+ghost use Rattle.sedre.specs.Steps.{Takes};
 
 use crate::counted::{Bytes, Text};
 use crate::passes::{Starts, advance};
@@ -62,13 +63,11 @@ fn first_end_on(
     requires fits { Fits (length expr.now.nodes) (length text.now) sets.old }
     requires at { IsAt expr.now.nodes text.now root (starts_from start text.now) place sets.old.entered ends }
     requires missed { NoneBefore expr.now.nodes text.now root start place }
-    requires room { steps.old < 2 ^ 116 }
     ensures marks { SameMarks sets.old sets.new }
     ensures first { IsFirstEnd expr.now.nodes text.now root start sets.new.entered result }
     ensures after { place ≤ ended_to (length text.now) result }
-    ensures grows { steps.old ≤ steps.new }
     ensures cost { let m = length expr.now.nodes in
-        steps.new + 20 * m * place ≤ steps.old + 20 * m * ended_to (length text.now) result }
+        Pays steps.old steps.new (20 * m * ended_to (length text.now) result) (20 * m * place) }
 {
     if place >= text.len() {
         return at_last(place, ends);
@@ -110,13 +109,11 @@ fn first_end(
     requires from { from ≤ length text.now }
     requires table { IsSweep expr.now.nodes root table.old }
     requires fits { Fits (length expr.now.nodes) (length text.now) sets.old }
-    requires room { steps.old < 2 ^ 110 }
     ensures table { IsSweep expr.now.nodes root table.new }
     ensures marks { SameMarks sets.old sets.new }
     ensures first { IsFirstEnd expr.now.nodes text.now root from sets.new.entered result }
-    ensures grows { steps.old ≤ steps.new }
     ensures cost { let m = length expr.now.nodes in
-        steps.new + 42 * m * from ≤ steps.old + 40 * m + 42 * m * ended_to (length text.now) result }
+        Pays steps.old steps.new (40 * m + 42 * m * ended_to (length text.now) result) (42 * m * from) }
 {
     let begin = from == 0;
     let mut place = from;
@@ -167,12 +164,10 @@ fn bound_on(
     requires place { place ≤ length text.now }
     requires fits { Fits (length expr.now.nodes) (length text.now) sets.old }
     requires at { IsAt expr.now.nodes text.now root (starts_to start last) place sets.old.entered ends }
-    requires room { steps.old < 2 ^ 116 }
     ensures marks { SameMarks sets.old sets.new }
     ensures bound { IsBound expr.now.nodes text.now root start last result }
     ensures after { place ≤ result }
-    ensures grows { steps.old ≤ steps.new }
-    ensures cost { let m = length expr.now.nodes in steps.new + 20 * m * place ≤ steps.old + 20 * m * result }
+    ensures cost { let m = length expr.now.nodes in Pays steps.old steps.new (20 * m * result) (20 * m * place) }
 {
     if place >= text.len() {
         return place;
@@ -202,14 +197,12 @@ fn enter(
     requires root { root + 1 ≡ length expr.now.nodes }
     requires table { IsTable expr.now.nodes root table.old }
     requires fits { FitsFew (length expr.now.nodes) sets.old }
-    requires room { steps.old < 2 ^ 115 }
     ensures table { IsTable expr.now.nodes root table.new }
     ensures sweeps { table.new.sweeps ≡ table.old.sweeps }
     ensures marks { SameMarks sets.old sets.new }
     ensures next { (w : List ℕ) (s : Starts) (place : ℕ) → IsAt expr.now.nodes w root s place sets.old.entered ends →
         NextIs (IsAt expr.now.nodes w root s place) table.new sets.new.entered result }
-    ensures grows { steps.old ≤ steps.new }
-    ensures cost { steps.new ≤ steps.old + 6 * length expr.now.nodes }
+    ensures cost { Takes steps.old steps.new (6 * length expr.now.nodes) }
 {
     match settle(expr, root, table, &sets.entered, ends, steps) {
         None => Next::Full(ends),
@@ -235,12 +228,11 @@ fn bound_by(
     requires table { IsSingle expr.now.nodes root table.old }
     requires fits { Fits (length expr.now.nodes) (length text.now) sets.old }
     requires at { IsAt expr.now.nodes text.now root (starts_to start last) last sets.old.entered ends }
-    requires room { steps.old < 2 ^ 110 }
     ensures table { IsSingle expr.now.nodes root table.new }
     ensures marks { SameMarks sets.old sets.new }
     ensures bound { IsBound expr.now.nodes text.now root start last result }
-    ensures grows { steps.old ≤ steps.new }
-    ensures cost { let m = length expr.now.nodes in steps.new + 42 * m * last ≤ steps.old + 6 * m + 42 * m * result }
+    ensures cost { let m = length expr.now.nodes in
+        Pays steps.old steps.new (6 * m + 42 * m * result) (42 * m * last) }
 {
     let mut place = last;
     let mut next = enter(expr, root, table, ends, sets, steps);
@@ -317,11 +309,9 @@ fn last_on(
     requires fits { Fits (length nodes.now.nodes) (length bytes.now) sets.old }
     requires at { IsAt nodes.now.nodes bytes.now root (starts_from first bytes.now) place sets.old.entered ends }
     requires best { LastEnd (tree nodes.now) bytes.now first place before }
-    requires room { steps.old < 2 ^ 116 }
     ensures marks { SameMarks sets.old sets.new }
     ensures last { LastEnd (tree nodes.now) bytes.now first (stop + 1) result }
-    ensures grows { steps.old ≤ steps.new }
-    ensures cost { let m = length nodes.now.nodes in steps.new + 20 * m * place ≤ steps.old + 20 * m * stop }
+    ensures cost { let m = length nodes.now.nodes in Pays steps.old steps.new (20 * m * stop) (20 * m * place) }
 {
     let here = ends_at(place, bytes.len(), ends);
     let mut best = later(nodes, root, bytes, first, before, place, here);
@@ -356,12 +346,11 @@ fn last_by(
     requires inside { stop ≤ length bytes.now }
     requires table { IsSweep nodes.now.nodes root table.old }
     requires fits { Fits (length nodes.now.nodes) (length bytes.now) sets.old }
-    requires room { steps.old < 2 ^ 110 }
     ensures table { IsSweep nodes.now.nodes root table.new }
     ensures marks { SameMarks sets.old sets.new }
     ensures last { LastEnd (tree nodes.now) bytes.now first (stop + 1) result }
-    ensures grows { steps.old ≤ steps.new }
-    ensures cost { let m = length nodes.now.nodes in steps.new + 42 * m * first ≤ steps.old + 38 * m + 42 * m * stop }
+    ensures cost { let m = length nodes.now.nodes in
+        Pays steps.old steps.new (38 * m + 42 * m * stop) (42 * m * first) }
 {
     let begin = first == 0;
     let mut place = first;
@@ -418,13 +407,11 @@ pub fn first_end_in(
     requires from { from ≤ length text.now }
     requires table { IsSweep expr.now.nodes root table.old }
     requires fits { Fits (length expr.now.nodes) (length text.now) sets.old }
-    requires room { steps.old < 2 ^ 110 }
     ensures table { IsSweep expr.now.nodes root table.new }
     ensures marks { SameMarks sets.old sets.new }
     ensures first { IsFirstEnd expr.now.nodes text.now root from sets.new.entered result }
-    ensures grows { steps.old ≤ steps.new }
     ensures cost { let m = length expr.now.nodes in
-        steps.new + 42 * m * from ≤ steps.old + 40 * m + 42 * m * ended_to (length text.now) result }
+        Pays steps.old steps.new (40 * m + 42 * m * ended_to (length text.now) result) (42 * m * from) }
 {
     let nodes = Nodes::of(expr);
     let bytes = text.forwards();
@@ -448,12 +435,11 @@ fn bound_in(
     requires table { IsSingle expr.now.nodes root table.old }
     requires fits { Fits (length expr.now.nodes) (length text.now) sets.old }
     requires at { IsAt expr.now.nodes text.now root (starts_to start last) last sets.old.entered ends }
-    requires room { steps.old < 2 ^ 110 }
     ensures table { IsSingle expr.now.nodes root table.new }
     ensures marks { SameMarks sets.old sets.new }
     ensures bound { IsBound expr.now.nodes text.now root start last result }
-    ensures grows { steps.old ≤ steps.new }
-    ensures cost { let m = length expr.now.nodes in steps.new + 42 * m * last ≤ steps.old + 6 * m + 42 * m * result }
+    ensures cost { let m = length expr.now.nodes in
+        Pays steps.old steps.new (6 * m + 42 * m * result) (42 * m * last) }
 {
     let nodes = Nodes::of(expr);
     let bytes = text.forwards();
@@ -475,13 +461,11 @@ pub fn region_by(
     requires table { IsSingle expr.now.nodes root table.old }
     requires fits { Fits (length expr.now.nodes) (length text.now) sets.old }
     requires first { IsFirstEnd expr.now.nodes text.now root start sets.old.entered (Some first) }
-    requires room { steps.old < 2 ^ 110 }
     ensures table { IsSingle expr.now.nodes root table.new }
     ensures marks { SameMarks sets.old sets.new }
     ensures region { IsRegionTo (tree expr.now) text.now start first.place result }
-    ensures grows { steps.old ≤ steps.new }
     ensures cost { let m = length expr.now.nodes in
-        steps.new + 42 * m * first.place ≤ steps.old + 6 * m + 42 * m * result.bound }
+        Pays steps.old steps.new (6 * m + 42 * m * result.bound) (42 * m * first.place) }
 {
     let last = first.place;
     if last >= text.len() {
@@ -511,13 +495,11 @@ fn earliest_by(
     requires region { IsRegion (tree expr.now) text.now true region }
     requires table { IsSweep (seen true expr.now).nodes root table.old }
     requires fits { Fits (length expr.now.nodes) (length text.now) sets.old }
-    requires room { steps.old < 2 ^ 110 }
     ensures table { IsSweep (seen true expr.now).nodes root table.new }
     ensures marks { SameMarks sets.old sets.new }
     ensures earliest { IsEarliest (tree expr.now) text.now region result }
-    ensures grows { steps.old ≤ steps.new }
     ensures cost { let m = length expr.now.nodes in
-        steps.new + 42 * m * region.start ≤ steps.old + 38 * m + 42 * m * region.bound }
+        Pays steps.old steps.new (38 * m + 42 * m * region.bound) (42 * m * region.start) }
 {
     if region.start == region.last {
         return region.start;
@@ -550,13 +532,11 @@ pub fn start_to(
     requires some { SomeSpan expr.now.nodes text.now root (starts_from from text.now) end }
     requires table { IsSingle (seen true expr.now).nodes root table.old }
     requires fits { Fits (length expr.now.nodes) (length text.now) sets.old }
-    requires room { steps.old < 2 ^ 110 }
     ensures table { IsSingle (seen true expr.now).nodes root table.new }
     ensures marks { SameMarks sets.old sets.new }
     ensures first { IsFirstStart (tree expr.now) text.now from end result }
     ensures none_long { from ≡ end → steps.new ≡ steps.old }
-    ensures grows { steps.old ≤ steps.new }
-    ensures cost { let m = length expr.now.nodes in steps.new + 42 * m * from ≤ steps.old + 38 * m + 42 * m * end }
+    ensures cost { let m = length expr.now.nodes in Pays steps.old steps.new (38 * m + 42 * m * end) (42 * m * from) }
 {
     if from == end {
         return from;
@@ -593,7 +573,6 @@ pub fn span_by(
     requires region { IsRegion (tree expr.now) text.now true region }
     requires tables { AreTables expr.now root tables.old }
     requires fits { Fits (length expr.now.nodes) (length text.now) sets.old }
-    requires room { steps.old < 2 ^ 108 }
     ensures tables { AreTables expr.now root tables.new }
     ensures marks { SameMarks sets.old sets.new }
     ensures answer { IsThere (tree expr.now) text.now region.start result }

@@ -5,8 +5,8 @@ ghost use Rattle.sedmatch.specs.Spans.{SomeFound};
 ghost use Rattle.sedmatch.specs.Answer.{IsComputed, MatchAnswer, SpanAnswer};
 ghost use Rattle.sedmatch.specs.Matching.{found};
 ghost use Rattle.sedmatch.specs.Parts.{SpanIn, span_of, part_of};
-ghost use Rattle.sedmatch.specs.Costs.{Takes};
 ghost use Rattle.sedmatch.specs.Room.{FitInto};
+ghost use Rattle.sedre.specs.Steps.{Takes};
 
 use crate::beginnings::how_begins;
 use crate::counted::Text;
@@ -53,7 +53,6 @@ pub fn find(
 ) -> Option<Found>
     requires from { from ≤ length text.now }
     requires fits { FitInto (length text.now) (length expr.now.nodes) scratch.old }
-    requires room { steps.old ≤ 2 ^ 100 }
     ensures scratch { scratch.new ≡ scratch.old }
     ensures answer { MatchAnswer (tree expr.now) text.now from result }
     ensures computed { IsComputed (tree expr.now) text.now from result }
@@ -89,7 +88,6 @@ pub fn find_span(
 ) -> Option<(usize, usize)>
     requires from { from ≤ length text.now }
     requires fits { FitInto (length text.now) (length expr.now.nodes) scratch.old }
-    requires room { steps.old ≤ 2 ^ 101 }
     ensures scratch { scratch.new ≡ scratch.old }
     ensures answer { SpanAnswer (tree expr.now) text.now from result }
     ensures computed { result ≡ found (tree expr.now) text.now from }
@@ -113,7 +111,6 @@ pub fn is_match(
 ) -> bool
     requires from { from ≤ length text.now }
     requires fits { FitInto (length text.now) (length expr.now.nodes) scratch.old }
-    requires room { steps.old ≤ 2 ^ 100 }
     ensures scratch { scratch.new ≡ scratch.old }
     ensures matches { IsTrue result ↔ SomeFound (tree expr.now) text.now from }
     ensures computed { result ≡ is_some (found (tree expr.now) text.now from) }

@@ -8,7 +8,6 @@
 //! beginning to its end, so that each block is made twice in all.
 ghost use Rattle.std.specs.Prelude.{◌≡◌, ℕ, [], ◌+◌, ◌-◌, ◌*◌, ◌^◌, ◌<◌, ◌≤◌, ◌↔◌, length, IsTrue, IfSome, IfOk, true, false, slice_index_or, Option, Some, if◌then◌else◌};
 ghost use Rattle.sedre.specs.Arena.{tree};
-ghost use Rattle.sedmatch.specs.Costs.{Pays};
 ghost use Rattle.sedmatch.specs.Fits.{Fits, SameMarks};
 ghost use Rattle.sedmatch.specs.Local.{takes_next};
 ghost use Rattle.sedmatch.specs.Words.{row_of};
@@ -18,6 +17,8 @@ ghost use Rattle.sedmatch.specs.Occurrences.{next_span, unless_null_at};
 ghost use Rattle.sedmatch.specs.Search.{starts_to};
 ghost use Rattle.sedmatch.specs.Cuts.{LeastFrom};
 ghost use Rattle.sedmatch.specs.Matching.{found};
+ghost use Rattle.sedmatch.specs.Costs.{Pays};
+ghost use Rattle.sedre.specs.Steps.{Takes};
 
 use crate::counted::{Bytes, Marks, Rows, Text};
 use crate::passes::{Starts, advance, takes_byte};
@@ -111,7 +112,6 @@ fn pass_places(
     requires fits { Fits (length nodes.now.nodes) (length bytes.now) sets.old }
     requires entered { TellEntered nodes.now.nodes bytes.now root (starts_to 0 (length bytes.now)) from sets.old.entered }
     requires there { FitsRows (length bytes.now) root from to rows.old begins.old }
-    requires room { steps.old < 2 ^ 116 }
     ensures marks { SameMarks sets.old sets.new }
     ensures shape { SameShape rows.old rows.new begins.old begins.new }
     ensures tells { PassTells nodes.now.nodes bytes.now root from to rows.new begins.old begins.new }
@@ -142,7 +142,6 @@ fn make_block(
     requires fits { FitsBehind (length nodes.now.nodes) (length bytes.now) behind.old }
     requires inside { behind.old.width * block ≤ length bytes.now }
     requires entered { TellEntered nodes.now.nodes bytes.now root (starts_to 0 (length bytes.now)) (behind.old.width * block) behind.old.sets.entered }
-    requires room { steps.old < 2 ^ 116 }
     ensures turns { TurnsTo block behind.old behind.new }
     ensures edges { behind.new.edges ≡ behind.old.edges }
     ensures rows { BlockTells nodes.now.nodes bytes.now root behind.new }
@@ -180,7 +179,6 @@ fn keep_block(
     requires fits { FitsBehind (length nodes.now.nodes) (length bytes.now) behind.old }
     requires inside { behind.old.width * block ≤ length bytes.now }
     requires came { CameTo nodes.now.nodes bytes.now root block behind.old }
-    requires room { steps.old < 2 ^ 115 }
     ensures turns { TurnsTo block behind.old behind.new }
     ensures came { CameTo nodes.now.nodes bytes.now root (block + 1) behind.new }
     ensures rows { BlockTells nodes.now.nodes bytes.now root behind.new }
@@ -198,12 +196,10 @@ fn keep_blocks(nodes: &Nodes, bytes: &Bytes, root: usize, behind: &mut Behind, s
     requires few { length nodes.now.nodes ≤ 65536 }
     requires short { length bytes.now ≤ 2 ^ 30 }
     requires fits { HasBehind (length bytes.now) (length nodes.now.nodes) behind.old }
-    requires room { steps.old < 2 ^ 113 }
     ensures kept { KeepsBehind behind.old behind.new }
     ensures all { HasKept nodes.now.nodes bytes.now root behind.new }
     ensures last { length bytes.now < low_of behind.new + behind.new.width }
-    ensures grows { steps.old ≤ steps.new }
-    ensures cost { let m = length nodes.now.nodes in steps.new ≤ steps.old + 25 * m * (length bytes.now + 1) }
+    ensures cost { let m = length nodes.now.nodes in Takes steps.old steps.new (25 * m * (length bytes.now + 1)) }
 {
     behind.sets.entered.clear(root + 1, steps);
     let last = bytes.len() / behind.width;
@@ -219,13 +215,11 @@ pub fn keep_behind(expr: &Expr, text: &Text, root: usize, behind: &mut Behind, s
     requires few { length expr.now.nodes ≤ 65536 }
     requires short { length text.now ≤ 2 ^ 30 }
     requires fits { HasBehind (length text.now) (length expr.now.nodes) behind.old }
-    requires room { steps.old < 2 ^ 113 }
     ensures kept { KeepsBehind behind.old behind.new }
     ensures all { IsKept expr.now text.now root behind.new }
     ensures reaches { length text.now < low_of behind.new + behind.new.width }
     ensures inside { low_of behind.new ≤ length text.now }
-    ensures grows { steps.old ≤ steps.new }
-    ensures cost { let m = length expr.now.nodes in steps.new ≤ steps.old + 25 * m * (length text.now + 1) }
+    ensures cost { let m = length expr.now.nodes in Takes steps.old steps.new (25 * m * (length text.now + 1)) }
 {
     let nodes = Nodes::mirrored(expr);
     let bytes = text.backwards();
@@ -245,11 +239,9 @@ fn remake(
     requires fits { FitsBehind (length nodes.now.nodes) (length bytes.now) behind.old }
     requires all { HasKept nodes.now.nodes bytes.now root behind.old }
     requires inside { behind.old.width * block ≤ length bytes.now }
-    requires room { steps.old < 2 ^ 115 }
     ensures turns { TurnsTo block behind.old behind.new }
     ensures all { HasKept nodes.now.nodes bytes.now root behind.new }
-    ensures grows { steps.old ≤ steps.new }
-    ensures cost { let m = length nodes.now.nodes in steps.new ≤ steps.old + m + 22 * m * behind.new.width }
+    ensures cost { let m = length nodes.now.nodes in Takes steps.old steps.new (m + 22 * m * behind.new.width) }
 {
     behind
         .edges
@@ -271,13 +263,11 @@ fn bring(
     requires all { IsKept expr.now text.now root behind.old }
     requires inside { place ≤ length text.now }
     requires before { place < low_of behind.old + behind.old.width }
-    requires room { steps.old < 2 ^ 115 }
     ensures kept { KeepsBehind behind.old behind.new }
     ensures all { IsKept expr.now text.now root behind.new }
     ensures here { HasPlace place behind.new }
-    ensures grows { steps.old ≤ steps.new }
     ensures cost { let m = length expr.now.nodes in
-        steps.new + blocks_cost m behind.new ≤ steps.old + blocks_cost m behind.old }
+        Pays steps.old steps.new (blocks_cost m behind.old) (blocks_cost m behind.new) }
 {
     if behind.width * behind.block <= place {
         return;
@@ -311,10 +301,8 @@ fn meets(
     requires few { length expr.now.nodes ≤ 65536 }
     requires front_fits { root < length front.now }
     requires behind_fits { root < length behind.now }
-    requires room { steps.old < 2 ^ 118 }
     ensures meets { IsTrue result ↔ MeetsBelow expr.now.nodes (root + 1) front.now behind.now next }
-    ensures grows { steps.old ≤ steps.new }
-    ensures cost { steps.new ≤ steps.old + 3 * (root + 1) }
+    ensures cost { Takes steps.old steps.new (3 * (root + 1)) }
 {
     for x in 0..root + 1 {
         if front.get(x, steps) && behind.get(x, steps) {
@@ -343,7 +331,6 @@ fn goes_on(
     requires fits { FitsPasses (length expr.now.nodes) (length text.now) sets.old behind.old }
     requires served { Served expr.now text.now root place behind.old }
     requires begun { TellBegun expr.now.nodes text.now root (one_start start) place sets.old.entered }
-    requires room { steps.old < 2 ^ 114 }
     ensures kept { KeepsPasses sets.old sets.new behind.old behind.new }
     ensures entered { sets.new.entered ≡ sets.old.entered }
     ensures served { Served expr.now text.now root place behind.new }
@@ -377,15 +364,12 @@ fn longest_met(
     requires start { start ≤ length text.now }
     requires fits { FitsPasses (length expr.now.nodes) (length text.now) sets.old behind.old }
     requires served { Served expr.now text.now root start behind.old }
-    requires room { steps.old < 2 ^ 113 }
     ensures kept { KeepsPasses sets.old sets.new behind.old behind.new }
     ensures served { Served expr.now text.now root (met_to start result) behind.new }
     ensures longest { Longest (tree expr.now) text.now start result }
     ensures lies { IfSome result (λ end. (start ≤ end) × (end ≤ length text.now)) }
-    ensures grows { steps.old ≤ steps.new }
     ensures cost { let m = length expr.now.nodes in
-        steps.new + 25 * m * start + blocks_cost m behind.new
-        ≤ steps.old + m + 25 * m * (met_to start result + 1) + blocks_cost m behind.old }
+        Pays steps.old steps.new (m + 25 * m * (met_to start result + 1) + blocks_cost m behind.old) (25 * m * start + blocks_cost m behind.new) }
 {
     sets.entered.clear(root + 1, steps);
     let mut best = None;
@@ -406,10 +390,8 @@ fn next_begin(text: &Text, begins: &Marks, from: usize, steps: &mut Steps) -> Op
     requires short { length text.now ≤ 2 ^ 30 }
     requires from { from ≤ length text.now }
     requires begins { length text.now < length begins.now }
-    requires room { steps.old < 2 ^ 118 }
     ensures first { LeastFrom (λ i. IsTrue (slice_index_or begins.now (length text.now - i) false)) from (length text.now + 1) result }
-    ensures grows { steps.old ≤ steps.new }
-    ensures cost { steps.new + from ≤ steps.old + begin_to (length text.now) result + 1 }
+    ensures cost { Pays steps.old steps.new (begin_to (length text.now) result + 1) from }
 {
     let len = text.len();
     for place in from..len + 1 {
@@ -447,15 +429,12 @@ fn next_met(
     requires from { from ≤ length text.now }
     requires fits { FitsPasses (length expr.now.nodes) (length text.now) sets.old behind.old }
     requires served { Served expr.now text.now root from behind.old }
-    requires room { steps.old < 2 ^ 112 }
     ensures kept { KeepsPasses sets.old sets.new behind.old behind.new }
     ensures served { ServedBehind expr.now text.now root result behind.new }
     ensures next { result ≡ found (tree expr.now) text.now from }
     ensures lies { IfSome result (λ f. (from ≤ f.0) × (f.0 ≤ f.1) × (f.1 ≤ length text.now)) }
-    ensures grows { steps.old ≤ steps.new }
     ensures cost { let m = length expr.now.nodes in
-        steps.new + 25 * m * from + blocks_cost m behind.new
-        ≤ steps.old + 27 * m + 25 * m * end_to (length text.now) result + blocks_cost m behind.old }
+        Pays steps.old steps.new (27 * m + 25 * m * end_to (length text.now) result + blocks_cost m behind.old) (25 * m * from + blocks_cost m behind.new) }
 {
     let _count = expr.nodes();
     let Some(start) = next_begin(text, &behind.begins, from, steps) else {
@@ -481,15 +460,12 @@ pub fn next_behind(
     requires at { at ≤ length text.now }
     requires fits { FitsPasses (length expr.now.nodes) (length text.now) sets.old behind.old }
     requires served { Served expr.now text.now root at behind.old }
-    requires room { steps.old < 2 ^ 110 }
     ensures kept { KeepsPasses sets.old sets.new behind.old behind.new }
     ensures served { IfSome result (λ f. Served expr.now text.now root f.1 behind.new) }
     ensures next { result ≡ next_span (found (tree expr.now) text.now) (length text.now) (Some at) }
     ensures lies { IfSome result (λ f. (at ≤ f.0) × (at < f.1) × (f.0 ≤ f.1) × (f.1 ≤ length text.now)) }
-    ensures grows { steps.old ≤ steps.new }
     ensures cost { let m = length expr.now.nodes in
-        steps.new + 25 * m * at + blocks_cost m behind.new
-        ≤ steps.old + 54 * m + 25 * m * end_to (length text.now) result + blocks_cost m behind.old }
+        Pays steps.old steps.new (54 * m + 25 * m * end_to (length text.now) result + blocks_cost m behind.old) (25 * m * at + blocks_cost m behind.new) }
 {
     let first = next_met(expr, root, text, at, behind, sets, steps);
     if !is_null_at(first, at) {

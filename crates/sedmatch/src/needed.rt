@@ -5,6 +5,8 @@ ghost use Rattle.std.specs.Prelude.{◌≡◌, ℕ, ◌+◌, ◌*◌, ◌^◌, �
 ghost use Rattle.sedre.specs.Arena.{tree};
 ghost use Rattle.sedre.specs.Tree.{Tree};
 ghost use Rattle.sedmatch.specs.Needed.{IsOfSet, LinksTo, IsLiteral, IsSole, IsUpTo, AllHold, AllEndWith, IsNeeded, Narrowed};
+ghost use Rattle.sedmatch.specs.Costs.{Pays};
+ghost use Rattle.sedre.specs.Steps.{Takes, Counted};
 
 use crate::counted::Text;
 use memchr::memmem::Finder;
@@ -48,9 +50,9 @@ pub struct Needed {
 /// The set of whose bytes the spans of the node have one, if the node is a set.
 fn set_of(expr: &Expr, index: usize, steps: &mut Steps) -> Option<ByteSet>
     requires inside { index < length expr.now.nodes }
-    requires room { steps.old < 2 ^ 119 }
     ensures set { IfSome result (λ s. IsOfSet expr.now.nodes index s) }
-    ensures cost { steps.new ≡ steps.old + 1 }
+    ensures cost { Takes steps.old steps.new 1 }
+    ensures counts { Counted steps.old steps.new 1 }
 {
     match expr.look(expr.id(index), steps) {
         Node::Set(set) => Some(set),
@@ -61,10 +63,8 @@ fn set_of(expr: &Expr, index: usize, steps: &mut Steps) -> Option<ByteSet>
 /// How the spans of the node begin.
 pub fn link_of(expr: &Expr, index: usize, steps: &mut Steps) -> Link
     requires inside { index < length expr.now.nodes }
-    requires room { steps.old < 2 ^ 118 }
     ensures links { LinksTo expr.now.nodes index result }
-    ensures grows { steps.old ≤ steps.new }
-    ensures cost { steps.new ≤ steps.old + 2 }
+    ensures cost { Takes steps.old steps.new 2 }
 {
     let node = expr.look(expr.id(index), steps);
     match node {
@@ -99,11 +99,9 @@ pub fn literal_from(
 ) -> Result<Literal, AllocError>
     requires inside { from < length expr.now.nodes }
     requires few { length expr.now.nodes ≤ 65536 }
-    requires room { steps.old < 2 ^ 117 }
     ensures literal { IfOk result (λ l. IsLiteral expr.now.nodes from l) }
     ensures up_to { IfOk result (λ l. IsUpTo from l.rest) }
-    ensures grows { steps.old ≤ steps.new }
-    ensures cost { steps.new ≤ steps.old + 131074 }
+    ensures cost { Takes steps.old steps.new 131074 }
 {
     let mut bytes = Vec::new(alloc);
     let mut index = from;
@@ -136,10 +134,10 @@ pub fn literal_from(
 /// The second part of a node that is a concatenation.
 fn second_of(expr: &Expr, index: usize, steps: &mut Steps) -> Option<usize>
     requires inside { index < length expr.now.nodes }
-    requires room { steps.old < 2 ^ 118 }
     ensures below { IfSome result (λ y. y < index) }
     ensures ends { IfSome result (λ y. AllEndWith expr.now.nodes index y) }
-    ensures cost { steps.new ≡ steps.old + 1 }
+    ensures cost { Takes steps.old steps.new 1 }
+    ensures counts { Counted steps.old steps.new 1 }
 {
     let node = expr.look(expr.id(index), steps);
     match node {
@@ -168,7 +166,6 @@ fn longest_literal(
 ) -> Result<Vec<u8>, AllocError>
     requires inside { from < length expr.now.nodes }
     requires few { length expr.now.nodes ≤ 65536 }
-    requires room { steps.old < 2 ^ 110 }
     ensures holds { IfOk result (λ v. AllHold expr.now.nodes from v.items) }
 {
     let mut best = Vec::new(alloc);
@@ -203,7 +200,6 @@ pub fn find_needed(
     steps: &mut Steps,
 ) -> Result<Option<Needed>, AllocError>
     requires few { length expr.now.nodes ≤ 65536 }
-    requires room { steps.old < 2 ^ 100 }
     ensures needed { IfOk result (λ n. IsNeeded (tree expr.now) n) }
 {
     let root = expr.root().index();
@@ -226,10 +222,8 @@ pub fn narrowed(
     steps: &mut Steps,
 ) -> Option<usize>
     requires from { from ≤ length text.now }
-    requires room { steps.old < 2 ^ 118 }
     ensures narrowed { (e : Tree) → IsNeeded e needed.now → Narrowed e text.now from result }
-    ensures grows { steps.old ≤ steps.new }
-    ensures cost { steps.new + from ≤ steps.old + length text.now }
+    ensures cost { Pays steps.old steps.new (length text.now) from }
 {
     match needed {
         None => Some(from),

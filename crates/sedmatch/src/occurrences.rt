@@ -7,8 +7,9 @@ ghost use Rattle.sedmatch.specs.Occurrences.{EndsWithin, Keeps, KeepsOn, KeepsRo
 ghost use Rattle.sedmatch.specs.Occurrences.{next_span, owed, owed_after, owed_apart, owed_met, owed_together};
 ghost use Rattle.sedmatch.specs.Parts.{SpanIn, span_of};
 ghost use Rattle.sedmatch.specs.Spans.{Spans};
-ghost use Rattle.sedmatch.specs.Costs.{Pays, Takes};
 ghost use Rattle.sedmatch.specs.Room.{FitInto};
+ghost use Rattle.sedmatch.specs.Costs.{Pays};
+ghost use Rattle.sedre.specs.Steps.{Takes};
 
 use crate::counted::Text;
 use crate::groups::report;
@@ -91,11 +92,9 @@ fn see_met(
     requires at { at ≤ length text.now }
     requires fits { FitsBehind (length expr.now.nodes) (length text.now) occurrences.old.behind }
     requires serves { IsTrue occurrences.old.met → Served expr.now text.now root at occurrences.old.behind }
-    requires room { steps.old ≤ 2 ^ 100 }
     ensures kept { KeepsBehind occurrences.old.behind occurrences.new.behind }
     ensures met { IsTrue occurrences.new.met × (occurrences.new.left ≡ occurrences.old.left) }
     ensures served { Served expr.now text.now root at occurrences.new.behind }
-    ensures small { steps.new < 2 ^ 108 }
     ensures cost { let m = length expr.now.nodes in let n = length text.now in
         Pays steps.old steps.new (owed_together m n at occurrences.old) (owed_met m n at occurrences.new) }
 {
@@ -130,7 +129,6 @@ impl TableMatcher {
     ) -> Option<(usize, usize)>
         requires at { at ≤ length text.now }
         requires fits { FitInto (length text.now) (length self.old.nodes) scratch.old }
-        requires room { steps.old ≤ 2 ^ 101 }
         ensures same { self.new ≡ self.old }
         ensures scratch { scratch.new ≡ scratch.old }
         ensures next { result ≡ if nat_lt at (length text.now) then found (tree self.old) text.now (at + 1) else None }
@@ -154,7 +152,6 @@ impl TableMatcher {
     ) -> Option<(usize, usize)>
         requires last { EndsWithin (length text.now) last }
         requires fits { FitInto (length text.now) (length self.old.nodes) scratch.old }
-        requires room { steps.old ≤ 2 ^ 100 }
         ensures same { self.new ≡ self.old }
         ensures scratch { scratch.new ≡ scratch.old }
         ensures next { result ≡ next_span (found (tree self.old) text.now) (length text.now) last }
@@ -183,7 +180,6 @@ impl TableMatcher {
         requires last { EndsWithin (length text.now) last }
         requires fits { FitInto (length text.now) (length self.old.nodes) scratch.old }
         requires left { (occurrences.old.met ≡ false) × (0 < occurrences.old.left) }
-        requires room { steps.old ≤ 2 ^ 100 }
         ensures same { self.new ≡ self.old }
         ensures scratch { scratch.new ≡ scratch.old }
         ensures kept { (occurrences.new.met ≡ false) × (occurrences.new.behind ≡ occurrences.old.behind) }
@@ -214,7 +210,6 @@ impl TableMatcher {
         requires fits { FitInto (length text.now) (length self.old.nodes) scratch.old }
         requires room_fits { RoomFor (length text.now) (length self.old.nodes) occurrences.old }
         requires keeps { Keeps self.old text.now at occurrences.old }
-        requires room { steps.old ≤ 2 ^ 100 }
         ensures same { self.new ≡ self.old }
         ensures scratch { scratch.new ≡ scratch.old }
         ensures next { result ≡ next_span (found (tree self.old) text.now) (length text.now) (Some at) }
@@ -253,7 +248,6 @@ impl TableMatcher {
         requires fits { FitInto (length text.now) (length self.old.nodes) scratch.old }
         requires room_fits { IfSome last (λ _. RoomFor (length text.now) (length self.old.nodes) occurrences.old) }
         requires serves { Serves self.old text.now last occurrences.old }
-        requires room { steps.old ≤ 2 ^ 100 }
         ensures same { self.new ≡ self.old }
         ensures scratch { scratch.new ≡ scratch.old }
         ensures next { result ≡ next_span (found (tree self.old) text.now) (length text.now) last }
@@ -284,14 +278,12 @@ impl TableMatcher {
         requires inside { end ≤ length text.now }
         requires spans { Spans (tree self.now) text.now start end }
         requires fits { FitInto (length text.now) (length self.now.nodes) scratch.old }
-        requires room { steps.old ≤ 2 ^ 100 }
         ensures scratch { scratch.new ≡ scratch.old }
         ensures groups { result ≡ report (tree self.now) text.now start end }
         ensures lies { (k : ℕ) → SpanIn (length text.now) (span_of result k) }
-        ensures grows { steps.old ≤ steps.new }
         ensures none_cost { self.now.groups ≡ 0 → steps.new ≡ steps.old }
         ensures cost { let m = length self.now.nodes in let n = length text.now in
-            steps.new ≤ steps.old + 51 * m * m * (n + 1) * (n + 1) }
+            Takes steps.old steps.new (51 * m * m * (n + 1) * (n + 1)) }
     {
         report(
             &self.expr,

@@ -10,6 +10,7 @@ ghost use Rattle.sedmatch.specs.Local.{PartsBelow, takes_next, null_of, end_of, 
 ghost use Rattle.sedmatch.specs.Reach.{IsStart, SetsFrom, SomeSpan, OpenAt};
 ghost use Rattle.sedmatch.specs.Reach.{TellNull, TellEntered, TellEnded, TellBegun};
 ghost use Rattle.sedmatch.specs.Places.{IsPlace, ComesAfter};
+ghost use Rattle.sedre.specs.Steps.{Takes, TakesAtLeast};
 
 use crate::counted::{Bytes, Marks};
 use crate::scratch::Sets;
@@ -58,11 +59,9 @@ fn marks_here(
 ) -> (bool, bool)
     requires null_inside { PartsBelow (length null.now) node.now }
     requires ended_inside { PartsBelow (length ended.now) node.now }
-    requires room { steps.old < 2 ^ 119 }
     ensures null { result.0 ≡ null_of begin end (λ c. slice_index_or null.now c false) node.now }
     ensures ended { result.1 ≡ end_of entered byte (λ c. slice_index_or null.now c false) (λ c. slice_index_or ended.now c false) node.now }
-    ensures grows { steps.old ≤ steps.new }
-    ensures cost { steps.new ≤ steps.old + 5 }
+    ensures cost { Takes steps.old steps.new 5 }
 {
     match node {
         Node::Empty => (true, false),
@@ -102,11 +101,9 @@ fn mark_parts(
     requires null_inside { PartsBelow (length null.now) node.now }
     requires ended_inside { PartsBelow (length ended.now) node.now }
     requires entered_inside { PartsBelow (length entered.old) node.now }
-    requires room { steps.old < 2 ^ 119 }
     ensures value { entered.new ≡ enter_parts here (λ c. slice_index_or null.now c false) (λ c. slice_index_or ended.now c false) node.now entered.old }
     ensures opens { result ≡ (more || (here && takes_next byte node.now)) }
-    ensures grows { steps.old ≤ steps.new }
-    ensures cost { steps.new ≤ steps.old + 4 }
+    ensures cost { Takes steps.old steps.new 4 }
 {
     match node {
         Node::Empty | Node::Begin | Node::End => more,
@@ -148,7 +145,6 @@ pub fn ascend(
 )
     requires root { root < length expr.now.nodes }
     requires fits { FitsFew (length expr.now.nodes) sets.old }
-    requires room { steps.old < 2 ^ 118 }
     ensures marks { SameMarks sets.old sets.new }
     ensures kept { sets.new.entered ≡ sets.old.entered }
     ensures null { (w : List ℕ) (place : ℕ) → IsPlace w place begin end →
@@ -157,7 +153,7 @@ pub fn ascend(
         ComesAfter expr.now.nodes w place sets.old.entered byte →
         TellEntered expr.now.nodes w root s place sets.old.entered →
         TellEnded expr.now.nodes w root s place sets.new.ended }
-    ensures counts { steps.old + 4 * (root + 1) ≤ steps.new }
+    ensures counts { TakesAtLeast steps.old steps.new (4 * (root + 1)) }
     ensures cost { steps.new ≤ steps.old + 9 * (root + 1) }
     ensures arena { IsArena expr.now.nodes }
 {
@@ -192,7 +188,6 @@ pub fn descend(
 ) -> bool
     requires root { root < length expr.now.nodes }
     requires fits { FitsFew (length expr.now.nodes) sets.old }
-    requires room { steps.old < 2 ^ 118 }
     ensures marks { SameMarks sets.old sets.new }
     ensures kept_null { sets.new.null ≡ sets.old.null }
     ensures kept_ended { sets.new.ended ≡ sets.old.ended }
@@ -208,8 +203,7 @@ pub fn descend(
         (IsTrue first ↔ IsStart s place) →
         TellEntered expr.now.nodes w root s place sets.old.entered →
         SetsFrom expr.now.nodes w root s place 0 next result }
-    ensures grows { steps.old ≤ steps.new }
-    ensures cost { steps.new ≤ steps.old + 6 * (root + 1) + 1 }
+    ensures cost { Takes steps.old steps.new (6 * (root + 1) + 1) }
 {
     let _count = expr.nodes();
     sets.entered.set(root, first, steps);
@@ -235,10 +229,8 @@ pub fn descend(
 pub fn ends_here(root: usize, first: bool, null: &Marks, ended: &Marks, steps: &mut Steps) -> bool
     requires null_inside { root < length null.now }
     requires ended_inside { root < length ended.now }
-    requires room { steps.old < 2 ^ 119 }
     ensures value { result ≡ (slice_index_or ended.now root false || (first && slice_index_or null.now root false)) }
-    ensures grows { steps.old ≤ steps.new }
-    ensures cost { steps.new ≤ steps.old + 2 }
+    ensures cost { Takes steps.old steps.new 2 }
 {
     ended.get(root, steps) || (first && null.get(root, steps))
 }
@@ -246,10 +238,8 @@ pub fn ends_here(root: usize, first: bool, null: &Marks, ended: &Marks, steps: &
 /// The byte before the place, if there is one.
 fn byte_before(text: &Bytes, place: usize, steps: &mut Steps) -> Option<u8>
     requires place { place ≤ length text.now }
-    requires room { steps.old < 2 ^ 119 }
     ensures byte { (i : ℕ) → i + 1 ≡ place → slice_get text.now i ≡ result }
-    ensures grows { steps.old ≤ steps.new }
-    ensures cost { steps.new ≤ steps.old + 1 }
+    ensures cost { Takes steps.old steps.new 1 }
 {
     if place == 0 {
         None
@@ -260,10 +250,8 @@ fn byte_before(text: &Bytes, place: usize, steps: &mut Steps) -> Option<u8>
 
 /// The byte at the place, if there is one.
 fn byte_after(text: &Bytes, place: usize, steps: &mut Steps) -> Option<u8>
-    requires room { steps.old < 2 ^ 119 }
     ensures byte { slice_get text.now place ≡ result }
-    ensures grows { steps.old ≤ steps.new }
-    ensures cost { steps.new ≤ steps.old + 1 }
+    ensures cost { Takes steps.old steps.new 1 }
 {
     if place < text.len() {
         Some(text.byte(place, steps))
@@ -296,12 +284,11 @@ pub fn advance(
     requires place { place ≤ length text.now }
     requires fits { FitsFew (length expr.now.nodes) sets.old }
     requires entered { TellEntered expr.now.nodes text.now root starts place sets.old.entered }
-    requires room { steps.old < 2 ^ 117 }
     ensures marks { SameMarks sets.old sets.new }
     ensures entered { TellBegun expr.now.nodes text.now root starts place sets.new.entered }
     ensures spans { IsTrue result.matched ↔ SomeSpan expr.now.nodes text.now root starts place }
     ensures opens { OpenAt expr.now.nodes text.now root starts place result.more }
-    ensures counts { steps.old + 4 * (root + 1) ≤ steps.new }
+    ensures counts { TakesAtLeast steps.old steps.new (4 * (root + 1)) }
     ensures cost { steps.new ≤ steps.old + 15 * length expr.now.nodes + 5 }
 {
     // A count of its own is kept in registers, and added once.

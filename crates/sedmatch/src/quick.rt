@@ -9,9 +9,10 @@ ghost use Rattle.sedmatch.specs.Reach.{Longest, LongestBelow};
 ghost use Rattle.sedmatch.specs.Answer.{IsComputed, MatchAnswer, SpanAnswer};
 ghost use Rattle.sedmatch.specs.Matching.{found};
 ghost use Rattle.sedmatch.specs.Ready.{AreTables, IsKnown, IsPrepared};
-ghost use Rattle.sedmatch.specs.Costs.{Takes};
 ghost use Rattle.sedmatch.specs.Room.{FitInto};
 ghost use Rattle.sedmatch.specs.Work.{AreFlat};
+ghost use Rattle.sedmatch.specs.Costs.{Pays};
+ghost use Rattle.sedre.specs.Steps.{Takes};
 
 use crate::ahead::Lead;
 use crate::anywhere::{anchored_by, leftmost_by};
@@ -48,12 +49,10 @@ fn some_by(
     requires known { IsKnown (tree expr.now) known.now }
     requires tables { AreTables expr.now root tables.old }
     requires fits { Fits (length expr.now.nodes) (length text.now) sets.old }
-    requires room { steps.old < 2 ^ 108 }
     ensures tables { AreTables expr.now root tables.new }
     ensures marks { SameMarks sets.old sets.new }
     ensures matches { IsTrue result ↔ SomeFound (tree expr.now) text.now from }
-    ensures grows { steps.old ≤ steps.new }
-    ensures cost { steps.new ≤ steps.old + 64 * length expr.now.nodes * (length text.now + 1) }
+    ensures cost { Takes steps.old steps.new (64 * length expr.now.nodes * (length text.now + 1)) }
 {
     match &known.begins {
         Begins::AtStart => anchored_by(
@@ -97,12 +96,10 @@ fn some_anywhere(
     requires known { IsKnown (tree expr.now) known.now }
     requires table { IsSweep expr.now.nodes root table.old }
     requires fits { Fits (length expr.now.nodes) (length text.now) sets.old }
-    requires room { steps.old < 2 ^ 109 }
     ensures table { IsSweep expr.now.nodes root table.new }
     ensures marks { SameMarks sets.old sets.new }
     ensures matches { IsTrue result ↔ SomeFound (tree expr.now) text.now from }
-    ensures grows { steps.old ≤ steps.new }
-    ensures cost { let m = length expr.now.nodes in steps.new ≤ steps.old + 41 * m + 43 * m * length text.now }
+    ensures cost { let m = length expr.now.nodes in Takes steps.old steps.new (41 * m + 43 * m * length text.now) }
 {
     match first_place(expr, &known.begins, &known.rare, text, from, steps) {
         None => false,
@@ -129,14 +126,12 @@ pub fn longest_to(
     requires order { InOrder start stop (length text.now) }
     requires table { IsSingle expr.now.nodes root table.old }
     requires fits { Fits (length expr.now.nodes) (length text.now) sets.old }
-    requires room { steps.old < 2 ^ 110 }
     ensures table { IsSingle expr.now.nodes root table.new }
     ensures marks { SameMarks sets.old sets.new }
     ensures longest { LongestBelow (tree expr.now) text.now start (stop + 1) result }
     ensures lies { IfSome result (λ end. (start ≤ end) × (end ≤ stop)) }
-    ensures grows { steps.old ≤ steps.new }
     ensures cost { let m = length expr.now.nodes in
-        steps.new + 42 * m * start ≤ steps.old + 38 * m + 42 * m * stop }
+        Pays steps.old steps.new (38 * m + 42 * m * stop) (42 * m * start) }
 {
     let begin = start == 0;
     let mut place = start;
@@ -193,14 +188,12 @@ pub fn longest_in(
     requires start { start ≤ length text.now }
     requires table { IsSingle expr.now.nodes root table.old }
     requires fits { Fits (length expr.now.nodes) (length text.now) sets.old }
-    requires room { steps.old < 2 ^ 110 }
     ensures table { IsSingle expr.now.nodes root table.new }
     ensures marks { SameMarks sets.old sets.new }
     ensures longest { Longest (tree expr.now) text.now start result }
     ensures lies { IfSome result (λ end. (start ≤ end) × (end ≤ length text.now)) }
-    ensures grows { steps.old ≤ steps.new }
     ensures cost { let m = length expr.now.nodes in
-        steps.new + 42 * m * start ≤ steps.old + 38 * m + 42 * m * length text.now }
+        Pays steps.old steps.new (38 * m + 42 * m * length text.now) (42 * m * start) }
 {
     let nodes = Nodes::of(expr);
     let bytes = text.forwards();
@@ -222,7 +215,6 @@ fn find_by(
     requires flat { IsTrue known.now.flat → AreFlat expr.now.nodes }
     requires from { from ≤ length text.now }
     requires fits { FitInto (length text.now) (length expr.now.nodes) scratch.old }
-    requires room { steps.old ≤ 2 ^ 100 }
     ensures tables { AreTables expr.now root tables.new }
     ensures scratch { scratch.new ≡ scratch.old }
     ensures answer { MatchAnswer (tree expr.now) text.now from result }
@@ -336,7 +328,6 @@ impl TableMatcher {
     ) -> bool
         requires from { from ≤ length text.now }
         requires fits { FitInto (length text.now) (length self.old.nodes) scratch.old }
-        requires room { steps.old ≤ 2 ^ 100 }
         ensures same { self.new ≡ self.old }
         ensures scratch { scratch.new ≡ scratch.old }
         ensures matches { IsTrue result ↔ SomeFound (tree self.old) text.now from }
@@ -370,7 +361,6 @@ impl TableMatcher {
     ) -> Option<(usize, usize)>
         requires from { from ≤ length text.now }
         requires fits { FitInto (length text.now) (length self.old.nodes) scratch.old }
-        requires room { steps.old ≤ 2 ^ 101 }
         ensures same { self.new ≡ self.old }
         ensures scratch { scratch.new ≡ scratch.old }
         ensures answer { SpanAnswer (tree self.old) text.now from result }
@@ -411,7 +401,6 @@ impl TableMatcher {
     ) -> Option<Found>
         requires from { from ≤ length text.now }
         requires fits { FitInto (length text.now) (length self.old.nodes) scratch.old }
-        requires room { steps.old ≤ 2 ^ 100 }
         ensures same { self.new ≡ self.old }
         ensures scratch { scratch.new ≡ scratch.old }
         ensures answer { MatchAnswer (tree self.old) text.now from result }

@@ -9,6 +9,8 @@ ghost use Rattle.sedmatch.specs.Few.{HasFew};
 ghost use Rattle.sedmatch.specs.Spans.{IsIn};
 ghost use Rattle.sedmatch.specs.Beginnings.{AllBegin};
 ghost use Rattle.sedmatch.specs.Search.{Sought, sought_to};
+ghost use Rattle.sedmatch.specs.Costs.{Pays};
+ghost use Rattle.sedre.specs.Steps.{Takes};
 
 use crate::ahead::{Lead, look_ahead};
 use crate::beginnings::{Begins, Either, next_start};
@@ -71,10 +73,8 @@ impl Fixed {
     /// Whether one of them stands so far after the place. Counts one look.
     fn stands(&self, text: &Text, place: usize, steps: &mut Steps) -> bool
         requires place { place ≤ length text.now }
-        requires room { steps.old < 2 ^ 119 }
         ensures stands { IsTrue result ↔ StandsAt self.now text.now place }
-        ensures grows { steps.old ≤ steps.new }
-        ensures cost { steps.new ≤ steps.old + 1 }
+        ensures cost { Takes steps.old steps.new 1 }
     {
         if self.offset < text.len() - place {
             let byte = text.byte(place + self.offset, steps);
@@ -87,10 +87,8 @@ impl Fixed {
     /// The first place from `from` on after which one of them stands so far.
     fn find(&self, text: &Text, from: usize, steps: &mut Steps) -> Option<usize>
         requires from { from ≤ length text.now }
-        requires room { steps.old < 2 ^ 119 }
         ensures first { FirstFixed self.now text.now from result }
-        ensures grows { steps.old ≤ steps.new }
-        ensures cost { steps.new ≤ steps.old + looked_at (length text.now) from result }
+        ensures cost { Takes steps.old steps.new (looked_at (length text.now) from result) }
     {
         if self.offset > text.len() - from {
             return None;
@@ -126,10 +124,8 @@ impl Rare {
     /// Whether what is held stands where it does in a match that begins at the place. Counts one look.
     fn holds(&self, text: &Text, place: usize, steps: &mut Steps) -> bool
         requires place { place ≤ length text.now }
-        requires room { steps.old < 2 ^ 119 }
         ensures holds { IsTrue result ↔ HeldAt self.now.held text.now place }
-        ensures grows { steps.old ≤ steps.new }
-        ensures cost { steps.new ≤ steps.old + 1 }
+        ensures cost { Takes steps.old steps.new 1 }
     {
         match &self.held {
             None => true,
@@ -141,12 +137,10 @@ impl Rare {
     fn pass(&self, text: &Text, from: usize, steps: &mut Steps) -> usize
         requires from { from ≤ length text.now }
         requires short { length text.now ≤ 2 ^ 30 }
-        requires room { steps.old < 2 ^ 117 }
         ensures after { from ≤ result }
         ensures within { result ≤ length text.now }
         ensures missed { RareNowhere self.now text.now from result }
-        ensures grows { steps.old ≤ steps.new }
-        ensures cost { steps.new + 2 * from ≤ steps.old + 2 * result }
+        ensures cost { Pays steps.old steps.new (2 * result) (2 * from) }
     {
         if !self.often {
             return from;
@@ -161,10 +155,8 @@ impl Rare {
     fn find_near(&self, text: &Text, from: usize, steps: &mut Steps) -> Option<usize>
         requires from { from ≤ length text.now }
         requires short { length text.now ≤ 2 ^ 30 }
-        requires room { steps.old < 2 ^ 118 }
         ensures first { FirstRare self.now text.now from result }
-        ensures grows { steps.old ≤ steps.new }
-        ensures cost { steps.new ≤ steps.old + 2 * looked_at (length text.now) from result }
+        ensures cost { Takes steps.old steps.new (2 * looked_at (length text.now) from result) }
     {
         let mut place = from;
         while let Some(start) = self.sought.find(text, place, steps) {
@@ -180,11 +172,9 @@ impl Rare {
     fn find(&self, text: &Text, from: usize, steps: &mut Steps) -> Option<usize>
         requires from { from ≤ length text.now }
         requires short { length text.now ≤ 2 ^ 30 }
-        requires room { steps.old < 2 ^ 117 }
         ensures first { FirstRare self.now text.now from result }
         ensures lies { IfSome result (λ k. k < length text.now) }
-        ensures grows { steps.old ≤ steps.new }
-        ensures cost { steps.new ≤ steps.old + 2 * looked_at (length text.now) from result }
+        ensures cost { Takes steps.old steps.new (2 * looked_at (length text.now) from result) }
     {
         let place = self.pass(text, from, steps);
         self.find_near(text, place, steps)
@@ -256,10 +246,8 @@ fn with_set(rare: Option<Rare>, offset: usize, set: &ByteSet) -> Option<Rare>
 fn rare_from(expr: &Expr, from: usize, steps: &mut Steps) -> Option<Rare>
     requires inside { from < length expr.now.nodes }
     requires few { length expr.now.nodes ≤ 65536 }
-    requires room { steps.old < 2 ^ 111 }
     ensures rare { AllRare (tree_at expr.now.nodes from) result }
-    ensures grows { steps.old ≤ steps.new }
-    ensures cost { steps.new ≤ steps.old + 131074 }
+    ensures cost { Takes steps.old steps.new 131074 }
 {
     let mut rare = None;
     let mut offset = 0usize;
@@ -296,10 +284,8 @@ fn rare_first(begins: &Begins) -> Option<Rare>
 /// The set of which a byte stands second in every span of the node, if there is one.
 fn second_set(expr: &Expr, index: usize, steps: &mut Steps) -> Option<ByteSet>
     requires inside { index < length expr.now.nodes }
-    requires room { steps.old < 2 ^ 117 }
     ensures second { IfSome result (λ s. AllSecond expr.now.nodes index s) }
-    ensures grows { steps.old ≤ steps.new }
-    ensures cost { steps.new ≤ steps.old + 4 }
+    ensures cost { Takes steps.old steps.new 4 }
 {
     match link_of(expr, index, steps) {
         Link::OneOf(_, next) => match link_of(expr, next, steps) {
@@ -314,10 +300,8 @@ fn second_set(expr: &Expr, index: usize, steps: &mut Steps) -> Option<ByteSet>
 /// The bytes that stand second in every match, where there are two alternatives and these bytes are few.
 fn second_of_two(expr: &Expr, steps: &mut Steps) -> Option<Fixed>
     requires few { length expr.now.nodes ≤ 65536 }
-    requires room { steps.old < 2 ^ 116 }
     ensures second { AllHeld (tree expr.now) result }
-    ensures grows { steps.old ≤ steps.new }
-    ensures cost { steps.new ≤ steps.old + 9 }
+    ensures cost { Takes steps.old steps.new 9 }
 {
     let root = expr.root().index();
     match expr.look(expr.id(root), steps) {
@@ -361,10 +345,8 @@ fn with_held(rare: Option<Rare>, held: Option<Fixed>) -> Option<Rare>
 pub fn rare_of(expr: &Expr, begins: &Begins, steps: &mut Steps) -> Option<Rare>
     requires few { length expr.now.nodes ≤ 65536 }
     requires begins { AllBegin (tree expr.now) begins.now }
-    requires room { steps.old < 2 ^ 110 }
     ensures rare { AllRare (tree expr.now) result }
-    ensures grows { steps.old ≤ steps.new }
-    ensures cost { steps.new ≤ steps.old + 131083 }
+    ensures cost { Takes steps.old steps.new 131083 }
 {
     let root = expr.root().index();
     match rare_from(expr, root, steps) {
@@ -396,11 +378,9 @@ fn rare_place(
     requires short { length text.now ≤ 2 ^ 30 }
     requires from { from ≤ length text.now }
     requires rare { AllRare (tree expr.now) (Some rare.now) }
-    requires room { steps.old < 2 ^ 116 }
     ensures sought { Sought (tree expr.now) text.now from result }
-    ensures grows { steps.old ≤ steps.new }
     ensures cost { let m = length expr.now.nodes in let n = length text.now in
-        steps.new + 8 * m * from ≤ steps.old + 8 * m * sought_to n result + m * n + 1 }
+        Pays steps.old steps.new (8 * m * sought_to n result + m * n + 1) (8 * m * from) }
 {
     let large = is_large(expr.nodes(), text.len());
     text.are_bytes();
@@ -435,11 +415,9 @@ pub fn first_place(
     requires from { from ≤ length text.now }
     requires begins { AllBegin (tree expr.now) begins.now }
     requires rare { AllRare (tree expr.now) rare.now }
-    requires room { steps.old < 2 ^ 116 }
     ensures sought { Sought (tree expr.now) text.now from result }
-    ensures grows { steps.old ≤ steps.new }
     ensures cost { let m = length expr.now.nodes in let n = length text.now in
-        steps.new + 8 * m * from ≤ steps.old + 8 * m * sought_to n result + m * n + 1 }
+        Pays steps.old steps.new (8 * m * sought_to n result + m * n + 1) (8 * m * from) }
 {
     let _count = expr.nodes();
     match rare {

@@ -49,7 +49,6 @@ pub fn find_known(
     steps: &mut Steps,
 ) -> Result<Known, AllocError>
     requires nodes { length expr.now.nodes ≤ 65536 }
-    requires room { steps.old < 2 ^ 80 }
     ensures known { IfOk result (λ k. IsKnown (tree expr.now) k) }
     ensures flat { IfOk result (λ k. IsTrue k.flat → AreFlat expr.now.nodes) }
 {

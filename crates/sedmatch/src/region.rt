@@ -6,6 +6,7 @@ ghost use Rattle.std.specs.Prelude.{◌≡◌, true, ◌+◌, ◌-◌, ◌*◌, 
 ghost use Rattle.sedre.specs.Arena.{tree};
 ghost use Rattle.sedmatch.specs.Fits.{Fits, SameMarks};
 ghost use Rattle.sedmatch.specs.Search.{IsRegion, LastEnd, IsEarliest};
+ghost use Rattle.sedmatch.specs.Costs.{Pays};
 
 use crate::counted::{Bytes, Text};
 use crate::passes::{Starts, advance};
@@ -35,11 +36,9 @@ fn last_end(
     requires order { first ≤ stop }
     requires inside { stop ≤ length bytes.now + 1 }
     requires fits { Fits (length nodes.now.nodes) (length bytes.now) sets.old }
-    requires room { steps.old < 2 ^ 116 }
     ensures marks { SameMarks sets.old sets.new }
     ensures last { LastEnd (tree nodes.now) bytes.now first stop result }
-    ensures grows { steps.old ≤ steps.new }
-    ensures cost { let m = length nodes.now.nodes in steps.new + 20 * m * first ≤ steps.old + m + 20 * m * stop }
+    ensures cost { let m = length nodes.now.nodes in Pays steps.old steps.new (m + 20 * m * stop) (20 * m * first) }
 {
     let root = nodes.root().index();
     let starts = Starts {
@@ -67,12 +66,10 @@ pub fn earliest(
 ) -> usize
     requires region { IsRegion (tree expr.now) text.now true region }
     requires fits { Fits (length expr.now.nodes) (length text.now) sets.old }
-    requires room { steps.old < 2 ^ 116 }
     ensures marks { SameMarks sets.old sets.new }
     ensures earliest { IsEarliest (tree expr.now) text.now region result }
-    ensures grows { steps.old ≤ steps.new }
     ensures cost { let m = length expr.now.nodes in
-        steps.new + 20 * m * region.start ≤ steps.old + m + 20 * m * (region.bound + 1) }
+        Pays steps.old steps.new (m + 20 * m * (region.bound + 1)) (20 * m * region.start) }
 {
     if region.start == region.last {
         return region.start;

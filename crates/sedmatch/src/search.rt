@@ -14,7 +14,8 @@ ghost use Rattle.sedmatch.specs.Ahead.{LeadsTo};
 ghost use Rattle.sedmatch.specs.Beginnings.{AllBegin};
 ghost use Rattle.sedmatch.specs.States.{IsAt};
 ghost use Rattle.sedmatch.specs.Answer.{SpanAnswer};
-ghost use Rattle.sedmatch.specs.Costs.{Takes};
+ghost use Rattle.sedmatch.specs.Costs.{Pays};
+ghost use Rattle.sedre.specs.Steps.{Takes};
 
 use crate::ahead::{Lead, look_ahead};
 use crate::beginnings::{Begins, how_begins, next_start};
@@ -41,13 +42,11 @@ fn advance_forwards(
     requires place { place ≤ length text.now }
     requires fits { FitsFew (length expr.now.nodes) sets.old }
     requires entered { TellEntered expr.now.nodes text.now root starts place sets.old.entered }
-    requires room { steps.old < 2 ^ 117 }
     ensures marks { SameMarks sets.old sets.new }
     ensures entered { TellBegun expr.now.nodes text.now root starts place sets.new.entered }
     ensures spans { IsTrue result.matched ↔ SomeSpan expr.now.nodes text.now root starts place }
     ensures opens { OpenAt expr.now.nodes text.now root starts place result.more }
-    ensures grows { steps.old ≤ steps.new }
-    ensures cost { steps.new ≤ steps.old + 15 * length expr.now.nodes + 5 }
+    ensures cost { Takes steps.old steps.new (15 * length expr.now.nodes + 5) }
 {
     let nodes = Nodes::of(expr);
     let bytes = text.forwards();
@@ -68,13 +67,11 @@ pub fn advance_seen(
     requires order { InOrder start place (length bytes.now) }
     requires fits { FitsFew (length nodes.now.nodes) sets.old }
     requires entered { TellEntered nodes.now.nodes bytes.now root (one_start start) place sets.old.entered }
-    requires room { steps.old < 2 ^ 117 }
     ensures marks { SameMarks sets.old sets.new }
     ensures entered { TellBegun nodes.now.nodes bytes.now root (one_start start) place sets.new.entered }
     ensures spans { IsTrue result.matched ↔ At nodes.now.nodes bytes.now root start place }
     ensures opens { OpenFrom nodes.now.nodes bytes.now root start place result.more }
-    ensures grows { steps.old ≤ steps.new }
-    ensures cost { steps.new ≤ steps.old + 15 * length nodes.now.nodes + 5 }
+    ensures cost { Takes steps.old steps.new (15 * length nodes.now.nodes + 5) }
 {
     let starts = Starts {
         first: start,
@@ -97,13 +94,11 @@ pub fn advance_from(
     requires order { InOrder start place (length text.now) }
     requires fits { FitsFew (length expr.now.nodes) sets.old }
     requires entered { TellEntered expr.now.nodes text.now root (one_start start) place sets.old.entered }
-    requires room { steps.old < 2 ^ 117 }
     ensures marks { SameMarks sets.old sets.new }
     ensures entered { TellBegun expr.now.nodes text.now root (one_start start) place sets.new.entered }
     ensures spans { IsTrue result.matched ↔ At expr.now.nodes text.now root start place }
     ensures opens { OpenFrom expr.now.nodes text.now root start place result.more }
-    ensures grows { steps.old ≤ steps.new }
-    ensures cost { steps.new ≤ steps.old + 15 * length expr.now.nodes + 5 }
+    ensures cost { Takes steps.old steps.new (15 * length expr.now.nodes + 5) }
 {
     let starts = Starts {
         first: start,
@@ -122,12 +117,10 @@ fn longest_at(
 ) -> Option<usize>
     requires start { start ≤ length text.now }
     requires fits { Fits (length expr.now.nodes) (length text.now) sets.old }
-    requires room { steps.old < 2 ^ 116 }
     ensures marks { SameMarks sets.old sets.new }
     ensures longest { Longest (tree expr.now) text.now start result }
     ensures lies { IfSome result (λ end. (start ≤ end) × (end ≤ length text.now)) }
-    ensures grows { steps.old ≤ steps.new }
-    ensures cost { steps.new ≤ steps.old + length expr.now.nodes + 20 * length expr.now.nodes * (length text.now + 1) }
+    ensures cost { Takes steps.old steps.new (length expr.now.nodes + 20 * length expr.now.nodes * (length text.now + 1)) }
 {
     let root = expr.root().index();
     sets.entered.clear(root + 1, steps);
@@ -156,12 +149,10 @@ fn longest_from(
     requires start { start ≤ length text.now }
     requires leads { LeadsTo (length text.now) (Spans (tree expr.now) text.now start) lead }
     requires fits { Fits (length expr.now.nodes) (length text.now) sets.old }
-    requires room { steps.old < 2 ^ 113 }
     ensures marks { SameMarks sets.old sets.new }
     ensures longest { Longest (tree expr.now) text.now start result }
     ensures lies { IfSome result (λ end. (start ≤ end) × (end ≤ length text.now)) }
-    ensures grows { steps.old ≤ steps.new }
-    ensures cost { steps.new ≤ steps.old + 8 * length expr.now.nodes + 21 * length expr.now.nodes * (length text.now + 1) }
+    ensures cost { Takes steps.old steps.new (8 * length expr.now.nodes + 21 * length expr.now.nodes * (length text.now + 1)) }
 {
     match lead {
         Lead::To(end) => Some(end),
@@ -201,12 +192,10 @@ fn region_to(
     requires begun { TellBegun expr.now.nodes text.now root (starts_to start (length text.now)) last sets.old.entered }
     requires spans { SomeSpan expr.now.nodes text.now root (starts_to start (length text.now)) last }
     requires opens { IsTrue whole → OpenAt expr.now.nodes text.now root (starts_to start (length text.now)) last goes_on }
-    requires room { steps.old < 2 ^ 116 }
     ensures marks { SameMarks sets.old sets.new }
     ensures region { IsRegionFrom (tree expr.now) text.now whole start result }
-    ensures grows { steps.old ≤ steps.new }
     ensures cost { let m = length expr.now.nodes in
-        steps.new + 20 * m * (last + 1) ≤ steps.old + 20 * m * (result.bound + 1) }
+        Pays steps.old steps.new (20 * m * (result.bound + 1)) (20 * m * (last + 1)) }
 {
     if !whole || !goes_on {
         return Region {
@@ -246,12 +235,10 @@ fn sweep(
 ) -> Swept
     requires start { start ≤ length text.now }
     requires fits { Fits (length expr.now.nodes) (length text.now) sets.old }
-    requires room { steps.old < 2 ^ 114 }
     ensures marks { SameMarks sets.old sets.new }
     ensures swept { IsSwept (tree expr.now) text.now whole start result }
-    ensures grows { steps.old ≤ steps.new }
     ensures cost { let m = length expr.now.nodes in
-        steps.new + 20 * m * start ≤ steps.old + m + 20 * m * (swept_to result + 1) }
+        Pays steps.old steps.new (m + 20 * m * (swept_to result + 1)) (20 * m * start) }
 {
     let root = expr.root().index();
     let starts = Starts {
@@ -303,12 +290,10 @@ pub fn longest_on(
     requires fits { Fits (length expr.now.nodes) (length text.now) sets.old }
     requires at { IsAt expr.now.nodes text.now root (one_start start) place sets.old.entered ends }
     requires best { IsBest (tree expr.now) text.now start place stop before }
-    requires room { steps.old < 2 ^ 116 }
     ensures marks { SameMarks sets.old sets.new }
     ensures longest { LongestBelow (tree expr.now) text.now start (stop + 1) result }
     ensures lies { IfSome result (λ end. (start ≤ end) × (end ≤ stop)) }
-    ensures grows { steps.old ≤ steps.new }
-    ensures cost { steps.new + 20 * length expr.now.nodes * place ≤ steps.old + 20 * length expr.now.nodes * stop }
+    ensures cost { Pays steps.old steps.new (20 * length expr.now.nodes * stop) (20 * length expr.now.nodes * place) }
 {
     let here = ends_at(place, text.len(), ends);
     let mut best = better(before, place, here);
@@ -335,12 +320,10 @@ fn sweep_from(
     requires start { start ≤ length text.now }
     requires leads { LeadsTo (length text.now) (Spans (tree expr.now) text.now start) lead }
     requires fits { Fits (length expr.now.nodes) (length text.now) sets.old }
-    requires room { steps.old < 2 ^ 114 }
     ensures marks { SameMarks sets.old sets.new }
     ensures swept { IsSwept (tree expr.now) text.now whole start result }
-    ensures grows { steps.old ≤ steps.new }
     ensures cost { let m = length expr.now.nodes in
-        steps.new + 20 * m * start ≤ steps.old + m + 20 * m * (swept_to result + 1) }
+        Pays steps.old steps.new (m + 20 * m * (swept_to result + 1)) (20 * m * start) }
 {
     match lead {
         Lead::To(end) => Swept::Hit(Region {
@@ -365,11 +348,9 @@ pub fn next_place(
     requires short { length text.now ≤ 2 ^ 30 }
     requires from { from ≤ length text.now }
     requires begins { AllBegin (tree expr.now) begins.now }
-    requires room { steps.old < 2 ^ 116 }
     ensures sought { Sought (tree expr.now) text.now from result }
-    ensures grows { steps.old ≤ steps.new }
     ensures cost { let m = length expr.now.nodes in
-        steps.new + 8 * m * from ≤ steps.old + 8 * m * (sought_to (length text.now) result + 1) }
+        Pays steps.old steps.new (8 * m * (sought_to (length text.now) result + 1)) (8 * m * from) }
 {
     let _count = expr.nodes();
     let mut place = from;
@@ -401,12 +382,10 @@ pub fn scan(
     requires from { from ≤ length text.now }
     requires begins { AllBegin (tree expr.now) begins.now }
     requires fits { Fits (length expr.now.nodes) (length text.now) sets.old }
-    requires room { steps.old < 2 ^ 113 }
     ensures marks { SameMarks sets.old sets.new }
     ensures scanned { Scanned (tree expr.now) text.now whole from result }
-    ensures grows { steps.old ≤ steps.new }
     ensures cost { let m = length expr.now.nodes in let n = length text.now in
-        steps.new + 29 * m * from ≤ steps.old + 29 * m * (n + 1) }
+        Pays steps.old steps.new (29 * m * (n + 1)) (29 * m * from) }
 {
     let mut at = from;
     while let Some((start, lead)) = next_place(expr, begins, text, at, steps) {
@@ -434,14 +413,12 @@ fn span_in(
 ) -> Option<(usize, usize)>
     requires region { IsRegion (tree expr.now) text.now true region }
     requires fits { Fits (length expr.now.nodes) (length text.now) sets.old }
-    requires room { steps.old < 2 ^ 112 }
     ensures marks { SameMarks sets.old sets.new }
     ensures found { IfSome result (λ f. IsFound (tree expr.now) text.now region.start f.0 f.1) }
     ensures some { IfNone result ⊥ }
     ensures lies { IfSome result (λ f. (f.0 ≤ f.1) × (f.1 ≤ length text.now)) }
-    ensures grows { steps.old ≤ steps.new }
     ensures cost { let m = length expr.now.nodes in let n = length text.now in
-        steps.new + 20 * m * region.start ≤ steps.old + 16 * m + 41 * m * (n + 1) }
+        Pays steps.old steps.new (16 * m + 41 * m * (n + 1)) (20 * m * region.start) }
 {
     let start = earliest(expr, text, region, sets, steps);
     let lead = look_ahead(expr, text, start, steps);
@@ -465,7 +442,6 @@ pub fn leftmost(
 ) -> Option<(usize, usize)>
     requires from { from ≤ length text.now }
     requires fits { Fits (length expr.now.nodes) (length text.now) sets.old }
-    requires room { steps.old ≤ 2 ^ 101 }
     ensures marks { SameMarks sets.old sets.new }
     ensures answer { SpanAnswer (tree expr.now) text.now from result }
     ensures some { 0 < length expr.now.nodes }

@@ -11,8 +11,9 @@ ghost use Rattle.sedre.specs.declared.types.Node.TheVariants.{Seq};
 ghost use Rattle.sedmatch.specs.Spans.{Found as IsFound, NotFound, SomeFound, IsIn};
 ghost use Rattle.sedmatch.specs.Answer.{IsComputed, MatchAnswer};
 ghost use Rattle.sedmatch.specs.Sight.{IsFirst, FirstWith, IsSight, IsSightOf, CanStart, FirstStart, EndsAt};
-ghost use Rattle.sedmatch.specs.Costs.{Takes};
 ghost use Rattle.sedmatch.specs.Room.{FitInto};
+ghost use Rattle.sedmatch.specs.Costs.{Pays};
+ghost use Rattle.sedre.specs.Steps.{Takes};
 
 use crate::between::{Between, between_of};
 use crate::choice::{Choice, choice_of};
@@ -84,10 +85,8 @@ fn first_of(set: &ByteSet) -> First
 fn trail_sight(expr: &Expr, a: NodeId, b: NodeId, steps: &mut Steps) -> Option<Sight>
     requires root { slice_get expr.now.nodes (length expr.now.nodes - 1) ≡ Some (Seq a b) }
     requires arena { IsArena expr.now.nodes }
-    requires room { steps.old < 2 ^ 111 }
     ensures sight { IfSome result (λ s. IsSight (tree expr.now) s) }
-    ensures grows { steps.old ≤ steps.new }
-    ensures cost { steps.new ≤ steps.old + 4 }
+    ensures cost { Takes steps.old steps.new 4 }
 {
     match star_set(expr, a.index(), steps) {
         Some(members) => match expr.look(b, steps) {
@@ -101,7 +100,6 @@ fn trail_sight(expr: &Expr, a: NodeId, b: NodeId, steps: &mut Steps) -> Option<S
 /// How the matches of the expression look, if they are of one byte, a run or both.
 fn run_sight(expr: &Expr, steps: &mut Steps) -> Option<Sight>
     requires few { length expr.now.nodes ≤ 65536 }
-    requires room { steps.old < 2 ^ 110 }
     ensures sight { IfSome result (λ s. IsSight (tree expr.now) s) }
     ensures cost { steps.new ≤ steps.old + 6 }
 {
@@ -125,7 +123,6 @@ fn run_sight(expr: &Expr, steps: &mut Steps) -> Option<Sight>
 /// How the matches of the expression look, if they are seen at the first look.
 pub fn sight_of(alloc: Global, expr: &Expr, steps: &mut Steps) -> Result<Option<Sight>, AllocError>
     requires few { length expr.now.nodes ≤ 65536 }
-    requires room { steps.old < 2 ^ 107 }
     ensures sight { IfOk result (IsSightOf (tree expr.now)) }
     ensures cost { steps.new ≤ steps.old + 1572913 }
 {
@@ -152,10 +149,8 @@ pub fn sight_of(alloc: Global, expr: &Expr, steps: &mut Steps) -> Result<Option<
 pub fn find_first(first: &First, text: &Text, from: usize, steps: &mut Steps) -> Option<usize>
     requires from { from ≤ length text.now }
     requires short { length text.now ≤ 2 ^ 30 }
-    requires room { steps.old < 2 ^ 117 }
     ensures first { FirstWith first.now text.now from result }
-    ensures grows { steps.old ≤ steps.new }
-    ensures cost { steps.new + from ≤ steps.old + (length text.now + 1) }
+    ensures cost { Pays steps.old steps.new (length text.now + 1) from }
 {
     match first {
         First::Among(few) => text.find_few(few, from, steps),
@@ -169,10 +164,8 @@ pub fn find_first(first: &First, text: &Text, from: usize, steps: &mut Steps) ->
 pub fn sight_start(sight: &Sight, text: &Text, from: usize, steps: &mut Steps) -> Option<usize>
     requires from { from ≤ length text.now }
     requires short { length text.now ≤ 2 ^ 30 }
-    requires room { steps.old < 2 ^ 116 }
     ensures start { FirstStart sight.now text.now from result }
-    ensures grows { steps.old ≤ steps.new }
-    ensures cost { steps.new ≤ steps.old + 25 * (length text.now + 1) }
+    ensures cost { Takes steps.old steps.new (25 * (length text.now + 1)) }
 {
     match sight {
         Sight::One(first) => find_first(first, text, from, steps),
@@ -190,10 +183,8 @@ pub fn sight_start(sight: &Sight, text: &Text, from: usize, steps: &mut Steps) -
 pub fn sight_matches(sight: &Sight, text: &Text, from: usize, steps: &mut Steps) -> bool
     requires from { from ≤ length text.now }
     requires short { length text.now ≤ 2 ^ 30 }
-    requires room { steps.old < 2 ^ 116 }
     ensures matches { (e : Tree) → IsSight e sight.now → IsTrue result ↔ SomeFound e text.now from }
-    ensures grows { steps.old ≤ steps.new }
-    ensures cost { steps.new ≤ steps.old + 50 * (length text.now + 1) }
+    ensures cost { Takes steps.old steps.new (50 * (length text.now + 1)) }
 {
     text.are_bytes();
     sight_start(sight, text, from, steps).is_some()
@@ -205,10 +196,8 @@ fn sight_end(sight: &Sight, text: &Text, start: usize, steps: &mut Steps) -> usi
     requires start { start ≤ length text.now }
     requires can { CanStart sight.now text.now start }
     requires short { length text.now ≤ 2 ^ 30 }
-    requires room { steps.old < 2 ^ 117 }
     ensures end { EndsAt sight.now text.now start result }
-    ensures grows { steps.old ≤ steps.new }
-    ensures cost { steps.new ≤ steps.old + 25 * (length text.now + 1) }
+    ensures cost { Takes steps.old steps.new (25 * (length text.now + 1)) }
 {
     match sight {
         Sight::One(_) => start + 1,
@@ -232,12 +221,10 @@ pub fn sight_span(
 ) -> Option<(usize, usize)>
     requires from { from ≤ length text.now }
     requires short { length text.now ≤ 2 ^ 30 }
-    requires room { steps.old < 2 ^ 116 }
     ensures found { (e : Tree) → IsSight e sight.now → IfSome result (λ f. IsFound e text.now from f.0 f.1) }
     ensures none { (e : Tree) → IsSight e sight.now → IfNone result (NotFound e text.now from) }
     ensures lies { IfSome result (λ f. (f.0 ≤ f.1) × (f.1 ≤ length text.now)) }
-    ensures grows { steps.old ≤ steps.new }
-    ensures cost { steps.new ≤ steps.old + 50 * (length text.now + 1) }
+    ensures cost { Takes steps.old steps.new (50 * (length text.now + 1)) }
 {
     text.are_bytes();
     match sight_start(sight, text, from, steps) {
@@ -258,7 +245,6 @@ pub fn sight_find(
     requires sight { IsSight (tree expr.now) sight.now }
     requires from { from ≤ length text.now }
     requires fits { FitInto (length text.now) (length expr.now.nodes) scratch.old }
-    requires room { steps.old ≤ 2 ^ 100 }
     ensures scratch { scratch.new ≡ scratch.old }
     ensures answer { MatchAnswer (tree expr.now) text.now from result }
     ensures computed { IsComputed (tree expr.now) text.now from result }

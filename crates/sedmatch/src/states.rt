@@ -10,6 +10,7 @@ ghost use Rattle.sedmatch.specs.States.{IsAt};
 ghost use Rattle.sedmatch.specs.declared.passes.Starts.{Starts};
 ghost use Rattle.sedre.specs.declared.types.Node.TheVariants.{Set as ASet};
 ghost use Rattle.sedmatch.specs.Places.{takes_any};
+ghost use Rattle.sedre.specs.Steps.{Takes, TakesAtLeast};
 
 use crate::counted::Marks;
 use crate::passes::{ascend, descend, ends_here};
@@ -47,11 +48,9 @@ fn any_set(expr: &Nodes, root: usize, marks: &Marks, steps: &mut Steps) -> bool
     requires root { root < length expr.now.nodes }
     requires few { length expr.now.nodes ≤ 65536 }
     requires there { length expr.now.nodes ≤ length marks.now }
-    requires room { steps.old < 2 ^ 118 }
     ensures sets { (c : ℕ) (set : List Bool) → c < root + 1 → slice_get expr.now.nodes c ≡ Some (ASet set) →
         IsTrue (slice_index_or marks.now c false) → IsTrue result }
-    ensures grows { steps.old ≤ steps.new }
-    ensures cost { steps.new ≤ steps.old + 2 * (root + 1) }
+    ensures cost { Takes steps.old steps.new (2 * (root + 1)) }
 {
     for x in 0..root + 1 {
         let node = expr.look(expr.id(x), steps);
@@ -75,14 +74,13 @@ pub fn step(
 ) -> Ends
     requires root { root < length expr.now.nodes }
     requires fits { FitsFew (length expr.now.nodes) sets.old }
-    requires room { steps.old < 2 ^ 117 }
     ensures marks { SameMarks sets.old sets.new }
     ensures state { (w : List ℕ) (s : Starts) (place : ℕ) →
         (IsTrue begin ↔ (place ≡ 0)) → (IsTrue first ↔ IsStart s place) →
         ComesAfter expr.now.nodes w place sets.old.entered byte →
         TellEntered expr.now.nodes w root s place sets.old.entered →
         IsAt expr.now.nodes w root s place sets.new.entered result }
-    ensures counts { steps.old + 8 * (root + 1) ≤ steps.new }
+    ensures counts { TakesAtLeast steps.old steps.new (8 * (root + 1)) }
     ensures cost { steps.new ≤ steps.old + 26 * length expr.now.nodes + 5 }
 {
     let mut own = Steps::new();

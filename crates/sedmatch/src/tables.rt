@@ -10,6 +10,8 @@ ghost use Rattle.sedmatch.specs.Fits.{FitsFew, SameMarks};
 ghost use Rattle.sedmatch.specs.Places.{InOrder};
 ghost use Rattle.sedmatch.specs.Words.{row_of};
 ghost use Rattle.sedmatch.specs.Tables.{IsTable, NextIs, stops, code_of, ends_of, LeadsFrom, IsFirst, HasState, Grows, Follows, Stays, look_cost, IsCut};
+ghost use Rattle.sedmatch.specs.Costs.{Pays};
+ghost use Rattle.sedre.specs.Steps.{Takes, Counted, TakesAtLeast};
 
 use crate::classes::{Classes, are_classes};
 use crate::counted::{Bytes, Marks, Rows};
@@ -94,9 +96,9 @@ fn code_of(stops: bool, offset: usize) -> u16
 fn slot_of(expr: &Nodes, table: &Table, row: &Marks, steps: &mut Steps) -> usize
     requires index { 0 < vec_len table.now.index }
     requires row { length expr.now.nodes ≤ length row.now }
-    requires room { steps.old < 2 ^ 118 }
     ensures inside { result < vec_len table.now.index }
-    ensures cost { steps.new ≡ steps.old + length expr.now.nodes }
+    ensures cost { Takes steps.old steps.new (length expr.now.nodes) }
+    ensures counts { Counted steps.old steps.new (length expr.now.nodes) }
 {
     (row.digest(expr.nodes(), steps) % table.index.len() as u64) as usize
 }
@@ -114,10 +116,8 @@ fn find_state(
     requires table { IsTable expr.now.nodes root table.now }
     requires slot { slot < vec_len table.now.index }
     requires row { length expr.now.nodes ≤ length row.now }
-    requires room { steps.old < 2 ^ 118 }
     ensures has { HasState (length expr.now.nodes) table.now row.now ends result }
-    ensures grows { steps.old ≤ steps.new }
-    ensures cost { steps.new ≤ steps.old + length expr.now.nodes + 1 }
+    ensures cost { Takes steps.old steps.new (length expr.now.nodes + 1) }
 {
     steps.add(1);
     let noted = table.index[slot] as usize;
@@ -135,11 +135,11 @@ fn find_state(
 /// Makes the cells from a place on those of a state from which nothing is known yet. Counts a look for each.
 fn clear_cells(cells: &mut Vec<u16>, from: usize, count: usize, steps: &mut Steps)
     requires inside { from + count ≤ vec_len cells.old }
-    requires room { steps.old < 2 ^ 119 }
     ensures len { length cells.new.items ≡ length cells.old.items }
     ensures clear { (k : ℕ) → k < count → slice_index_or cells.new.items (from + k) 0 ≡ 0 }
     ensures before { (k : ℕ) → k < from → slice_index_or cells.new.items k 0 ≡ slice_index_or cells.old.items k 0 }
-    ensures cost { steps.new ≡ steps.old + count }
+    ensures cost { Takes steps.old steps.new count }
+    ensures counts { Counted steps.old steps.new count }
 {
     steps.add(count);
     for x in 0..count {
@@ -161,13 +161,11 @@ fn add_state(
     requires slot { slot < vec_len table.old.index }
     requires row { length expr.now.nodes ≤ length row.now }
     requires few { length expr.now.nodes ≤ 65536 }
-    requires room { steps.old < 2 ^ 118 }
     ensures table { IsTable expr.now.nodes root table.new }
     ensures kept { Grows table.old table.new }
     ensures has { HasState (length expr.now.nodes) table.new row.now ends result }
-    ensures grows { steps.old ≤ steps.new }
     ensures none_cost { IfNone result (steps.new ≡ steps.old) }
-    ensures cost { steps.new ≤ steps.old + 3 * length expr.now.nodes }
+    ensures cost { Takes steps.old steps.new (3 * length expr.now.nodes) }
 {
     let state = table.count;
     if state >= table.rows.len() {
@@ -196,13 +194,11 @@ fn state_of(
     requires slot { slot < vec_len table.old.index }
     requires row { length expr.now.nodes ≤ length row.now }
     requires few { length expr.now.nodes ≤ 65536 }
-    requires room { steps.old < 2 ^ 117 }
     ensures table { IsTable expr.now.nodes root table.new }
     ensures kept { Grows table.old table.new }
     ensures has { HasState (length expr.now.nodes) table.new row.now ends result }
-    ensures grows { steps.old ≤ steps.new }
     ensures none_cost { IfNone result (steps.new ≤ steps.old + length expr.now.nodes + 1) }
-    ensures cost { steps.new ≤ steps.old + 4 * length expr.now.nodes + 1 }
+    ensures cost { Takes steps.old steps.new (4 * length expr.now.nodes + 1) }
 {
     match find_state(expr, root, table, slot, row, ends, steps) {
         Some(state) => Some(state),
@@ -238,12 +234,10 @@ fn renew(
     requires slot { slot < vec_len table.old.index }
     requires row { length expr.now.nodes ≤ length row.now }
     requires few { length expr.now.nodes ≤ 65536 }
-    requires room { steps.old < 2 ^ 118 }
     ensures table { IsTable expr.now.nodes root table.new }
     ensures sweeps { table.new.sweeps ≡ table.old.sweeps }
     ensures has { HasState (length expr.now.nodes) table.new row.now ends result }
-    ensures grows { steps.old ≤ steps.new }
-    ensures cost { steps.new ≤ steps.old + 3 * length expr.now.nodes }
+    ensures cost { Takes steps.old steps.new (3 * length expr.now.nodes) }
 {
     let states = table.rows.len();
     if table.passed < WORTH * states {
@@ -266,12 +260,10 @@ pub fn settle(
     requires table { IsTable expr.now.nodes root table.old }
     requires row { length expr.now.nodes ≤ length row.now }
     requires few { length expr.now.nodes ≤ 65536 }
-    requires room { steps.old < 2 ^ 116 }
     ensures table { IsTable expr.now.nodes root table.new }
     ensures sweeps { table.new.sweeps ≡ table.old.sweeps }
     ensures has { HasState (length expr.now.nodes) table.new row.now ends result }
-    ensures grows { steps.old ≤ steps.new }
-    ensures cost { steps.new ≤ steps.old + 5 * length expr.now.nodes + 1 }
+    ensures cost { Takes steps.old steps.new (5 * length expr.now.nodes + 1) }
 {
     let slot = slot_of(expr, table, row, steps);
     match state_of(expr, root, table, slot, row, ends, steps) {
@@ -314,10 +306,10 @@ fn known(
 ) -> Option<usize>
     requires table { IsTable expr.now.nodes root table.now }
     requires state { state < table.now.count }
-    requires room { steps.old < 2 ^ 119 }
     ensures to { IfSome result (λ q. (q < table.now.count)
         × LeadsFrom expr.now.nodes root table.now state byte (row_of table.now.rows q) (ends_of table.now.ends.items q)) }
-    ensures cost { steps.new ≡ steps.old + 1 }
+    ensures cost { Takes steps.old steps.new 1 }
+    ensures counts { Counted steps.old steps.new 1 }
 {
     steps.add(1);
     let class = table.classes[byte as usize] as usize;
@@ -363,13 +355,11 @@ fn fill(
     requires table { IsTable expr.now.nodes root table.old }
     requires state { state < table.old.count }
     requires fits { FitsFew (length expr.now.nodes) sets.old }
-    requires room { steps.old < 2 ^ 115 }
     ensures table { IsTable expr.now.nodes root table.new }
     ensures sweeps { table.new.sweeps ≡ table.old.sweeps }
     ensures marks { SameMarks sets.old sets.new }
     ensures next { NextIs (LeadsFrom expr.now.nodes root table.old state byte) table.new sets.new.entered result }
-    ensures grows { steps.old ≤ steps.new }
-    ensures cost { steps.new ≤ steps.old + 32 * length expr.now.nodes + 6 }
+    ensures cost { Takes steps.old steps.new (32 * length expr.now.nodes + 6) }
 {
     table
         .rows
@@ -404,13 +394,11 @@ pub fn go(
     requires table { IsTable expr.now.nodes root table.old }
     requires state { state < table.old.count }
     requires fits { FitsFew (length expr.now.nodes) sets.old }
-    requires room { steps.old < 2 ^ 114 }
     ensures table { IsTable expr.now.nodes root table.new }
     ensures sweeps { table.new.sweeps ≡ table.old.sweeps }
     ensures marks { SameMarks sets.old sets.new }
     ensures next { NextIs (LeadsFrom expr.now.nodes root table.old state byte) table.new sets.new.entered result }
-    ensures grows { steps.old ≤ steps.new }
-    ensures cost { steps.new ≤ steps.old + 32 * length expr.now.nodes + 7 }
+    ensures cost { Takes steps.old steps.new (32 * length expr.now.nodes + 7) }
 {
     table.passed = table.passed.saturating_add(passed);
     match known(expr, root, table, state, byte, steps) {
@@ -431,13 +419,11 @@ fn find_first(
     requires root { root < length expr.now.nodes }
     requires table { IsTable expr.now.nodes root table.old }
     requires fits { FitsFew (length expr.now.nodes) sets.old }
-    requires room { steps.old < 2 ^ 115 }
     ensures table { IsTable expr.now.nodes root table.new }
     ensures sweeps { table.new.sweeps ≡ table.old.sweeps }
     ensures marks { SameMarks sets.old sets.new }
     ensures next { NextIs (IsFirst expr.now.nodes root begin) table.new sets.new.entered result }
-    ensures grows { steps.old ≤ steps.new }
-    ensures cost { steps.new ≤ steps.old + 32 * length expr.now.nodes + 6 }
+    ensures cost { Takes steps.old steps.new (32 * length expr.now.nodes + 6) }
 {
     sets.entered.clear(expr.nodes(), steps);
     let ends = step(expr, root, None, begin, true, sets, steps);
@@ -466,13 +452,11 @@ pub fn first_state(
     requires root { root < length expr.now.nodes }
     requires table { IsTable expr.now.nodes root table.old }
     requires fits { FitsFew (length expr.now.nodes) sets.old }
-    requires room { steps.old < 2 ^ 114 }
     ensures table { IsTable expr.now.nodes root table.new }
     ensures sweeps { table.new.sweeps ≡ table.old.sweeps }
     ensures marks { SameMarks sets.old sets.new }
     ensures next { NextIs (IsFirst expr.now.nodes root begin) table.new sets.new.entered result }
-    ensures grows { steps.old ≤ steps.new }
-    ensures cost { steps.new ≤ steps.old + 32 * length expr.now.nodes + 6 }
+    ensures cost { Takes steps.old steps.new (32 * length expr.now.nodes + 6) }
 {
     if begin {
         if table.at_begin > 0 {
@@ -509,12 +493,11 @@ pub fn follow_to(
     requires state { state < table.now.count }
     requires order { InOrder from to (length text.now) }
     requires short { length text.now ≤ 2 ^ 30 }
-    requires room { steps.old < 2 ^ 118 }
     ensures state { result.state < table.now.count }
     ensures after { from ≤ result.place }
     ensures within { result.place ≤ to }
     ensures follows { Follows expr.now.nodes root table.now text.now from state result.place result.state }
-    ensures counts { steps.old + 2 * result.place ≤ steps.new + 2 * from }
+    ensures counts { TakesAtLeast steps.old steps.new (2 * (result.place - from)) }
     ensures cost { steps.new + 2 * from ≤ steps.old + 2 * result.place + 2 }
 {
     let mut own = Steps::new();
@@ -558,13 +541,11 @@ pub fn follow(
     requires state { state < table.now.count }
     requires from { from ≤ length text.now }
     requires short { length text.now ≤ 2 ^ 30 }
-    requires room { steps.old < 2 ^ 118 }
     ensures state { result.state < table.now.count }
     ensures after { from ≤ result.place }
     ensures within { result.place ≤ length text.now }
     ensures follows { Follows expr.now.nodes root table.now text.now from state result.place result.state }
-    ensures grows { steps.old ≤ steps.new }
-    ensures cost { steps.new + 2 * from ≤ steps.old + 2 * result.place + 2 }
+    ensures cost { Pays steps.old steps.new (2 * result.place + 2) (2 * from) }
 {
     follow_to(expr, root, table, text, state, from, text.len(), steps)
 }
@@ -585,13 +566,11 @@ pub fn stay(
     requires state { state < table.now.count }
     requires order { InOrder from to (length text.now) }
     requires short { length text.now ≤ 2 ^ 30 }
-    requires room { steps.old < 2 ^ 118 }
     ensures after { from ≤ result }
     ensures within { result ≤ to }
     ensures stays { Stays expr.now.nodes root table.now text.now from state result }
     ensures only { from < result → IsTrue inner }
-    ensures grows { steps.old ≤ steps.new }
-    ensures cost { steps.new + 2 * from ≤ steps.old + 2 * result + look_cost inner }
+    ensures cost { Pays steps.old steps.new (2 * result + look_cost inner) (2 * from) }
 {
     if !inner {
         return from;
@@ -614,11 +593,10 @@ fn stay_on(
     requires state { state < table.now.count }
     requires order { InOrder from to (length text.now) }
     requires short { length text.now ≤ 2 ^ 30 }
-    requires room { steps.old < 2 ^ 118 }
     ensures after { from ≤ result }
     ensures within { result ≤ to }
     ensures stays { Stays expr.now.nodes root table.now text.now from state result }
-    ensures counts { steps.old + 2 * result ≤ steps.new + 2 * from }
+    ensures counts { TakesAtLeast steps.old steps.new (2 * (result - from)) }
     ensures cost { steps.new + 2 * from ≤ steps.old + 2 * result + 2 }
 {
     let mut own = Steps::new();
@@ -654,13 +632,11 @@ pub fn follow_past(
     requires state { state < table.now.count }
     requires order { InOrder from to (length text.now) }
     requires short { length text.now ≤ 2 ^ 30 }
-    requires room { steps.old < 2 ^ 118 }
     ensures state { result.state < table.now.count }
     ensures after { from ≤ result.place }
     ensures within { result.place ≤ to }
     ensures follows { Follows expr.now.nodes root table.now text.now from state result.place result.state }
-    ensures grows { steps.old ≤ steps.new }
-    ensures cost { steps.new + 2 * from + look_cost inner ≤ steps.old + 2 * result.place + 2 }
+    ensures cost { Pays steps.old steps.new (2 * result.place + 2) (2 * from + look_cost inner) }
 {
     if inner {
         return Stop { state, place: from };

@@ -5,6 +5,8 @@
 ghost use Rattle.std.specs.Prelude.{◌≡◌, ℕ, ◌+◌, ◌^◌, ◌<◌, ◌≤◌, ◌-◌, length, slice_get, Some, IfOk, IfSome, IsTrue};
 ghost use Rattle.sedmatch.specs.FarAhead.{Repeated};
 ghost use Rattle.sedmatch.specs.Times.{SameBytes, AllTimes, AreWidths, LastOutside, FirstTimes};
+ghost use Rattle.sedmatch.specs.Costs.{Pays};
+ghost use Rattle.sedre.specs.Steps.{Takes, Counted};
 
 use crate::counted::Text;
 use crate::few::members_of;
@@ -42,9 +44,9 @@ fn width_of(
     requires inside { index < length expr.now.nodes }
     requires before { length widths.now.items ≡ index }
     requires widths { AreWidths expr.now.nodes set.now widths.now.items }
-    requires room { steps.old < 2 ^ 119 }
     ensures width { IfSome result (λ count. AllTimes expr.now.nodes index set.now count) }
-    ensures cost { steps.new ≡ steps.old + 1 }
+    ensures cost { Takes steps.old steps.new 1 }
+    ensures counts { Counted steps.old steps.new 1 }
 {
     match expr.look(expr.id(index), steps) {
         Node::Set(other) => {
@@ -68,10 +70,8 @@ pub fn times_of(
     steps: &mut Steps,
 ) -> Result<Option<(ByteSet, usize)>, AllocError>
     requires few { length expr.now.nodes ≤ 65536 }
-    requires room { steps.old < 2 ^ 110 }
     ensures times { IfOk result (λ r. IfSome r (λ t. AllTimes expr.now.nodes (length expr.now.nodes - 1) t.0 t.1)) }
-    ensures grows { steps.old ≤ steps.new }
-    ensures cost { steps.new ≤ steps.old + 65537 }
+    ensures cost { Takes steps.old steps.new 65537 }
 {
     let count = expr.nodes();
     let Node::Set(set) = expr.look(expr.id(0), steps) else {
@@ -102,10 +102,8 @@ fn last_outside(
     requires from { from ≤ to }
     requires to { to ≤ length text.now }
     requires short { length text.now ≤ 2 ^ 30 }
-    requires room { steps.old < 2 ^ 119 }
     ensures last { LastOutside set.now text.now from to result }
-    ensures grows { steps.old ≤ steps.new }
-    ensures cost { steps.new + from ≤ steps.old + to }
+    ensures cost { Pays steps.old steps.new to from }
 {
     for place in (from..to).rev() {
         let byte = text.byte(place, steps);
@@ -127,10 +125,8 @@ pub fn find_times(
 ) -> Option<usize>
     requires from { from ≤ length text.now }
     requires short { length text.now ≤ 2 ^ 30 }
-    requires room { steps.old < 2 ^ 118 }
     ensures first { FirstTimes set.now count text.now from result }
-    ensures grows { steps.old ≤ steps.new }
-    ensures cost { steps.new + from ≤ steps.old + length text.now }
+    ensures cost { Pays steps.old steps.new (length text.now) from }
 {
     let mut start = from;
     let mut seen = from;

@@ -6,6 +6,7 @@
 ghost use Rattle.std.specs.Prelude.{◌+◌, ◌*◌, ◌^◌, ◌<◌, ◌≤◌, length};
 ghost use Rattle.sedmatch.specs.Sight.{CanStart, FirstStart, EndsAt};
 ghost use Rattle.sedmatch.specs.declared.sight.Sight.TheVariants.{Trail};
+ghost use Rattle.sedre.specs.Steps.{Takes};
 
 use crate::counted::Text;
 use crate::sight::{First, find_first};
@@ -23,10 +24,8 @@ pub fn trail_start(
 ) -> Option<usize>
     requires from { from ≤ length text.now }
     requires short { length text.now ≤ 2 ^ 30 }
-    requires room { steps.old < 2 ^ 116 }
     ensures start { FirstStart (Trail members.now last.now) text.now from result }
-    ensures grows { steps.old ≤ steps.new }
-    ensures cost { steps.new ≤ steps.old + 2 * (length text.now + 1) }
+    ensures cost { Takes steps.old steps.new (2 * (length text.now + 1)) }
 {
     match find_first(last, text, from, steps) {
         Some(place) => Some(text.run_begin(members, from, place, steps)),
@@ -46,10 +45,8 @@ pub fn trail_end(
     requires start { start ≤ length text.now }
     requires can { CanStart (Trail members.now last.now) text.now start }
     requires short { length text.now ≤ 2 ^ 30 }
-    requires room { steps.old < 2 ^ 117 }
     ensures end { EndsAt (Trail members.now last.now) text.now start result }
-    ensures grows { steps.old ≤ steps.new }
-    ensures cost { steps.new ≤ steps.old + 2 * (length text.now + 1) }
+    ensures cost { Takes steps.old steps.new (2 * (length text.now + 1)) }
 {
     let run = text.run_end(members, start, steps);
     // The byte that ends the run can be the last of the match.

@@ -4,6 +4,8 @@
 ghost use Rattle.std.specs.Prelude.{◌≡◌, ℕ, List, ◌+◌, ◌^◌, ◌<◌, ◌≤◌, ◌-◌, length, IfOk, IfSome};
 ghost use Rattle.sedmatch.specs.Needed.{FirstLiteral};
 ghost use Rattle.sedmatch.specs.Word.{AllWord};
+ghost use Rattle.sedmatch.specs.Costs.{Pays};
+ghost use Rattle.sedre.specs.Steps.{Takes};
 
 use crate::counted::Text;
 use crate::needed::{Literal, literal_from};
@@ -36,10 +38,8 @@ fn new_word(alloc: Global, bytes: &[u8]) -> Result<Word, AllocError>
 /// The literal that the matches are, where it has two bytes or more. A single byte is sought faster as one.
 pub fn word_of(alloc: Global, expr: &Expr, steps: &mut Steps) -> Result<Option<Word>, AllocError>
     requires few { length expr.now.nodes ≤ 65536 }
-    requires room { steps.old < 2 ^ 117 }
     ensures word { IfOk result (λ r. IfSome r (λ w. AllWord expr.now.nodes (length expr.now.nodes - 1) w)) }
-    ensures grows { steps.old ≤ steps.new }
-    ensures cost { steps.new ≤ steps.old + 131074 }
+    ensures cost { Takes steps.old steps.new 131074 }
 {
     let root = expr.root().index();
     let Literal { bytes, rest } = literal_from(alloc, expr, root, steps)?;
@@ -54,10 +54,8 @@ impl Word {
     #[inline(never)]
     pub fn start(&self, text: &Text, from: usize, steps: &mut Steps) -> Option<usize>
         requires from { from ≤ length text.now }
-        requires room { steps.old < 2 ^ 117 }
         ensures first { FirstLiteral text.now self.now from result }
-        ensures grows { steps.old ≤ steps.new }
-        ensures cost { steps.new + from ≤ steps.old + length text.now }
+        ensures cost { Pays steps.old steps.new (length text.now) from }
     {
         text.find_literal(&self.finder, from, steps)
     }

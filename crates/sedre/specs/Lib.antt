@@ -18,3 +18,4 @@ pub mod Grammar
 pub mod Mirror
 pub mod Finished
 pub mod Reasons
+pub mod Steps

@@ -1,9 +1,10 @@
 //! The count of looks at nodes, and of what the matcher counts besides.
-ghost use Rattle.std.specs.Prelude.{◌≡◌, ◌+◌, ◌^◌, ◌<◌};
+ghost use Rattle.std.specs.Prelude.{◌≡◌};
+ghost use Rattle.sedre.specs.Steps.{Takes, Counted};
 
 use std::marker::Model;
 
-/// How many steps were taken.
+/// How many steps were taken. A count that comes to the largest `u128` stays there.
 #[derive(Drop)]
 pub struct Steps {
     count: u128,
@@ -32,11 +33,11 @@ impl Steps {
         self.count
     }
 
-    /// Counts so many steps more. Condition: the count is below 2^120.
+    /// Counts so many steps more.
     pub fn add(&mut self, n: usize)
-        requires { self.old < 2 ^ 120 }
-        ensures { self.new ≡ self.old + n }
+        ensures cost { Takes self.old self.new n }
+        ensures counts { Counted self.old self.new n }
     {
-        self.count += n as u128;
+        self.count = self.count.saturating_add(n as u128);
     }
 }

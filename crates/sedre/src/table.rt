@@ -3,6 +3,7 @@ ghost use Rattle.std.specs.Prelude.{◌≡◌, ◌<◌, ◌+◌, ◌^◌, Some, 
 ghost use Rattle.std.specs.Prelude.{option_map};
 ghost use Rattle.sedre.specs.Arena.{Written, IsArena, IsExpr};
 ghost use Rattle.sedre.specs.Mirror.{node_seen};
+ghost use Rattle.sedre.specs.Steps.{Takes, Counted};
 
 use crate::packed::Packed;
 use crate::steps::Steps;
@@ -81,12 +82,12 @@ impl Expr {
         NodeId { index }
     }
 
-    /// The node itself, which counts one step. Conditions: the index is below `nodes()`, the count below 2^120.
+    /// The node itself, which counts one step. Condition: the index is below `nodes()`.
     pub fn look(&self, id: NodeId, steps: &mut Steps) -> Node
         requires inside { id.index < length self.now.nodes }
-        requires room { steps.old < 2 ^ 120 }
         ensures node { slice_get self.now.nodes id.index ≡ Some result }
-        ensures cost { steps.new ≡ steps.old + 1 }
+        ensures cost { Takes steps.old steps.new 1 }
+        ensures counts { Counted steps.old steps.new 1 }
         ensures arena { IsArena self.now.nodes }
     {
         steps.add(1);

@@ -1,6 +1,7 @@
 //! Marks of several states, a row for each.
 ghost use Rattle.std.specs.Prelude.{◌≡◌, ◌≢◌, ℕ, Bool, List, [], ◌+◌, ◌*◌, ◌^◌, ◌<◌, ◌≤◌, length, slice_index_or, vec_len, IfOk, IsTrue};
 ghost use Rattle.sedmatch.specs.Words.{AgreeBelow, rows_of, row_of};
+ghost use Rattle.sedre.specs.Steps.{Takes, Counted};
 
 use super::{Marks, zero_words};
 use sedre::Steps;
@@ -54,10 +55,10 @@ impl Rows {
         requires row { row < length self.now }
         requires inside { count ≤ length (row_of self.now row) }
         requires there { count ≤ length marks.old }
-        requires room { steps.old < 2 ^ 120 }
         ensures len { length marks.new ≡ length marks.old }
         ensures same { AgreeBelow count marks.new (row_of self.now row) }
-        ensures cost { steps.new ≡ steps.old + count }
+        ensures cost { Takes steps.old steps.new count }
+        ensures counts { Counted steps.old steps.new count }
     {
         steps.add(count);
         copy_words(
@@ -75,12 +76,12 @@ impl Rows {
         requires row { row < length self.old }
         requires inside { count ≤ length (row_of self.old row) }
         requires there { count ≤ length marks.now }
-        requires room { steps.old < 2 ^ 120 }
         ensures len { length self.new ≡ length self.old }
         ensures lens { (q : ℕ) → q < length self.old → length (row_of self.new q) ≡ length (row_of self.old q) }
         ensures same { AgreeBelow count (row_of self.new row) marks.now }
         ensures other { (q : ℕ) → q < length self.old → q ≢ row → row_of self.new q ≡ row_of self.old q }
-        ensures cost { steps.new ≡ steps.old + count }
+        ensures cost { Takes steps.old steps.new count }
+        ensures counts { Counted steps.old steps.new count }
     {
         steps.add(count);
         copy_words(
@@ -98,9 +99,9 @@ impl Rows {
         requires row { row < length self.now }
         requires inside { count ≤ length (row_of self.now row) }
         requires there { count ≤ length marks.now }
-        requires room { steps.old < 2 ^ 120 }
         ensures same { IsTrue result → AgreeBelow count (row_of self.now row) marks.now }
-        ensures cost { steps.new ≡ steps.old + count }
+        ensures cost { Takes steps.old steps.new count }
+        ensures counts { Counted steps.old steps.new count }
     {
         steps.add(count);
         same_words(

@@ -26,17 +26,17 @@ returns-in-Some-clause-answer c =
 pub returns-in-Some-clause-cost : goal.returns-in-Some-clause-cost
 returns-in-Some-clause-cost c =
     let cost = whole_linear (length c.args.expr.now.nodes) (length c.args.text.now) c.args.steps.now c.narrowed.new.steps c.anywhere_by.new.steps
-    (omega arith) (omega (arith, c.in-Some.ensures.cost)) (omega (arith, c.anywhere_by.ensures.cost.1)) in
+    (omega arith) (omega (arith, c.in-Some.ensures.cost.1)) (omega (arith, c.anywhere_by.ensures.cost.1)) in
     (omega arith, cost)
 
 pub returns-in-Some-clause-short_cost : goal.returns-in-Some-clause-short_cost
 returns-in-Some-clause-short_cost c =
     whole_square (length c.args.expr.now.nodes) (length c.args.text.now) c.args.steps.now c.narrowed.new.steps c.anywhere_by.new.steps
-    (omega arith) (omega (arith, c.in-Some.ensures.cost)) (omega (arith, c.anywhere_by.ensures.cost.1)) c.anywhere_by.ensures.short_cost
+    (omega arith) (omega (arith, c.in-Some.ensures.cost.1)) (omega (arith, c.anywhere_by.ensures.cost.1)) c.anywhere_by.ensures.short_cost
 
 pub returns-in-Some-clause-none_cost : goal.returns-in-Some-clause-none_cost
 returns-in-Some-clause-none_cost c =
     let m = length c.args.expr.now.nodes in
     let n = length c.args.text.now in
     none_then c.anywhere_by.result (c.anywhere_by.new.steps ≤ c.narrowed.new.steps + 41 * m + 43 * m * n) (c.anywhere_by.new.steps ≤ c.args.steps.now + 64 * m * (n + 1))
-    (none_linear m n c.args.steps.now c.narrowed.new.steps c.anywhere_by.new.steps (omega arith) (omega (arith, c.in-Some.ensures.cost))) c.anywhere_by.ensures.none_cost
+    (none_linear m n c.args.steps.now c.narrowed.new.steps c.anywhere_by.new.steps (omega arith) (omega (arith, c.in-Some.ensures.cost.1))) c.anywhere_by.ensures.none_cost

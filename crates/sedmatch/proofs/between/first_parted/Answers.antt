@@ -23,7 +23,7 @@ loop-start-preserved c =
       after = omega arith;
       within = omega arith;
       grows = omega arith;
-      cost = omega (arith, c.in-Some.ensures.cost);
+      cost = omega (arith, c.in-Some.ensures.cost.1);
       missed = parted_place (record { head = c.args.head.now; outside = c.args.outside.now; tail = c.args.tail.now }) c.args.text.now c.args.from c.in-Some.start c.place_behind-behind.result c.clear_end-stop.result c.place_behind-behind.ensures
           (parted_nowhere (record { head = c.args.head.now; outside = c.args.outside.now; tail = c.args.tail.now }) c.args.text.now c.in-Some.start c.place_behind-behind.result c.clear_end-stop.result c.place_behind-behind.ensures c.clear_end-stop.ensures.clear c.args.from c.loop-start.place c.in-Some.ensures.first c.loop-start.invariant.after c.loop-start.invariant.missed c.last_tail.result (sym c.is_some.ensures ∙ c.if-is_some.false) c.last_tail.ensures.last);
     }

@@ -28,7 +28,7 @@ loop-at-preserved c =
       after = omega (arith, past);
       within = omega (arith, inside);
       grows = omega arith;
-      cost = omega (arith, past, so.cost, c.in-Some.ensures.cost, c.longest_choice.ensures.cost);
+      cost = omega (arith, past, so.cost, c.in-Some.ensures.cost.1, c.longest_choice.ensures.cost.1);
       missed = missed_on c.args.few.now c.args.literals.now c.args.text.now c.args.from c.loop-at.place c.requires.heads c.loop-at.invariant.missed c.in-Some.at c.longest_choice.result
           c.in-Some.ensures.first c.longest_choice.ensures.longest (sym c.is_some.ensures ∙ c.if-is_some.false);
     }

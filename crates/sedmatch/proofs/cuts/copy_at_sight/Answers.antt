@@ -2,12 +2,8 @@ use Rattle.std.proofs.Common.{◌+◌, ◌*◌, ◌<◌, length, subst, arith}
 use Rattle.sedmatch.specs.Spans.{no_copy, one_more}
 use Rattle.sedmatch.specs.Caps.{only, then}
 use Rattle.sedmatch.specs.Reach.{At}
-use Rattle.sedmatch.proofs.CutLemmas.{walk_room, walk_step}
+use Rattle.sedmatch.proofs.CutLemmas.{walk_step}
 use Rattle.sedmatch.proofs.cuts.copy_at_sight.Goals as goal
-
-pub far_from-requires-clause-room : goal.far_from-requires-clause-room
-far_from-requires-clause-room c =
-    walk_room (length c.args.expr.now.nodes) (length c.args.text.now) c.copies.copy c.args.start c.args.steps.now c.copies.steps c.requires.few c.requires.short (omega arith) c.requires.room c.copies.invariant.cost
 
 pub returns-then-end-stop-clause-last : goal.returns-then-end-stop-clause-last
 returns-then-end-stop-clause-last c =
@@ -31,7 +27,7 @@ copies-preserved c =
       after = omega arith;
       before = before;
       grows = omega arith;
-      cost = walk_step ((length c.args.text.now + 8) * length c.args.expr.now.nodes) c.copies.copy c.in-To.end c.args.start c.args.steps.now c.copies.steps c.far_from.new.steps up inv.cost c.in-To.ensures.cost;
+      cost = walk_step ((length c.args.text.now + 8) * length c.args.expr.now.nodes) c.copies.copy c.in-To.end c.args.start c.args.steps.now c.copies.steps c.far_from.new.steps up inv.cost c.in-To.ensures.cost.1;
       last = λ e rest last. inv.last e (one_more c.copies.copy c.in-To.end up far.1 rest)
           (then c.copies.copy c.in-To.end e up before far.1 rest (λ l low at more. far.2 l at) last);
     }

@@ -1,12 +1,8 @@
 use Rattle.std.proofs.Common.{◌+◌, ◌*◌, ◌<◌, length, arith}
 use Rattle.sedmatch.specs.Reach.{At}
 use Rattle.sedmatch.proofs.CutLemmas.{walk_step}
-use Rattle.sedmatch.proofs.TailLemmas.{next_some, next_is, LastCopy-step, LastCopy-end, copies_room, copies_cost}
+use Rattle.sedmatch.proofs.TailLemmas.{next_some, next_is, LastCopy-step, LastCopy-end, copies_cost}
 use Rattle.sedmatch.proofs.cuts.copy_by_passes.Goals as goal
-
-pub copy_to-requires-clause-room : goal.copy_to-requires-clause-room
-copy_to-requires-clause-room c =
-    copies_room (length c.args.expr.now.nodes) (length c.args.text.now) c.copies.copy c.args.start c.args.steps.now c.starts_to.new.steps c.copies.steps (omega arith) (omega arith) (omega arith) c.requires.room c.starts_to.ensures.cost c.copies.invariant.cost
 
 pub unreachable-requires : goal.unreachable-requires
 unreachable-requires c =
@@ -27,7 +23,7 @@ copies-preserved c =
       after = omega arith;
       before = before;
       grows = omega arith;
-      cost = walk_step (22 * length c.args.expr.now.nodes * (length c.args.text.now + 1)) c.copies.copy c.in-Some.end c.args.start c.starts_to.new.steps c.copies.steps c.copy_to.new.steps up inv.cost c.copy_to.ensures.cost;
+      cost = walk_step (22 * length c.args.expr.now.nodes * (length c.args.text.now + 1)) c.copies.copy c.in-Some.end c.args.start c.starts_to.new.steps c.copies.steps c.copy_to.new.steps up inv.cost c.copy_to.ensures.cost.1;
       rest = next.rest;
       last = λ e last. inv.last e (LastCopy-step R c.args.stop c.copies.copy c.in-Some.end e next before last);
     }
@@ -41,8 +37,8 @@ returns-then-end-stop-clause-last c =
     (inv.last c.copies.copy (LastCopy-end R c.args.stop c.copies.copy c.in-Some.end next (omega arith)), inv.after, inv.before)
 
 pub returns-then-end-stop-clause-cost : goal.returns-then-end-stop-clause-cost
-returns-then-end-stop-clause-cost c =
-    copies_cost (length c.args.expr.now.nodes) (length c.args.text.now) c.copies.copy c.args.start c.args.stop c.args.steps.now c.starts_to.new.steps c.copies.steps c.copy_to.new.steps c.copies.invariant.before c.requires.stop c.starts_to.ensures.cost c.copies.invariant.cost c.copy_to.ensures.cost
+returns-then-end-stop-clause-cost c = (omega arith,
+    copies_cost (length c.args.expr.now.nodes) (length c.args.text.now) c.copies.copy c.args.start c.args.stop c.args.steps.now c.starts_to.new.steps c.copies.steps c.copy_to.new.steps c.copies.invariant.before c.requires.stop c.starts_to.ensures.cost.1 c.copies.invariant.cost c.copy_to.ensures.cost.1)
 
 pub copies-smaller : goal.copies-smaller
 copies-smaller c =

@@ -18,7 +18,7 @@ put_split-requires c =
     omega (arith, length-weights nodes old, size-pos (tree_at nodes c.in-Enter.x), c.args.plan.now.tasks.ok)
 
 pub returns-in-Enter-clause-cost : goal.returns-in-Enter-clause-cost
-returns-in-Enter-clause-cost c =
+returns-in-Enter-clause-cost c = (omega arith,
     let nodes = c.args.expr.now.nodes in
     let w = c.args.text.now in
     let m = length nodes in
@@ -31,4 +31,4 @@ returns-in-Enter-clause-cost c =
     (sym c.in-Enter.is)
     (enter_cost nodes w c.look-node.ensures.arena c.in-Enter.x c.in-Enter.start c.in-Enter.stop c.look-node.result is k m c.args.steps.now c.look-node.new.steps c.split_node-parts.new.steps c.forget_first.new.steps
     (forgets_of c.split_node-parts.result) (tasks_of c.split_node-parts.result) new rest c.put_split.ensures.items c.split_node-parts.ensures.step
-    c.look-node.ensures.cost c.split_node-parts.ensures.cost.1 c.forget_first.ensures.cost (c.requires.sizes c.in-Enter.x ready.0))
+    c.look-node.ensures.cost.1 c.split_node-parts.ensures.cost.1 c.forget_first.ensures.cost.1 (c.requires.sizes c.in-Enter.x ready.0)))

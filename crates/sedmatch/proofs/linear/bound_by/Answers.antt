@@ -23,9 +23,9 @@ loop-next-init c = record {
 }
 
 pub returns-in-Full-clause-cost : goal.returns-in-Full-clause-cost
-returns-in-Full-clause-cost c =
+returns-in-Full-clause-cost c = (omega arith,
     line_rest (length c.args.expr.now.nodes) (6 * length c.args.expr.now.nodes) (6 * length c.args.expr.now.nodes) c.bound_on.result c.args.last c.loop-next.place c.args.steps.now c.loop-next.steps c.bound_on.new.steps (omega arith)
-    c.bound_on.ensures.after c.loop-next.invariant.cost c.bound_on.ensures.cost
+    c.bound_on.ensures.after c.loop-next.invariant.cost c.bound_on.ensures.cost.1)
 
 pub returns-then-place-len-clause-bound : goal.returns-then-place-len-clause-bound
 returns-then-place-len-clause-bound c = bound_end c.args.expr.now.nodes c.args.text.now c.args.root c.args.start c.args.last c.requires.root c.loop-next.place (omega arith) c.loop-next.invariant.after
@@ -53,9 +53,9 @@ pub returns-then-stop-len-clause-bound : goal.returns-then-stop-len-clause-bound
 returns-then-stop-len-clause-bound c = bound_end c.args.expr.now.nodes c.args.text.now c.args.root c.args.start c.args.last c.requires.root c.follow_past-stop.result.place (omega arith) (omega arith)
 
 pub returns-then-stop-len-clause-cost : goal.returns-then-stop-len-clause-cost
-returns-then-stop-len-clause-cost c =
+returns-then-stop-len-clause-cost c = (omega arith,
     line_end (length c.args.expr.now.nodes) (6 * length c.args.expr.now.nodes) (6 * length c.args.expr.now.nodes) c.follow_past-stop.result.place c.args.last c.loop-next.place c.args.steps.now c.loop-next.steps c.follow_past-stop.new.steps (omega arith)
-    (omega arith) (omega arith) c.loop-next.invariant.cost (omega arith)
+    (omega arith) (omega arith) c.loop-next.invariant.cost (omega arith))
 
 pub loop-next-preserved : goal.loop-next-preserved
 loop-next-preserved c =
@@ -106,5 +106,5 @@ loop-next-preserved-then-run-place c =
       next = (there.0, on run c.stay-run.ensures.after (omega arith));
       grows = omega arith;
       cost = line_end m (6 * m) (6 * m) run c.args.last place c.args.steps.now c.loop-next.steps c.stay-run.new.steps (omega arith) (omega arith) (omega arith) c.loop-next.invariant.cost
-          (omega (arith, c.stay-run.ensures.cost, look_most c.index-here.result.now.inner));
+          (omega (arith, c.stay-run.ensures.cost.1, look_most c.index-here.result.now.inner));
     }

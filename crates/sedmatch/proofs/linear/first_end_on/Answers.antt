@@ -16,9 +16,9 @@ returns-then-place-len-clause-after c =
     let e = c.at_last.ensures.place (length c.args.text.now) (omega arith) in omega (arith, e)
 
 pub returns-then-place-len-clause-cost : goal.returns-then-place-len-clause-cost
-returns-then-place-len-clause-cost c =
+returns-then-place-len-clause-cost c = (omega arith,
     let e = c.at_last.ensures.place (length c.args.text.now) (omega arith) in
-    let all = ap (λ v. 20 * length c.args.expr.now.nodes * v) e in omega (arith, all)
+    let all = ap (λ v. 20 * length c.args.expr.now.nodes * v) e in omega (arith, all))
 
 pub returns-then-ends-clause-first : goal.returns-then-ends-clause-first
 returns-then-ends-clause-first c =
@@ -74,8 +74,8 @@ pub returns-clause-first : goal.returns-clause-first
 returns-clause-first c = λ i k from before. c.loop-at.invariant.missed i k from (omega arith)
 
 pub returns-clause-cost : goal.returns-clause-cost
-returns-clause-cost c =
+returns-clause-cost c = (omega arith,
     let m = length c.args.expr.now.nodes in
     let end : c.loop-at.at ≡ length c.args.text.now + 1 = omega arith in
     let all : 20 * m * c.loop-at.at ≡ 20 * m * (length c.args.text.now + 1) = ap (λ v. 20 * m * v) end in
-    omega (arith, all, c.loop-at.invariant.cost)
+    omega (arith, all, c.loop-at.invariant.cost))

@@ -32,9 +32,9 @@ loop-next-init c =
     }
 
 pub returns-in-Full-clause-cost : goal.returns-in-Full-clause-cost
-returns-in-Full-clause-cost c =
+returns-in-Full-clause-cost c = (omega arith,
     line_rest (length c.args.nodes.now.nodes) (38 * length c.args.nodes.now.nodes) (38 * length c.args.nodes.now.nodes) c.args.stop c.args.first c.loop-next.place c.args.steps.now c.loop-next.steps c.last_on.new.steps (omega arith)
-    c.loop-next.invariant.within c.loop-next.invariant.cost c.last_on.ensures.cost
+    c.loop-next.invariant.within c.loop-next.invariant.cost c.last_on.ensures.cost.1)
 
 pub later-best-requires-clause-tells : goal.later-best-requires-clause-tells
 later-best-requires-clause-tells c =
@@ -111,9 +111,9 @@ returns-then-to-stop-clause-last c =
     subst (λ p. LastEnd (tree c.args.nodes.now) c.args.bytes.now c.args.first (p + 1) c.later.result) same c.later.ensures.last
 
 pub returns-then-to-stop-clause-cost : goal.returns-then-to-stop-clause-cost
-returns-then-to-stop-clause-cost c =
+returns-then-to-stop-clause-cost c = (omega arith,
     line_end (length c.args.nodes.now.nodes) (38 * length c.args.nodes.now.nodes) (38 * length c.args.nodes.now.nodes) c.args.stop c.args.first c.loop-next.place c.args.steps.now c.loop-next.steps c.follow_past-to.new.steps (omega arith)
-    (omega arith) (omega arith) c.loop-next.invariant.cost (omega arith)
+    (omega arith) (omega arith) c.loop-next.invariant.cost (omega arith))
 
 pub loop-next-preserved : goal.loop-next-preserved
 loop-next-preserved c =
@@ -182,5 +182,5 @@ loop-next-preserved-then-run-place c =
           (LastEnd-hit nodes w r c.requires.root first (length w) (run - 1) refl (omega arith) ((before.inner (omega arith)).0 inner));
       grows = omega arith;
       cost = line_end m (38 * m) (38 * m) run first place c.args.steps.now c.loop-next.steps c.stay-run.new.steps (omega arith) (omega arith) (omega arith) c.loop-next.invariant.cost
-          (omega (arith, c.stay-run.ensures.cost, look_most ends.inner));
+          (omega (arith, c.stay-run.ensures.cost.1, look_most ends.inner));
     }

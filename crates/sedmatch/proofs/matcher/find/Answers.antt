@@ -1,15 +1,15 @@
 use Rattle.std.proofs.Common.{◌≡◌, ◌≤◌, ◌^◌, None, length, sym, subst, ap, arith}
 use Rattle.sedre.specs.Arena.{tree}
-use Rattle.sedmatch.proofs.GroupLemmas.{report_room, miss_cost}
+use Rattle.sedmatch.proofs.GroupLemmas.{miss_cost}
 use Rattle.sedmatch.specs.Answer.{IsComputed}
 use Rattle.sedmatch.proofs.MatchingLemmas.{found-iff, not_found-iff, report-iff}
 use Rattle.sedmatch.proofs.PartLemmas.{report_lies}
 use Rattle.sedmatch.proofs.matcher.find.Goals as goal
 
 pub returns-in_err-start-clause-cost : goal.returns-in_err-start-clause-cost
-returns-in_err-start-clause-cost c =
+returns-in_err-start-clause-cost c = (omega arith,
     let cost = miss_cost (length c.args.expr.now.nodes) (length c.args.text.now) c.args.steps.now c.leftmost.new.steps c.leftmost.ensures.some c.leftmost.ensures.short_cost in
-    (omega arith, cost)
+    (omega arith, cost))
 
 pub returns-clause-answer : goal.returns-clause-answer
 returns-clause-answer c =
@@ -22,12 +22,6 @@ report-groups-requires-clause-start c = c.in_ok-start.ensures.answer.2.0
 
 pub report-groups-requires-clause-stop : goal.report-groups-requires-clause-stop
 report-groups-requires-clause-stop c = c.in_ok-start.ensures.answer.2.1
-
-pub report-groups-requires-clause-room : goal.report-groups-requires-clause-room
-report-groups-requires-clause-room c =
-    let few : length c.args.expr.now.nodes ≤ 65536 = omega (arith, ap (λ r. r.nodes) c.scratch.view_is, c.scratch.invariant.few) in
-    let short : length c.args.text.now ≤ 2 ^ 30 = omega (arith, ap (λ r. r.text) c.scratch.view_is, c.scratch.invariant.short) in
-    report_room (length c.args.expr.now.nodes) (length c.args.text.now) c.args.steps.now c.leftmost.new.steps few short c.requires.room c.leftmost.ensures.short_cost
 
 pub returns-in_err-start-clause-computed : goal.returns-in_err-start-clause-computed
 returns-in_err-start-clause-computed c =

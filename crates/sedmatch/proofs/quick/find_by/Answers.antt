@@ -1,6 +1,6 @@
 use Rattle.std.proofs.Common.{◌≡◌, ◌≤◌, ◌^◌, None, length, sym, subst, ap, arith}
 use Rattle.sedre.specs.Arena.{tree}
-use Rattle.sedmatch.proofs.GroupLemmas.{by_room, by_miss, by_cost}
+use Rattle.sedmatch.proofs.GroupLemmas.{by_miss, by_cost}
 use Rattle.sedmatch.specs.Answer.{IsComputed}
 use Rattle.sedmatch.proofs.MatchingLemmas.{found-iff, not_found-iff, report-iff}
 use Rattle.sedmatch.proofs.PartLemmas.{report_lies}
@@ -23,15 +23,9 @@ report-groups-requires-clause-start c = c.in_ok-start.ensures.answer.2.0
 pub report-groups-requires-clause-stop : goal.report-groups-requires-clause-stop
 report-groups-requires-clause-stop c = c.in_ok-start.ensures.answer.2.1
 
-pub report-groups-requires-clause-room : goal.report-groups-requires-clause-room
-report-groups-requires-clause-room c =
-    let few : length c.args.expr.now.nodes ≤ 65536 = omega (arith, ap (λ r. r.nodes) c.scratch.view_is, c.scratch.invariant.few) in
-    let short : length c.args.text.now ≤ 2 ^ 30 = omega (arith, ap (λ r. r.text) c.scratch.view_is, c.scratch.invariant.short) in
-    by_room (length c.args.expr.now.nodes) (length c.args.text.now) c.args.steps.now c.leftmost_by.new.steps few short c.requires.room c.leftmost_by.ensures.short_cost
-
 pub returns-clause-cost : goal.returns-clause-cost
 returns-clause-cost c =
-    let cost = by_cost (length c.args.expr.now.nodes) (length c.args.text.now) c.args.steps.now c.leftmost_by.new.steps c.report-groups.new.steps c.requires.ready.0 c.leftmost_by.ensures.short_cost c.report-groups.ensures.cost in
+    let cost = by_cost (length c.args.expr.now.nodes) (length c.args.text.now) c.args.steps.now c.leftmost_by.new.steps c.report-groups.new.steps c.requires.ready.0 c.leftmost_by.ensures.short_cost c.report-groups.ensures.cost.1 in
     (omega arith, cost)
 
 pub returns-in_err-start-clause-computed : goal.returns-in_err-start-clause-computed

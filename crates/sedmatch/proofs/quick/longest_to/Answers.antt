@@ -146,9 +146,9 @@ loop-next-preserved c =
     }
 
 pub returns-then-to-stop-clause-cost : goal.returns-then-to-stop-clause-cost
-returns-then-to-stop-clause-cost c =
+returns-then-to-stop-clause-cost c = (omega arith,
     line_end (length c.args.expr.now.nodes) (38 * length c.args.expr.now.nodes) (38 * length c.args.expr.now.nodes) c.args.stop c.args.start c.loop-next.place c.args.steps.now c.loop-next.steps c.follow_past-to.new.steps (omega arith)
-    (omega arith) (omega arith) c.loop-next.invariant.cost (omega arith)
+    (omega arith) (omega arith) c.loop-next.invariant.cost (omega arith))
 
 pub returns-then-to-stop-clause-lies : goal.returns-then-to-stop-clause-lies
 returns-then-to-stop-clause-lies c =
@@ -186,5 +186,5 @@ loop-next-preserved-then-run-place c =
       lies = (omega arith, omega arith);
       grows = omega arith;
       cost = line_end (length nodes) (38 * length nodes) (38 * length nodes) run start place c.args.steps.now c.loop-next.steps c.stay-run.new.steps (omega arith) (omega arith) (omega arith) c.loop-next.invariant.cost
-          (omega (arith, c.stay-run.ensures.cost, look_most ends.inner));
+          (omega (arith, c.stay-run.ensures.cost.1, look_most ends.inner));
     }

@@ -26,5 +26,5 @@ returns-in-To-look_far c =
       longest = (far.1, far.2);
       lies = (Spans-forward e w c.args.start c.in-To-look_far.end far.1, far.0);
       grows = omega arith;
-      cost = far_cost m (length w) c.args.steps.now c.look_far.new.steps c.look_far.new.steps c.look_far.ensures.cost (omega arith);
+      cost = far_cost m (length w) c.args.steps.now c.look_far.new.steps c.look_far.new.steps c.look_far.ensures.cost.1 (omega arith);
     }

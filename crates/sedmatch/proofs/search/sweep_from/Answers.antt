@@ -16,8 +16,8 @@ returns-in-To-clause-swept c =
     (refl, region_told e w c.args.whole c.args.start c.in-To.end leads.0 leads.1)
 
 pub returns-in-To-clause-cost : goal.returns-in-To-clause-cost
-returns-in-To-clause-cost c =
+returns-in-To-clause-cost c = (omega arith,
     let e = tree c.args.expr.now in
     let w = c.args.text.now in
     let leads : LeadsTo (length w) (Spans e w c.args.start) (To c.in-To.end) = subst (LeadsTo (length w) (Spans e w c.args.start)) c.in-To.is c.requires.leads in
-    told_cost (length c.args.expr.now.nodes) c.args.start c.in-To.end c.args.steps.now (Spans-forward e w c.args.start c.in-To.end ((leads.1 c.in-To.end).1 refl))
+    told_cost (length c.args.expr.now.nodes) c.args.start c.in-To.end c.args.steps.now (Spans-forward e w c.args.start c.in-To.end ((leads.1 c.in-To.end).1 refl)))

@@ -1,6 +1,5 @@
 use Rattle.std.proofs.Common.{◌≡◌, ◌≤◌, ◌^◌, None, length, sym, subst, ap, arith}
 use Rattle.sedre.specs.Arena.{tree}
-use Rattle.sedmatch.proofs.GroupLemmas.{by_room}
 use Rattle.sedmatch.proofs.SightLemmas.{sight_squares, sight_miss, sight_cost}
 use Rattle.sedmatch.specs.Answer.{IsComputed}
 use Rattle.sedmatch.proofs.MatchingLemmas.{found-iff, not_found-iff, report-iff}
@@ -9,7 +8,7 @@ use Rattle.sedmatch.proofs.sight.sight_find.Goals as goal
 
 pub returns-in_err-start-clause-cost : goal.returns-in_err-start-clause-cost
 returns-in_err-start-clause-cost c =
-    let cost = sight_miss (length c.args.expr.now.nodes) (length c.args.text.now) c.args.steps.now c.sight_span.new.steps (omega arith) c.sight_span.ensures.cost in
+    let cost = sight_miss (length c.args.expr.now.nodes) (length c.args.text.now) c.args.steps.now c.sight_span.new.steps (omega arith) c.sight_span.ensures.cost.1 in
     (omega arith, cost)
 
 pub returns-clause-answer : goal.returns-clause-answer
@@ -24,16 +23,9 @@ report-groups-requires-clause-start c = c.in_ok-start.ensures.lies.0
 pub report-groups-requires-clause-stop : goal.report-groups-requires-clause-stop
 report-groups-requires-clause-stop c = c.in_ok-start.ensures.lies.1
 
-pub report-groups-requires-clause-room : goal.report-groups-requires-clause-room
-report-groups-requires-clause-room c =
-    let few : length c.args.expr.now.nodes ≤ 65536 = omega (arith, ap (λ r. r.nodes) c.scratch.view_is, c.scratch.invariant.few) in
-    let short : length c.args.text.now ≤ 2 ^ 30 = omega (arith, ap (λ r. r.text) c.scratch.view_is, c.scratch.invariant.short) in
-    by_room (length c.args.expr.now.nodes) (length c.args.text.now) c.args.steps.now c.sight_span.new.steps few short c.requires.room
-    (sight_squares (length c.args.expr.now.nodes) (length c.args.text.now) c.args.steps.now c.sight_span.new.steps (omega arith) c.sight_span.ensures.cost)
-
 pub returns-clause-cost : goal.returns-clause-cost
 returns-clause-cost c =
-    let cost = sight_cost (length c.args.expr.now.nodes) (length c.args.text.now) c.args.steps.now c.sight_span.new.steps c.report-groups.new.steps (omega arith) c.sight_span.ensures.cost c.report-groups.ensures.cost in
+    let cost = sight_cost (length c.args.expr.now.nodes) (length c.args.text.now) c.args.steps.now c.sight_span.new.steps c.report-groups.new.steps (omega arith) c.sight_span.ensures.cost.1 c.report-groups.ensures.cost.1 in
     (omega arith, cost)
 
 pub returns-in_err-start-clause-computed : goal.returns-in_err-start-clause-computed

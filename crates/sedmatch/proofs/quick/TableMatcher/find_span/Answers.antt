@@ -16,7 +16,7 @@ returns-in-Some-clause-cost_of_none c =
     let m = length c.args.self.now.nodes in
     let n = length c.args.text.now in
     let some : 0 < length c.args.self.now.nodes = omega (arith, ap (λ e. length e.nodes) c.self.view_is, c.self.invariant.whole) in
-    none_given c.sight_span.result (c.sight_span.new.steps ≤ c.args.steps.now + 64 * m * (n + 1)) (sight_steps m n c.args.steps.now c.sight_span.new.steps some c.sight_span.ensures.cost)
+    none_given c.sight_span.result (c.sight_span.new.steps ≤ c.args.steps.now + 64 * m * (n + 1)) (sight_steps m n c.args.steps.now c.sight_span.new.steps some c.sight_span.ensures.cost.1)
 
 pub returns-clause-computed : goal.returns-clause-computed
 returns-clause-computed c =

@@ -20,7 +20,7 @@ loop-start-preserved c =
       grows = omega arith;
       after = omega (arith, first.0);
       within = omega (arith, inside);
-      cost = omega (arith, first.0, c.in-Some.ensures.cost);
+      cost = omega (arith, first.0, c.in-Some.ensures.cost.1);
       missed = rare_lacks c.args.self.now c.args.text.now c.args.from c.loop-start.place c.loop-start.invariant.missed
           c.in-Some.start first (λ held. true≢false (sym (c.holds.ensures.holds.1 held) ∙ c.if-holds.false));
     }

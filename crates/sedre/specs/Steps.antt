@@ -1,0 +1,14 @@
+-- Counts of steps, each at most the largest `u128`.
+use Rattle.std.specs.Prelude.{◌≡◌, ℕ, ◌+◌, ◌-◌, ◌^◌, ◌≤◌, min}
+
+-- the count grew from s to t, by n at most
+abbrev pub Takes : ℕ → ℕ → ℕ → Type 0
+Takes s t n = (s ≤ t) × (t ≤ s + n)
+
+-- the count grew from s to t: by n, or to the largest
+unfoldable pub Counted : ℕ → ℕ → ℕ → Type 0
+Counted s t n = t ≡ min (s + n) (2 ^ 128 - 1)
+
+-- the count grew from s to t: by n at least, or to the largest
+unfoldable pub TakesAtLeast : ℕ → ℕ → ℕ → Type 0
+TakesAtLeast s t n = min (s + n) (2 ^ 128 - 1) ≤ t
