@@ -24,6 +24,7 @@ pub mod RareLemmas
 pub mod LaneLemmas
 pub mod AnywhereLemmas
 pub mod StartLemmas
+pub mod StepLemmas
 pub mod BytesLemmas
 pub mod SpanLemmas
 pub mod MirrorLemmas

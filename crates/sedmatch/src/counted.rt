@@ -394,6 +394,42 @@ impl<'a> Model for Bytes<'a> {
     ghost view = { λ b. in_order b.backwards b.bytes.now };
 }
 
+/// The looks of one loop, counted apart from the steps, to which the loop adds them at its end: so they stay in a register.
+#[derive(Drop)]
+pub(crate) struct Tally {
+    count: usize,
+}
+
+impl Model for Tally {
+    ghost Value = { ℕ };
+
+    ghost view = { λ t. t.count };
+}
+
+impl Tally {
+    /// No looks yet.
+    pub fn new() -> Tally
+        ensures { result ≡ 0 }
+    {
+        Tally { count: 0 }
+    }
+
+    /// Counts a look. Condition: there are fewer than 2^62 so far.
+    pub fn add(&mut self)
+        requires { self.old < 2 ^ 62 }
+        ensures { self.new ≡ self.old + 1 }
+    {
+        self.count += 1;
+    }
+
+    /// How many looks there were.
+    pub fn count(&self) -> usize
+        ensures { result ≡ self.now }
+    {
+        self.count
+    }
+}
+
 impl<'a> Bytes<'a> {
     /// How many bytes there are.
     pub fn len(&self) -> usize
@@ -410,6 +446,25 @@ impl<'a> Bytes<'a> {
         ensures counts { Counted steps.old steps.new 1 }
     {
         steps.add(1);
+        self.at(i)
+    }
+
+    /// The byte at a place, in a loop that counts its own looks. Counts one look there.
+    pub(crate) fn tallied(&self, i: usize, tally: &mut Tally) -> u8
+        requires inside { i < length self.now }
+        requires few { tally.old < 2 ^ 62 }
+        ensures byte { slice_get self.now i ≡ Some result }
+        ensures cost { tally.new ≡ tally.old + 1 }
+    {
+        tally.add();
+        self.at(i)
+    }
+
+    /// The byte at a place, from whichever end.
+    fn at(&self, i: usize) -> u8
+        requires { i < length self.now }
+        ensures { slice_get self.now i ≡ Some result }
+    {
         if self.backwards {
             self.bytes[self.bytes.len() - 1 - i]
         } else {

@@ -154,7 +154,7 @@ pub fn ascend(
         TellEntered expr.now.nodes w root s place sets.old.entered →
         TellEnded expr.now.nodes w root s place sets.new.ended }
     ensures counts { TakesAtLeast steps.old steps.new (4 * (root + 1)) }
-    ensures cost { steps.new ≤ steps.old + 9 * (root + 1) }
+    ensures cost { Takes steps.old steps.new (9 * (root + 1)) }
     ensures arena { IsArena expr.now.nodes }
 {
     for x in 0..root + 1 {
@@ -289,7 +289,7 @@ pub fn advance(
     ensures spans { IsTrue result.matched ↔ SomeSpan expr.now.nodes text.now root starts place }
     ensures opens { OpenAt expr.now.nodes text.now root starts place result.more }
     ensures counts { TakesAtLeast steps.old steps.new (4 * (root + 1)) }
-    ensures cost { steps.new ≤ steps.old + 15 * length expr.now.nodes + 5 }
+    ensures cost { Takes steps.old steps.new (15 * length expr.now.nodes + 5) }
 {
     // A count of its own is kept in registers, and added once.
     let mut own = Steps::new();

@@ -101,7 +101,7 @@ fn trail_sight(expr: &Expr, a: NodeId, b: NodeId, steps: &mut Steps) -> Option<S
 fn run_sight(expr: &Expr, steps: &mut Steps) -> Option<Sight>
     requires few { length expr.now.nodes ≤ 65536 }
     ensures sight { IfSome result (λ s. IsSight (tree expr.now) s) }
-    ensures cost { steps.new ≤ steps.old + 6 }
+    ensures cost { Takes steps.old steps.new 6 }
 {
     let root = expr.root().index();
     match expr.look(expr.id(root), steps) {
@@ -124,7 +124,7 @@ fn run_sight(expr: &Expr, steps: &mut Steps) -> Option<Sight>
 pub fn sight_of(alloc: Global, expr: &Expr, steps: &mut Steps) -> Result<Option<Sight>, AllocError>
     requires few { length expr.now.nodes ≤ 65536 }
     ensures sight { IfOk result (IsSightOf (tree expr.now)) }
-    ensures cost { steps.new ≤ steps.old + 1572913 }
+    ensures cost { Takes steps.old steps.new 1572913 }
 {
     if let Some(sight) = run_sight(expr, steps) {
         return Ok(Some(sight));

@@ -81,7 +81,7 @@ pub fn step(
         TellEntered expr.now.nodes w root s place sets.old.entered →
         IsAt expr.now.nodes w root s place sets.new.entered result }
     ensures counts { TakesAtLeast steps.old steps.new (8 * (root + 1)) }
-    ensures cost { steps.new ≤ steps.old + 26 * length expr.now.nodes + 5 }
+    ensures cost { Takes steps.old steps.new (26 * length expr.now.nodes + 5) }
 {
     let mut own = Steps::new();
     ascend(expr, root, byte, begin, true, sets, &mut own);

@@ -14,7 +14,7 @@ ghost use Rattle.sedmatch.specs.Costs.{Pays};
 ghost use Rattle.sedre.specs.Steps.{Takes, Counted, TakesAtLeast};
 
 use crate::classes::{Classes, are_classes};
-use crate::counted::{Bytes, Marks, Rows};
+use crate::counted::{Bytes, Marks, Rows, Tally};
 use crate::scratch::Sets;
 use crate::states::{Ends, step};
 use sedre::{Nodes, Steps};
@@ -498,19 +498,18 @@ pub fn follow_to(
     ensures within { result.place ≤ to }
     ensures follows { Follows expr.now.nodes root table.now text.now from state result.place result.state }
     ensures counts { TakesAtLeast steps.old steps.new (2 * (result.place - from)) }
-    ensures cost { steps.new + 2 * from ≤ steps.old + 2 * result.place + 2 }
+    ensures cost { Pays steps.old steps.new (2 * result.place + 2) (2 * from) }
 {
-    let mut own = Steps::new();
+    let mut own = Tally::new();
     let columns = table.columns;
     // The code in place of the state: so the number below is taken off by the address alone.
     let mut code = PLAIN as usize + columns * state;
     for place in from..to {
-        let class = table.classes[text.byte(place, &mut own) as usize] as usize;
+        let class = table.classes[text.tallied(place, &mut own) as usize] as usize;
         let cell = table.cells[code + class - PLAIN as usize];
-        own.add(1);
+        own.add();
         if cell < PLAIN {
-            let count = own.count();
-            steps.add(count as usize);
+            steps.add(own.count());
             return Stop {
                 state: state_at(table, code - PLAIN as usize),
                 place,
@@ -518,8 +517,7 @@ pub fn follow_to(
         }
         code = cell as usize;
     }
-    let count = own.count();
-    steps.add(count as usize);
+    steps.add(own.count());
     Stop {
         state: state_at(table, code - PLAIN as usize),
         place: to,
@@ -597,22 +595,20 @@ fn stay_on(
     ensures within { result ≤ to }
     ensures stays { Stays expr.now.nodes root table.now text.now from state result }
     ensures counts { TakesAtLeast steps.old steps.new (2 * (result - from)) }
-    ensures cost { steps.new + 2 * from ≤ steps.old + 2 * result + 2 }
+    ensures cost { Pays steps.old steps.new (2 * result + 2) (2 * from) }
 {
-    let mut own = Steps::new();
+    let mut own = Tally::new();
     let offset = table.columns * state;
     for place in from..to {
-        let class = table.classes[text.byte(place, &mut own) as usize] as usize;
+        let class = table.classes[text.tallied(place, &mut own) as usize] as usize;
         let cell = table.cells[offset + class] as usize;
-        own.add(1);
+        own.add();
         if cell != offset + 1 {
-            let count = own.count();
-            steps.add(count as usize);
+            steps.add(own.count());
             return place;
         }
     }
-    let count = own.count();
-    steps.add(count as usize);
+    steps.add(own.count());
     to
 }
 

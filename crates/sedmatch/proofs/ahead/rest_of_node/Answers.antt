@@ -5,11 +5,11 @@ use Rattle.sedmatch.specs.Reach.{At}
 use Rattle.sedmatch.proofs.AheadLemmas.{leaf_leads, group_opens, first_before, inner_before}
 use Rattle.sedmatch.proofs.ahead.rest_of_node.Goals as goal
 
-pub look-first-requires-clause-inside : goal.look-first-requires-clause-inside
-look-first-requires-clause-inside c =
+pub look-first-requires : goal.look-first-requires
+look-first-requires c =
     let is : slice_get c.args.expr.now.nodes c.args.index ≡ Some (Seq c.in-Seq.a c.in-Seq.b) = cc in
     let before = first_before c.args.expr.now.nodes c.requires.arena c.args.text.now c.args.index c.args.place c.in-Seq.a c.in-Seq.b is in
-    omega (arith, before)
+    record { inside = omega (arith, before) }
 
 pub returns-in-Group-clause-goes : goal.returns-in-Group-clause-goes
 returns-in-Group-clause-goes c =

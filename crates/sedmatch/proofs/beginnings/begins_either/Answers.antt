@@ -16,16 +16,18 @@ first_set-requires-in-Some-alternatives-clause-inside c =
     omega (arith, opens.0)
 
 pub returns-in_default-first_set-clause-cost : goal.returns-in_default-first_set-clause-cost
-returns-in_default-first_set-clause-cost c = (omega arith,
+returns-in_default-first_set-clause-cost c =
     let is : slice_get c.args.expr.now.nodes c.loop-turn.rest ≡ Some c.look-node.result = cc in
     let alts : alternatives c.look-node.result ≡ Some (c.in-Some-alternatives.part, c.in-Some-alternatives.next) = sym c.alternatives.ensures ∙ c.in-Some-alternatives.is in
     let opens = alt_opens c.args.expr.now.nodes c.look-node.ensures.arena c.loop-turn.rest c.look-node.result c.in-Some-alternatives.part c.in-Some-alternatives.next is alts in
-    turn_cost (length c.args.expr.now.nodes) c.loop-turn._turn c.args.steps.now c.first_set.new.steps c.loop-turn.steps c.first_set-in-Some-alternatives.new.steps
-    (omega arith) (omega arith) (omega arith) c.loop-turn.invariant.cost (omega (arith, opens.0)))
+    let paid = turn_cost (length c.args.expr.now.nodes) c.loop-turn._turn c.args.steps.now c.first_set.new.steps c.loop-turn.steps c.first_set-in-Some-alternatives.new.steps
+    (omega arith) (omega arith) (omega arith) c.loop-turn.invariant.cost (omega (arith, opens.0)) in
+    (omega arith, omega (arith, paid))
 
 pub returns-clause-cost : goal.returns-clause-cost
-returns-clause-cost c = (omega arith,
-    turns_cost (length c.args.expr.now.nodes) c.loop-turn._turn c.args.steps.now c.first_set.new.steps c.loop-turn.steps (omega arith) (omega arith) c.loop-turn.invariant.cost)
+returns-clause-cost c =
+    let paid = turns_cost (length c.args.expr.now.nodes) c.loop-turn._turn c.args.steps.now c.first_set.new.steps c.loop-turn.steps (omega arith) (omega arith) c.loop-turn.invariant.cost in
+    (omega arith, omega (arith, paid))
 
 pub returns-in-None-clause-right : goal.returns-in-None-clause-right
 returns-in-None-clause-right c w i j at =

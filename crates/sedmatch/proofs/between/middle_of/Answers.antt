@@ -5,11 +5,11 @@ use Rattle.sedmatch.proofs.NeededLemmas.{seq_below}
 use Rattle.sedmatch.proofs.BetweenLemmas.{seq_clear}
 use Rattle.sedmatch.proofs.between.middle_of.Goals as goal
 
-pub star_set-requires-clause-inside : goal.star_set-requires-clause-inside
-star_set-requires-clause-inside c =
+pub star_set-requires : goal.star_set-requires
+star_set-requires c =
     let is : slice_get c.args.expr.now.nodes c.args.index ≡ Some (Seq c.in-Seq.a c.in-Seq.b) = cc in
     let below = seq_below c.args.expr.now.nodes c.in-Seq.ensures.arena c.args.index c.in-Seq.a c.in-Seq.b is in
-    omega (arith, below.0)
+    record { inside = omega (arith, below.0) }
 
 pub returns-in_ok-few-in-Seq-clause-goes : goal.returns-in_ok-few-in-Seq-clause-goes
 returns-in_ok-few-in-Seq-clause-goes c =

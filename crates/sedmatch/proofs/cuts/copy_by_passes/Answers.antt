@@ -37,8 +37,9 @@ returns-then-end-stop-clause-last c =
     (inv.last c.copies.copy (LastCopy-end R c.args.stop c.copies.copy c.in-Some.end next (omega arith)), inv.after, inv.before)
 
 pub returns-then-end-stop-clause-cost : goal.returns-then-end-stop-clause-cost
-returns-then-end-stop-clause-cost c = (omega arith,
-    copies_cost (length c.args.expr.now.nodes) (length c.args.text.now) c.copies.copy c.args.start c.args.stop c.args.steps.now c.starts_to.new.steps c.copies.steps c.copy_to.new.steps c.copies.invariant.before c.requires.stop c.starts_to.ensures.cost.1 c.copies.invariant.cost c.copy_to.ensures.cost.1)
+returns-then-end-stop-clause-cost c =
+    let paid = copies_cost (length c.args.expr.now.nodes) (length c.args.text.now) c.copies.copy c.args.start c.args.stop c.args.steps.now c.starts_to.new.steps c.copies.steps c.copy_to.new.steps c.copies.invariant.before c.requires.stop c.starts_to.ensures.cost.1 c.copies.invariant.cost c.copy_to.ensures.cost.1 in
+    (omega arith, omega (arith, paid))
 
 pub copies-smaller : goal.copies-smaller
 copies-smaller c =

@@ -13,5 +13,6 @@ loop-place-init c = record {
 }
 
 pub returns-clause-cost : goal.returns-clause-cost
-returns-clause-cost c = (omega arith,
-    pass_cost 21 (length c.args.expr.now.nodes) (length c.args.text.now) c.loop-place.place c.loop-place.steps c.args.steps.now (omega arith) (omega arith))
+returns-clause-cost c =
+    let paid = pass_cost 21 (length c.args.expr.now.nodes) (length c.args.text.now) c.loop-place.place c.loop-place.steps c.args.steps.now (omega arith) (omega arith) in
+    (omega arith, omega (arith, paid))

@@ -16,5 +16,6 @@ loop-place-init c = record {
 }
 
 pub returns-clause-cost : goal.returns-clause-cost
-returns-clause-cost c = (omega arith,
-    mark_cost (length c.args.nodes.now.nodes) (length c.args.bytes.now) c.loop-place.place c.loop-place.steps c.args.steps.now (omega arith) (omega arith) (omega arith))
+returns-clause-cost c =
+    let paid = mark_cost (length c.args.nodes.now.nodes) (length c.args.bytes.now) c.loop-place.place c.loop-place.steps c.args.steps.now (omega arith) (omega arith) (omega arith) in
+    (omega arith, omega (arith, paid))

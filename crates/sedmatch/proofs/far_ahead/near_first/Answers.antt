@@ -10,11 +10,11 @@ id-requires-2 c =
     let below = first_below c.args.expr.now.nodes c.look-node.ensures.arena c.args.index c.look-node.result c.in-Some.part is (sym c.left_part.ensures ∙ c.in-Some.is) in
     omega (arith, below)
 
-pub look-inner-requires-clause-inside : goal.look-inner-requires-clause-inside
-look-inner-requires-clause-inside c =
+pub look-inner-requires : goal.look-inner-requires
+look-inner-requires c =
     let is : slice_get c.args.expr.now.nodes c.args.index ≡ Some c.look-node.result = cc in
     let below = first_below c.args.expr.now.nodes c.look-node.ensures.arena c.args.index c.look-node.result c.in-Some.part is (sym c.left_part.ensures ∙ c.in-Some.is) in
-    omega (arith, below)
+    record { inside = omega (arith, below) }
 
 pub returns-in_default-left_part-clause-first : goal.returns-in_default-left_part-clause-first
 returns-in_default-left_part-clause-first c =
@@ -35,15 +35,15 @@ id-requires-3 c =
     let deeper = first_below nodes arena c.in-Some.part c.look-inner.result c.in-Some-left_part.deeper there (sym c.left_part-2.ensures ∙ c.in-Some-left_part.is) in
     omega (arith, below, deeper)
 
-pub look-requires-clause-inside : goal.look-requires-clause-inside
-look-requires-clause-inside c =
+pub look-requires : goal.look-requires
+look-requires c =
     let nodes = c.args.expr.now.nodes in
     let arena = c.look-node.ensures.arena in
     let is : slice_get nodes c.args.index ≡ Some c.look-node.result = cc in
     let there : slice_get nodes c.in-Some.part ≡ Some c.look-inner.result = cc in
     let below = first_below nodes arena c.args.index c.look-node.result c.in-Some.part is (sym c.left_part.ensures ∙ c.in-Some.is) in
     let deeper = first_below nodes arena c.in-Some.part c.look-inner.result c.in-Some-left_part.deeper there (sym c.left_part-2.ensures ∙ c.in-Some-left_part.is) in
-    omega (arith, below, deeper)
+    record { inside = omega (arith, below, deeper) }
 
 pub returns-clause-first : goal.returns-clause-first
 returns-clause-first c =

@@ -7,11 +7,11 @@ use Rattle.sedmatch.specs.Reach.{At}
 use Rattle.sedmatch.proofs.FarLemmas.{opt_opens, far_alike}
 use Rattle.sedmatch.proofs.far_ahead.opt_end.Goals as goal
 
-pub look-requires-clause-inside : goal.look-requires-clause-inside
-look-requires-clause-inside c =
+pub look-requires : goal.look-requires
+look-requires c =
     let is : slice_get c.args.expr.now.nodes c.args.index ≡ Some (Opt c.in-Opt.a c.in-Opt.field-1) = cc in
     let before = c.requires.arena.below c.args.index c.in-Opt.a.index (Opt c.in-Opt.a c.in-Opt.field-1) is refl in
-    omega (arith, before)
+    record { inside = omega (arith, before) }
 
 pub returns-in-Set-clause-far : goal.returns-in-Set-clause-far
 returns-in-Set-clause-far c =

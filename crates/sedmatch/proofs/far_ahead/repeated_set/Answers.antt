@@ -6,11 +6,11 @@ use Rattle.sedmatch.specs.FarAhead.{AllRepeat}
 use Rattle.sedmatch.proofs.FarLemmas.{group_repeats}
 use Rattle.sedmatch.proofs.far_ahead.repeated_set.Goals as goal
 
-pub look-inner-requires-clause-inside : goal.look-inner-requires-clause-inside
-look-inner-requires-clause-inside c =
+pub look-inner-requires : goal.look-inner-requires
+look-inner-requires c =
     let is : slice_get c.args.expr.now.nodes c.args.index ≡ Some (Group c.in-Group.field-0 c.in-Group.a) = cc in
     let before : c.in-Group.a.index < c.args.index = c.requires.arena.below c.args.index c.in-Group.a.index (Group c.in-Group.field-0 c.in-Group.a) is refl in
-    omega (arith, before)
+    record { inside = omega (arith, before) }
 
 pub star_set_of-requires-clause-inside : goal.star_set_of-requires-clause-inside
 star_set_of-requires-clause-inside c =

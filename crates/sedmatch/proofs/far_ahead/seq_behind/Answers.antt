@@ -7,11 +7,11 @@ use Rattle.sedmatch.proofs.AheadLemmas.{first_before, second_before}
 use Rattle.sedmatch.proofs.FarLemmas.{behind_run}
 use Rattle.sedmatch.proofs.far_ahead.seq_behind.Goals as goal
 
-pub look-first-requires-clause-inside : goal.look-first-requires-clause-inside
-look-first-requires-clause-inside c =
+pub look-first-requires : goal.look-first-requires
+look-first-requires c =
     let is : slice_get c.args.expr.now.nodes c.args.index ≡ Some (Seq c.in-Seq.a c.in-Seq.b) = cc in
     let before = first_before c.args.expr.now.nodes c.requires.arena c.args.text.now c.args.index c.args.place c.in-Seq.a c.in-Seq.b is in
-    omega (arith, before)
+    record { inside = omega (arith, before) }
 
 pub repeated_set-requires-clause-inside : goal.repeated_set-requires-clause-inside
 repeated_set-requires-clause-inside c =

@@ -4,11 +4,11 @@ use Rattle.sedre.specs.declared.types.Node.TheVariants.{Set, Star}
 use Rattle.sedmatch.proofs.FarLemmas.{star_repeats}
 use Rattle.sedmatch.proofs.far_ahead.star_set_of.Goals as goal
 
-pub look-requires-clause-inside : goal.look-requires-clause-inside
-look-requires-clause-inside c =
+pub look-requires : goal.look-requires
+look-requires c =
     let is : slice_get c.args.expr.now.nodes c.args.index ≡ Some (Star c.in-Star.a c.in-Star.field-1) = cc in
     let before = c.requires.arena.below c.args.index c.in-Star.a.index (Star c.in-Star.a c.in-Star.field-1) is refl in
-    omega (arith, before)
+    record { inside = omega (arith, before) }
 
 pub returns-in-Set-clause-repeats : goal.returns-in-Set-clause-repeats
 returns-in-Set-clause-repeats c =

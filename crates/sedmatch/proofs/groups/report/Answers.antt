@@ -27,10 +27,11 @@ returns-clause-report c =
     ]
 
 pub returns-clause-cost : goal.returns-clause-cost
-returns-clause-cost c = (omega arith,
+returns-clause-cost c =
     let m = length c.args.expr.now.nodes in
     let n = length c.args.text.now in
-    elim c.if-groups-gt0.branch [
+    let paid = elim c.if-groups-gt0.branch [
       | then-groups-gt0 w ↦ subst (λ t. t + 48 * m * (n + 1) * (n + 1) ≤ c.args.steps.now + 51 * m * m * (n + 1) * (n + 1)) (sym w.steps-is) (report_cost m n c.args.steps.now w.decide.new.steps (omega arith) w.decide.ensures.cost.1)
       | else-groups-gt0 w ↦ subst (λ t. t + 48 * m * (n + 1) * (n + 1) ≤ c.args.steps.now + 51 * m * m * (n + 1) * (n + 1)) (sym w.steps-is) (report_free m n c.args.steps.now (omega arith))
-    ])
+    ] in
+    (omega arith, omega (arith, paid))

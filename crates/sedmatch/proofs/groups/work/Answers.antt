@@ -18,7 +18,7 @@ put_split-requires c =
     omega (arith, length-weights nodes old, size-pos (tree_at nodes c.in-Enter.x), c.args.plan.now.tasks.ok)
 
 pub returns-in-Enter-clause-cost : goal.returns-in-Enter-clause-cost
-returns-in-Enter-clause-cost c = (omega arith,
+returns-in-Enter-clause-cost c =
     let nodes = c.args.expr.now.nodes in
     let w = c.args.text.now in
     let m = length nodes in
@@ -27,8 +27,9 @@ returns-in-Enter-clause-cost c = (omega arith,
     let new = reverse c.put_split.new.tasks.items in
     let ready : IsReady nodes w (Enter c.in-Enter.x c.in-Enter.start c.in-Enter.stop ∷ rest) = subst (λ t. IsReady nodes w (t ∷ rest)) c.in-Enter.is c.requires.ready in
     let is : slice_get nodes c.in-Enter.x ≡ Some c.look-node.result = cc in
-    subst (λ t. c.forget_first.new.steps + (k + m) * inners nodes new + 3 * wholes nodes new ≤ c.args.steps.now + (k + m) * inners nodes (t ∷ rest) + 3 * wholes nodes (t ∷ rest))
+    let paid = subst (λ t. c.forget_first.new.steps + (k + m) * inners nodes new + 3 * wholes nodes new ≤ c.args.steps.now + (k + m) * inners nodes (t ∷ rest) + 3 * wholes nodes (t ∷ rest))
     (sym c.in-Enter.is)
     (enter_cost nodes w c.look-node.ensures.arena c.in-Enter.x c.in-Enter.start c.in-Enter.stop c.look-node.result is k m c.args.steps.now c.look-node.new.steps c.split_node-parts.new.steps c.forget_first.new.steps
     (forgets_of c.split_node-parts.result) (tasks_of c.split_node-parts.result) new rest c.put_split.ensures.items c.split_node-parts.ensures.step
-    c.look-node.ensures.cost.1 c.split_node-parts.ensures.cost.1 c.forget_first.ensures.cost.1 (c.requires.sizes c.in-Enter.x ready.0)))
+    c.look-node.ensures.cost.1 c.split_node-parts.ensures.cost.1 c.forget_first.ensures.cost.1 (c.requires.sizes c.in-Enter.x ready.0)) in
+    (omega arith, omega (arith, paid))

@@ -23,9 +23,10 @@ loop-next-init c = record {
 }
 
 pub returns-in-Full-clause-cost : goal.returns-in-Full-clause-cost
-returns-in-Full-clause-cost c = (omega arith,
-    line_rest (length c.args.expr.now.nodes) (6 * length c.args.expr.now.nodes) (6 * length c.args.expr.now.nodes) c.bound_on.result c.args.last c.loop-next.place c.args.steps.now c.loop-next.steps c.bound_on.new.steps (omega arith)
-    c.bound_on.ensures.after c.loop-next.invariant.cost c.bound_on.ensures.cost.1)
+returns-in-Full-clause-cost c =
+    let paid = line_rest (length c.args.expr.now.nodes) (6 * length c.args.expr.now.nodes) (6 * length c.args.expr.now.nodes) c.bound_on.result c.args.last c.loop-next.place c.args.steps.now c.loop-next.steps c.bound_on.new.steps (omega arith)
+    c.bound_on.ensures.after c.loop-next.invariant.cost c.bound_on.ensures.cost.1 in
+    (omega arith, omega (arith, paid))
 
 pub returns-then-place-len-clause-bound : goal.returns-then-place-len-clause-bound
 returns-then-place-len-clause-bound c = bound_end c.args.expr.now.nodes c.args.text.now c.args.root c.args.start c.args.last c.requires.root c.loop-next.place (omega arith) c.loop-next.invariant.after
@@ -53,9 +54,10 @@ pub returns-then-stop-len-clause-bound : goal.returns-then-stop-len-clause-bound
 returns-then-stop-len-clause-bound c = bound_end c.args.expr.now.nodes c.args.text.now c.args.root c.args.start c.args.last c.requires.root c.follow_past-stop.result.place (omega arith) (omega arith)
 
 pub returns-then-stop-len-clause-cost : goal.returns-then-stop-len-clause-cost
-returns-then-stop-len-clause-cost c = (omega arith,
-    line_end (length c.args.expr.now.nodes) (6 * length c.args.expr.now.nodes) (6 * length c.args.expr.now.nodes) c.follow_past-stop.result.place c.args.last c.loop-next.place c.args.steps.now c.loop-next.steps c.follow_past-stop.new.steps (omega arith)
-    (omega arith) (omega arith) c.loop-next.invariant.cost (omega arith))
+returns-then-stop-len-clause-cost c =
+    let paid = line_end (length c.args.expr.now.nodes) (6 * length c.args.expr.now.nodes) (6 * length c.args.expr.now.nodes) c.follow_past-stop.result.place c.args.last c.loop-next.place c.args.steps.now c.loop-next.steps c.follow_past-stop.new.steps (omega arith)
+    (omega arith) (omega arith) c.loop-next.invariant.cost (omega arith) in
+    (omega arith, omega (arith, paid))
 
 pub loop-next-preserved : goal.loop-next-preserved
 loop-next-preserved c =

@@ -31,9 +31,10 @@ loop-next-init c =
     }
 
 pub returns-in-Full-clause-cost : goal.returns-in-Full-clause-cost
-returns-in-Full-clause-cost c = (omega arith,
-    line_rest (length c.args.expr.now.nodes) (38 * length c.args.expr.now.nodes) (40 * length c.args.expr.now.nodes) (ended_to (length c.args.text.now) c.first_end_on.result) c.args.from c.loop-next.place c.args.steps.now c.loop-next.steps c.first_end_on.new.steps (omega arith)
-    c.first_end_on.ensures.after c.loop-next.invariant.cost c.first_end_on.ensures.cost.1)
+returns-in-Full-clause-cost c =
+    let paid = line_rest (length c.args.expr.now.nodes) (38 * length c.args.expr.now.nodes) (40 * length c.args.expr.now.nodes) (ended_to (length c.args.text.now) c.first_end_on.result) c.args.from c.loop-next.place c.args.steps.now c.loop-next.steps c.first_end_on.new.steps (omega arith)
+    c.first_end_on.ensures.after c.loop-next.invariant.cost c.first_end_on.ensures.cost.1 in
+    (omega arith, omega (arith, paid))
 
 pub returns-then-place-len-clause-first : goal.returns-then-place-len-clause-first
 returns-then-place-len-clause-first c =
@@ -55,10 +56,11 @@ returns-then-place-len-clause-first c =
     c.at_last.ensures.first nodes w r from c.loop-next.sets.entered c.requires.root (omega arith) c.loop-next.invariant.after (at.last (omega arith)) c.loop-next.invariant.missed
 
 pub returns-then-place-len-clause-cost : goal.returns-then-place-len-clause-cost
-returns-then-place-len-clause-cost c = (omega arith,
+returns-then-place-len-clause-cost c =
     let e = c.at_last.ensures.place (length c.args.text.now) (omega arith) in
-    line_stop (length c.args.expr.now.nodes) (38 * length c.args.expr.now.nodes) (40 * length c.args.expr.now.nodes) (ended_to (length c.args.text.now) c.at_last.result) c.args.from c.loop-next.place c.args.steps.now c.loop-next.steps c.loop-next.steps (omega arith)
-    (omega (arith, e)) c.loop-next.invariant.cost (omega arith))
+    let paid = line_stop (length c.args.expr.now.nodes) (38 * length c.args.expr.now.nodes) (40 * length c.args.expr.now.nodes) (ended_to (length c.args.text.now) c.at_last.result) c.args.from c.loop-next.place c.args.steps.now c.loop-next.steps c.loop-next.steps (omega arith)
+    (omega (arith, e)) c.loop-next.invariant.cost (omega arith) in
+    (omega arith, omega (arith, paid))
 
 pub returns-then-ends-clause-first : goal.returns-then-ends-clause-first
 returns-then-ends-clause-first c =
@@ -87,9 +89,10 @@ returns-then-ends-clause-first c =
     )
 
 pub returns-then-ends-clause-cost : goal.returns-then-ends-clause-cost
-returns-then-ends-clause-cost c = (omega arith,
-    line_stop (length c.args.expr.now.nodes) (38 * length c.args.expr.now.nodes) (40 * length c.args.expr.now.nodes) c.loop-next.place c.args.from c.loop-next.place c.args.steps.now c.loop-next.steps c.load.new.steps (omega arith)
-    (omega arith) c.loop-next.invariant.cost (omega arith))
+returns-then-ends-clause-cost c =
+    let paid = line_stop (length c.args.expr.now.nodes) (38 * length c.args.expr.now.nodes) (40 * length c.args.expr.now.nodes) c.loop-next.place c.args.from c.loop-next.place c.args.steps.now c.loop-next.steps c.load.new.steps (omega arith)
+    (omega arith) c.loop-next.invariant.cost (omega arith) in
+    (omega arith, omega (arith, paid))
 
 pub returns-then-stop-len-clause-first : goal.returns-then-stop-len-clause-first
 returns-then-stop-len-clause-first c =
@@ -118,11 +121,12 @@ returns-then-stop-len-clause-first c =
     (pass_rest nodes w r from c.requires.root place stop.place c.follow-stop.ensures.within passed on.1)
 
 pub returns-then-stop-len-clause-cost : goal.returns-then-stop-len-clause-cost
-returns-then-stop-len-clause-cost c = (omega arith,
+returns-then-stop-len-clause-cost c =
     let stop : c.follow-stop.result.place ≡ length c.args.text.now = omega arith in
     let e = c.at_last-then-stop-len.ensures.place (length c.args.text.now) stop in
-    line_end (length c.args.expr.now.nodes) (38 * length c.args.expr.now.nodes) (40 * length c.args.expr.now.nodes) (ended_to (length c.args.text.now) c.at_last-then-stop-len.result) c.args.from c.loop-next.place c.args.steps.now c.loop-next.steps c.follow-stop.new.steps (omega arith)
-    (omega arith) (omega (arith, e)) c.loop-next.invariant.cost (omega (arith, e)))
+    let paid = line_end (length c.args.expr.now.nodes) (38 * length c.args.expr.now.nodes) (40 * length c.args.expr.now.nodes) (ended_to (length c.args.text.now) c.at_last-then-stop-len.result) c.args.from c.loop-next.place c.args.steps.now c.loop-next.steps c.follow-stop.new.steps (omega arith)
+    (omega arith) (omega (arith, e)) c.loop-next.invariant.cost (omega (arith, e)) in
+    (omega arith, omega (arith, paid))
 
 pub loop-next-preserved : goal.loop-next-preserved
 loop-next-preserved c =

@@ -32,9 +32,10 @@ loop-next-init c =
     }
 
 pub returns-in-Full-clause-cost : goal.returns-in-Full-clause-cost
-returns-in-Full-clause-cost c = (omega arith,
-    line_rest (length c.args.nodes.now.nodes) (38 * length c.args.nodes.now.nodes) (38 * length c.args.nodes.now.nodes) c.args.stop c.args.first c.loop-next.place c.args.steps.now c.loop-next.steps c.last_on.new.steps (omega arith)
-    c.loop-next.invariant.within c.loop-next.invariant.cost c.last_on.ensures.cost.1)
+returns-in-Full-clause-cost c =
+    let paid = line_rest (length c.args.nodes.now.nodes) (38 * length c.args.nodes.now.nodes) (38 * length c.args.nodes.now.nodes) c.args.stop c.args.first c.loop-next.place c.args.steps.now c.loop-next.steps c.last_on.new.steps (omega arith)
+    c.loop-next.invariant.within c.loop-next.invariant.cost c.last_on.ensures.cost.1 in
+    (omega arith, omega (arith, paid))
 
 pub later-best-requires-clause-tells : goal.later-best-requires-clause-tells
 later-best-requires-clause-tells c =
@@ -111,9 +112,10 @@ returns-then-to-stop-clause-last c =
     subst (λ p. LastEnd (tree c.args.nodes.now) c.args.bytes.now c.args.first (p + 1) c.later.result) same c.later.ensures.last
 
 pub returns-then-to-stop-clause-cost : goal.returns-then-to-stop-clause-cost
-returns-then-to-stop-clause-cost c = (omega arith,
-    line_end (length c.args.nodes.now.nodes) (38 * length c.args.nodes.now.nodes) (38 * length c.args.nodes.now.nodes) c.args.stop c.args.first c.loop-next.place c.args.steps.now c.loop-next.steps c.follow_past-to.new.steps (omega arith)
-    (omega arith) (omega arith) c.loop-next.invariant.cost (omega arith))
+returns-then-to-stop-clause-cost c =
+    let paid = line_end (length c.args.nodes.now.nodes) (38 * length c.args.nodes.now.nodes) (38 * length c.args.nodes.now.nodes) c.args.stop c.args.first c.loop-next.place c.args.steps.now c.loop-next.steps c.follow_past-to.new.steps (omega arith)
+    (omega arith) (omega arith) c.loop-next.invariant.cost (omega arith) in
+    (omega arith, omega (arith, paid))
 
 pub loop-next-preserved : goal.loop-next-preserved
 loop-next-preserved c =

@@ -7,9 +7,9 @@ use Rattle.sedmatch.proofs.PartLemmas.{report_lies}
 use Rattle.sedmatch.proofs.matcher.find.Goals as goal
 
 pub returns-in_err-start-clause-cost : goal.returns-in_err-start-clause-cost
-returns-in_err-start-clause-cost c = (omega arith,
+returns-in_err-start-clause-cost c =
     let cost = miss_cost (length c.args.expr.now.nodes) (length c.args.text.now) c.args.steps.now c.leftmost.new.steps c.leftmost.ensures.some c.leftmost.ensures.short_cost in
-    (omega arith, cost))
+    (omega arith, cost)
 
 pub returns-clause-answer : goal.returns-clause-answer
 returns-clause-answer c =

@@ -1,11 +1,11 @@
-use Rattle.std.proofs.Common.{◌≡◌, ◌+◌, ◌*◌, ◌≤◌, length, subst, sym, refl}
+use Rattle.std.proofs.Common.{◌≡◌, ◌+◌, ◌*◌, ◌≤◌, length, subst, sym, refl, arith}
 use Rattle.sedmatch.specs.Meet.{low_of, blocks_cost}
 use Rattle.sedmatch.proofs.RegionLemmas.{mirrored_nodes}
 use Rattle.sedmatch.proofs.BlockLemmas.{bring_cost, low_is}
 use Rattle.sedmatch.proofs.meet.bring.Goals as goal
 
 pub returns-clause-cost : goal.returns-clause-cost
-returns-clause-cost c = (omega arith,
+returns-clause-cost c =
     let m = length c.args.expr.now.nodes in
     let old = c.args.behind.now in
     let new = c.remake.new.behind in
@@ -14,4 +14,5 @@ returns-clause-cost c = (omega arith,
     subst (λ v. c.remake.new.steps ≤ c.args.steps.now + v + 22 * v * old.width) (mirrored_nodes c.args.expr.now c.mirrored-nodes.result c.mirrored-nodes.ensures)
     (subst (λ v. c.remake.new.steps ≤ c.args.steps.now + length c.mirrored-nodes.result.nodes + 22 * length c.mirrored-nodes.result.nodes * v) c.remake.ensures.turns.1 c.remake.ensures.cost.1) in
     let paid = bring_cost m old.width new.block old.block c.args.place c.remake.new.steps c.args.steps.now c.requires.fits.0.some c.if-behind-place.false c.remake.ensures.turns.2 cost in
-    subst (λ v. c.remake.new.steps + 24 * m * v ≤ c.args.steps.now + blocks_cost m old) (sym low) paid)
+    let paid = subst (λ v. c.remake.new.steps + 24 * m * v ≤ c.args.steps.now + blocks_cost m old) (sym low) paid in
+    (omega arith, omega (arith, paid))

@@ -58,7 +58,7 @@ returns-then-not-goes_on-clause-served c =
     (c.goes_on.ensures.served.0, omega (arith, c.goes_on.ensures.served.1))
 
 pub returns-then-not-goes_on-clause-cost : goal.returns-then-not-goes_on-clause-cost
-returns-then-not-goes_on-clause-cost c = (omega arith,
+returns-then-not-goes_on-clause-cost c =
     let start = c.args.start in
     let place = c.loop-place.place in
     let m = length c.args.expr.now.nodes in
@@ -71,7 +71,8 @@ returns-then-not-goes_on-clause-cost c = (omega arith,
           let from = met_from start (length c.args.text.now) c.loop-place.best c.loop-place.invariant.lies in
           subst (λ b. place ≤ met_to start b) (sym w.best-is) (omega arith)
     ]) in
-    met_cost m start place (met_to start c.if-here.best) (blocks_cost m c.goes_on.new.behind) (blocks_cost m c.args.behind.now) c.args.steps.now c.goes_on.new.steps (omega arith) end)
+    let paid = met_cost m start place (met_to start c.if-here.best) (blocks_cost m c.goes_on.new.behind) (blocks_cost m c.args.behind.now) c.args.steps.now c.goes_on.new.steps (omega arith) end in
+    (omega arith, omega (arith, paid))
 
 pub loop-place-preserved : goal.loop-place-preserved
 loop-place-preserved c =
@@ -114,6 +115,7 @@ returns-clause-longest c =
     Longest-from_below (tree c.args.expr.now) c.args.text.now c.args.start c.loop-place.place c.loop-place.best c.requires.start (omega arith) c.loop-place.invariant.longest
 
 pub returns-clause-cost : goal.returns-clause-cost
-returns-clause-cost c = (omega arith,
-    absurd (goes_end c.args.expr.now.nodes c.args.text.now c.args.root c.args.start (length c.args.text.now) c.requires.start (omega arith)
-    (c.loop-place.invariant.ahead (length c.args.text.now) c.requires.start (omega arith))))
+returns-clause-cost c =
+    let paid = absurd (goes_end c.args.expr.now.nodes c.args.text.now c.args.root c.args.start (length c.args.text.now) c.requires.start (omega arith)
+    (c.loop-place.invariant.ahead (length c.args.text.now) c.requires.start (omega arith))) in
+    (omega arith, omega (arith, paid))

@@ -13,12 +13,13 @@ returns-in_default-clause-next c =
     sym ((not_found-iff (tree e) w c.args.from c.requires.from).1 (none_begins (tree e) w c.args.from c.args.behind.now.begins starts c.in_default.ensures.first))
 
 pub returns-in_default-clause-cost : goal.returns-in_default-clause-cost
-returns-in_default-clause-cost c = (omega arith,
+returns-in_default-clause-cost c =
     let m = length c.args.expr.now.nodes in
     let n = length c.args.text.now in
     let p = blocks_cost m c.args.behind.now in
-    next_cost m c.args.from n n p p c.args.steps.now c.next_begin.new.steps c.next_begin.new.steps (omega (arith, c.nodes-count.ensures.arena.nonempty)) c.requires.from (omega arith)
-    c.in_default.ensures.cost.1 (omega arith))
+    let paid = next_cost m c.args.from n n p p c.args.steps.now c.next_begin.new.steps c.next_begin.new.steps (omega (arith, c.nodes-count.ensures.arena.nonempty)) c.requires.from (omega arith)
+    c.in_default.ensures.cost.1 (omega arith) in
+    (omega arith, omega (arith, paid))
 
 pub unreachable-requires : goal.unreachable-requires
 unreachable-requires c =
@@ -39,9 +40,10 @@ returns-clause-next c =
     (first_begins (tree e) w c.args.from c.in-Some.start c.in-Some-longest_met.end c.args.behind.now.begins starts c.in-Some.ensures.first c.in-Some-longest_met.ensures.longest))
 
 pub returns-clause-cost : goal.returns-clause-cost
-returns-clause-cost c = (omega arith,
+returns-clause-cost c =
     let m = length c.args.expr.now.nodes in
     let lies = c.in-Some-longest_met.ensures.lies in
     let low = lies.0 in
-    next_cost m c.args.from c.in-Some.start c.in-Some-longest_met.end (blocks_cost m c.longest_met.new.behind) (blocks_cost m c.args.behind.now) c.args.steps.now c.next_begin.new.steps c.longest_met.new.steps
-    (omega (arith, c.nodes-count.ensures.arena.nonempty)) c.in-Some.ensures.first.0 (omega arith) c.in-Some.ensures.cost.1 c.in-Some-longest_met.ensures.cost.1)
+    let paid = next_cost m c.args.from c.in-Some.start c.in-Some-longest_met.end (blocks_cost m c.longest_met.new.behind) (blocks_cost m c.args.behind.now) c.args.steps.now c.next_begin.new.steps c.longest_met.new.steps
+    (omega (arith, c.nodes-count.ensures.arena.nonempty)) c.in-Some.ensures.first.0 (omega arith) c.in-Some.ensures.cost.1 c.in-Some-longest_met.ensures.cost.1 in
+    (omega arith, omega (arith, paid))

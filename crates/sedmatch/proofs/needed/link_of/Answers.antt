@@ -4,11 +4,11 @@ use Rattle.sedre.specs.declared.types.Node.TheVariants.{Seq, Group}
 use Rattle.sedmatch.proofs.NeededLemmas.{seq_below, set_links, group_links}
 use Rattle.sedmatch.proofs.needed.link_of.Goals as goal
 
-pub set_of-requires-clause-inside : goal.set_of-requires-clause-inside
-set_of-requires-clause-inside c =
+pub set_of-requires : goal.set_of-requires
+set_of-requires c =
     let is : slice_get c.args.expr.now.nodes c.args.index ≡ Some (Seq c.in-Seq.a c.in-Seq.b) = cc in
     let below = seq_below c.args.expr.now.nodes c.look-node.ensures.arena c.args.index c.in-Seq.a c.in-Seq.b is in
-    omega (arith, below.0)
+    record { inside = omega (arith, below.0) }
 
 pub returns-in-Some-clause-links : goal.returns-in-Some-clause-links
 returns-in-Some-clause-links c =

@@ -1,10 +1,16 @@
-use Rattle.std.proofs.Common.{◌+◌, refl, sym, subst}
+use Rattle.std.proofs.Common.{◌+◌, ◌*◌, arith, refl, sym, subst}
 use Rattle.std.specs.Prelude.{eqb}
 use Rattle.sedmatch.specs.Reach.{Marked, Below, Entered}
 use Rattle.sedmatch.proofs.SearchLemmas.{root_spans}
 use Rattle.sedmatch.proofs.PassLemmas.{comes_after, is_place}
 use Rattle.sedmatch.proofs.OpenLemmas.{open_from_sets}
+use Rattle.sedmatch.proofs.StepLemmas.{least_from, least_own}
 use Rattle.sedmatch.proofs.passes.advance.Goals as goal
+
+pub returns-clause-counts : goal.returns-clause-counts
+returns-clause-counts c =
+    let own = least_from c.byte_before-byte.new.steps c.ascend.new.steps (4 * (c.args.root + 1)) (omega arith) c.ascend.ensures.counts in
+    least_own c.args.steps.now c.add.new.self c.count-count.result (4 * (c.args.root + 1)) (omega (arith, own)) c.add.ensures.counts
 
 pub returns-clause-entered : goal.returns-clause-entered
 returns-clause-entered c =

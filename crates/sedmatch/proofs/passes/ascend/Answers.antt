@@ -1,7 +1,8 @@
-use Rattle.std.proofs.Common.{◌≡◌, length, Some, ap, ◌∙◌, arith}
+use Rattle.std.proofs.Common.{◌≡◌, ◌*◌, ◌+◌, refl, length, Some, ap, ◌∙◌, arith}
 use Rattle.std.specs.Prelude.{slice_get, slice_index_or, false}
 use Rattle.sedmatch.specs.Local.{end_of}
 use Rattle.std.proofs.Common.{length-set}
+use Rattle.sedmatch.proofs.StepLemmas.{least_none, least_four}
 use Rattle.sedmatch.proofs.PassLemmas.{parts_below, ascend_null, ascend_ended}
 use Rattle.sedmatch.proofs.passes.ascend.Goals as goal
 
@@ -14,6 +15,18 @@ pub marks_here-here-requires-clause-ended_inside : goal.marks_here-here-requires
 marks_here-here-requires-clause-ended_inside c =
     let is : slice_get c.args.expr.now.nodes c.loop-x.x ≡ Some c.look-node.result = cc in
     parts_below _ c.look-node.ensures.arena _ _ is _ (omega arith)
+
+pub loop-x-init : goal.loop-x-init
+loop-x-init c = record {
+  marks = (omega arith, omega arith, omega arith);
+  kept = refl;
+  grows = omega arith;
+  counts = least_none c.args.steps.now;
+  cost = omega arith;
+  arena = λ some. absurd (omega (arith, some));
+  null = λ w place there n below. absurd (omega (arith, below));
+  ended = λ w s place there comes enters n below. absurd (omega (arith, below));
+}
 
 pub loop-x-preserved : goal.loop-x-preserved
 loop-x-preserved c =
@@ -30,7 +43,9 @@ loop-x-preserved c =
     record {
       marks = (omega arith, omega arith, omega arith);
       kept = c.loop-x.invariant.kept;
-      counts = omega arith;
+      grows = omega arith;
+      counts = least_four c.args.steps.now c.loop-x.steps c.get-before.new.steps c.look-node.new.steps c.marks_here-here.new.steps c.set.new.steps c.set-in-loop-x.new.steps (4 * x) (4 * (x + 1))
+          c.loop-x.invariant.counts c.get-before.ensures.counts c.look-node.ensures.counts (omega arith) c.set.ensures.counts c.set-in-loop-x.ensures.counts (omega arith);
       cost = omega arith;
       arena = λ some. arena;
       null = λ w place there. ascend_null nodes w arena place x c.look-node.result is c.args.begin c.args.end there

@@ -1,5 +1,6 @@
 use Rattle.std.proofs.Common.{◌≡◌, ℕ, List, ◌+◌, ◌*◌, ◌<◌, ◌≤◌}
 use Rattle.sedre.specs.Arena.{IsArena}
+use Rattle.sedre.specs.Steps.{TakesAtLeast}
 use Rattle.sedmatch.specs.Fits.{SameMarks}
 use Rattle.sedmatch.specs.Reach.{Marked, Below, At, Ends, Entered}
 use Rattle.sedmatch.specs.Places.{IsPlace, ComesAfter}
@@ -10,7 +11,8 @@ abbrev pub invariant-loop-x : goal.invariant-loop-x
 invariant-loop-x l = record {
   marks : SameMarks l.initial.sets l.sets;
   kept : l.sets.entered ≡ l.initial.sets.entered;
-  counts : l.initial.steps + 4 * l.x ≤ l.steps;
+  grows : l.initial.steps ≤ l.steps;
+  counts : TakesAtLeast l.initial.steps l.steps (4 * l.x);
   cost : l.steps ≤ l.initial.steps + 9 * l.x;
   arena : 0 < l.x → IsArena l.expr.nodes;
   null : (w : List ℕ) (place : ℕ) → IsPlace w place l.begin l.end → Marked l.sets.null (Below l.x) (λ c. At l.expr.nodes w c place place);

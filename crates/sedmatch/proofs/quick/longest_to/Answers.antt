@@ -146,9 +146,10 @@ loop-next-preserved c =
     }
 
 pub returns-then-to-stop-clause-cost : goal.returns-then-to-stop-clause-cost
-returns-then-to-stop-clause-cost c = (omega arith,
-    line_end (length c.args.expr.now.nodes) (38 * length c.args.expr.now.nodes) (38 * length c.args.expr.now.nodes) c.args.stop c.args.start c.loop-next.place c.args.steps.now c.loop-next.steps c.follow_past-to.new.steps (omega arith)
-    (omega arith) (omega arith) c.loop-next.invariant.cost (omega arith))
+returns-then-to-stop-clause-cost c =
+    let paid = line_end (length c.args.expr.now.nodes) (38 * length c.args.expr.now.nodes) (38 * length c.args.expr.now.nodes) c.args.stop c.args.start c.loop-next.place c.args.steps.now c.loop-next.steps c.follow_past-to.new.steps (omega arith)
+    (omega arith) (omega arith) c.loop-next.invariant.cost (omega arith) in
+    (omega arith, omega (arith, paid))
 
 pub returns-then-to-stop-clause-lies : goal.returns-then-to-stop-clause-lies
 returns-then-to-stop-clause-lies c =

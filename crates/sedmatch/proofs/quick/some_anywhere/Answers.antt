@@ -19,10 +19,11 @@ returns-in_default-clause-matches c =
     (first_tells c.args.expr.now.nodes c.args.text.now c.args.root c.in-Some.start c.requires.root c.first_end_in.new.sets.entered first c.first_end_in.ensures.first))
 
 pub returns-in_default-clause-cost : goal.returns-in_default-clause-cost
-returns-in_default-clause-cost c = (omega arith,
+returns-in_default-clause-cost c =
     let sought = c.in-Some.ensures.sought in
     let first = c.first_end_in.result in
-    some_steps (length c.args.expr.now.nodes) (length c.args.text.now) c.args.from c.in-Some.start (ended_to (length c.args.text.now) first) c.args.steps.now c.first_place.new.steps c.first_end_in.new.steps
+    let paid = some_steps (length c.args.expr.now.nodes) (length c.args.text.now) c.args.from c.in-Some.start (ended_to (length c.args.text.now) first) c.args.steps.now c.first_place.new.steps c.first_end_in.new.steps
     (omega arith) sought.1 (ended_after c.args.expr.now.nodes c.args.text.now c.args.root c.in-Some.start c.first_end_in.new.sets.entered first sought.1 c.first_end_in.ensures.first)
     (ended_within c.args.expr.now.nodes c.args.text.now c.args.root c.in-Some.start c.first_end_in.new.sets.entered first c.first_end_in.ensures.first)
-    c.in-Some.ensures.cost.1 c.first_end_in.ensures.cost.1)
+    c.in-Some.ensures.cost.1 c.first_end_in.ensures.cost.1 in
+    (omega arith, omega (arith, paid))

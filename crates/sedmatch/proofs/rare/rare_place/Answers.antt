@@ -28,10 +28,11 @@ returns-then-not-large-clause-sought c =
     c.in-Some.start Unknown c.in-Some.ensures.first c.loop-start.invariant.after tt
 
 pub returns-then-not-large-clause-cost : goal.returns-then-not-large-clause-cost
-returns-then-not-large-clause-cost c = (omega arith,
+returns-then-not-large-clause-cost c =
     let first = c.in-Some.ensures.first in
-    rare_start (length c.args.expr.now.nodes) (length c.args.text.now) c.args.from c.loop-start.place c.in-Some.start c.args.steps.now c.loop-start.steps c.find.new.steps
-    (omega arith) first.0 c.in-Some.ensures.lies c.loop-start.invariant.cost (omega (arith, first.0, c.in-Some.ensures.cost.1)))
+    let paid = rare_start (length c.args.expr.now.nodes) (length c.args.text.now) c.args.from c.loop-start.place c.in-Some.start c.args.steps.now c.loop-start.steps c.find.new.steps
+    (omega arith) first.0 c.in-Some.ensures.lies c.loop-start.invariant.cost (omega (arith, first.0, c.in-Some.ensures.cost.1)) in
+    (omega arith, omega (arith, paid))
 
 pub returns-in_default-look_ahead-clause-sought : goal.returns-in_default-look_ahead-clause-sought
 returns-in_default-look_ahead-clause-sought c =
@@ -39,17 +40,19 @@ returns-in_default-look_ahead-clause-sought c =
     c.in-Some.start c.look_ahead.result c.in-Some.ensures.first c.loop-start.invariant.after c.look_ahead.ensures.leads
 
 pub returns-in_default-look_ahead-clause-cost : goal.returns-in_default-look_ahead-clause-cost
-returns-in_default-look_ahead-clause-cost c = (omega arith,
+returns-in_default-look_ahead-clause-cost c =
     let first = c.in-Some.ensures.first in
     let large = c.is_large-large.ensures c.if-not-large.false in
-    rare_look (length c.args.expr.now.nodes) (length c.args.text.now) c.args.from c.loop-start.place c.in-Some.start c.args.steps.now c.loop-start.steps c.find.new.steps
-    (omega arith) first.0 c.in-Some.ensures.lies c.loop-start.invariant.cost (omega (arith, first.0, c.in-Some.ensures.cost.1)) c.look_ahead.new.steps (omega (arith, large.1)) c.look_ahead.ensures.cost.1)
+    let paid = rare_look (length c.args.expr.now.nodes) (length c.args.text.now) c.args.from c.loop-start.place c.in-Some.start c.args.steps.now c.loop-start.steps c.find.new.steps
+    (omega arith) first.0 c.in-Some.ensures.lies c.loop-start.invariant.cost (omega (arith, first.0, c.in-Some.ensures.cost.1)) c.look_ahead.new.steps (omega (arith, large.1)) c.look_ahead.ensures.cost.1 in
+    (omega arith, omega (arith, paid))
 
 pub returns-clause-sought : goal.returns-clause-sought
 returns-clause-sought c =
     rare_nowhere (tree c.args.expr.now) c.args.text.now c.are_bytes.ensures c.args.from c.loop-start.place c.args.rare.now c.requires.rare c.loop-start.invariant.missed c.in_default.ensures.first
 
 pub returns-clause-cost : goal.returns-clause-cost
-returns-clause-cost c = (omega arith,
-    rare_end (length c.args.expr.now.nodes) (length c.args.text.now) c.args.from c.loop-start.place c.args.steps.now c.loop-start.steps c.find.new.steps
-    (omega arith) c.loop-start.invariant.within c.loop-start.invariant.cost (omega (arith, c.in_default.ensures.cost.1)))
+returns-clause-cost c =
+    let paid = rare_end (length c.args.expr.now.nodes) (length c.args.text.now) c.args.from c.loop-start.place c.args.steps.now c.loop-start.steps c.find.new.steps
+    (omega arith) c.loop-start.invariant.within c.loop-start.invariant.cost (omega (arith, c.in_default.ensures.cost.1)) in
+    (omega arith, omega (arith, paid))

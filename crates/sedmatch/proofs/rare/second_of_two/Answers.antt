@@ -5,17 +5,17 @@ use Rattle.sedmatch.proofs.AheadLemmas.{alternatives_before}
 use Rattle.sedmatch.proofs.RareLemmas.{second_alternatives}
 use Rattle.sedmatch.proofs.rare.second_of_two.Goals as goal
 
-pub second_set-requires-clause-inside : goal.second_set-requires-clause-inside
-second_set-requires-clause-inside c =
+pub second_set-requires : goal.second_set-requires
+second_set-requires c =
     let is : slice_get c.args.expr.now.nodes c.index-root.result ≡ Some (Alt c.in-Alt.a c.in-Alt.b) = cc in
     let before = alternatives_before c.args.expr.now.nodes c.root.ensures.arena [] c.index-root.result 0 c.in-Alt.a c.in-Alt.b is in
-    omega (arith, before.0)
+    record { inside = omega (arith, before.0) }
 
-pub second_set-requires-in-Alt-clause-inside : goal.second_set-requires-in-Alt-clause-inside
-second_set-requires-in-Alt-clause-inside c =
+pub second_set-requires-in-Alt : goal.second_set-requires-in-Alt
+second_set-requires-in-Alt c =
     let is : slice_get c.args.expr.now.nodes c.index-root.result ≡ Some (Alt c.in-Alt.a c.in-Alt.b) = cc in
     let before = alternatives_before c.args.expr.now.nodes c.root.ensures.arena [] c.index-root.result 0 c.in-Alt.a c.in-Alt.b is in
-    omega (arith, before.1)
+    record { inside = omega (arith, before.1) }
 
 pub returns-in_ok-few-in-Alt-clause-second : goal.returns-in_ok-few-in-Alt-clause-second
 returns-in_ok-few-in-Alt-clause-second c =

@@ -2,8 +2,9 @@ use Rattle.std.proofs.Common.{arith}
 use Rattle.sedmatch.proofs.RareLemmas.{second_set, second_last}
 use Rattle.sedmatch.proofs.rare.second_set.Goals as goal
 
-pub link_of-requires-in-OneOf-clause-inside : goal.link_of-requires-in-OneOf-clause-inside
-link_of-requires-in-OneOf-clause-inside c = omega (arith, c.in-OneOf.ensures.links.0)
+pub link_of-requires-in-OneOf : goal.link_of-requires-in-OneOf
+link_of-requires-in-OneOf c =
+    record { inside = omega (arith, c.in-OneOf.ensures.links.0) }
 
 pub returns-in-OneOf-link_of-clause-second : goal.returns-in-OneOf-link_of-clause-second
 returns-in-OneOf-link_of-clause-second c =

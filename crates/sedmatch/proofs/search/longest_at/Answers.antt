@@ -19,5 +19,6 @@ returns-clause-longest c =
     Longest-from_below (tree c.args.expr.now) c.args.text.now c.args.start c.loop-place.place c.loop-place.best c.requires.start (omega arith) c.loop-place.invariant.longest
 
 pub returns-clause-cost : goal.returns-clause-cost
-returns-clause-cost c = (omega arith,
-    pass_whole 20 (length c.args.expr.now.nodes) (length c.args.text.now) c.loop-place.place c.loop-place.steps c.args.steps.now (omega arith) (omega arith))
+returns-clause-cost c =
+    let paid = pass_whole 20 (length c.args.expr.now.nodes) (length c.args.text.now) c.loop-place.place c.loop-place.steps c.args.steps.now (omega arith) (omega arith) in
+    (omega arith, omega (arith, paid))

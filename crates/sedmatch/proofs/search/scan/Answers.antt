@@ -5,21 +5,23 @@ use Rattle.sedmatch.proofs.SweepLemmas.{none_join}
 use Rattle.sedmatch.proofs.search.scan.Goals as goal
 
 pub returns-in-Hit-clause-cost : goal.returns-in-Hit-clause-cost
-returns-in-Hit-clause-cost c = (omega arith,
+returns-in-Hit-clause-cost c =
     let next = c.in-Some.ensures.sought in
     let swept = c.in-Hit.ensures.swept in
     let region = swept.1 in
-    sweep_last (length c.args.expr.now.nodes) (length c.args.text.now) c.args.from c.in-Hit.region.bound c.args.steps.now c.sweep_from.new.steps region.inside
+    let paid = sweep_last (length c.args.expr.now.nodes) (length c.args.text.now) c.args.from c.in-Hit.region.bound c.args.steps.now c.sweep_from.new.steps region.inside
     (sweep_step (length c.args.expr.now.nodes) c.args.from c.loop-start.at c.in-Some.start c.in-Hit.region.bound c.args.steps.now c.loop-start.steps c.next_place.new.steps c.sweep_from.new.steps
-    next.0 (omega (arith, swept.0, region.ordered, region.bounded)) c.loop-start.invariant.cost c.in-Some.ensures.cost.1 c.in-Hit.ensures.cost.1))
+    next.0 (omega (arith, swept.0, region.ordered, region.bounded)) c.loop-start.invariant.cost c.in-Some.ensures.cost.1 c.in-Hit.ensures.cost.1) in
+    (omega arith, omega (arith, paid))
 
 pub returns-then-stop-len-clause-cost : goal.returns-then-stop-len-clause-cost
-returns-then-stop-len-clause-cost c = (omega arith,
+returns-then-stop-len-clause-cost c =
     let next = c.in-Some.ensures.sought in
     let swept = c.in-Miss.ensures.swept in
-    sweep_last (length c.args.expr.now.nodes) (length c.args.text.now) c.args.from c.in-Miss.stop c.args.steps.now c.sweep_from.new.steps swept.1
+    let paid = sweep_last (length c.args.expr.now.nodes) (length c.args.text.now) c.args.from c.in-Miss.stop c.args.steps.now c.sweep_from.new.steps swept.1
     (sweep_step (length c.args.expr.now.nodes) c.args.from c.loop-start.at c.in-Some.start c.in-Miss.stop c.args.steps.now c.loop-start.steps c.next_place.new.steps c.sweep_from.new.steps
-    next.0 swept.0 c.loop-start.invariant.cost c.in-Some.ensures.cost.1 c.in-Miss.ensures.cost.1))
+    next.0 swept.0 c.loop-start.invariant.cost c.in-Some.ensures.cost.1 c.in-Miss.ensures.cost.1) in
+    (omega arith, omega (arith, paid))
 
 pub loop-start-preserved : goal.loop-start-preserved
 loop-start-preserved c =
@@ -41,6 +43,7 @@ loop-start-preserved c =
     }
 
 pub returns-clause-cost : goal.returns-clause-cost
-returns-clause-cost c = (omega arith,
-    sweep_end (length c.args.expr.now.nodes) (length c.args.text.now) c.args.from c.loop-start.at c.args.steps.now c.loop-start.steps c.next_place.new.steps
-    c.loop-start.invariant.within c.loop-start.invariant.cost c.in_default.ensures.cost.1)
+returns-clause-cost c =
+    let paid = sweep_end (length c.args.expr.now.nodes) (length c.args.text.now) c.args.from c.loop-start.at c.args.steps.now c.loop-start.steps c.next_place.new.steps
+    c.loop-start.invariant.within c.loop-start.invariant.cost c.in_default.ensures.cost.1 in
+    (omega arith, omega (arith, paid))

@@ -1,4 +1,4 @@
-use Rattle.std.proofs.Common.{length, refl, subst}
+use Rattle.std.proofs.Common.{length, refl, subst, arith}
 use Rattle.sedre.specs.Arena.{tree}
 use Rattle.sedmatch.specs.Spans.{Spans}
 use Rattle.sedmatch.specs.Ahead.{LeadsTo}
@@ -16,8 +16,9 @@ returns-in-To-clause-swept c =
     (refl, region_told e w c.args.whole c.args.start c.in-To.end leads.0 leads.1)
 
 pub returns-in-To-clause-cost : goal.returns-in-To-clause-cost
-returns-in-To-clause-cost c = (omega arith,
+returns-in-To-clause-cost c =
     let e = tree c.args.expr.now in
     let w = c.args.text.now in
     let leads : LeadsTo (length w) (Spans e w c.args.start) (To c.in-To.end) = subst (LeadsTo (length w) (Spans e w c.args.start)) c.in-To.is c.requires.leads in
-    told_cost (length c.args.expr.now.nodes) c.args.start c.in-To.end c.args.steps.now (Spans-forward e w c.args.start c.in-To.end ((leads.1 c.in-To.end).1 refl)))
+    let paid = told_cost (length c.args.expr.now.nodes) c.args.start c.in-To.end c.args.steps.now (Spans-forward e w c.args.start c.in-To.end ((leads.1 c.in-To.end).1 refl)) in
+    (omega arith, omega (arith, paid))

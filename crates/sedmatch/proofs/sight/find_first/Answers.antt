@@ -1,4 +1,4 @@
-use Rattle.std.proofs.Common.{sym, subst}
+use Rattle.std.proofs.Common.{sym, subst, arith}
 use Rattle.sedmatch.specs.Sight.{FirstWith}
 use Rattle.sedmatch.proofs.FewLemmas.{few_looked}
 use Rattle.sedmatch.proofs.SightLemmas.{first_few, first_member}
@@ -10,8 +10,9 @@ returns-in-Among-clause-first c =
     (first_few c.in-Among.few c.args.text.now c.args.from c.find_few.result c.find_few.ensures.first)
 
 pub returns-in-Among-clause-cost : goal.returns-in-Among-clause-cost
-returns-in-Among-clause-cost c = (omega arith,
-    few_looked c.in-Among.few c.args.text.now c.args.from c.args.steps.now c.find_few.new.steps c.find_few.result c.requires.from c.find_few.ensures.first c.find_few.ensures.cost.1)
+returns-in-Among-clause-cost c =
+    let paid = few_looked c.in-Among.few c.args.text.now c.args.from c.args.steps.now c.find_few.new.steps c.find_few.result c.requires.from c.find_few.ensures.first c.find_few.ensures.cost.1 in
+    (omega arith, omega (arith, paid))
 
 pub returns-in-Member-clause-first : goal.returns-in-Member-clause-first
 returns-in-Member-clause-first c =

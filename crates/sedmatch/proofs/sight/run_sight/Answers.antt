@@ -5,17 +5,17 @@ use Rattle.sedmatch.proofs.NeededLemmas.{seq_below}
 use Rattle.sedmatch.proofs.SightLemmas.{sight_one, sight_led}
 use Rattle.sedmatch.proofs.sight.run_sight.Goals as goal
 
-pub look-requires-in-Seq-clause-inside : goal.look-requires-in-Seq-clause-inside
-look-requires-in-Seq-clause-inside c =
+pub look-requires-in-Seq : goal.look-requires-in-Seq
+look-requires-in-Seq c =
     let is : slice_get c.args.expr.now.nodes c.index-root.result ≡ Some (Seq c.in-Seq.a c.in-Seq.b) = cc in
     let below = seq_below c.args.expr.now.nodes c.in-Seq.ensures.arena c.index-root.result c.in-Seq.a c.in-Seq.b is in
-    omega (arith, below.0)
+    record { inside = omega (arith, below.0) }
 
-pub star_set-requires-clause-inside : goal.star_set-requires-clause-inside
-star_set-requires-clause-inside c =
+pub star_set-requires : goal.star_set-requires
+star_set-requires c =
     let is : slice_get c.args.expr.now.nodes c.index-root.result ≡ Some (Seq c.in-Seq.a c.in-Seq.b) = cc in
     let below = seq_below c.args.expr.now.nodes c.in-Seq.ensures.arena c.index-root.result c.in-Seq.a c.in-Seq.b is in
-    omega (arith, below.1)
+    record { inside = omega (arith, below.1) }
 
 pub returns-in-Set : goal.returns-in-Set
 returns-in-Set c =

@@ -5,15 +5,15 @@ use Rattle.sedmatch.proofs.NeededLemmas.{seq_below}
 use Rattle.sedmatch.proofs.SightLemmas.{sight_trail}
 use Rattle.sedmatch.proofs.sight.trail_sight.Goals as goal
 
-pub star_set-requires-clause-inside : goal.star_set-requires-clause-inside
-star_set-requires-clause-inside c =
+pub star_set-requires : goal.star_set-requires
+star_set-requires c =
     let below = seq_below c.args.expr.now.nodes c.requires.arena (length c.args.expr.now.nodes - 1) c.args.a c.args.b c.requires.root in
-    omega (arith, below.0)
+    record { inside = omega (arith, below.0) }
 
-pub look-requires-clause-inside : goal.look-requires-clause-inside
-look-requires-clause-inside c =
+pub look-requires : goal.look-requires
+look-requires c =
     let below = seq_below c.args.expr.now.nodes c.requires.arena (length c.args.expr.now.nodes - 1) c.args.a c.args.b c.requires.root in
-    omega (arith, below.1)
+    record { inside = omega (arith, below.1) }
 
 pub returns-in-Set-clause-sight : goal.returns-in-Set-clause-sight
 returns-in-Set-clause-sight c =

@@ -1,11 +1,18 @@
-use Rattle.std.proofs.Common.{◌≡◌, ◌<◌, ◌∙◌, true, false, length, refl, sym, subst, true≢false, arith}
+use Rattle.std.proofs.Common.{◌+◌, ◌*◌, ◌≡◌, ◌<◌, ◌∙◌, true, false, length, refl, sym, subst, true≢false, arith}
 use Rattle.sedmatch.specs.Reach.{TellEntered, TellEnded, TellBegun}
 use Rattle.sedmatch.specs.Places.{IsPlace, ComesAfter}
 use Rattle.std.specs.Prelude.{slice_get}
 use Rattle.sedmatch.proofs.SearchLemmas.{root_spans}
 use Rattle.sedmatch.proofs.OpenLemmas.{open_from_sets}
 use Rattle.sedmatch.proofs.TableLemmas.{open_sets}
+use Rattle.sedmatch.proofs.StepLemmas.{least_from, least_more, least_own}
 use Rattle.sedmatch.proofs.states.step.Goals as goal
+
+pub returns-clause-counts : goal.returns-clause-counts
+returns-clause-counts c =
+    let once = least_from c.new-own.result c.ascend.new.steps (4 * (c.args.root + 1)) (omega arith) c.ascend.ensures.counts in
+    let twice = least_more c.ends_here-last.new.steps c.ascend-2.new.steps (4 * (c.args.root + 1)) (4 * (c.args.root + 1)) (omega arith) (omega (arith, once)) c.ascend-2.ensures.counts in
+    least_own c.args.steps.now c.add.new.self c.count-count.result (8 * (c.args.root + 1)) (omega (arith, twice)) c.add.ensures.counts
 
 pub returns-clause-state : goal.returns-clause-state
 returns-clause-state c w s place begins firsts comes enters =

@@ -4,7 +4,16 @@ use Rattle.sedmatch.specs.Words.{row_of}
 use Rattle.sedmatch.specs.Tables.{ends_of, LeadsOn, Follows}
 use Rattle.sedmatch.proofs.TableLemmas.{default_same, known_plain, cell_inside, offset_state, not_inner}
 use Rattle.sedmatch.proofs.QuickLemmas.{follow_none, follow_step}
+use Rattle.sedmatch.proofs.StepLemmas.{least_own}
 use Rattle.sedmatch.proofs.tables.follow_to.Goals as goal
+
+pub returns-then-cell-lt-PLAIN-clause-counts : goal.returns-then-cell-lt-PLAIN-clause-counts
+returns-then-cell-lt-PLAIN-clause-counts c =
+    least_own c.args.steps.now c.add-then-cell-lt-PLAIN.new.self c.count.result (2 * (c.loop-place.place - c.args.from)) (omega arith) c.add-then-cell-lt-PLAIN.ensures.counts
+
+pub returns-clause-counts : goal.returns-clause-counts
+returns-clause-counts c =
+    least_own c.args.steps.now c.add-2.new.self c.count-2.result (2 * (c.args.to - c.args.from)) (omega arith) c.add-2.ensures.counts
 
 pub loop-place-init : goal.loop-place-init
 loop-place-init c =
@@ -24,7 +33,7 @@ pub index-cell-requires : goal.index-cell-requires
 index-cell-requires c =
     let T = c.args.table.now in
     let at = (c.loop-place.code - 32768) / T.columns in
-    let byte = c.byte.result in
+    let byte = c.tallied.result in
     let class = c.index.result.now in
     let same : class ≡ slice_index_or T.classes.items byte 0 = c.index.ensures ∙ default_same T.classes.items byte class 0 (omega (arith, c.requires.table.classes_there)) in
     let within = c.requires.table.within byte (omega arith) in
@@ -37,7 +46,7 @@ loop-place-preserved c =
     let T = c.args.table.now in
     let code = c.loop-place.code in
     let at = (code - 32768) / T.columns in
-    let byte = c.byte.result in
+    let byte = c.tallied.result in
     let class = c.index.result.now in
     let same : class ≡ slice_index_or T.classes.items byte 0 = c.index.ensures ∙ default_same T.classes.items byte class 0 (omega (arith, c.requires.table.classes_there)) in
     let within = c.requires.table.within byte (omega arith) in
@@ -56,7 +65,7 @@ loop-place-preserved c =
       steps = c.loop-place.invariant.steps;
       own = omega arith;
       follows = follow_step c.args.expr.now.nodes c.args.root T c.args.text.now c.args.from c.args.state c.loop-place.place at q byte
-          c.loop-place.invariant.after c.byte.ensures.byte (omega arith)
+          c.loop-place.invariant.after c.tallied.ensures.byte (omega arith)
           (subst (λ k. LeadsOn c.args.expr.now.nodes c.args.root T.sweeps T.classes.items (row_of T.rows at) (ends_of T.ends.items at) k (row_of T.rows q) (ends_of T.ends.items q)) same to.3)
           (not_inner T.sweeps (ends_of T.ends.items q) to.2) c.loop-place.invariant.follows;
     }

@@ -4,7 +4,16 @@ use Rattle.sedmatch.specs.Words.{row_of}
 use Rattle.sedmatch.specs.Tables.{ends_of, LeadsOn, Stays}
 use Rattle.sedmatch.proofs.TableLemmas.{default_same, known_low, cell_inside, few_cells, back_state}
 use Rattle.sedmatch.proofs.QuickLemmas.{stay_none, stay_step}
+use Rattle.sedmatch.proofs.StepLemmas.{least_own}
 use Rattle.sedmatch.proofs.tables.stay_on.Goals as goal
+
+pub returns-then-cell-offset-clause-counts : goal.returns-then-cell-offset-clause-counts
+returns-then-cell-offset-clause-counts c =
+    least_own c.args.steps.now c.add-then-cell-offset.new.self c.count.result (2 * (c.loop-place.place - c.args.from)) (omega arith) c.add-then-cell-offset.ensures.counts
+
+pub returns-clause-counts : goal.returns-clause-counts
+returns-clause-counts c =
+    least_own c.args.steps.now c.add-2.new.self c.count-2.result (2 * (c.args.to - c.args.from)) (omega arith) c.add-2.ensures.counts
 
 pub loop-place-init : goal.loop-place-init
 loop-place-init c = record {
@@ -18,7 +27,7 @@ pub loop-place-preserved : goal.loop-place-preserved
 loop-place-preserved c =
     let T = c.args.table.now in
     let state = c.args.state in
-    let byte = c.byte.result in
+    let byte = c.tallied.result in
     let class = c.index.result.now in
     let same : class ≡ slice_index_or T.classes.items byte 0 = c.index.ensures ∙ default_same T.classes.items byte class 0 (omega (arith, c.requires.table.classes_there)) in
     let within = c.requires.table.within byte (omega arith) in
@@ -37,7 +46,7 @@ loop-place-preserved c =
       after = omega arith;
       steps = c.loop-place.invariant.steps;
       own = omega arith;
-      stays = stay_step c.args.expr.now.nodes c.args.root T c.args.text.now c.args.from state c.loop-place.place byte c.loop-place.invariant.after c.byte.ensures.byte (omega arith)
+      stays = stay_step c.args.expr.now.nodes c.args.root T c.args.text.now c.args.from state c.loop-place.place byte c.loop-place.invariant.after c.tallied.ensures.byte (omega arith)
           (subst (λ k. LeadsOn c.args.expr.now.nodes c.args.root T.sweeps T.classes.items (row_of T.rows state) (ends_of T.ends.items state) k (row_of T.rows state) (ends_of T.ends.items state)) same leads)
           c.loop-place.invariant.stays;
     }
