@@ -98,7 +98,7 @@ pub few_inside : (few : Few) (w : List ℕ) (i : ℕ) → FewAt few w i → i < 
 few_inside few w i at = slice_get_within w i at.0 at.1
 
 -- the bytes looked at up to that place, or to the end
-pub few_looked : (few : Few) (w : List ℕ) (p s0 s1 : ℕ) (r : Option ℕ) → p ≤ length w → FirstFew few w p r → s1 ≡ s0 + looked_at (length w) p r → s1 + p ≤ s0 + (length w + 1)
+pub few_looked : (few : Few) (w : List ℕ) (p s0 s1 : ℕ) (r : Option ℕ) → p ≤ length w → FirstFew few w p r → s1 ≤ s0 + looked_at (length w) p r → s1 + p ≤ s0 + (length w + 1)
 few_looked few w p s0 s1 None from none cost = omega (arith, cost)
 few_looked few w p s0 s1 (Some k) from first cost = let inside = few_inside few w k first.1 in omega (arith, first.0, inside, cost)
 

@@ -383,7 +383,7 @@ node_kind nodes arena x (Opt a first) is cost = inr (refl, rw (tree_at-node node
 
 -- the steps of one task, as numbers: a node with parts may cost k, and forgetting m
 enter_numbers : (k m s s1 s2 s3 cost size_x inner_x inner_new whole_new inner_rest whole_rest : ℕ) →
-    s1 ≡ s + 1 → s2 ≤ s1 + cost → s3 ≤ s2 + size_x → size_x ≤ m →
+    s1 ≤ s + 1 → s2 ≤ s1 + cost → s3 ≤ s2 + size_x → size_x ≤ m →
     (((cost ≡ 0) × (size_x ≡ 1)) ⊎ ((cost ≡ k) × (1 ≤ inner_x))) →
     inner_new ≤ inner_x - 1 → whole_new + 1 ≤ size_x →
     s3 + (k + m) * (inner_new + inner_rest) + 3 * (whole_new + whole_rest) ≤ s + (k + m) * (inner_x + inner_rest) + 3 * (size_x + whole_rest)
@@ -403,7 +403,7 @@ enter_numbers k m s s1 s2 s3 cost size_x inner_x inner_new whole_new inner_rest 
 -- the steps of one task
 pub enter_cost : (nodes : List Node) (w : List ℕ) (arena : IsArena nodes) (x i j : ℕ) (node : Node) → slice_get nodes x ≡ Some node → (k m s s1 s2 s3 : ℕ) →
     (forgets : Bool) (tasks new rest : List Task) → new ≡ tasks ++ rest → IsStep nodes w x i j forgets tasks →
-    s1 ≡ s + 1 → s2 ≤ s1 + node_cost k node → s3 ≤ s2 + size (tree_at nodes x) → size (tree_at nodes x) ≤ m →
+    s1 ≤ s + 1 → s2 ≤ s1 + node_cost k node → s3 ≤ s2 + size (tree_at nodes x) → size (tree_at nodes x) ≤ m →
     s3 + (k + m) * inners nodes new + 3 * wholes nodes new ≤ s + (k + m) * inners nodes (Enter x i j ∷ rest) + 3 * wholes nodes (Enter x i j ∷ rest)
 enter_cost nodes w arena x i j node is k m s s1 s2 s3 forgets tasks new rest pushed step look here forget small =
     let numbers = enter_numbers k m s s1 s2 s3 (node_cost k node) (size (tree_at nodes x)) (inner (tree_at nodes x))

@@ -31,6 +31,5 @@ returns-in_default c =
       goes = leaf_leads c.args.expr.now.nodes c.requires.arena c.args.text.now c.args.index c.args.place c.args.node.now c.node_lead.result is
           c.node_lead.ensures.leads;
       below = tt;
-      grows = omega arith;
-      cost = omega arith;
+      cost = (omega arith, omega arith);
     }

@@ -20,17 +20,17 @@ returns-in_default-clause-answer c =
 pub returns-in_default-clause-cost : goal.returns-in_default-clause-cost
 returns-in_default-clause-cost c =
     let cost = all_steps (length c.args.expr.now.nodes) (length c.args.text.now) c.args.from c.in-Some.start c.args.steps.now c.first_place.new.steps c.span_from.new.steps
-    (omega arith) c.in-Some.ensures.sought.1 c.in-Some.ensures.cost.1 (omega (arith, c.span_from.ensures.cost.1)) in
+    (omega arith) c.in-Some.ensures.sought.1 (omega (arith, c.in-Some.ensures.cost.1)) (omega (arith, c.span_from.ensures.cost.1)) in
     (omega arith, omega (arith, cost))
 
 pub returns-in_default-clause-short_cost : goal.returns-in_default-clause-short_cost
 returns-in_default-clause-short_cost c =
     square_steps (length c.args.expr.now.nodes) (length c.args.text.now) c.args.from c.in-Some.start c.args.steps.now c.first_place.new.steps c.span_from.new.steps
-    (omega arith) c.in-Some.ensures.sought.1 c.in-Some.ensures.cost.1 (omega (arith, c.span_from.ensures.cost.1)) c.span_from.ensures.short_cost
+    (omega arith) c.in-Some.ensures.sought.1 (omega (arith, c.in-Some.ensures.cost.1)) (omega (arith, c.span_from.ensures.cost.1)) c.span_from.ensures.short_cost
 
 pub returns-in_default-clause-none_cost : goal.returns-in_default-clause-none_cost
 returns-in_default-clause-none_cost c =
     let m = length c.args.expr.now.nodes in
     let n = length c.args.text.now in
     none_then c.span_from.result (c.span_from.new.steps + 42 * m * c.in-Some.start ≤ c.first_place.new.steps + 40 * m + 42 * m * n) (c.span_from.new.steps ≤ c.args.steps.now + 41 * m + 43 * m * n)
-    (none_steps m n c.args.from c.in-Some.start c.args.steps.now c.first_place.new.steps c.span_from.new.steps (omega arith) c.in-Some.ensures.sought.1 c.in-Some.ensures.cost.1) c.span_from.ensures.none_cost
+    (none_steps m n c.args.from c.in-Some.start c.args.steps.now c.first_place.new.steps c.span_from.new.steps (omega arith) c.in-Some.ensures.sought.1 (omega (arith, c.in-Some.ensures.cost.1))) c.span_from.ensures.none_cost

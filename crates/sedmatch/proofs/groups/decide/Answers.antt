@@ -50,7 +50,7 @@ loop-task-preserved c =
       ready = c.work.ensures.less.1;
       grows = omega arith;
       cost = decide_next nodes (46 * length nodes * (length w + 1) * (length w + 1) + 1 + length nodes) (length nodes) c.args.steps.now c.loop-task.steps c.work.new.steps
-          (reverse c.work.new.plan.tasks.items) (reverse c.loop-task.plan.tasks.items) (c.in-Some.task ∷ reverse old) popped c.work.ensures.cost.1 c.loop-task.invariant.cost;
+          (reverse c.work.new.plan.tasks.items) (reverse c.loop-task.plan.tasks.items) (c.in-Some.task ∷ reverse old) popped (omega arith) c.loop-task.invariant.cost;
       less = omega (arith, less);
       caps = λ f run. c.loop-task.invariant.caps f (subst (λ ts. Run nodes w ts c.loop-task.groups f) (sym popped) (c.work.ensures.less.0 f run));
     }

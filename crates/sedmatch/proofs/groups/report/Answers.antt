@@ -30,8 +30,12 @@ pub returns-clause-cost : goal.returns-clause-cost
 returns-clause-cost c =
     let m = length c.args.expr.now.nodes in
     let n = length c.args.text.now in
-    let paid = elim c.if-groups-gt0.branch [
-      | then-groups-gt0 w ↦ subst (λ t. t + 48 * m * (n + 1) * (n + 1) ≤ c.args.steps.now + 51 * m * m * (n + 1) * (n + 1)) (sym w.steps-is) (report_cost m n c.args.steps.now w.decide.new.steps (omega arith) w.decide.ensures.cost.1)
+    let grows : c.args.steps.now ≤ c.if-groups-gt0.steps = elim c.if-groups-gt0.branch [
+      | then-groups-gt0 w ↦ subst (λ t. c.args.steps.now ≤ t) (sym w.steps-is) (omega arith)
+      | else-groups-gt0 w ↦ subst (λ t. c.args.steps.now ≤ t) (sym w.steps-is) (omega arith)
+    ] in
+    let paid : c.if-groups-gt0.steps + 48 * m * (n + 1) * (n + 1) ≤ c.args.steps.now + 51 * m * m * (n + 1) * (n + 1) = elim c.if-groups-gt0.branch [
+      | then-groups-gt0 w ↦ subst (λ t. t + 48 * m * (n + 1) * (n + 1) ≤ c.args.steps.now + 51 * m * m * (n + 1) * (n + 1)) (sym w.steps-is) (report_cost m n c.args.steps.now w.decide.new.steps (omega arith) (omega (arith, w.decide.ensures.cost)))
       | else-groups-gt0 w ↦ subst (λ t. t + 48 * m * (n + 1) * (n + 1) ≤ c.args.steps.now + 51 * m * m * (n + 1) * (n + 1)) (sym w.steps-is) (report_free m n c.args.steps.now (omega arith))
     ] in
-    (omega arith, omega (arith, paid))
+    (grows, omega (arith, paid))

@@ -31,5 +31,5 @@ returns-in-Enter-clause-cost c =
     (sym c.in-Enter.is)
     (enter_cost nodes w c.look-node.ensures.arena c.in-Enter.x c.in-Enter.start c.in-Enter.stop c.look-node.result is k m c.args.steps.now c.look-node.new.steps c.split_node-parts.new.steps c.forget_first.new.steps
     (forgets_of c.split_node-parts.result) (tasks_of c.split_node-parts.result) new rest c.put_split.ensures.items c.split_node-parts.ensures.step
-    c.look-node.ensures.cost.1 c.split_node-parts.ensures.cost.1 c.forget_first.ensures.cost.1 (c.requires.sizes c.in-Enter.x ready.0)) in
+    (omega arith) c.split_node-parts.ensures.cost.1 c.forget_first.ensures.cost.1 (c.requires.sizes c.in-Enter.x ready.0)) in
     (omega arith, omega (arith, paid))

@@ -35,12 +35,12 @@ pub returns-in-None-clause-cost : goal.returns-in-None-clause-cost
 returns-in-None-clause-cost c =
     let region = c.requires.region in
     let paid = back_steps (length c.args.expr.now.nodes) (length c.mirrored-nodes.result.nodes) c.len-len.result c.args.region.start c.args.region.bound c.args.steps.now c.last_by.new.steps
-    (mirrored_nodes c.args.expr.now c.mirrored-nodes.result c.mirrored-nodes.ensures) (omega (arith, region.ordered, region.bounded)) (omega (arith, region.inside)) c.last_by.ensures.cost.1 in
+    (mirrored_nodes c.args.expr.now c.mirrored-nodes.result c.mirrored-nodes.ensures) (omega (arith, region.ordered, region.bounded)) (omega (arith, region.inside)) (omega arith) in
     (omega arith, omega (arith, paid))
 
 pub returns-in-Some-clause-cost : goal.returns-in-Some-clause-cost
 returns-in-Some-clause-cost c =
     let region = c.requires.region in
     let paid = back_steps (length c.args.expr.now.nodes) (length c.mirrored-nodes.result.nodes) c.len-len.result c.args.region.start c.args.region.bound c.args.steps.now c.last_by.new.steps
-    (mirrored_nodes c.args.expr.now c.mirrored-nodes.result c.mirrored-nodes.ensures) (omega (arith, region.ordered, region.bounded)) (omega (arith, region.inside)) c.last_by.ensures.cost.1 in
+    (mirrored_nodes c.args.expr.now c.mirrored-nodes.result c.mirrored-nodes.ensures) (omega (arith, region.ordered, region.bounded)) (omega (arith, region.inside)) (omega arith) in
     (omega arith, omega (arith, paid))

@@ -18,8 +18,8 @@ returns-then-place-len-clause-after c =
 pub returns-then-place-len-clause-cost : goal.returns-then-place-len-clause-cost
 returns-then-place-len-clause-cost c =
     let e = c.at_last.ensures.place (length c.args.text.now) (omega arith) in
-    let paid = let all = ap (λ v. 20 * length c.args.expr.now.nodes * v) e in omega (arith, all) in
-    (omega arith, omega (arith, paid))
+    let all = ap (λ v. 20 * length c.args.expr.now.nodes * v) e in
+    (omega arith, omega (arith, all))
 
 pub returns-then-ends-clause-first : goal.returns-then-ends-clause-first
 returns-then-ends-clause-first c =

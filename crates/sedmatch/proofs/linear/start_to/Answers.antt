@@ -39,11 +39,11 @@ returns-in-Some-clause-first c =
 pub returns-in-None-clause-cost : goal.returns-in-None-clause-cost
 returns-in-None-clause-cost c =
     let paid = back_steps (length c.args.expr.now.nodes) (length c.mirrored-nodes.result.nodes) c.len-len.result c.args.from c.args.end c.args.steps.now c.longest_to.new.steps
-    (mirrored_nodes c.args.expr.now c.mirrored-nodes.result c.mirrored-nodes.ensures) c.requires.order.0 (omega arith) c.longest_to.ensures.cost.1 in
+    (mirrored_nodes c.args.expr.now c.mirrored-nodes.result c.mirrored-nodes.ensures) c.requires.order.0 (omega arith) (omega arith) in
     (omega arith, omega (arith, paid))
 
 pub returns-in-Some-clause-cost : goal.returns-in-Some-clause-cost
 returns-in-Some-clause-cost c =
     let paid = back_steps (length c.args.expr.now.nodes) (length c.mirrored-nodes.result.nodes) c.len-len.result c.args.from c.args.end c.args.steps.now c.longest_to.new.steps
-    (mirrored_nodes c.args.expr.now c.mirrored-nodes.result c.mirrored-nodes.ensures) c.requires.order.0 (omega arith) c.longest_to.ensures.cost.1 in
+    (mirrored_nodes c.args.expr.now c.mirrored-nodes.result c.mirrored-nodes.ensures) c.requires.order.0 (omega arith) (omega arith) in
     (omega arith, omega (arith, paid))

@@ -116,6 +116,5 @@ returns-clause-longest c =
 
 pub returns-clause-cost : goal.returns-clause-cost
 returns-clause-cost c =
-    let paid = absurd (goes_end c.args.expr.now.nodes c.args.text.now c.args.root c.args.start (length c.args.text.now) c.requires.start (omega arith)
-    (c.loop-place.invariant.ahead (length c.args.text.now) c.requires.start (omega arith))) in
-    (omega arith, omega (arith, paid))
+    absurd (goes_end c.args.expr.now.nodes c.args.text.now c.args.root c.args.start (length c.args.text.now) c.requires.start (omega arith)
+    (c.loop-place.invariant.ahead (length c.args.text.now) c.requires.start (omega arith)))

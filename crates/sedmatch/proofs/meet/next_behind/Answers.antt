@@ -29,5 +29,5 @@ returns-clause-cost c =
     let m = length c.args.expr.now.nodes in
     let n = length c.args.text.now in
     let paid = twice_cost m n c.args.at (end_to n c.next_met.result) (blocks_cost m c.args.behind.now) (blocks_cost m c.next_met-first.new.behind) (blocks_cost m c.next_met.new.behind)
-    c.args.steps.now c.next_met-first.new.steps c.next_met.new.steps c.next_met-first.result (c.is_null_at.ensures.null c.if-not-is_null_at.false) c.next_met-first.ensures.cost.1 c.next_met.ensures.cost.1 in
+    c.args.steps.now c.next_met-first.new.steps c.next_met.new.steps c.next_met-first.result (c.is_null_at.ensures.null c.if-not-is_null_at.false) (omega arith) (omega (arith, c.next_met.ensures.cost.1)) in
     (omega arith, omega (arith, paid))

@@ -18,7 +18,7 @@ returns-in_default-clause-cost c =
     let n = length c.args.text.now in
     let p = blocks_cost m c.args.behind.now in
     let paid = next_cost m c.args.from n n p p c.args.steps.now c.next_begin.new.steps c.next_begin.new.steps (omega (arith, c.nodes-count.ensures.arena.nonempty)) c.requires.from (omega arith)
-    c.in_default.ensures.cost.1 (omega arith) in
+    (omega (arith, c.in_default.ensures.cost.1)) (omega arith) in
     (omega arith, omega (arith, paid))
 
 pub unreachable-requires : goal.unreachable-requires
@@ -45,5 +45,5 @@ returns-clause-cost c =
     let lies = c.in-Some-longest_met.ensures.lies in
     let low = lies.0 in
     let paid = next_cost m c.args.from c.in-Some.start c.in-Some-longest_met.end (blocks_cost m c.longest_met.new.behind) (blocks_cost m c.args.behind.now) c.args.steps.now c.next_begin.new.steps c.longest_met.new.steps
-    (omega (arith, c.nodes-count.ensures.arena.nonempty)) c.in-Some.ensures.first.0 (omega arith) c.in-Some.ensures.cost.1 c.in-Some-longest_met.ensures.cost.1 in
+    (omega (arith, c.nodes-count.ensures.arena.nonempty)) c.in-Some.ensures.first.0 (omega arith) (omega (arith, c.in-Some.ensures.cost.1)) (omega (arith, c.in-Some-longest_met.ensures.cost.1)) in
     (omega arith, omega (arith, paid))

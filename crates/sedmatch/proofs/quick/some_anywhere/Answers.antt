@@ -25,5 +25,5 @@ returns-in_default-clause-cost c =
     let paid = some_steps (length c.args.expr.now.nodes) (length c.args.text.now) c.args.from c.in-Some.start (ended_to (length c.args.text.now) first) c.args.steps.now c.first_place.new.steps c.first_end_in.new.steps
     (omega arith) sought.1 (ended_after c.args.expr.now.nodes c.args.text.now c.args.root c.in-Some.start c.first_end_in.new.sets.entered first sought.1 c.first_end_in.ensures.first)
     (ended_within c.args.expr.now.nodes c.args.text.now c.args.root c.in-Some.start c.first_end_in.new.sets.entered first c.first_end_in.ensures.first)
-    c.in-Some.ensures.cost.1 c.first_end_in.ensures.cost.1 in
+    (omega (arith, c.in-Some.ensures.cost.1)) (omega (arith, c.first_end_in.ensures.cost.1)) in
     (omega arith, omega (arith, paid))

@@ -30,5 +30,5 @@ returns-in-Some-clause-matches c =
 pub returns-in-Some-clause-cost : goal.returns-in-Some-clause-cost
 returns-in-Some-clause-cost c =
     let paid = some_linear (length c.args.expr.now.nodes) (length c.args.text.now) c.args.steps.now c.narrowed.new.steps c.some_anywhere.new.steps
-    (omega arith) (omega (arith, c.in-Some.ensures.cost.1)) c.some_anywhere.ensures.cost.1 in
+    (omega arith) (omega (arith, c.in-Some.ensures.cost.1)) (omega arith) in
     (omega arith, omega (arith, paid))

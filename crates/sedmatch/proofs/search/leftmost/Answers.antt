@@ -24,5 +24,5 @@ pub returns-clause-cost : goal.returns-clause-cost
 returns-clause-cost c =
     let cost = whole_cost (length c.args.expr.now.nodes) (length c.args.text.now) c.args.from c.in-Some.start c.in-Some-scan.region.start c.args.steps.now c.how_begins-begins.new.steps
     c.next_place.new.steps c.longest_from.new.steps c.scan.new.steps c.span_in.new.steps c.in-Some-scan.ensures.scanned.0
-    c.how_begins-begins.ensures.cost.1 c.in-Some.ensures.cost.1 c.longest_from.ensures.cost.1 c.scan.ensures.cost.1 c.span_in.ensures.cost.1 in
+    c.how_begins-begins.ensures.cost.1 c.in-Some.ensures.cost.1 (omega arith) c.scan.ensures.cost.1 (omega (arith, c.span_in.ensures.cost.1)) in
     (omega arith, cost)

@@ -25,6 +25,7 @@ returns-in-To-look_far c =
       marks = (refl, refl, refl);
       longest = (far.1, far.2);
       lies = (Spans-forward e w c.args.start c.in-To-look_far.end far.1, far.0);
-      grows = omega arith;
-      cost = far_cost m (length w) c.args.steps.now c.look_far.new.steps c.look_far.new.steps c.look_far.ensures.cost.1 (omega arith);
+      cost =
+          let paid = far_cost m (length w) c.args.steps.now c.look_far.new.steps c.look_far.new.steps (omega arith) (omega arith) in
+          (omega arith, omega (arith, paid));
     }

@@ -11,7 +11,7 @@ returns-in-Hit-clause-cost c =
     let region = swept.1 in
     let paid = sweep_last (length c.args.expr.now.nodes) (length c.args.text.now) c.args.from c.in-Hit.region.bound c.args.steps.now c.sweep_from.new.steps region.inside
     (sweep_step (length c.args.expr.now.nodes) c.args.from c.loop-start.at c.in-Some.start c.in-Hit.region.bound c.args.steps.now c.loop-start.steps c.next_place.new.steps c.sweep_from.new.steps
-    next.0 (omega (arith, swept.0, region.ordered, region.bounded)) c.loop-start.invariant.cost c.in-Some.ensures.cost.1 c.in-Hit.ensures.cost.1) in
+    next.0 (omega (arith, swept.0, region.ordered, region.bounded)) c.loop-start.invariant.cost c.in-Some.ensures.cost.1 (omega (arith, c.in-Hit.ensures.cost.1))) in
     (omega arith, omega (arith, paid))
 
 pub returns-then-stop-len-clause-cost : goal.returns-then-stop-len-clause-cost
@@ -20,7 +20,7 @@ returns-then-stop-len-clause-cost c =
     let swept = c.in-Miss.ensures.swept in
     let paid = sweep_last (length c.args.expr.now.nodes) (length c.args.text.now) c.args.from c.in-Miss.stop c.args.steps.now c.sweep_from.new.steps swept.1
     (sweep_step (length c.args.expr.now.nodes) c.args.from c.loop-start.at c.in-Some.start c.in-Miss.stop c.args.steps.now c.loop-start.steps c.next_place.new.steps c.sweep_from.new.steps
-    next.0 swept.0 c.loop-start.invariant.cost c.in-Some.ensures.cost.1 c.in-Miss.ensures.cost.1) in
+    next.0 swept.0 c.loop-start.invariant.cost c.in-Some.ensures.cost.1 (omega (arith, c.in-Miss.ensures.cost.1))) in
     (omega arith, omega (arith, paid))
 
 pub loop-start-preserved : goal.loop-start-preserved
@@ -37,7 +37,7 @@ loop-start-preserved c =
       after = omega (arith, next.0, swept.0);
       within = omega arith;
       cost = sweep_step (length c.args.expr.now.nodes) c.args.from c.loop-start.at c.in-Some.start c.in-Miss.stop c.args.steps.now c.loop-start.steps c.next_place.new.steps c.sweep_from.new.steps
-          next.0 swept.0 c.loop-start.invariant.cost c.in-Some.ensures.cost.1 c.in-Miss.ensures.cost.1;
+          next.0 swept.0 c.loop-start.invariant.cost c.in-Some.ensures.cost.1 (omega (arith, c.in-Miss.ensures.cost.1));
       -- so it is proved for every place to go on at up to there: one that goes back is refused by what it costs
       missed = λ i k low high. missed i k low (omega (arith, high, swept.0));
     }

@@ -11,7 +11,7 @@ returns-in-Among-clause-first c =
 
 pub returns-in-Among-clause-cost : goal.returns-in-Among-clause-cost
 returns-in-Among-clause-cost c =
-    let paid = few_looked c.in-Among.few c.args.text.now c.args.from c.args.steps.now c.find_few.new.steps c.find_few.result c.requires.from c.find_few.ensures.first c.find_few.ensures.cost.1 in
+    let paid = few_looked c.in-Among.few c.args.text.now c.args.from c.args.steps.now c.find_few.new.steps c.find_few.result c.requires.from c.find_few.ensures.first (omega (arith, c.find_few.ensures.cost.1)) in
     (omega arith, omega (arith, paid))
 
 pub returns-in-Member-clause-first : goal.returns-in-Member-clause-first

@@ -4,16 +4,19 @@ use Rattle.sedmatch.specs.Words.{row_of}
 use Rattle.sedmatch.specs.Tables.{ends_of, LeadsOn, Follows}
 use Rattle.sedmatch.proofs.TableLemmas.{default_same, known_plain, cell_inside, offset_state, not_inner}
 use Rattle.sedmatch.proofs.QuickLemmas.{follow_none, follow_step}
+use Rattle.sedre.specs.Steps.{TakesAtLeast}
 use Rattle.sedmatch.proofs.StepLemmas.{least_own}
 use Rattle.sedmatch.proofs.tables.follow_to.Goals as goal
 
 pub returns-then-cell-lt-PLAIN-clause-counts : goal.returns-then-cell-lt-PLAIN-clause-counts
 returns-then-cell-lt-PLAIN-clause-counts c =
-    least_own c.args.steps.now c.add-then-cell-lt-PLAIN.new.self c.count.result (2 * (c.loop-place.place - c.args.from)) (omega arith) c.add-then-cell-lt-PLAIN.ensures.counts
+    subst (λ s. TakesAtLeast s c.add-then-cell-lt-PLAIN.new.self (2 * (c.loop-place.place - c.args.from))) c.loop-place.invariant.steps
+    (least_own c.loop-place.steps c.add-then-cell-lt-PLAIN.new.self c.count.result (2 * (c.loop-place.place - c.args.from)) (omega arith) c.add-then-cell-lt-PLAIN.ensures.counts)
 
 pub returns-clause-counts : goal.returns-clause-counts
 returns-clause-counts c =
-    least_own c.args.steps.now c.add-2.new.self c.count-2.result (2 * (c.args.to - c.args.from)) (omega arith) c.add-2.ensures.counts
+    subst (λ s. TakesAtLeast s c.add-2.new.self (2 * (c.args.to - c.args.from))) c.loop-place.invariant.steps
+    (least_own c.loop-place.steps c.add-2.new.self c.count-2.result (2 * (c.args.to - c.args.from)) (omega arith) c.add-2.ensures.counts)
 
 pub loop-place-init : goal.loop-place-init
 loop-place-init c =

@@ -4,16 +4,19 @@ use Rattle.sedmatch.specs.Words.{row_of}
 use Rattle.sedmatch.specs.Tables.{ends_of, LeadsOn, Stays}
 use Rattle.sedmatch.proofs.TableLemmas.{default_same, known_low, cell_inside, few_cells, back_state}
 use Rattle.sedmatch.proofs.QuickLemmas.{stay_none, stay_step}
+use Rattle.sedre.specs.Steps.{TakesAtLeast}
 use Rattle.sedmatch.proofs.StepLemmas.{least_own}
 use Rattle.sedmatch.proofs.tables.stay_on.Goals as goal
 
 pub returns-then-cell-offset-clause-counts : goal.returns-then-cell-offset-clause-counts
 returns-then-cell-offset-clause-counts c =
-    least_own c.args.steps.now c.add-then-cell-offset.new.self c.count.result (2 * (c.loop-place.place - c.args.from)) (omega arith) c.add-then-cell-offset.ensures.counts
+    subst (λ s. TakesAtLeast s c.add-then-cell-offset.new.self (2 * (c.loop-place.place - c.args.from))) c.loop-place.invariant.steps
+    (least_own c.loop-place.steps c.add-then-cell-offset.new.self c.count.result (2 * (c.loop-place.place - c.args.from)) (omega arith) c.add-then-cell-offset.ensures.counts)
 
 pub returns-clause-counts : goal.returns-clause-counts
 returns-clause-counts c =
-    least_own c.args.steps.now c.add-2.new.self c.count-2.result (2 * (c.args.to - c.args.from)) (omega arith) c.add-2.ensures.counts
+    subst (λ s. TakesAtLeast s c.add-2.new.self (2 * (c.args.to - c.args.from))) c.loop-place.invariant.steps
+    (least_own c.loop-place.steps c.add-2.new.self c.count-2.result (2 * (c.args.to - c.args.from)) (omega arith) c.add-2.ensures.counts)
 
 pub loop-place-init : goal.loop-place-init
 loop-place-init c = record {

@@ -25,7 +25,7 @@ returns-clause-cost c =
     let n = length c.args.text.now in
     let met = c.see_met.new.occurrences in
     let new : Occurrences = record { behind = c.next_behind.new.behind; left = met.left; met = met.met } in
-    let paid = search_paid m n c.args.at (blocks_cost m met.behind) (blocks_cost m new.behind) c.see_met.new.steps c.next_behind.new.steps c.next_behind.result c.requires.at c.next_behind.ensures.lies c.next_behind.ensures.cost.1 in
+    let paid = search_paid m n c.args.at (blocks_cost m met.behind) (blocks_cost m new.behind) c.see_met.new.steps c.next_behind.new.steps c.next_behind.result c.requires.at c.next_behind.ensures.lies (omega arith) in
     let before = c.see_met.ensures.cost.1 in
     let both : c.next_behind.new.steps + owed_after m n c.next_behind.result new ≤ c.args.steps.now + owed_together m n c.args.at c.args.occurrences.now =
     subst (λ v. c.next_behind.new.steps + v ≤ c.args.steps.now + owed_together m n c.args.at c.args.occurrences.now) (sym (after_is_met m n c.next_behind.result new c.see_met.ensures.met.0)) (omega (arith, paid, before)) in
