@@ -8,12 +8,12 @@ use Rattle.sedmatch.proofs.CostLemmas.{turn_cost, turns_cost}
 use Rattle.sedmatch.proofs.BeginningLemmas.{alt_opens, with_keeps, with_adds}
 use Rattle.sedmatch.proofs.beginnings.begins_either.Goals as goal
 
-pub first_set-requires-in-Some-alternatives-clause-inside : goal.first_set-requires-in-Some-alternatives-clause-inside
-first_set-requires-in-Some-alternatives-clause-inside c =
+pub first_set-requires-in-Some-alternatives : goal.first_set-requires-in-Some-alternatives
+first_set-requires-in-Some-alternatives c =
     let is : slice_get c.args.expr.now.nodes c.loop-turn.rest ≡ Some c.look-node.result = cc in
     let alts : alternatives c.look-node.result ≡ Some (c.in-Some-alternatives.part, c.in-Some-alternatives.next) = sym c.alternatives.ensures ∙ c.in-Some-alternatives.is in
     let opens = alt_opens c.args.expr.now.nodes c.look-node.ensures.arena c.loop-turn.rest c.look-node.result c.in-Some-alternatives.part c.in-Some-alternatives.next is alts in
-    omega (arith, opens.0)
+    record { inside = omega (arith, opens.0) }
 
 pub returns-in_default-first_set-clause-cost : goal.returns-in_default-first_set-clause-cost
 returns-in_default-first_set-clause-cost c =

@@ -2,8 +2,9 @@ use Rattle.std.proofs.Common.{sym, ◌∙◌, arith}
 use Rattle.sedmatch.proofs.BetweenLemmas.{parted_nowhere, parted_none, parted_some, parted_without, parted_place}
 use Rattle.sedmatch.proofs.between.first_parted.Goals as goal
 
-pub place_behind-behind-requires-clause-stands : goal.place_behind-behind-requires-clause-stands
-place_behind-behind-requires-clause-stands c = c.in-Some.ensures.first.1.fits
+pub place_behind-behind-requires : goal.place_behind-behind-requires
+place_behind-behind-requires c =
+    record { stands = c.in-Some.ensures.first.1.fits }
 
 pub returns-then-is_some-clause-first : goal.returns-then-is_some-clause-first
 returns-then-is_some-clause-first c =

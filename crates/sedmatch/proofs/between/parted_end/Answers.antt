@@ -12,5 +12,6 @@ returns-clause-end c =
     subst (λ v. PartedEnd (record { head = c.args.head.now; outside = c.args.outside.now; tail = c.args.tail.now }) c.args.text.now c.args.start (c.in-Some.last + v)) (sym c.tail_len.ensures)
     (parted_last (record { head = c.args.head.now; outside = c.args.outside.now; tail = c.args.tail.now }) c.args.text.now c.args.start c.place_behind-behind.result c.clear_end-stop.result c.place_behind-behind.ensures c.clear_end-stop.ensures.clear c.requires.can c.in-Some.last c.in-Some.ensures.last)
 
-pub place_behind-behind-requires-clause-stands : goal.place_behind-behind-requires-clause-stands
-place_behind-behind-requires-clause-stands c = c.requires.can.1.0.fits
+pub place_behind-behind-requires : goal.place_behind-behind-requires
+place_behind-behind-requires c =
+    record { stands = c.requires.can.1.0.fits }

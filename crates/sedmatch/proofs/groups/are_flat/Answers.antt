@@ -22,13 +22,6 @@ has_group-requires-clause-room c =
     let fits = c.groups.ensures.expr.sizes c.in-Group.inner.index (omega (arith, before)) in
     rw c.index.ensures (omega (arith, before, fits, c.loop-x.invariant.capacity))
 
-pub has_group-requires-clause-few : goal.has_group-requires-clause-few
-has_group-requires-clause-few c =
-    let is : slice_get c.args.expr.now.nodes c.loop-x.x ≡ Some (Group c.in-Group.field-0 c.in-Group.inner) = cc in
-    let before : c.in-Group.inner.index < c.loop-x.x = c.look.ensures.arena.below c.loop-x.x c.in-Group.inner.index (Group c.in-Group.field-0 c.in-Group.inner) is refl in
-    let fits = c.groups.ensures.expr.sizes c.in-Group.inner.index (omega (arith, before)) in
-    rw c.index.ensures (omega (arith, before, fits))
-
 pub returns-then-has_group-clause-cost : goal.returns-then-has_group-clause-cost
 returns-then-has_group-clause-cost c =
     let m = length c.args.expr.now.nodes in

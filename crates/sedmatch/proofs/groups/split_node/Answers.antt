@@ -170,11 +170,6 @@ may_have_group-requires-clause-room c =
     let is : slice_get c.args.expr.now.nodes c.args.x ≡ Some (Group c.in-Group.k c.in-Group.a) = c.requires.node ∙ ap Some c.in-Group.is in
     rw c.index-inner.ensures (omega (arith, group_size c.args.expr.now.nodes c.requires.arena c.args.x c.in-Group.k c.in-Group.a is))
 
-pub may_have_group-requires-clause-few : goal.may_have_group-requires-clause-few
-may_have_group-requires-clause-few c =
-    let is : slice_get c.args.expr.now.nodes c.args.x ≡ Some (Group c.in-Group.k c.in-Group.a) = c.requires.node ∙ ap Some c.in-Group.is in
-    rw c.index-inner.ensures (omega (arith, group_size c.args.expr.now.nodes c.requires.arena c.args.x c.in-Group.k c.in-Group.a is))
-
 pub returns-then-may_have_group-clause-cost : goal.returns-then-may_have_group-clause-cost
 returns-then-may_have_group-clause-cost c =
     let nodes = c.args.expr.now.nodes in

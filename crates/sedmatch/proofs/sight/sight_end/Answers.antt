@@ -55,8 +55,9 @@ pub returns-in-Trail-clause-end : goal.returns-in-Trail-clause-end
 returns-in-Trail-clause-end c =
     subst (λ s. EndsAt s c.args.text.now c.args.start c.trail_end.result) (sym c.in-Trail.is) c.trail_end.ensures.end
 
-pub end-requires-in-Choice-clause-can : goal.end-requires-in-Choice-clause-can
-end-requires-in-Choice-clause-can c = subst (λ s. CanStart s c.args.text.now c.args.start) c.in-Choice.is c.requires.can
+pub end-requires-in-Choice : goal.end-requires-in-Choice
+end-requires-in-Choice c =
+    record { can = subst (λ s. CanStart s c.args.text.now c.args.start) c.in-Choice.is c.requires.can }
 
 pub returns-in-Choice-clause-end : goal.returns-in-Choice-clause-end
 returns-in-Choice-clause-end c =
