@@ -1,7 +1,8 @@
 //! The command `s` (XCU sed, "Editing Commands in sed"): which occurrences it replaces, and the text that it makes.
 ghost use Rattle.std.specs.Prelude.{◌≡◌, ℕ, ◌+◌, ◌*◌, ◌^◌, ◌<◌, ◌≤◌, List, [], ◌∷◌, length, true, Some, None, IfSome, IsTrue, slice_get};
 ghost use Rattle.sedre.specs.Arena.{Written, tree};
-ghost use Rattle.sedmatch.specs.Costs.{Pays, Takes};
+ghost use Rattle.sedmatch.specs.Costs.{Pays};
+ghost use Rattle.sedre.specs.Steps.{Takes};
 ghost use Rattle.sedmatch.specs.Occurrences.{KeepsRoom, RoomFor, Serves, ServesOn, owed, owed_after};
 ghost use Rattle.sedmatch.specs.Room.{FitInto};
 ghost use Rattle.sedmatch.specs.Matching.{report};
@@ -43,8 +44,6 @@ pub(crate) fn substitute_by(
     requires number { 1 ≤ substitution.now.number }
     requires more { IsTrue (seeks_more substitution.now) → (x : Written) → slice_get matchers.old.items e ≡ Some x →
         RoomFor (length text.now) (length x.nodes) seeking.old }
-    requires room { (x : Written) → slice_get matchers.old.items e ≡ Some x →
-        steps.old + 416 * length x.nodes * (length text.now + 1) ≤ 2 ^ 100 }
     ensures replaces { Replaces text.now substitution.now.replacement
         (chosen substitution.now.number substitution.now.global
         (occurrences (search_in matchers.old.items e text.now) (length text.now)))
@@ -73,7 +72,6 @@ fn substitute(
     requires number { 1 ≤ substitution.now.number }
     requires more { IsTrue (seeks_more substitution.now) →
         RoomFor (length text.now) (length matcher.old.nodes) seeking.old }
-    requires room { steps.old + 416 * length matcher.old.nodes * (length text.now + 1) ≤ 2 ^ 100 }
     ensures replaces { Replaces text.now substitution.now.replacement
         (chosen substitution.now.number substitution.now.global
         (occurrences (search_for (Some matcher.old) text.now) (length text.now)))
@@ -131,7 +129,6 @@ fn skip(
     requires serves { Serves matcher.old text.now None seeking.old }
     requires owed { owed (length matcher.old.nodes) (length text.now) None seeking.old
         ≡ 416 * length matcher.old.nodes * (length text.now + 1) }
-    requires room { steps.old + 416 * length matcher.old.nodes * (length text.now + 1) ≤ 2 ^ 100 }
     ensures skips { Skips matcher.old text.now count result }
     ensures none { count ≡ 0 → result ≡ Some None }
     ensures same { SeeksAsBefore matcher.old matcher.new scratch.old scratch.new }
@@ -180,7 +177,6 @@ fn next_occurrence(
     requires fits { FitInto (length text.now) (length matcher.old.nodes) scratch.old }
     requires more { IfSome last (λ _. RoomFor (length text.now) (length matcher.old.nodes) seeking.old) }
     requires serves { Serves matcher.old text.now last seeking.old }
-    requires room { steps.old ≤ 2 ^ 100 }
     ensures next { IsNext matcher.old text.now last result }
     ensures groups { GroupsOf matcher.old text.now wanted result groups.new }
     ensures groups_in { GroupsIn (length text.now) groups.old → GroupsIn (length text.now) groups.new }
@@ -237,8 +233,6 @@ fn replace(
     requires more { IsTrue substitution.now.global →
         RoomFor (length text.now) (length matcher.old.nodes) seeking.old }
     requires serves { Serves matcher.old text.now (Some first.1) seeking.old }
-    requires owed { let m = length matcher.old.nodes in let n = length text.now in
-        steps.old + owed m n (Some first.1) seeking.old ≤ 2 ^ 100 }
     ensures appends { Appends build.old build.new
         (replaced_from text.now substitution.now.replacement 0
         (pending matcher.old text.now substitution.now.global (Some first))) result }

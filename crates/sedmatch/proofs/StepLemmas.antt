@@ -18,6 +18,11 @@ pub least_own : (s t own n : ℕ) → n ≤ own → Counted s t own → TakesAtL
 unfolding TakesAtLeast Counted
 least_own s t own n at_least counted = omega (arith, at_least, counted)
 
+-- the same number of looks, twice
+pub counted_twice : (s a t n x y : ℕ) → x ≡ n → y ≡ n → Counted s a x → Counted a t y → Counted s t (2 * n)
+unfolding Counted
+counted_twice s a t n x y first second one two = omega (arith, first, second, one, two)
+
 -- a count from nothing on, of fewer looks than the largest
 pub least_from : (a b n : ℕ) → n < 2 ^ 128 → TakesAtLeast a b n → n ≤ b
 unfolding TakesAtLeast

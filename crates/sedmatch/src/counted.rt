@@ -394,7 +394,8 @@ impl<'a> Model for Bytes<'a> {
     ghost view = { λ b. in_order b.backwards b.bytes.now };
 }
 
-/// The looks of one loop, counted apart from the steps, to which the loop adds them at its end: so they stay in a register.
+/// The bytes that one loop looks at, counted apart from the steps, to which they are added at its end: so the count stays
+/// in a register.
 #[derive(Drop)]
 pub(crate) struct Tally {
     count: usize,
@@ -407,22 +408,22 @@ impl Model for Tally {
 }
 
 impl Tally {
-    /// No looks yet.
+    /// No bytes yet.
     pub fn new() -> Tally
         ensures { result ≡ 0 }
     {
         Tally { count: 0 }
     }
 
-    /// Counts a look. Condition: there are fewer than 2^62 so far.
+    /// Counts a byte. Condition: one more fits.
     pub fn add(&mut self)
-        requires { self.old < 2 ^ 62 }
+        requires { self.old + 1 < 2 ^ 64 }
         ensures { self.new ≡ self.old + 1 }
     {
         self.count += 1;
     }
 
-    /// How many looks there were.
+    /// How many bytes there were.
     pub fn count(&self) -> usize
         ensures { result ≡ self.now }
     {
@@ -449,10 +450,10 @@ impl<'a> Bytes<'a> {
         self.at(i)
     }
 
-    /// The byte at a place, in a loop that counts its own looks. Counts one look there.
+    /// The byte at a place, in a loop that counts its bytes. Counts it there.
     pub(crate) fn tallied(&self, i: usize, tally: &mut Tally) -> u8
         requires inside { i < length self.now }
-        requires few { tally.old < 2 ^ 62 }
+        requires fits { tally.old + 1 < 2 ^ 64 }
         ensures byte { slice_get self.now i ≡ Some result }
         ensures cost { tally.new ≡ tally.old + 1 }
     {

@@ -477,6 +477,15 @@ pub struct Stop {
     pub place: usize,
 }
 
+/// Counts a look at each byte of a loop over a table, and one at the cell that it leads to.
+fn add_looks(bytes: &Tally, steps: &mut Steps)
+    ensures cost { Takes steps.old steps.new (2 * bytes.now) }
+    ensures counts { Counted steps.old steps.new (2 * bytes.now) }
+{
+    steps.add(bytes.count());
+    steps.add(bytes.count());
+}
+
 /// Follows filled cells as far as no match ends: to a place, or to one before it at which the byte has no such
 /// cell.
 pub fn follow_to(
@@ -500,16 +509,15 @@ pub fn follow_to(
     ensures counts { TakesAtLeast steps.old steps.new (2 * (result.place - from)) }
     ensures cost { Pays steps.old steps.new (2 * result.place + 2) (2 * from) }
 {
-    let mut own = Tally::new();
+    let mut bytes = Tally::new();
     let columns = table.columns;
     // The code in place of the state: so the number below is taken off by the address alone.
     let mut code = PLAIN as usize + columns * state;
     for place in from..to {
-        let class = table.classes[text.tallied(place, &mut own) as usize] as usize;
+        let class = table.classes[text.tallied(place, &mut bytes) as usize] as usize;
         let cell = table.cells[code + class - PLAIN as usize];
-        own.add();
         if cell < PLAIN {
-            steps.add(own.count());
+            add_looks(&bytes, steps);
             return Stop {
                 state: state_at(table, code - PLAIN as usize),
                 place,
@@ -517,7 +525,7 @@ pub fn follow_to(
         }
         code = cell as usize;
     }
-    steps.add(own.count());
+    add_looks(&bytes, steps);
     Stop {
         state: state_at(table, code - PLAIN as usize),
         place: to,
@@ -597,18 +605,17 @@ fn stay_on(
     ensures counts { TakesAtLeast steps.old steps.new (2 * (result - from)) }
     ensures cost { Pays steps.old steps.new (2 * result + 2) (2 * from) }
 {
-    let mut own = Tally::new();
+    let mut bytes = Tally::new();
     let offset = table.columns * state;
     for place in from..to {
-        let class = table.classes[text.tallied(place, &mut own) as usize] as usize;
+        let class = table.classes[text.tallied(place, &mut bytes) as usize] as usize;
         let cell = table.cells[offset + class] as usize;
-        own.add();
         if cell != offset + 1 {
-            steps.add(own.count());
+            add_looks(&bytes, steps);
             return place;
         }
     }
-    steps.add(own.count());
+    add_looks(&bytes, steps);
     to
 }
 

@@ -46,8 +46,6 @@ fn replace_in(
     requires more { (t : Substitution) → slice_get script.now.substitutions k ≡ Some t → IsTrue (seeks_more t) →
         (x : Written) → slice_get matchers.old.items e ≡ Some x →
         RoomFor scratch.old.text (length x.nodes) seeking.old }
-    requires room { (x : Written) → slice_get matchers.old.items e ≡ Some x →
-        steps.old + 416 * length x.nodes * (length pattern.old.bytes + 1) ≤ 2 ^ 100 }
     ensures replaces { (t : Substitution) → slice_get script.now.substitutions k ≡ Some t →
         ReplacesIn t (chosen t.number t.global
         (occurrences (search_in matchers.old.items e pattern.old.bytes) (length pattern.old.bytes)))

@@ -10,13 +10,13 @@ use Rattle.sedmatch.proofs.tables.follow_to.Goals as goal
 
 pub returns-then-cell-lt-PLAIN-clause-counts : goal.returns-then-cell-lt-PLAIN-clause-counts
 returns-then-cell-lt-PLAIN-clause-counts c =
-    subst (λ s. TakesAtLeast s c.add-then-cell-lt-PLAIN.new.self (2 * (c.loop-place.place - c.args.from))) c.loop-place.invariant.steps
-    (least_own c.loop-place.steps c.add-then-cell-lt-PLAIN.new.self c.count.result (2 * (c.loop-place.place - c.args.from)) (omega arith) c.add-then-cell-lt-PLAIN.ensures.counts)
+    subst (λ s. TakesAtLeast s c.add_looks.new.steps (2 * (c.loop-place.place - c.args.from))) c.loop-place.invariant.steps
+    (least_own c.loop-place.steps c.add_looks.new.steps (2 * c.tallied.new.tally) (2 * (c.loop-place.place - c.args.from)) (omega arith) c.add_looks.ensures.counts)
 
 pub returns-clause-counts : goal.returns-clause-counts
 returns-clause-counts c =
-    subst (λ s. TakesAtLeast s c.add-2.new.self (2 * (c.args.to - c.args.from))) c.loop-place.invariant.steps
-    (least_own c.loop-place.steps c.add-2.new.self c.count-2.result (2 * (c.args.to - c.args.from)) (omega arith) c.add-2.ensures.counts)
+    subst (λ s. TakesAtLeast s c.add_looks-2.new.steps (2 * (c.args.to - c.args.from))) c.loop-place.invariant.steps
+    (least_own c.loop-place.steps c.add_looks-2.new.steps (2 * c.loop-place.bytes) (2 * (c.args.to - c.args.from)) (omega arith) c.add_looks-2.ensures.counts)
 
 pub loop-place-init : goal.loop-place-init
 loop-place-init c =
@@ -27,7 +27,7 @@ loop-place-init c =
       there = subst (λ q. q < T.count) (sym here) c.requires.state;
       after = omega arith;
       steps = refl;
-      own = omega arith;
+      bytes = omega arith;
       follows = subst (λ q. Follows c.args.expr.now.nodes c.args.root T c.args.text.now c.args.from c.args.state c.args.from q) (sym here)
           (follow_none c.args.expr.now.nodes c.args.root T c.args.text.now c.args.from c.args.state);
     }
@@ -66,7 +66,7 @@ loop-place-preserved c =
       there = to.0;
       after = omega arith;
       steps = c.loop-place.invariant.steps;
-      own = omega arith;
+      bytes = omega arith;
       follows = follow_step c.args.expr.now.nodes c.args.root T c.args.text.now c.args.from c.args.state c.loop-place.place at q byte
           c.loop-place.invariant.after c.tallied.ensures.byte (omega arith)
           (subst (λ k. LeadsOn c.args.expr.now.nodes c.args.root T.sweeps T.classes.items (row_of T.rows at) (ends_of T.ends.items at) k (row_of T.rows q) (ends_of T.ends.items q)) same to.3)

@@ -8,6 +8,6 @@ invariant-loop-place l = record {
   there : (l.code - 32768) / l.table.columns < l.table.count;
   after : l.from ≤ l.place;
   steps : l.steps ≡ l.initial.steps;
-  own : l.own + 2 * l.from ≡ 2 * l.place;
+  bytes : l.bytes + l.from ≡ l.place;
   follows : Follows l.expr.nodes l.root l.table l.text l.from l.state l.place ((l.code - 32768) / l.table.columns);
 }

@@ -10,19 +10,19 @@ use Rattle.sedmatch.proofs.tables.stay_on.Goals as goal
 
 pub returns-then-cell-offset-clause-counts : goal.returns-then-cell-offset-clause-counts
 returns-then-cell-offset-clause-counts c =
-    subst (λ s. TakesAtLeast s c.add-then-cell-offset.new.self (2 * (c.loop-place.place - c.args.from))) c.loop-place.invariant.steps
-    (least_own c.loop-place.steps c.add-then-cell-offset.new.self c.count.result (2 * (c.loop-place.place - c.args.from)) (omega arith) c.add-then-cell-offset.ensures.counts)
+    subst (λ s. TakesAtLeast s c.add_looks.new.steps (2 * (c.loop-place.place - c.args.from))) c.loop-place.invariant.steps
+    (least_own c.loop-place.steps c.add_looks.new.steps (2 * c.tallied.new.tally) (2 * (c.loop-place.place - c.args.from)) (omega arith) c.add_looks.ensures.counts)
 
 pub returns-clause-counts : goal.returns-clause-counts
 returns-clause-counts c =
-    subst (λ s. TakesAtLeast s c.add-2.new.self (2 * (c.args.to - c.args.from))) c.loop-place.invariant.steps
-    (least_own c.loop-place.steps c.add-2.new.self c.count-2.result (2 * (c.args.to - c.args.from)) (omega arith) c.add-2.ensures.counts)
+    subst (λ s. TakesAtLeast s c.add_looks-2.new.steps (2 * (c.args.to - c.args.from))) c.loop-place.invariant.steps
+    (least_own c.loop-place.steps c.add_looks-2.new.steps (2 * c.loop-place.bytes) (2 * (c.args.to - c.args.from)) (omega arith) c.add_looks-2.ensures.counts)
 
 pub loop-place-init : goal.loop-place-init
 loop-place-init c = record {
   after = omega arith;
   steps = refl;
-  own = omega arith;
+  bytes = omega arith;
   stays = stay_none c.args.expr.now.nodes c.args.root c.args.table.now c.args.text.now c.args.from c.args.state;
 }
 
@@ -48,7 +48,7 @@ loop-place-preserved c =
     record {
       after = omega arith;
       steps = c.loop-place.invariant.steps;
-      own = omega arith;
+      bytes = omega arith;
       stays = stay_step c.args.expr.now.nodes c.args.root T c.args.text.now c.args.from state c.loop-place.place byte c.loop-place.invariant.after c.tallied.ensures.byte (omega arith)
           (subst (λ k. LeadsOn c.args.expr.now.nodes c.args.root T.sweeps T.classes.items (row_of T.rows state) (ends_of T.ends.items state) k (row_of T.rows state) (ends_of T.ends.items state)) same leads)
           c.loop-place.invariant.stays;

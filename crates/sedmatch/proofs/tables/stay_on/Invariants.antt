@@ -6,6 +6,6 @@ abbrev pub invariant-loop-place : goal.invariant-loop-place
 invariant-loop-place l = record {
   after : l.from ≤ l.place;
   steps : l.steps ≡ l.initial.steps;
-  own : l.own + 2 * l.from ≡ 2 * l.place;
+  bytes : l.bytes + l.from ≡ l.place;
   stays : Stays l.expr.nodes l.root l.table l.text l.from l.state l.place;
 }

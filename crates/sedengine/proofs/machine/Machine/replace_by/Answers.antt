@@ -36,16 +36,6 @@ replace_in-requires-clause-more c = λ t is more x at.
     (sought a.script.expressions a.limits.nodes a.matchers.items c.self.invariant.matchers) at in
     rw (c.self.invariant.scratch_text (omega arith)) (c.self.invariant.seeking c.args.k t is more c.args.e x there)
 
-pub replace_in-requires-clause-room : goal.replace_in-requires-clause-room
-replace_in-requires-clause-room c = λ x at.
-    let a = c.self.inside in
-    let ms = a.matchers.items in
-    let fit = fits_at a.limits.nodes ms c.args.e x (slice_get_within ms c.args.e x at) (sym (get_or_from_slice_get ms c.args.e x x at))
-    (sought_fit a.script.expressions a.limits.nodes ms c.self.invariant.matchers) in
-    let few = few_places (length x.nodes) (length a.pattern.bytes) (omega (arith, fit, c.nodes.ensures.most, c.nodes.ensures.value))
-    (omega (arith, c.self.invariant.pattern, c.space.ensures.most, c.space.ensures.value)) in
-    omega (arith, few)
-
 pub returns-in-Err-clause-makes : goal.returns-in-Err-clause-makes
 returns-in-Err-clause-makes c = λ t is files ls.
     makes_full c.self.inside c.args.self.now c.self.view_is c.self.inside.matchers.items (sought c.self.inside.script.expressions c.self.inside.limits.nodes _ c.self.invariant.matchers) c.args.k c.args.e files ls t c.replace_in.new.pattern (at_lines c.args.self.now ls) c.in-Err.field-0 c.self.invariant.pattern_limit is c.in-Err.ensures.replaces
