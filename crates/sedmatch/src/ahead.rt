@@ -175,7 +175,6 @@ pub fn rest_behind(expr: &Expr, index: usize, text: &Text, place: usize, steps: 
 /// Where the matches end that begin at the place, as far as what comes first in them tells.
 pub fn look_ahead(expr: &Expr, text: &Text, place: usize, steps: &mut Steps) -> Lead
     requires place { place ≤ length text.now }
-    requires few { length expr.now.nodes ≤ 65536 }
     ensures leads { LeadsTo (length text.now) (Spans (tree expr.now) text.now place) result }
     ensures cost { Takes steps.old steps.new (7 * length expr.now.nodes) }
 {
@@ -187,7 +186,6 @@ pub fn look_ahead(expr: &Expr, text: &Text, place: usize, steps: &mut Steps) -> 
 pub fn lead_from(expr: &Expr, root: usize, text: &Text, place: usize, steps: &mut Steps) -> Lead
     requires root { root < length expr.now.nodes }
     requires place { place ≤ length text.now }
-    requires few { length expr.now.nodes ≤ 65536 }
     ensures leads { LeadsTo (length text.now) (At expr.now.nodes text.now root place) result }
     ensures cost { Takes steps.old steps.new (7 * length expr.now.nodes) }
 {

@@ -33,7 +33,6 @@ fn are_apart(bytes: &[u8], first: &Fixed, second: &Fixed, place: usize) -> bool
 /// A place such that from `place` up to it the two stand together nowhere, by the last vector of the text.
 fn last_apart(bytes: &[u8], first: &Fixed, second: &Fixed, reach: usize, place: usize) -> usize
     requires place { place ≤ length bytes.now }
-    requires short { length bytes.now ≤ 2 ^ 30 }
     requires first { first.now.offset + 32 ≤ reach }
     requires second { second.now.offset + 32 ≤ reach }
     ensures after { place ≤ result }
@@ -53,7 +52,6 @@ fn last_apart(bytes: &[u8], first: &Fixed, second: &Fixed, reach: usize, place: 
 /// A place such that from `from` up to it the two stand together nowhere, as far as whole vectors tell.
 pub fn apart_to(bytes: &[u8], first: &Fixed, second: &Fixed, from: usize) -> usize
     requires from { from ≤ length bytes.now }
-    requires short { length bytes.now ≤ 2 ^ 30 }
     ensures after { from ≤ result }
     ensures within { result ≤ length bytes.now }
     ensures apart { ApartIn first.now second.now bytes.now from result }

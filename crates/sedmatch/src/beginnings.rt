@@ -90,7 +90,6 @@ fn begins_of(node: &Node) -> Begins
 /// The node at the end of the way down the left side of a node: where the node matches, this one does first.
 fn left_leaf(expr: &Expr, from: usize, steps: &mut Steps) -> Node
     requires inside { from < length expr.now.nodes }
-    requires few { length expr.now.nodes ≤ 65536 }
     ensures leaf { IsLeaf expr.now.nodes from result }
     ensures cost { Takes steps.old steps.new (from + 1) }
     ensures arena { IsArena expr.now.nodes }
@@ -108,7 +107,6 @@ fn left_leaf(expr: &Expr, from: usize, steps: &mut Steps) -> Node
 /// The set with which every span of a node begins, if there is one.
 fn first_set(expr: &Expr, from: usize, steps: &mut Steps) -> Option<ByteSet>
     requires inside { from < length expr.now.nodes }
-    requires few { length expr.now.nodes ≤ 65536 }
     ensures begins { IfSome result (λ s. AllAt expr.now.nodes from (WithSet s)) }
     ensures cost { Takes steps.old steps.new (from + 1) }
 {
@@ -132,7 +130,6 @@ fn alternatives(node: &Node) -> Option<(usize, usize)>
 fn begins_either(expr: &Expr, left: usize, right: usize, steps: &mut Steps) -> Begins
     requires left { left < length expr.now.nodes }
     requires right { right < length expr.now.nodes }
-    requires few { length expr.now.nodes ≤ 65536 }
     ensures left { AllAt expr.now.nodes left result }
     ensures right { AllAt expr.now.nodes right result }
     ensures cost { Takes steps.old steps.new (8 * length expr.now.nodes) }
@@ -170,7 +167,6 @@ fn begins_either(expr: &Expr, left: usize, right: usize, steps: &mut Steps) -> B
 
 /// How every span of the expression begins, by the nodes that can stand first in one.
 pub fn how_begins(expr: &Expr, steps: &mut Steps) -> Begins
-    requires few { length expr.now.nodes ≤ 65536 }
     ensures begins { AllBegin (tree expr.now) result }
     ensures cost { Takes steps.old steps.new (9 * length expr.now.nodes) }
     ensures arena { IsArena expr.now.nodes }
@@ -186,7 +182,6 @@ pub fn how_begins(expr: &Expr, steps: &mut Steps) -> Begins
 /// The first place from `from` on whose byte is in one of the sets. Counts one look for each byte.
 fn find_either(sets: &Either, text: &Text, from: usize, steps: &mut Steps) -> Option<usize>
     requires from { from ≤ length text.now }
-    requires short { length text.now ≤ 2 ^ 30 }
     ensures next { NextStart (WithEither sets.now) text.now from result }
     ensures cost { Pays steps.old steps.new (skip_cost (length text.now) result) from }
 {
@@ -202,7 +197,6 @@ fn find_either(sets: &Either, text: &Text, from: usize, steps: &mut Steps) -> Op
 /// The first place from `from` on at which a match can begin.
 pub fn next_start(begins: &Begins, text: &Text, from: usize, steps: &mut Steps) -> Option<usize>
     requires from { from ≤ length text.now }
-    requires short { length text.now ≤ 2 ^ 30 }
     ensures next { NextStart begins.now text.now from result }
     ensures cost { Pays steps.old steps.new (skip_cost (length text.now) result) from }
 {

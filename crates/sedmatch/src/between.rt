@@ -136,7 +136,6 @@ pub fn between_of(
 
 /// The place after the literal that stands at `start`.
 fn place_behind(head: &Finder, text: &Text, start: usize) -> usize
-    requires short { length text.now ≤ 2 ^ 30 }
     requires stands { start + length head.now ≤ length text.now }
     ensures { result ≡ start + length head.now }
 {

@@ -28,7 +28,6 @@ fn digest_set(set: &ByteSet, digests: &mut [u64; 256]) {
 
 /// A number for each byte, the same for two bytes that are in the same sets, and mostly another for two that are not.
 fn digests(expr: &Nodes) -> [u64; 256]
-    requires few { length expr.now.nodes ≤ 65536 }
 {
     let mut digests = [0; 256];
     let mut steps = Steps::new();
@@ -56,7 +55,6 @@ fn class_of(digests: &[u64; 256], firsts: &Vec<u8>, byte: usize) -> Option<usize
 
 /// The classes of bytes for an expression.
 pub fn find_classes(alloc: Global, expr: &Nodes) -> Result<Classes, AllocError>
-    requires few { length expr.now.nodes ≤ 65536 }
     ensures { IfOk result IsCut }
 {
     let digests = digests(expr);
@@ -90,7 +88,6 @@ fn are_alike(set: &ByteSet, classes: &Classes) -> bool
 
 /// Whether no set of the expression tells bytes of one class apart.
 pub fn are_classes(expr: &Nodes, classes: &Classes) -> bool
-    requires few { length expr.now.nodes ≤ 65536 }
     requires classes { IsCut classes.now }
     ensures { IsTrue result → AreClasses expr.now.nodes classes.now.of.items }
 {

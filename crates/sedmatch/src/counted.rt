@@ -172,7 +172,6 @@ impl<'a> Text<'a> {
     /// Counts two looks for each place from `from` to that one.
     pub fn pass_apart(&self, first: &Fixed, second: &Fixed, from: usize, steps: &mut Steps) -> usize
         requires from { from ≤ length self.now }
-        requires short { length self.now ≤ 2 ^ 30 }
         ensures after { from ≤ result }
         ensures within { result ≤ length self.now }
         ensures apart { ApartIn first.now second.now self.now from result }
@@ -211,7 +210,6 @@ impl<'a> Text<'a> {
     #[inline(always)]
     pub(crate) fn find_member(&self, set: &ByteSet, from: usize, steps: &mut Steps) -> Option<usize>
         requires from { from ≤ length self.now }
-        requires short { length self.now ≤ 2 ^ 30 }
         ensures next { NextStart (WithSet set.now) self.now from result }
         ensures here { IfSome result (λ k. CanBegin (WithSet set.now) self.now k) }
         ensures cost { Pays steps.old steps.new (skip_cost (length self.now) result) from }
@@ -311,7 +309,6 @@ impl<'a> Text<'a> {
     #[inline(always)]
     pub(crate) fn run_end(&self, set: &ByteSet, from: usize, steps: &mut Steps) -> usize
         requires from { from ≤ length self.now }
-        requires short { length self.now ≤ 2 ^ 30 }
         ensures run { IsRun set.now self.now from result }
         ensures cost { Takes steps.old steps.new (length self.now) }
     {

@@ -184,8 +184,6 @@ fn far_cut(
 ) -> Option<usize>
     requires left_inside { left < length expr.now.nodes }
     requires right_inside { right < length expr.now.nodes }
-    requires few { length expr.now.nodes ≤ 65536 }
-    requires short { length text.now ≤ 2 ^ 30 }
     requires start { start ≤ length text.now }
     requires spans { (k : ℕ) × At expr.now.nodes text.now left start k × At expr.now.nodes text.now right k stop }
     ensures cut { IfSome result (LastCut (At expr.now.nodes text.now left) (At expr.now.nodes text.now right) start stop) }
@@ -215,8 +213,6 @@ fn cut_at_sight(
 ) -> Option<usize>
     requires left_inside { left < length expr.now.nodes }
     requires right_inside { right < length expr.now.nodes }
-    requires few { length expr.now.nodes ≤ 65536 }
-    requires short { length text.now ≤ 2 ^ 30 }
     requires order { InOrder start stop (length text.now) }
     requires spans { (k : ℕ) × At expr.now.nodes text.now left start k × At expr.now.nodes text.now right k stop }
     ensures cut { IfSome result (LastCut (At expr.now.nodes text.now left) (At expr.now.nodes text.now right) start stop) }
@@ -455,8 +451,6 @@ fn copy_at_sight(
     steps: &mut Steps,
 ) -> Option<usize>
     requires root { root < length expr.now.nodes }
-    requires few { length expr.now.nodes ≤ 65536 }
-    requires short { length text.now ≤ 2 ^ 30 }
     requires order { (start < stop) × (stop ≤ length text.now) }
     ensures last { IfSome result (LastCopyIn (At expr.now.nodes text.now root) stop start) }
     ensures cost { let m = length expr.now.nodes in let n = length text.now in

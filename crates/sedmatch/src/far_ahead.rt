@@ -129,7 +129,6 @@ fn run_apart(
     steps: &mut Steps,
 ) -> Option<usize>
     requires from { from ≤ length text.now }
-    requires short { length text.now ≤ 2 ^ 30 }
     ensures run { IfSome result (λ k. IsRun set.now text.now from k) }
     ensures apart { IfSome result (λ k. IsApart next.now text.now from k) }
     ensures cost { Takes steps.old steps.new (length text.now) }
@@ -157,7 +156,6 @@ fn run_before(
 ) -> Option<usize>
     requires inside { index < length expr.now.nodes }
     requires from { from ≤ length text.now }
-    requires short { length text.now ≤ 2 ^ 30 }
     ensures run { IfSome result (λ k. IsRun set.now text.now from k) }
     ensures none { IfSome result (λ k. NoneBefore expr.now.nodes text.now index from k) }
     ensures cost { Takes steps.old steps.new (3 + length text.now) }
@@ -195,7 +193,6 @@ fn star_end(
     requires arena { IsArena expr.now.nodes }
     requires inside { index < length expr.now.nodes }
     requires place { place ≤ length text.now }
-    requires short { length text.now ≤ 2 ^ 30 }
     ensures far { EndsFar (length text.now) (At expr.now.nodes text.now index place) result }
     ensures cost { Takes steps.old steps.new (1 + length text.now) }
 {
@@ -243,7 +240,6 @@ fn seq_behind(
     requires arena { IsArena expr.now.nodes }
     requires inside { index < length expr.now.nodes }
     requires place { place ≤ length text.now }
-    requires short { length text.now ≤ 2 ^ 30 }
     ensures goes { GoesFar expr.now.nodes text.now (At expr.now.nodes text.now index place) result }
     ensures nearer { IsNearer index (length text.now) result }
     ensures cost { Takes steps.old steps.new (6 + length text.now) }
@@ -267,7 +263,6 @@ fn seq_behind(
 fn far_behind(expr: &Expr, index: usize, text: &Text, place: usize, steps: &mut Steps) -> Further
     requires inside { index < length expr.now.nodes }
     requires place { place ≤ length text.now }
-    requires short { length text.now ≤ 2 ^ 30 }
     ensures goes { GoesFar expr.now.nodes text.now (At expr.now.nodes text.now index place) result }
     ensures nearer { IsNearer index (length text.now) result }
     ensures cost { Takes steps.old steps.new ((length text.now + 8)) }
@@ -285,8 +280,6 @@ fn far_behind(expr: &Expr, index: usize, text: &Text, place: usize, steps: &mut 
 /// Where the longest of the matches ends that begin at the place, as far as runs of single bytes tell.
 pub fn look_far(expr: &Expr, text: &Text, place: usize, steps: &mut Steps) -> Far
     requires place { place ≤ length text.now }
-    requires few { length expr.now.nodes ≤ 65536 }
-    requires short { length text.now ≤ 2 ^ 30 }
     ensures far { EndsFar (length text.now) (Spans (tree expr.now) text.now place) result }
     ensures cost { Takes steps.old steps.new ((length text.now + 8) * length expr.now.nodes) }
 {
@@ -298,8 +291,6 @@ pub fn look_far(expr: &Expr, text: &Text, place: usize, steps: &mut Steps) -> Fa
 pub fn far_from(expr: &Expr, root: usize, text: &Text, place: usize, steps: &mut Steps) -> Far
     requires root { root < length expr.now.nodes }
     requires place { place ≤ length text.now }
-    requires few { length expr.now.nodes ≤ 65536 }
-    requires short { length text.now ≤ 2 ^ 30 }
     ensures far { EndsFar (length text.now) (At expr.now.nodes text.now root place) result }
     ensures cost { Takes steps.old steps.new ((length text.now + 8) * length expr.now.nodes) }
 {
@@ -319,7 +310,6 @@ pub fn far_from(expr: &Expr, root: usize, text: &Text, place: usize, steps: &mut
 /// Whether no byte from one place up to another is in the set.
 fn none_in(set: &ByteSet, text: &Text, from: usize, to: usize, steps: &mut Steps) -> bool
     requires to { to ≤ length text.now }
-    requires short { length text.now ≤ 2 ^ 30 }
     ensures apart { IsTrue result → IsApart set.now text.now from to }
     ensures cost { Takes steps.old steps.new (length text.now) }
 {
@@ -343,7 +333,6 @@ pub fn none_before(
 ) -> bool
     requires inside { index < length expr.now.nodes }
     requires to { to ≤ length text.now }
-    requires short { length text.now ≤ 2 ^ 30 }
     ensures none { IsTrue result → NoneBefore expr.now.nodes text.now index from to }
     ensures cost { Takes steps.old steps.new (3 + length text.now) }
 {

@@ -81,7 +81,6 @@ fn forget_inside(
     requires inside { root < length expr.now.nodes }
     requires empty { stack.old.items ≡ [] }
     requires room { size (tree_at expr.now.nodes root) < vec_capacity stack.old }
-    requires few { size (tree_at expr.now.nodes root) ≤ 65536 }
     ensures groups { groups.new ≡ forget (tree_at expr.now.nodes root) groups.old }
     ensures empty { stack.new.items ≡ [] }
     ensures room { vec_capacity stack.old ≤ vec_capacity stack.new }
@@ -107,7 +106,6 @@ fn has_group(expr: &Expr, root: usize, stack: &mut Vec<usize>, steps: &mut Steps
     requires inside { root < length expr.now.nodes }
     requires empty { stack.old.items ≡ [] }
     requires room { size (tree_at expr.now.nodes root) < vec_capacity stack.old }
-    requires few { size (tree_at expr.now.nodes root) ≤ 65536 }
     ensures none { result ≡ false → NoGroups (tree_at expr.now.nodes root) }
     ensures empty { stack.new.items ≡ [] }
     ensures room { vec_capacity stack.old ≤ vec_capacity stack.new }
@@ -158,7 +156,6 @@ fn may_have_group(
     requires flat { IsTrue flat → NoGroups (tree_at expr.now.nodes inside) }
     requires empty { stack.old.items ≡ [] }
     requires room { size (tree_at expr.now.nodes inside) < vec_capacity stack.old }
-    requires few { size (tree_at expr.now.nodes inside) ≤ 65536 }
     ensures none { result ≡ false → NoGroups (tree_at expr.now.nodes inside) }
     ensures empty { stack.new.items ≡ [] }
     ensures room { vec_capacity stack.old ≤ vec_capacity stack.new }
@@ -348,7 +345,6 @@ fn forget_first(
     requires inside { x < length expr.now.nodes }
     requires empty { stack.old.items ≡ [] }
     requires room { size (tree_at expr.now.nodes x) < vec_capacity stack.old }
-    requires few { size (tree_at expr.now.nodes x) ≤ 65536 }
     ensures groups { groups.new ≡ forget_if before (tree_at expr.now.nodes x) groups.old }
     ensures empty { stack.new.items ≡ [] }
     ensures room { vec_capacity stack.old ≤ vec_capacity stack.new }

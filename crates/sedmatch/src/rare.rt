@@ -136,7 +136,6 @@ impl Rare {
     /// How far from `from` on vectors tell that a match begins nowhere.
     fn pass(&self, text: &Text, from: usize, steps: &mut Steps) -> usize
         requires from { from ≤ length text.now }
-        requires short { length text.now ≤ 2 ^ 30 }
         ensures after { from ≤ result }
         ensures within { result ≤ length text.now }
         ensures missed { RareNowhere self.now text.now from result }
@@ -299,7 +298,6 @@ fn second_set(expr: &Expr, index: usize, steps: &mut Steps) -> Option<ByteSet>
 
 /// The bytes that stand second in every match, where there are two alternatives and these bytes are few.
 fn second_of_two(expr: &Expr, steps: &mut Steps) -> Option<Fixed>
-    requires few { length expr.now.nodes ≤ 65536 }
     ensures second { AllHeld (tree expr.now) result }
     ensures cost { Takes steps.old steps.new 9 }
 {
@@ -374,7 +372,6 @@ fn rare_place(
     from: usize,
     steps: &mut Steps,
 ) -> Option<(usize, Lead)>
-    requires few { length expr.now.nodes ≤ 65536 }
     requires short { length text.now ≤ 2 ^ 30 }
     requires from { from ≤ length text.now }
     requires rare { AllRare (tree expr.now) (Some rare.now) }
@@ -410,7 +407,6 @@ pub fn first_place(
     from: usize,
     steps: &mut Steps,
 ) -> Option<(usize, Lead)>
-    requires few { length expr.now.nodes ≤ 65536 }
     requires short { length text.now ≤ 2 ^ 30 }
     requires from { from ≤ length text.now }
     requires begins { AllBegin (tree expr.now) begins.now }

@@ -344,8 +344,6 @@ pub fn next_place(
     from: usize,
     steps: &mut Steps,
 ) -> Option<(usize, Lead)>
-    requires few { length expr.now.nodes ≤ 65536 }
-    requires short { length text.now ≤ 2 ^ 30 }
     requires from { from ≤ length text.now }
     requires begins { AllBegin (tree expr.now) begins.now }
     ensures sought { Sought (tree expr.now) text.now from result }

@@ -99,7 +99,6 @@ fn trail_sight(expr: &Expr, a: NodeId, b: NodeId, steps: &mut Steps) -> Option<S
 
 /// How the matches of the expression look, if they are of one byte, a run or both.
 fn run_sight(expr: &Expr, steps: &mut Steps) -> Option<Sight>
-    requires few { length expr.now.nodes ≤ 65536 }
     ensures sight { IfSome result (λ s. IsSight (tree expr.now) s) }
     ensures cost { Takes steps.old steps.new 6 }
 {
@@ -148,7 +147,6 @@ pub fn sight_of(alloc: Global, expr: &Expr, steps: &mut Steps) -> Result<Option<
 #[inline(always)]
 pub fn find_first(first: &First, text: &Text, from: usize, steps: &mut Steps) -> Option<usize>
     requires from { from ≤ length text.now }
-    requires short { length text.now ≤ 2 ^ 30 }
     ensures first { FirstWith first.now text.now from result }
     ensures cost { Pays steps.old steps.new (length text.now + 1) from }
 {

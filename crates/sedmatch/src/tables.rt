@@ -160,7 +160,6 @@ fn add_state(
     requires table { IsTable expr.now.nodes root table.old }
     requires slot { slot < vec_len table.old.index }
     requires row { length expr.now.nodes ≤ length row.now }
-    requires few { length expr.now.nodes ≤ 65536 }
     ensures table { IsTable expr.now.nodes root table.new }
     ensures kept { Grows table.old table.new }
     ensures has { HasState (length expr.now.nodes) table.new row.now ends result }
@@ -193,7 +192,6 @@ fn state_of(
     requires table { IsTable expr.now.nodes root table.old }
     requires slot { slot < vec_len table.old.index }
     requires row { length expr.now.nodes ≤ length row.now }
-    requires few { length expr.now.nodes ≤ 65536 }
     ensures table { IsTable expr.now.nodes root table.new }
     ensures kept { Grows table.old table.new }
     ensures has { HasState (length expr.now.nodes) table.new row.now ends result }
@@ -233,7 +231,6 @@ fn renew(
     requires table { IsTable expr.now.nodes root table.old }
     requires slot { slot < vec_len table.old.index }
     requires row { length expr.now.nodes ≤ length row.now }
-    requires few { length expr.now.nodes ≤ 65536 }
     ensures table { IsTable expr.now.nodes root table.new }
     ensures sweeps { table.new.sweeps ≡ table.old.sweeps }
     ensures has { HasState (length expr.now.nodes) table.new row.now ends result }
@@ -259,7 +256,6 @@ pub fn settle(
 ) -> Option<usize>
     requires table { IsTable expr.now.nodes root table.old }
     requires row { length expr.now.nodes ≤ length row.now }
-    requires few { length expr.now.nodes ≤ 65536 }
     ensures table { IsTable expr.now.nodes root table.new }
     ensures sweeps { table.new.sweeps ≡ table.old.sweeps }
     ensures has { HasState (length expr.now.nodes) table.new row.now ends result }
@@ -501,7 +497,6 @@ pub fn follow_to(
     requires table { IsTable expr.now.nodes root table.now }
     requires state { state < table.now.count }
     requires order { InOrder from to (length text.now) }
-    requires short { length text.now ≤ 2 ^ 30 }
     ensures state { result.state < table.now.count }
     ensures after { from ≤ result.place }
     ensures within { result.place ≤ to }
@@ -546,7 +541,6 @@ pub fn follow(
     requires table { IsTable expr.now.nodes root table.now }
     requires state { state < table.now.count }
     requires from { from ≤ length text.now }
-    requires short { length text.now ≤ 2 ^ 30 }
     ensures state { result.state < table.now.count }
     ensures after { from ≤ result.place }
     ensures within { result.place ≤ length text.now }
@@ -571,7 +565,6 @@ pub fn stay(
     requires table { IsTable expr.now.nodes root table.now }
     requires state { state < table.now.count }
     requires order { InOrder from to (length text.now) }
-    requires short { length text.now ≤ 2 ^ 30 }
     ensures after { from ≤ result }
     ensures within { result ≤ to }
     ensures stays { Stays expr.now.nodes root table.now text.now from state result }
@@ -598,7 +591,6 @@ fn stay_on(
     requires table { IsTable expr.now.nodes root table.now }
     requires state { state < table.now.count }
     requires order { InOrder from to (length text.now) }
-    requires short { length text.now ≤ 2 ^ 30 }
     ensures after { from ≤ result }
     ensures within { result ≤ to }
     ensures stays { Stays expr.now.nodes root table.now text.now from state result }
@@ -634,7 +626,6 @@ pub fn follow_past(
     requires table { IsTable expr.now.nodes root table.now }
     requires state { state < table.now.count }
     requires order { InOrder from to (length text.now) }
-    requires short { length text.now ≤ 2 ^ 30 }
     ensures state { result.state < table.now.count }
     ensures after { from ≤ result.place }
     ensures within { result.place ≤ to }

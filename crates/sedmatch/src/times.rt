@@ -101,7 +101,6 @@ fn last_outside(
 ) -> Option<usize>
     requires from { from ≤ to }
     requires to { to ≤ length text.now }
-    requires short { length text.now ≤ 2 ^ 30 }
     ensures last { LastOutside set.now text.now from to result }
     ensures cost { Pays steps.old steps.new to from }
 {
@@ -124,7 +123,6 @@ pub fn find_times(
     steps: &mut Steps,
 ) -> Option<usize>
     requires from { from ≤ length text.now }
-    requires short { length text.now ≤ 2 ^ 30 }
     ensures first { FirstTimes set.now count text.now from result }
     ensures cost { Pays steps.old steps.new (length text.now) from }
 {

@@ -23,7 +23,6 @@ pub fn trail_start(
     steps: &mut Steps,
 ) -> Option<usize>
     requires from { from ≤ length text.now }
-    requires short { length text.now ≤ 2 ^ 30 }
     ensures start { FirstStart (Trail members.now last.now) text.now from result }
     ensures cost { Takes steps.old steps.new (2 * (length text.now + 1)) }
 {

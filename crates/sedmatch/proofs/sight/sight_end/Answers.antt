@@ -57,7 +57,7 @@ returns-in-Trail-clause-end c =
 
 pub end-requires-in-Choice : goal.end-requires-in-Choice
 end-requires-in-Choice c =
-    record { can = subst (λ s. CanStart s c.args.text.now c.args.start) c.in-Choice.is c.requires.can }
+    record { can = subst (λ s. CanStart s c.args.text.now c.args.start) c.in-Choice.is c.requires.can; short = omega arith }
 
 pub returns-in-Choice-clause-end : goal.returns-in-Choice-clause-end
 returns-in-Choice-clause-end c =
