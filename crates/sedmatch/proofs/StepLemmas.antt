@@ -1,6 +1,6 @@
 -- Counts of steps that stay at the largest.
 use Rattle.std.proofs.Common.{◌≡◌, ℕ, ◌+◌, ◌*◌, ◌<◌, ◌≤◌, ◌^◌, arith}
-use Rattle.sedre.specs.Steps.{Takes, Counted, TakesAtLeast}
+use Rattle.sedre.specs.Steps.{Counted, TakesAtLeast}
 
 -- nothing is counted yet
 pub least_none : (s : ℕ) → TakesAtLeast s s 0

@@ -2,7 +2,7 @@
 -- stands here: `Occurrences::begin` gives it, and callers hand it on from call to call, so that nobody has to read it.
 use Rattle.std.specs.Prelude.{◌≡◌, ◌↔◌, ℕ, ◌+◌, ◌-◌, ◌*◌, ◌^◌, ◌<◌, ◌≤◌, Bool, true, false, List, length, reverse, slice_get, slice_index_or, Option, Some, None, IfSome, IsTrue}
 use Rattle.sedre.specs.Tree.{Tree}
-use Rattle.sedre.specs.Arena.{Written}
+use Rattle.sedre.specs.Arena.{Written, IsArena}
 use Rattle.sedre.specs.Mirror.{seen}
 use Rattle.sedre.specs.declared.types.Node.{Node}
 use Rattle.sedre.specs.declared.types.Node.TheVariants.{Set}
@@ -15,6 +15,10 @@ use Rattle.sedmatch.specs.Words.{row_of}
 use Rattle.sedmatch.specs.Reach.{At, IsStart, TellBegun, TellEntered, SomeSpan}
 use Rattle.sedmatch.specs.Search.{starts_to}
 use Rattle.sedmatch.specs.Spans.{Spans}
+
+-- this is the root of the arena: its last node
+abbrev pub IsRoot : List Node → ℕ → Type 0
+IsRoot nodes root = IsArena nodes × (root + 1 ≡ length nodes)
 
 -- a node below n that takes the byte that comes is marked in both lists
 abbrev pub MeetsBelow : List Node → ℕ → List Bool → List Bool → Option ℕ → Type 0

@@ -2,7 +2,7 @@
 -- An expression with what is known of it, and its tables.
 use Rattle.std.specs.Prelude.{◌≡◌, ℕ, ◌+◌, true, length, IsTrue, Option}
 use Rattle.sedre.specs.Tree.{Tree}
-use Rattle.sedre.specs.Arena.{Written, tree}
+use Rattle.sedre.specs.Arena.{IsArena, Written, tree}
 use Rattle.sedre.specs.Mirror.{seen}
 use Rattle.sedmatch.specs.Beginnings.{AllBegin}
 use Rattle.sedmatch.specs.Needed.{IsNeeded}
@@ -32,6 +32,7 @@ IsPrepared e root k t = (root + 1 ≡ length e.nodes) × IsKnown (tree e) k × A
 
 -- what a matcher holds is of its expression
 pub record IsReady (e : Written) (root : ℕ) (known : Known) (sight : Option Sight) (tables : Tables) : Type 0 where
+  pub arena : IsArena e.nodes
   pub whole : root + 1 ≡ length e.nodes
   pub known_so : IsKnown (tree e) known
   pub flat_so : IsTrue known.flat → AreFlat e.nodes

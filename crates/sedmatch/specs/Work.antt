@@ -1,7 +1,7 @@
 -- Private to the proofs: no contract of a public item cites what stands here.
 -- What is left to do while the groups of a match are decided.
 use Rattle.std.specs.Prelude.{◌≡◌, ℕ, ◌+◌, ◌-◌, ◌*◌, ◌<◌, ◌≤◌, Bool, true, false, if◌then◌else◌, List, [], ◌∷◌, ◌++◌, length, slice_get, slice_set, Some, None}
-use Rattle.sedre.specs.Arena.{tree_at}
+use Rattle.sedre.specs.Arena.{IsArena, tree_at}
 use Rattle.sedre.specs.Tree.{Tree, empty, set, begin, end, seq, alt, group, star, opt, size}
 use Rattle.sedre.specs.declared.types.Node.{Node}
 use Rattle.sedre.specs.declared.types.NodeId.{NodeId}
@@ -12,6 +12,10 @@ use Rattle.sedmatch.specs.declared.groups.Split.TheVariants.{Done, One, Two}
 use Rattle.sedmatch.specs.declared.scratch.Task.TheVariants.{Enter, Close}
 use Rattle.sedmatch.specs.Reach.{At}
 use Rattle.sedmatch.specs.Caps.{Groups, Caps, forget}
+
+-- x is a node of an arena, and what it is
+abbrev pub IsNodeOf : List Node → ℕ → Node → Type 0
+IsNodeOf nodes x node = IsArena nodes × (x < length nodes) × (slice_get nodes x ≡ Some node)
 
 abbrev pub Does : List Node → List ℕ → Task → Groups → Groups → Type 0
 Does nodes w (Enter x i j) old new = Caps (tree_at nodes x) w i j old new

@@ -27,8 +27,7 @@ fn digest_set(set: &ByteSet, digests: &mut [u64; 256]) {
 }
 
 /// A number for each byte, the same for two bytes that are in the same sets, and mostly another for two that are not.
-fn digests(expr: &Nodes) -> [u64; 256]
-{
+fn digests(expr: &Nodes) -> [u64; 256] {
     let mut digests = [0; 256];
     let mut steps = Steps::new();
     for x in 0..expr.nodes() {

@@ -10,7 +10,7 @@ ghost use Rattle.sedmatch.specs.Caps.{Caps, forget, IsReport};
 ghost use Rattle.sedmatch.specs.Fits.{AllDone, Fits, FitsCuts, FitsGroups, HasStack, KeepsGroups, KeepsPlan, KeepsStack, SameMarks, SameRoom};
 ghost use Rattle.sedmatch.specs.Places.{InOrder};
 ghost use Rattle.sedmatch.specs.Reach.{At};
-ghost use Rattle.sedmatch.specs.Work.{IsStep, IsReady, LeavesLess, weights, inners, wholes, node_cost, forget_if};
+ghost use Rattle.sedmatch.specs.Work.{IsNodeOf, IsStep, IsReady, LeavesLess, weights, inners, wholes, node_cost, forget_if};
 ghost use Rattle.sedmatch.specs.Work.{tasks_of, forgets_of, has_span, is_group, sizes, parts_of, forget_node, AreFlat, NoGroups};
 ghost use Rattle.sedmatch.specs.Costs.{Pays};
 ghost use Rattle.sedre.specs.Steps.{Takes};
@@ -202,12 +202,10 @@ fn split_node(
     stack: &mut Vec<usize>,
     steps: &mut Steps,
 ) -> Split
-    requires arena { IsArena expr.now.nodes }
     requires flat { IsTrue flat → AreFlat expr.now.nodes }
-    requires inside { x < length expr.now.nodes }
     requires order { InOrder start stop (length text.now) }
     requires fits { FitsCuts (length expr.now.nodes) (length text.now) sets.old places.old }
-    requires node { slice_get expr.now.nodes x ≡ Some node.now }
+    requires node { IsNodeOf expr.now.nodes x node.now }
     requires spans { At expr.now.nodes text.now x start stop }
     requires stack { HasStack (size (tree_at expr.now.nodes x)) stack.old }
     requires few { size (tree_at expr.now.nodes x) ≤ length expr.now.nodes }

@@ -12,7 +12,7 @@ ghost use Rattle.sedmatch.specs.Fits.{Fits, SameMarks};
 ghost use Rattle.sedmatch.specs.Local.{takes_next};
 ghost use Rattle.sedmatch.specs.Words.{row_of};
 ghost use Rattle.sedmatch.specs.Reach.{Longest, TellBegun, TellEntered, one_start};
-ghost use Rattle.sedmatch.specs.Meet.{MeetsBelow, GoesOnFrom, CameTo, PassTells, MarksGrow, BlockTells, HasKept, IsKept, Served, ServedBehind, HasBehind, FitsBehind, FitsPasses, FitsRows, SameShape, KeepsBehind, KeepsPasses, HasPlace, TurnsTo, BlockTakes, low_of, met_to, begin_to, end_to, blocks_cost};
+ghost use Rattle.sedmatch.specs.Meet.{IsRoot, MeetsBelow, GoesOnFrom, CameTo, PassTells, MarksGrow, BlockTells, HasKept, IsKept, Served, ServedBehind, HasBehind, FitsBehind, FitsPasses, FitsRows, SameShape, KeepsBehind, KeepsPasses, HasPlace, TurnsTo, BlockTakes, low_of, met_to, begin_to, end_to, blocks_cost};
 ghost use Rattle.sedmatch.specs.Occurrences.{next_span, unless_null_at};
 ghost use Rattle.sedmatch.specs.Search.{starts_to};
 ghost use Rattle.sedmatch.specs.Cuts.{LeastFrom};
@@ -326,7 +326,7 @@ fn goes_on(
     sets: &mut Sets,
     steps: &mut Steps,
 ) -> bool
-    requires root { root + 1 ≡ length expr.now.nodes }
+    requires root { IsRoot expr.now.nodes root }
     requires place { (start ≤ place) × (place ≤ length text.now) }
     requires fits { FitsPasses (length expr.now.nodes) (length text.now) sets.old behind.old }
     requires served { Served expr.now text.now root place behind.old }
@@ -338,7 +338,6 @@ fn goes_on(
     ensures cost { let m = length expr.now.nodes in
         Pays steps.old steps.new (blocks_cost m behind.old + 4 * m + 1) (blocks_cost m behind.new) }
 {
-    let _count = expr.nodes();
     if place >= text.len() {
         return false;
     }
@@ -360,7 +359,7 @@ fn longest_met(
     sets: &mut Sets,
     steps: &mut Steps,
 ) -> Option<usize>
-    requires root { root + 1 ≡ length expr.now.nodes }
+    requires root { IsRoot expr.now.nodes root }
     requires start { start ≤ length text.now }
     requires fits { FitsPasses (length expr.now.nodes) (length text.now) sets.old behind.old }
     requires served { Served expr.now text.now root start behind.old }
@@ -425,7 +424,7 @@ fn next_met(
     sets: &mut Sets,
     steps: &mut Steps,
 ) -> Option<(usize, usize)>
-    requires root { root + 1 ≡ length expr.now.nodes }
+    requires root { IsRoot expr.now.nodes root }
     requires from { from ≤ length text.now }
     requires fits { FitsPasses (length expr.now.nodes) (length text.now) sets.old behind.old }
     requires served { Served expr.now text.now root from behind.old }
@@ -436,7 +435,6 @@ fn next_met(
     ensures cost { let m = length expr.now.nodes in
         Pays steps.old steps.new (27 * m + 25 * m * end_to (length text.now) result + blocks_cost m behind.old) (25 * m * from + blocks_cost m behind.new) }
 {
-    let _count = expr.nodes();
     let Some(start) = next_begin(text, &behind.begins, from, steps) else {
         return None;
     };
@@ -456,7 +454,7 @@ pub fn next_behind(
     sets: &mut Sets,
     steps: &mut Steps,
 ) -> Option<(usize, usize)>
-    requires root { root + 1 ≡ length expr.now.nodes }
+    requires root { IsRoot expr.now.nodes root }
     requires at { at ≤ length text.now }
     requires fits { FitsPasses (length expr.now.nodes) (length text.now) sets.old behind.old }
     requires served { Served expr.now text.now root at behind.old }

@@ -186,6 +186,7 @@ pub fn descend(
     sets: &mut Sets,
     steps: &mut Steps,
 ) -> bool
+    requires arena { IsArena expr.now.nodes }
     requires root { root < length expr.now.nodes }
     requires fits { FitsFew (length expr.now.nodes) sets.old }
     ensures marks { SameMarks sets.old sets.new }
@@ -205,7 +206,6 @@ pub fn descend(
         SetsFrom expr.now.nodes w root s place 0 next result }
     ensures cost { Takes steps.old steps.new (6 * (root + 1) + 1) }
 {
-    let _count = expr.nodes();
     sets.entered.set(root, first, steps);
     let mut more = false;
     for x in (0..root + 1).rev() {

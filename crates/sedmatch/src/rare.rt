@@ -408,6 +408,7 @@ pub fn first_place(
     steps: &mut Steps,
 ) -> Option<(usize, Lead)>
     requires short { length text.now ≤ 2 ^ 30 }
+    requires some { 0 < length expr.now.nodes }
     requires from { from ≤ length text.now }
     requires begins { AllBegin (tree expr.now) begins.now }
     requires rare { AllRare (tree expr.now) rare.now }
@@ -415,7 +416,6 @@ pub fn first_place(
     ensures cost { let m = length expr.now.nodes in let n = length text.now in
         Pays steps.old steps.new (8 * m * sought_to n result + m * n + 1) (8 * m * from) }
 {
-    let _count = expr.nodes();
     match rare {
         Some(rare) => rare_place(expr, rare, text, from, steps),
         None => match next_start(begins, text, from, steps) {

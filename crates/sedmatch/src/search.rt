@@ -344,13 +344,13 @@ pub fn next_place(
     from: usize,
     steps: &mut Steps,
 ) -> Option<(usize, Lead)>
+    requires some { 0 < length expr.now.nodes }
     requires from { from ≤ length text.now }
     requires begins { AllBegin (tree expr.now) begins.now }
     ensures sought { Sought (tree expr.now) text.now from result }
     ensures cost { let m = length expr.now.nodes in
         Pays steps.old steps.new (8 * m * (sought_to (length text.now) result + 1)) (8 * m * from) }
 {
-    let _count = expr.nodes();
     let mut place = from;
     while let Some(start) = next_start(begins, text, place, steps) {
         match look_ahead(expr, text, start, steps) {
@@ -377,6 +377,7 @@ pub fn scan(
     sets: &mut Sets,
     steps: &mut Steps,
 ) -> Option<Region>
+    requires some { 0 < length expr.now.nodes }
     requires from { from ≤ length text.now }
     requires begins { AllBegin (tree expr.now) begins.now }
     requires fits { Fits (length expr.now.nodes) (length text.now) sets.old }

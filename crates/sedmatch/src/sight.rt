@@ -240,6 +240,7 @@ pub fn sight_find(
     scratch: &mut Scratch,
     steps: &mut Steps,
 ) -> Option<Found>
+    requires some { 0 < length expr.now.nodes }
     requires sight { IsSight (tree expr.now) sight.now }
     requires from { from ≤ length text.now }
     requires fits { FitInto (length text.now) (length expr.now.nodes) scratch.old }
@@ -251,7 +252,6 @@ pub fn sight_find(
     ensures linear_without_groups { expr.now.groups ≡ 0 → steps.new ≤ steps.old + 50 * (length text.now + 1) }
     ensures cost_of_none { IfNone result (steps.new ≤ steps.old + 50 * (length text.now + 1)) }
 {
-    let _count = expr.nodes();
     let sets = &mut scratch.sets;
     let (start, end) = sight_span(sight, text, from, steps)?;
     let groups = report(

@@ -38,8 +38,10 @@ pub returns-clause-bound : goal.returns-clause-bound
 returns-clause-bound c = bound_end c.args.expr.now.nodes c.args.text.now c.args.root c.args.start c.args.last c.requires.root c.len-2.result c.len-2.ensures (omega arith)
 
 pub returns-clause-cost : goal.returns-clause-cost
-returns-clause-cost c = (omega arith,
-    let m = length c.args.expr.now.nodes in
-    let end : c.loop-at.at ≡ c.len-2.result + 1 = omega arith in
-    let all : 20 * m * c.loop-at.at ≡ 20 * m * (c.len-2.result + 1) = ap (λ v. 20 * m * v) end in
-    omega (arith, all, c.loop-at.invariant.cost))
+returns-clause-cost c = (
+  omega arith,
+  let m = length c.args.expr.now.nodes in
+      let end : c.loop-at.at ≡ c.len-2.result + 1 = omega arith in
+      let all : 20 * m * c.loop-at.at ≡ 20 * m * (c.len-2.result + 1) = ap (λ v. 20 * m * v) end in
+      omega (arith, all, c.loop-at.invariant.cost),
+)

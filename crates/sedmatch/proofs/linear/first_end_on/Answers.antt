@@ -75,8 +75,10 @@ pub returns-clause-first : goal.returns-clause-first
 returns-clause-first c = λ i k from before. c.loop-at.invariant.missed i k from (omega arith)
 
 pub returns-clause-cost : goal.returns-clause-cost
-returns-clause-cost c = (omega arith,
-    let m = length c.args.expr.now.nodes in
-    let end : c.loop-at.at ≡ length c.args.text.now + 1 = omega arith in
-    let all : 20 * m * c.loop-at.at ≡ 20 * m * (length c.args.text.now + 1) = ap (λ v. 20 * m * v) end in
-    omega (arith, all, c.loop-at.invariant.cost))
+returns-clause-cost c = (
+  omega arith,
+  let m = length c.args.expr.now.nodes in
+      let end : c.loop-at.at ≡ length c.args.text.now + 1 = omega arith in
+      let all : 20 * m * c.loop-at.at ≡ 20 * m * (length c.args.text.now + 1) = ap (λ v. 20 * m * v) end in
+      omega (arith, all, c.loop-at.invariant.cost),
+)

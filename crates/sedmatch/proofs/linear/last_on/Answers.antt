@@ -55,8 +55,10 @@ returns-clause-last c =
     subst (λ p. LastEnd (tree c.args.nodes.now) c.args.bytes.now c.args.first p c.loop-at.best) same c.loop-at.invariant.last
 
 pub returns-clause-cost : goal.returns-clause-cost
-returns-clause-cost c = (omega arith,
-    let m = length c.args.nodes.now.nodes in
-    let end : c.loop-at.at ≡ c.args.stop + 1 = omega arith in
-    let all : 20 * m * c.loop-at.at ≡ 20 * m * (c.args.stop + 1) = ap (λ v. 20 * m * v) end in
-    omega (arith, all, c.loop-at.invariant.cost))
+returns-clause-cost c = (
+  omega arith,
+  let m = length c.args.nodes.now.nodes in
+      let end : c.loop-at.at ≡ c.args.stop + 1 = omega arith in
+      let all : 20 * m * c.loop-at.at ≡ 20 * m * (c.args.stop + 1) = ap (λ v. 20 * m * v) end in
+      omega (arith, all, c.loop-at.invariant.cost),
+)

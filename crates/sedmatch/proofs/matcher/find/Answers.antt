@@ -1,4 +1,4 @@
-use Rattle.std.proofs.Common.{◌≡◌, ◌≤◌, ◌^◌, None, length, sym, subst, ap, arith}
+use Rattle.std.proofs.Common.{◌≡◌, None, length, sym, subst, arith}
 use Rattle.sedre.specs.Arena.{tree}
 use Rattle.sedmatch.proofs.GroupLemmas.{miss_cost}
 use Rattle.sedmatch.specs.Answer.{IsComputed}

@@ -36,11 +36,11 @@ returns-then-not-goes_on-clause-longest c =
     let start = c.args.start in
     let best : LongestBelow (tree c.args.expr.now) w start (place + 1) c.if-here.best = (elim c.if-here.branch [
       | then-here b ↦ subst (LongestBelow (tree c.args.expr.now) w start (place + 1)) (sym b.best-is)
-          (best_hit nodes w c.args.root start place c.advance_from-here.result.matched c.requires.root c.advance_from-here.ensures.spans b.if-here.true)
+          (best_hit nodes w c.args.root start place c.advance_from-here.result.matched c.requires.root.1 c.advance_from-here.ensures.spans b.if-here.true)
       | else-here b ↦ subst (LongestBelow (tree c.args.expr.now) w start (place + 1)) (sym b.best-is)
-          (best_miss nodes w c.args.root start place c.advance_from-here.result.matched c.loop-place.best c.requires.root c.advance_from-here.ensures.spans b.if-here.false c.loop-place.invariant.longest)
+          (best_miss nodes w c.args.root start place c.advance_from-here.result.matched c.loop-place.best c.requires.root.1 c.advance_from-here.ensures.spans b.if-here.false c.loop-place.invariant.longest)
     ]) in
-    best_all nodes w c.args.root start place c.if-here.best c.requires.root (λ h. true≢false (sym (c.goes_on.ensures.goes.1 h) ∙ c.if-not-goes_on.true)) best
+    best_all nodes w c.args.root start place c.if-here.best c.requires.root.1 (λ h. true≢false (sym (c.goes_on.ensures.goes.1 h) ∙ c.if-not-goes_on.true)) best
 
 pub returns-then-not-goes_on-clause-served : goal.returns-then-not-goes_on-clause-served
 returns-then-not-goes_on-clause-served c =
@@ -94,9 +94,9 @@ loop-place-preserved c =
           (next_entered nodes w root (one_start start) c.advance_from-here.new.sets.entered place c.advance_from-here.ensures.entered);
       longest = elim c.if-here.branch [
         | then-here b ↦ subst (LongestBelow (tree c.args.expr.now) w start (place + 1)) (sym b.best-is)
-            (best_hit nodes w c.args.root start place c.advance_from-here.result.matched c.requires.root c.advance_from-here.ensures.spans b.if-here.true)
+            (best_hit nodes w c.args.root start place c.advance_from-here.result.matched c.requires.root.1 c.advance_from-here.ensures.spans b.if-here.true)
         | else-here b ↦ subst (LongestBelow (tree c.args.expr.now) w start (place + 1)) (sym b.best-is)
-            (best_miss nodes w c.args.root start place c.advance_from-here.result.matched c.loop-place.best c.requires.root c.advance_from-here.ensures.spans b.if-here.false inv.longest)
+            (best_miss nodes w c.args.root start place c.advance_from-here.result.matched c.loop-place.best c.requires.root.1 c.advance_from-here.ensures.spans b.if-here.false inv.longest)
       ];
       lies = elim c.if-here.branch [
         | then-here b ↦ subst (λ v. IfSome v (λ end. (start ≤ end) × (end ≤ length w))) (sym b.best-is) (omega arith, omega arith)

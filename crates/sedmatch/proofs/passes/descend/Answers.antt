@@ -15,26 +15,26 @@ loop-x-init c =
       kept_ended = refl;
       grows = omega arith;
       cost = omega arith;
-      entered = λ w s place nulls ends begins before. descend_root c.args.expr.now.nodes c.args.root c.nodes-count.ensures.arena w s place (c.args.root + 1) c.args.sets.now.entered c.set.new.self
+      entered = λ w s place nulls ends begins before. descend_root c.args.expr.now.nodes c.args.root c.requires.arena w s place (c.args.root + 1) c.args.sets.now.entered c.set.new.self
           c.args.first (omega arith) (omega arith) c.set.ensures.marks begins before;
-      opens = λ w s place nulls ends begins before. sets_above c.args.expr.now.nodes w c.args.root s c.nodes-count.ensures.arena c.requires.root place (c.args.root + 1) c.args.next (omega arith);
+      opens = λ w s place nulls ends begins before. sets_above c.args.expr.now.nodes w c.args.root s c.requires.arena c.requires.root place (c.args.root + 1) c.args.next (omega arith);
     }
 
 pub mark_parts-more-requires-clause-null_inside : goal.mark_parts-more-requires-clause-null_inside
 mark_parts-more-requires-clause-null_inside c =
     let is : slice_get c.args.expr.now.nodes (c.loop-x.x - 1) ≡ Some c.look-node.result = cc in
-    parts_below _ c.nodes-count.ensures.arena _ _ is _ (omega arith)
+    parts_below _ c.requires.arena _ _ is _ (omega arith)
 
 pub mark_parts-more-requires-clause-ended_inside : goal.mark_parts-more-requires-clause-ended_inside
 mark_parts-more-requires-clause-ended_inside c =
     let is : slice_get c.args.expr.now.nodes (c.loop-x.x - 1) ≡ Some c.look-node.result = cc in
-    parts_below _ c.nodes-count.ensures.arena _ _ is _ (omega arith)
+    parts_below _ c.requires.arena _ _ is _ (omega arith)
 
 pub mark_parts-more-requires-clause-entered_inside : goal.mark_parts-more-requires-clause-entered_inside
 mark_parts-more-requires-clause-entered_inside c =
     let set_len : length c.set.new.self ≡ length c.args.sets.now.entered = rw c.set.ensures.marks (simp length-set) in
     let is : slice_get c.args.expr.now.nodes (c.loop-x.x - 1) ≡ Some c.look-node.result = cc in
-    parts_below _ c.nodes-count.ensures.arena _ _ is _ (omega arith)
+    parts_below _ c.requires.arena _ _ is _ (omega arith)
 
 pub loop-x-preserved : goal.loop-x-preserved
 loop-x-preserved c =
@@ -56,11 +56,11 @@ loop-x-preserved c =
       kept_ended = c.loop-x.invariant.kept_ended;
       grows = omega arith;
       cost = omega arith;
-      entered = λ w s place nulls ends begins before. descend_step nodes c.args.root c.nodes-count.ensures.arena w s place x c.loop-x.x node above (omega arith) c.requires.root is
+      entered = λ w s place nulls ends begins before. descend_step nodes c.args.root c.requires.arena w s place x c.loop-x.x node above (omega arith) c.requires.root is
           null ended c.loop-x.sets.entered c.mark_parts-more.new.entered (omega arith) value nulls ends (c.loop-x.invariant.entered w s place nulls ends begins before);
       opens = λ w s place nulls ends begins before.
           let le : x ≤ c.args.root = omega arith in
-          let told : Told nodes c.args.root c.loop-x.x x = subst (λ n. Told nodes c.args.root n x) (sym above) (Told-self nodes c.args.root c.nodes-count.ensures.arena c.requires.root x le) in
+          let told : Told nodes c.args.root c.loop-x.x x = subst (λ n. Told nodes c.args.root n x) (sym above) (Told-self nodes c.args.root c.requires.arena c.requires.root x le) in
           let mark = c.loop-x.invariant.entered w s place nulls ends begins before x (le, told) in
           sets_step nodes w c.args.root s place x c.loop-x.x c.args.next node above is c.loop-x.more c.mark_parts-more.result c.get-here.result c.mark_parts-more.ensures.opens
           (λ h. mark.0 (sym c.get-here.ensures.mark ∙ h), λ h. c.get-here.ensures.mark ∙ mark.1 h)
@@ -71,7 +71,7 @@ pub returns-clause-entered : goal.returns-clause-entered
 returns-clause-entered c w s place nulls ends begins before n below =
     let zero : c.loop-x.x ≡ 0 = omega arith in
     let le : n ≤ c.args.root = omega arith in
-    let told : Told c.args.expr.now.nodes c.args.root c.loop-x.x n = rw zero (Told-all c.args.expr.now.nodes c.args.root c.nodes-count.ensures.arena c.requires.root n le) in
+    let told : Told c.args.expr.now.nodes c.args.root c.loop-x.x n = rw zero (Told-all c.args.expr.now.nodes c.args.root c.requires.arena c.requires.root n le) in
     c.loop-x.invariant.entered w s place nulls ends begins before n (le, told)
 
 pub returns-clause-opens : goal.returns-clause-opens

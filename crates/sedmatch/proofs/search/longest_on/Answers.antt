@@ -54,8 +54,10 @@ returns-clause-longest c =
     subst (λ n. LongestBelow (tree c.args.expr.now) c.args.text.now c.args.start n c.loop-at.best) end c.loop-at.invariant.longest
 
 pub returns-clause-cost : goal.returns-clause-cost
-returns-clause-cost c = (omega arith,
-    let m = length c.args.expr.now.nodes in
-    let end : c.loop-at.at ≡ c.args.stop + 1 = omega arith in
-    let all : 20 * m * c.loop-at.at ≡ 20 * m * (c.args.stop + 1) = ap (λ v. 20 * m * v) end in
-    omega (arith, all, c.loop-at.invariant.cost))
+returns-clause-cost c = (
+  omega arith,
+  let m = length c.args.expr.now.nodes in
+      let end : c.loop-at.at ≡ c.args.stop + 1 = omega arith in
+      let all : 20 * m * c.loop-at.at ≡ 20 * m * (c.args.stop + 1) = ap (λ v. 20 * m * v) end in
+      omega (arith, all, c.loop-at.invariant.cost),
+)

@@ -1,6 +1,6 @@
-use Rattle.std.proofs.Common.{◌≡◌, ◌≤◌, ◌^◌, None, length, sym, subst, ap, arith}
+use Rattle.std.proofs.Common.{◌≡◌, None, length, sym, subst, arith}
 use Rattle.sedre.specs.Arena.{tree}
-use Rattle.sedmatch.proofs.SightLemmas.{sight_squares, sight_miss, sight_cost}
+use Rattle.sedmatch.proofs.SightLemmas.{sight_miss, sight_cost}
 use Rattle.sedmatch.specs.Answer.{IsComputed}
 use Rattle.sedmatch.proofs.MatchingLemmas.{found-iff, not_found-iff, report-iff}
 use Rattle.sedmatch.proofs.PartLemmas.{report_lies}

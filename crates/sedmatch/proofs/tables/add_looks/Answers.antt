@@ -1,4 +1,4 @@
-use Rattle.std.proofs.Common.{◌*◌, refl, arith}
+use Rattle.std.proofs.Common.{arith}
 use Rattle.sedmatch.proofs.StepLemmas.{counted_twice}
 use Rattle.sedmatch.proofs.tables.add_looks.Goals as goal
 

@@ -1,4 +1,4 @@
-use Rattle.std.proofs.Common.{◌≡◌, ◌+◌, ◌*◌, ◌≤◌}
+use Rattle.std.proofs.Common.{◌≡◌, ◌+◌, ◌≤◌}
 use Rattle.sedmatch.specs.Tables.{Stays}
 use Rattle.sedmatch.proofs.tables.stay_on.Given as goal
 

@@ -27,5 +27,7 @@ returns-clause-last c =
     subst (λ v. Repeated c.args.set.now c.args.text.now v c.args.to) end c.loop-place.invariant.copies
 
 pub returns-clause-cost : goal.returns-clause-cost
-returns-clause-cost c = (omega arith,
-    omega arith)
+returns-clause-cost c = (
+  omega arith,
+  omega arith,
+)

@@ -1,4 +1,4 @@
-use Rattle.std.proofs.Common.{◌≤◌, ◌^◌, length, subst, ap, arith}
+use Rattle.std.proofs.Common.{length, subst}
 use Rattle.sedmatch.specs.Caps.{IsReport}
 use Rattle.sedre.specs.Arena.{tree}
 use Rattle.sedmatch.proofs.MatchingLemmas.{report-iff}
