@@ -8,8 +8,8 @@ use Rattle.sedre.specs.declared.types.Node.{Node}
 use Rattle.sedmatch.specs.Words.{AgreeBelow, row_of}
 use Rattle.sedmatch.specs.Reach.{Marked, Below, Enters, Entered, TellBegun, TellEntered, SomeSpan}
 use Rattle.sedmatch.specs.Search.{starts_to}
-use Rattle.sedmatch.specs.Meet.{RowTells, RowsTell, EdgesTell, MarkTells, HasBehind, KeepsBehind, low_of}
-use Rattle.sedmatch.specs.declared.meet.Behind.{Behind}
+use Rattle.sedmatch.specs.Meet.{RowTells, RowsTell, EdgesTell, MarkTells, HasBackPass, KeepsBackPass, low_of}
+use Rattle.sedmatch.specs.declared.meet.BackPass.{BackPass}
 use Rattle.sedmatch.specs.declared.scratch.Sets.{Sets}
 use Rattle.sedmatch.specs.Fits.{FitsNodes, SameMarks}
 
@@ -64,7 +64,7 @@ module _ (nodes : List Node) (w : List ℕ) (r : ℕ) where
 pub behind_made : (text nodes : ℕ) (begins : List Bool) (edges rows : List (List Bool)) (sets : Sets) (width : ℕ) → length begins ≡ text + 1 →
     length edges ≡ text / width + 1 → ((q : ℕ) → q < text / width + 1 → length (row_of edges q) ≡ nodes) →
     length rows ≡ width → ((q : ℕ) → q < width → length (row_of rows q) ≡ nodes) → FitsNodes nodes sets → 0 < width → width ≤ 65536 →
-    HasBehind text nodes (record { begins = begins; edges = edges; rows = rows; sets = sets; width = width; block = 0 })
+    HasBackPass text nodes (record { begins = begins; edges = edges; rows = rows; sets = sets; width = width; block = 0 })
 behind_made text nodes begins edges rows sets width long many each_edge some each_row fits least narrow = record {
   places = omega arith;
   blocks = subst (λ v. text < width * v) (sym many) (lt-mul-div-succ text least);
@@ -77,9 +77,9 @@ behind_made text nodes begins edges rows sets width long many each_edge some eac
 }
 
 -- as many marks and rows as before are as much room as before
-pub behind_kept : (old new : Behind) → length new.begins ≡ length old.begins → length new.edges ≡ length old.edges →
+pub behind_kept : (old new : BackPass) → length new.begins ≡ length old.begins → length new.edges ≡ length old.edges →
     ((q : ℕ) → q < length old.edges → length (row_of new.edges q) ≡ length (row_of old.edges q)) → length new.rows ≡ length old.rows →
-    ((q : ℕ) → q < length old.rows → length (row_of new.rows q) ≡ length (row_of old.rows q)) → SameMarks old.sets new.sets → new.width ≡ old.width → KeepsBehind old new
+    ((q : ℕ) → q < length old.rows → length (row_of new.rows q) ≡ length (row_of old.rows q)) → SameMarks old.sets new.sets → new.width ≡ old.width → KeepsBackPass old new
 behind_kept old new begins edges each_edge rows each_row marks width text nodes has =
     let fits0 = has.fits.0 in
     let fits1 = has.fits.1 in
@@ -99,7 +99,7 @@ behind_kept old new begins edges each_edge rows each_row marks width text nodes 
     }
 
 -- the edge of a block is there
-pub edge_there : (text nodes block : ℕ) (b : Behind) → HasBehind text nodes b → b.width * block ≤ text → block < length b.edges
+pub edge_there : (text nodes block : ℕ) (b : BackPass) → HasBackPass text nodes b → b.width * block ≤ text → block < length b.edges
 edge_there text nodes block b has inside = lt_of_mul-lt-mul_left b.width (omega (arith, has.blocks))
 
 -- the edges of so many blocks, and of one more
@@ -129,23 +129,23 @@ cost_of k from to width s t cost low =
     omega (arith, grown)
 
 -- the same room with other edges, or other marks for the pass
-pub edges_kept : (b : Behind) (edges : List (List Bool)) → length edges ≡ length b.edges → ((q : ℕ) → q < length b.edges → length (row_of edges q) ≡ length (row_of b.edges q)) →
-    KeepsBehind b (record { begins = b.begins; edges = edges; rows = b.rows; sets = b.sets; width = b.width; block = b.block })
+pub edges_kept : (b : BackPass) (edges : List (List Bool)) → length edges ≡ length b.edges → ((q : ℕ) → q < length b.edges → length (row_of edges q) ≡ length (row_of b.edges q)) →
+    KeepsBackPass b (record { begins = b.begins; edges = edges; rows = b.rows; sets = b.sets; width = b.width; block = b.block })
 edges_kept b edges many each =
     behind_kept b (record { begins = b.begins; edges = edges; rows = b.rows; sets = b.sets; width = b.width; block = b.block }) refl many each refl (λ q lt. refl) (refl, refl, refl) refl
 
-pub sets_kept : (b : Behind) (entered : List Bool) → length entered ≡ length b.sets.entered →
-    KeepsBehind b (record { begins = b.begins; edges = b.edges; rows = b.rows; sets = record { null = b.sets.null; entered = entered; ended = b.sets.ended }; width = b.width; block = b.block })
+pub sets_kept : (b : BackPass) (entered : List Bool) → length entered ≡ length b.sets.entered →
+    KeepsBackPass b (record { begins = b.begins; edges = b.edges; rows = b.rows; sets = record { null = b.sets.null; entered = entered; ended = b.sets.ended }; width = b.width; block = b.block })
 sets_kept b entered same =
     behind_kept b (record { begins = b.begins; edges = b.edges; rows = b.rows; sets = record { null = b.sets.null; entered = entered; ended = b.sets.ended }; width = b.width; block = b.block })
     refl refl (λ q lt. refl) refl (λ q lt. refl) (refl, same, refl) refl
 
 -- where the block begins
-pub low_is : (b : Behind) (width block : ℕ) → b.width ≡ width → b.block ≡ block → low_of b ≡ width * block
+pub low_is : (b : BackPass) (width block : ℕ) → b.width ≡ width → b.block ≡ block → low_of b ≡ width * block
 low_is b width block same_width same_block = ap (λ v. v * b.block) same_width ∙ ap (λ v. width * v) same_block
 
 -- and where the next one does
-pub next_low : (b : Behind) (block : ℕ) → b.block ≡ block → low_of b + b.width ≡ b.width * (block + 1)
+pub next_low : (b : BackPass) (block : ℕ) → b.block ≡ block → low_of b + b.width ≡ b.width * (block + 1)
 next_low b block same =
     let e : b.width * b.block ≡ b.width * block = ap (λ v. b.width * v) same in
     omega (arith, e)
@@ -179,7 +179,7 @@ bring_cost m width block last place s t some before is cost =
     omega (arith, all, least)
 
 -- the edges of all blocks, where nothing changed
-pub edges_same : (nodes : List Node) (w : List ℕ) (r : ℕ) (old new : Behind) → new.width ≡ old.width → new.edges ≡ old.edges →
+pub edges_same : (nodes : List Node) (w : List ℕ) (r : ℕ) (old new : BackPass) → new.width ≡ old.width → new.edges ≡ old.edges →
     ((n : ℕ) → old.width * n ≤ length w → (r < length (row_of old.edges n)) × TellEntered nodes w r (starts_to 0 (length w)) (old.width * n) (row_of old.edges n)) →
     (n : ℕ) → new.width * n ≤ length w → (r < length (row_of new.edges n)) × TellEntered nodes w r (starts_to 0 (length w)) (new.width * n) (row_of new.edges n)
 edges_same nodes w r old new width edges tell n le =

@@ -170,8 +170,8 @@ module _ (e back : Written) (w bytes : List ℕ) (r : ℕ) (s t : Starts) (is_ba
       let on : b ≤ d = Spans-forward (tree_at back.nodes c.index) bytes b d last.1.2 in
       let k = length w - b in
       let end : k + b ≡ length w = omega arith in
-      let behind : At e.nodes w c.index q k = (At-mirror e back w bytes c.index q k d b is_back is_bytes sum end).1 last.1.2 in
-      (k, b, end, omega arith, close_at e.nodes w y (Seq a c) arena is p k (q, subst (λ v. At e.nodes w v p q) (sym begins) at, behind), last.1.1))
+      let back_pass : At e.nodes w c.index q k = (At-mirror e back w bytes c.index q k d b is_back is_bytes sum end).1 last.1.2 in
+      (k, b, end, omega arith, close_at e.nodes w y (Seq a c) arena is p k (q, subst (λ v. At e.nodes w v p q) (sym begins) at, back_pass), last.1.1))
       from
   widen_first y x (Alt a c) is begins p q d sum at from = (
     q,
@@ -262,10 +262,10 @@ module _ (e back : Written) (w bytes : List ℕ) (r : ℕ) (s t : Starts) (is_ba
   -- each match from one of the starts s ends, seen from the other end, at one of the starts t
   module _ (stops : (i k b : ℕ) → IsStart s i → At e.nodes w r i k → k + b ≡ length w → IsStart t b) where
     -- the marks of both passes on either side of the byte at j
-    module _ (j q : ℕ) (next : Option ℕ) (place : j + 1 + q ≡ length w) (is_byte : slice_get w j ≡ next) (front behind : List Bool)
-        (fronts : TellBegun e.nodes w r s j front) (behinds : TellBegun back.nodes bytes r t q behind) where
+    module _ (j q : ℕ) (next : Option ℕ) (place : j + 1 + q ≡ length w) (is_byte : slice_get w j ≡ next) (front back_pass : List Bool)
+        (fronts : TellBegun e.nodes w r s j front) (behinds : TellBegun back.nodes bytes r t q back_pass) where
       -- they meet where a match goes on, and nowhere else
-      pub meets_here : MeetsBelow e.nodes (r + 1) front behind next ↔ GoesOn e.nodes w r s j
+      pub meets_here : MeetsBelow e.nodes (r + 1) front back_pass next ↔ GoesOn e.nodes w r s j
       meets_here = (
         λ h.
             let low : h.0 < r + 1 = h.2 in
@@ -285,7 +285,7 @@ module _ (e back : Written) (w bytes : List ℕ) (r : ℕ) (s t : Starts) (is_ba
       )
 
       -- so a pass may stop where they do not
-      pub open_from_meeting : (more : Bool) → (MeetsBelow e.nodes (r + 1) front behind next → IsTrue more) → OpenAt e.nodes w r s j more
+      pub open_from_meeting : (more : Bool) → (MeetsBelow e.nodes (r + 1) front back_pass next → IsTrue more) → OpenAt e.nodes w r s j more
       open_from_meeting more tells i k start low high at = tells (meets_here.1 (i, k, start, low, high, at))
 
     -- a match begins at a start where the pass from the other end tells that one ends
@@ -429,8 +429,8 @@ best_all nodes w r start place (Some j) root over old = (
 -- a match from a place on that isn't the null string there ends after it
 pub lies_behind : (at n : ℕ) (r : Option (ℕ × ℕ)) → IfSome r (λ f. (at ≤ f.0) × (f.0 ≤ f.1) × (f.1 ≤ n)) → IfSome r (λ f. at ≤ f.0 → f.0 ≤ f.1 → at < f.1) →
     IfSome r (λ f. (at ≤ f.0) × (at < f.1) × (f.0 ≤ f.1) × (f.1 ≤ n))
-lies_behind at n None lies behind = lies
-lies_behind at n (Some f) lies behind = (lies.0, behind lies.0 lies.1, lies.1, lies.2)
+lies_behind at n None lies back_pass = lies
+lies_behind at n (Some f) lies back_pass = (lies.0, back_pass lies.0 lies.1, lies.1, lies.2)
 
 -- what is told of the null string at a place
 pub null_reaches : (at : ℕ) (P : ℕ → Type 0) (r : Option (ℕ × ℕ)) → r ≡ Some (at, at) → IfSome r (λ f. P f.1) → P at

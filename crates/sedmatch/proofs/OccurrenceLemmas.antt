@@ -10,7 +10,7 @@ use Rattle.sedmatch.specs.Matching.{found}
 use Rattle.sedmatch.proofs.MatchingLemmas.{found-iff}
 use Rattle.sedmatch.specs.declared.occurrences.Occurrences.{Occurrences}
 use Rattle.sedmatch.specs.Meet.{blocks_cost, end_to}
-use Rattle.sedmatch.specs.Occurrences.{EndsWithin, Keeps, LiesOn, Occurs, Serves, next_span, unless_null_at, owed_met, owed_apart, owed_together, owed_behind, owed_after}
+use Rattle.sedmatch.specs.Occurrences.{EndsWithin, Keeps, LiesOn, Occurs, Serves, next_span, unless_null_at, owed_met, owed_apart, owed_together, owed_from, owed_after}
 
 -- what is owed after an answer, where c is what the blocks may cost
 abbrev pub owed_end : ℕ → ℕ → ℕ → Option (ℕ × ℕ) → ℕ
@@ -39,7 +39,7 @@ owed_not_met m n q o is = ap (λ b. if b then owed_met m n q o else 128 * m * (n
 pub owed_is_met : (m n q : ℕ) (o : Occurrences) → IsTrue o.met → owed_together m n q o ≡ owed_met m n q o
 owed_is_met m n q o is = ap (λ b. if b then owed_met m n q o else 128 * m * (n + 1)) is
 
-pub behind_is_met : (m n q : ℕ) (o : Occurrences) → IsTrue o.met → owed_behind m n q o ≡ owed_met m n q o
+pub behind_is_met : (m n q : ℕ) (o : Occurrences) → IsTrue o.met → owed_from m n q o ≡ owed_met m n q o
 behind_is_met m n q o is = ap (λ b. if b then owed_met m n q o else owed_apart m n o.left) is
 
 -- while something is left
@@ -96,7 +96,7 @@ search_paid m n at b c s t (Some g) inside lies cost =
     let f : d + k + 1 ≡ n + 1 - at = omega arith in
     subst (λ v. t + (79 * m * d + c) ≤ s + (79 * m * v + b)) f (some_paid m at k d b c s t (subst (λ v. t + 25 * m * at + c ≤ s + 54 * m + 25 * m * v + b) (sym e) cost))
 
-pub after_is_met : (m n : ℕ) (r : Option (ℕ × ℕ)) (o : Occurrences) → IsTrue o.met → owed_after m n r o ≡ owed_end m n (blocks_cost m o.behind) r
+pub after_is_met : (m n : ℕ) (r : Option (ℕ × ℕ)) (o : Occurrences) → IsTrue o.met → owed_after m n r o ≡ owed_end m n (blocks_cost m o.back_pass) r
 after_is_met m n None o is = refl
 after_is_met m n (Some f) o is = behind_is_met m n f.1 o is
 

@@ -7,7 +7,7 @@ use Rattle.sedre.specs.Mirror.{seen}
 use Rattle.sedre.specs.declared.types.Node.{Node}
 use Rattle.sedre.specs.declared.types.Node.TheVariants.{Set}
 use Rattle.sedmatch.specs.declared.passes.Starts.{Starts}
-use Rattle.sedmatch.specs.declared.meet.Behind.{Behind}
+use Rattle.sedmatch.specs.declared.meet.BackPass.{BackPass}
 use Rattle.sedmatch.specs.declared.scratch.Sets.{Sets}
 use Rattle.sedmatch.specs.Fits.{Fits, FitsNodes, SameMarks}
 use Rattle.sedmatch.specs.Local.{takes}
@@ -22,8 +22,8 @@ IsRoot nodes root = IsArena nodes × (root + 1 ≡ length nodes)
 
 -- a node below n that takes the byte that comes is marked in both lists
 abbrev pub MeetsBelow : List Node → ℕ → List Bool → List Bool → Option ℕ → Type 0
-MeetsBelow nodes n front behind next =
-    (c : ℕ) × (set : List Bool) × (c < n) × (slice_get nodes c ≡ Some (Set set)) × IsTrue (slice_index_or front c false) × IsTrue (slice_index_or behind c false) × IsTrue (takes next set)
+MeetsBelow nodes n front back_pass next =
+    (c : ℕ) × (set : List Bool) × (c < n) × (slice_get nodes c ≡ Some (Set set)) × IsTrue (slice_index_or front c false) × IsTrue (slice_index_or back_pass c false) × IsTrue (takes next set)
 
 -- a match of the node r from one of the starts up to the place ends after the place
 abbrev pub GoesOn : List Node → List ℕ → ℕ → Starts → ℕ → Type 0
@@ -62,47 +62,47 @@ abbrev pub PassTells : List Node → List ℕ → ℕ → ℕ → ℕ → List (
 PassTells nodes w r from to rows old new = RowsTell nodes w r from to rows × MarksGrow nodes w r from to old new
 
 -- a pass has reached the block: edges and marks tell of the blocks before it, and the marks of the pass tell of its first place
-abbrev pub CameTo : List Node → List ℕ → ℕ → ℕ → Behind → Type 0
+abbrev pub CameTo : List Node → List ℕ → ℕ → ℕ → BackPass → Type 0
 CameTo nodes w r block b =
     EdgesTell nodes w r b.width block b.edges × ((q : ℕ) → q < b.width * block → q ≤ length w → MarkTells nodes w r b.begins q) × (b.width * block ≤ length w → TellEntered nodes w r (starts_to 0 (length w)) (b.width * block) b.sets.entered)
 
 -- the first place of the block whose rows are kept
-abbrev pub low_of : Behind → ℕ
+abbrev pub low_of : BackPass → ℕ
 low_of b = b.width * b.block
 
 -- the rows that are kept tell of the places of the block
-abbrev pub BlockTells : List Node → List ℕ → ℕ → Behind → Type 0
+abbrev pub BlockTells : List Node → List ℕ → ℕ → BackPass → Type 0
 BlockTells nodes w r b = (q : ℕ) → low_of b ≤ q → q < low_of b + b.width → q ≤ length w → RowTells nodes w r q (row_of b.rows (q - low_of b))
 
 -- the place is one of the block
-abbrev pub HasPlace : ℕ → Behind → Type 0
+abbrev pub HasPlace : ℕ → BackPass → Type 0
 HasPlace place b = (low_of b ≤ place) × (place < low_of b + b.width)
 
 -- what is kept of a pass over the whole text, each place a start
-pub record HasKept (nodes : List Node) (w : List ℕ) (r : ℕ) (b : Behind) : Type 0 where
+pub record HasKept (nodes : List Node) (w : List ℕ) (r : ℕ) (b : BackPass) : Type 0 where
   pub begins : (q : ℕ) → q ≤ length w → MarkTells nodes w r b.begins q
   pub edges : (n : ℕ) → b.width * n ≤ length w → (r < length (row_of b.edges n)) × TellEntered nodes w r (starts_to 0 (length w)) (b.width * n) (row_of b.edges n)
   pub block : BlockTells nodes w r b
   pub inside : low_of b ≤ length w
 
 -- the same of the mirrored expression in the text read from its end
-abbrev pub IsKept : Written → List ℕ → ℕ → Behind → Type 0
+abbrev pub IsKept : Written → List ℕ → ℕ → BackPass → Type 0
 IsKept e w r b = HasKept (seen true e).nodes (reverse w) r b
 
 -- in a text of n bytes, the block has the place, counted from the beginning, or lies after it
-abbrev pub Reaches : ℕ → ℕ → Behind → Type 0
+abbrev pub Reaches : ℕ → ℕ → BackPass → Type 0
 Reaches n place b = n ≤ place + low_of b + b.width
 
 -- what is kept serves to search from the place on
-abbrev pub Served : Written → List ℕ → ℕ → ℕ → Behind → Type 0
+abbrev pub Served : Written → List ℕ → ℕ → ℕ → BackPass → Type 0
 Served e w r place b = IsKept e w r b × Reaches (length w) place b
 
 -- it is kept, and serves to search after the match found, if there is one
-abbrev pub ServedBehind : Written → List ℕ → ℕ → Option (ℕ × ℕ) → Behind → Type 0
-ServedBehind e w r found b = IsKept e w r b × IfSome found (λ f. Reaches (length w) f.1 b)
+abbrev pub ServedAfter : Written → List ℕ → ℕ → Option (ℕ × ℕ) → BackPass → Type 0
+ServedAfter e w r found b = IsKept e w r b × IfSome found (λ f. Reaches (length w) f.1 b)
 
 -- there is room for texts of so many bytes and expressions of so many nodes
-pub record HasBehind (text nodes : ℕ) (b : Behind) : Type 0 where
+pub record HasBackPass (text nodes : ℕ) (b : BackPass) : Type 0 where
   pub places : text < length b.begins
   pub blocks : text < b.width * length b.edges
   pub some : 0 < b.width
@@ -113,16 +113,16 @@ pub record HasBehind (text nodes : ℕ) (b : Behind) : Type 0 where
   pub fits : FitsNodes nodes b.sets
 
 -- there is as much room as before
-abbrev pub KeepsBehind : Behind → Behind → Type 0
-KeepsBehind old new = (text nodes : ℕ) → HasBehind text nodes old → HasBehind text nodes new
+abbrev pub KeepsBackPass : BackPass → BackPass → Type 0
+KeepsBackPass old new = (text nodes : ℕ) → HasBackPass text nodes old → HasBackPass text nodes new
 
 -- the rows that are kept are now for that block; there is as much room as before, and a block is as wide
-abbrev pub TurnsTo : ℕ → Behind → Behind → Type 0
-TurnsTo block old new = KeepsBehind old new × (new.width ≡ old.width) × (new.block ≡ block)
+abbrev pub TurnsTo : ℕ → BackPass → BackPass → Type 0
+TurnsTo block old new = KeepsBackPass old new × (new.width ≡ old.width) × (new.block ≡ block)
 
 -- there is room for m nodes and a text of n bytes, and neither is larger than it may be
-abbrev pub FitsBehind : ℕ → ℕ → Behind → Type 0
-FitsBehind m n b = HasBehind n m b × (m ≤ 65536) × (n ≤ 2 ^ 30)
+abbrev pub FitsBackPass : ℕ → ℕ → BackPass → Type 0
+FitsBackPass m n b = HasBackPass n m b × (m ≤ 65536) × (n ≤ 2 ^ 30)
 
 -- there are rows of marks up to r for the places from one up to another, and a mark for each place of a text of n bytes
 abbrev pub FitsRows : ℕ → ℕ → ℕ → ℕ → List (List Bool) → List Bool → Type 0
@@ -133,12 +133,12 @@ abbrev pub SameShape : List (List Bool) → List (List Bool) → List Bool → L
 SameShape old_rows new_rows old new = (length new_rows ≡ length old_rows) × ((q : ℕ) → q < length old_rows → length (row_of new_rows q) ≡ length (row_of old_rows q)) × (length new ≡ length old)
 
 -- there is room for both passes, over an expression of m nodes and a text of n bytes
-abbrev pub FitsPasses : ℕ → ℕ → Sets → Behind → Type 0
-FitsPasses m n s b = Fits m n s × HasBehind n m b
+abbrev pub FitsPasses : ℕ → ℕ → Sets → BackPass → Type 0
+FitsPasses m n s b = Fits m n s × HasBackPass n m b
 
 -- there is as much room for both passes as before
-abbrev pub KeepsPasses : Sets → Sets → Behind → Behind → Type 0
-KeepsPasses old_sets new_sets old new = SameMarks old_sets new_sets × KeepsBehind old new
+abbrev pub KeepsPasses : Sets → Sets → BackPass → BackPass → Type 0
+KeepsPasses old_sets new_sets old new = SameMarks old_sets new_sets × KeepsBackPass old new
 
 -- the end of the match, or the start where there is none
 abbrev pub met_to : ℕ → Option ℕ → ℕ
@@ -160,10 +160,10 @@ end_to n None = n
 end_to n (Some f) = f.1
 
 -- what the blocks before the one whose rows are kept cost at most, for m nodes
-abbrev pub blocks_cost : ℕ → Behind → ℕ
+abbrev pub blocks_cost : ℕ → BackPass → ℕ
 blocks_cost m b = 24 * m * low_of b
 
 -- The steps grew from s to t: by k at most, and 22 for each of m nodes and each place of the block, and by no more than k and 22 for each
 -- node and each place from the block's first one to the end of a text of n bytes.
-abbrev pub BlockTakes : ℕ → ℕ → Behind → ℕ → ℕ → ℕ → Type 0
+abbrev pub BlockTakes : ℕ → ℕ → BackPass → ℕ → ℕ → ℕ → Type 0
 BlockTakes m n b s t k = (s ≤ t) × (t ≤ s + k + 22 * m * b.width) × (t + 22 * m * low_of b ≤ s + k + 22 * m * (n + 1))

@@ -4,7 +4,7 @@ use Rattle.sedre.specs.Arena.{Written}
 use Rattle.sedre.specs.Tree.{Tree}
 use Rattle.sedmatch.specs.Spans.{Spans}
 use Rattle.sedmatch.specs.declared.occurrences.Occurrences.{Occurrences}
-use Rattle.sedmatch.specs.Meet.{HasBehind, Served, blocks_cost}
+use Rattle.sedmatch.specs.Meet.{HasBackPass, Served, blocks_cost}
 
 -- the match of the null string at a place is passed over for another one
 abbrev pub unless_null_at : ℕ → Option (ℕ × ℕ) → Option (ℕ × ℕ) → Option (ℕ × ℕ)
@@ -24,14 +24,14 @@ EndsWithin n None = Unit {0}
 EndsWithin n (Some q) = q ≤ n
 
 -- the span, if there is one, ends after the place, if there is one, and begins there or later
-abbrev pub LiesBehind : Option ℕ → Option (ℕ × ℕ) → Type 0
-LiesBehind last None = Unit {0}
-LiesBehind None (Some f) = Unit {0}
-LiesBehind (Some q) (Some f) = (q ≤ f.0) × (q + 1 ≤ f.1)
+abbrev pub LiesAfter : Option ℕ → Option (ℕ × ℕ) → Type 0
+LiesAfter last None = Unit {0}
+LiesAfter None (Some f) = Unit {0}
+LiesAfter (Some q) (Some f) = (q ≤ f.0) × (q + 1 ≤ f.1)
 
 -- the span lies in a text of n bytes, after the last occurrence
 abbrev pub LiesOn : ℕ → Option ℕ → ℕ × ℕ → Type 0
-LiesOn n last f = (f.0 ≤ f.1) × (f.1 ≤ n) × LiesBehind last (Some f)
+LiesOn n last f = (f.0 ≤ f.1) × (f.1 ≤ n) × LiesAfter last (Some f)
 
 -- the span is one that the expression matches, and lies in the text, after the last occurrence
 abbrev pub Occurs : Tree → List ℕ → Option ℕ → ℕ × ℕ → Type 0
@@ -39,7 +39,7 @@ Occurs e w last f = Spans e w f.0 f.1 × LiesOn (length w) last f
 
 -- there is room for texts of so many bytes and expressions of so many nodes
 abbrev pub RoomFor : ℕ → ℕ → Occurrences → Type 0
-RoomFor text nodes o = HasBehind text nodes o.behind
+RoomFor text nodes o = HasBackPass text nodes o.back_pass
 
 -- there is as much room as before
 abbrev pub KeepsRoom : Occurrences → Occurrences → Type 0
@@ -47,7 +47,7 @@ KeepsRoom old new = (text nodes : ℕ) → RoomFor text nodes old → RoomFor te
 
 -- where a pass from the end was made, what is kept is of this text and expression, and serves after the place
 abbrev pub Keeps : Written → List ℕ → ℕ → Occurrences → Type 0
-Keeps e w q o = IsTrue o.met → Served e w (length e.nodes - 1) q o.behind
+Keeps e w q o = IsTrue o.met → Served e w (length e.nodes - 1) q o.back_pass
 
 -- What is kept serves to search after an occurrence that ended at the place, if there is one. No pass from the end was made
 -- while some steps are left.
@@ -66,7 +66,7 @@ KeepsOn e w r old new = KeepsRoom old new × (new.left ≡ old.left) × IfSome r
 -- The steps that the searches may still take after an occurrence that ended at the place q, with m nodes in a text of n bytes:
 -- after the pass from the end; and before it, where so many are left, or none and the pass is due.
 abbrev pub owed_met : ℕ → ℕ → ℕ → Occurrences → ℕ
-owed_met m n q o = 79 * m * (n + 1 - q) + blocks_cost m o.behind
+owed_met m n q o = 79 * m * (n + 1 - q) + blocks_cost m o.back_pass
 
 abbrev pub owed_apart : ℕ → ℕ → ℕ → ℕ
 owed_apart m n left = if nat_eq left 0 then 128 * m * (n + 1) else left + 384 * m * (n + 1)
@@ -74,12 +74,12 @@ owed_apart m n left = if nat_eq left 0 then 128 * m * (n + 1) else left + 384 * 
 abbrev pub owed_together : ℕ → ℕ → ℕ → Occurrences → ℕ
 owed_together m n q o = if o.met then owed_met m n q o else 128 * m * (n + 1)
 
-abbrev pub owed_behind : ℕ → ℕ → ℕ → Occurrences → ℕ
-owed_behind m n q o = if o.met then owed_met m n q o else owed_apart m n o.left
+abbrev pub owed_from : ℕ → ℕ → ℕ → Occurrences → ℕ
+owed_from m n q o = if o.met then owed_met m n q o else owed_apart m n o.left
 
 abbrev pub owed : ℕ → ℕ → Option ℕ → Occurrences → ℕ
-owed m n None o = owed_behind m n 0 o
-owed m n (Some q) o = owed_behind m n q o
+owed m n None o = owed_from m n 0 o
+owed m n (Some q) o = owed_from m n q o
 
 -- the same after an answer: nothing where there is no occurrence
 abbrev pub owed_after : ℕ → ℕ → Option (ℕ × ℕ) → Occurrences → ℕ

@@ -23,11 +23,11 @@ ZerosWhere P zeros = (length zeros ≡ 32) × ((k : ℕ) → k < 32 → P k → 
 
 -- the two bytes stand in a lane of two vectors
 abbrev pub PairIn : Opening → List ℕ → List ℕ → ℕ → Type 0
-PairIn opening ahead behind k = (slice_index ahead k ≡ opening.first) × (slice_index behind k ≡ opening.second)
+PairIn opening ahead next k = (slice_index ahead k ≡ opening.first) × (slice_index next k ≡ opening.second)
 
 -- one of the first n openings does
 abbrev pub OpensIn : List Opening → ℕ → List ℕ → List ℕ → ℕ → Type 0
-OpensIn openings n ahead behind k = (m : ℕ) × (opening : Opening) × PairIn opening ahead behind k × (m < n) × (slice_get openings m ≡ Some opening)
+OpensIn openings n ahead next k = (m : ℕ) × (opening : Opening) × PairIn opening ahead next k × (m < n) × (slice_get openings m ≡ Some opening)
 
 -- the first bit from p on that is set, if there is one
 abbrev pub NextBit : ℕ → ℕ → Option ℕ → Type 0

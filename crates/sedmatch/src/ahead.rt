@@ -152,7 +152,7 @@ fn fails_early(expr: &Expr, index: usize, text: &Text, place: usize, steps: &mut
 
 /// What is left of the spans of the node at the index that begin at the place, after its first part. An alternative
 /// that fails early is left out.
-pub fn rest_behind(expr: &Expr, index: usize, text: &Text, place: usize, steps: &mut Steps) -> Rest
+pub fn rest_after(expr: &Expr, index: usize, text: &Text, place: usize, steps: &mut Steps) -> Rest
     requires inside { index < length expr.now.nodes }
     requires place { place ≤ length text.now }
     ensures goes { GoesOn expr.now.nodes text.now (At expr.now.nodes text.now index place) result }
@@ -192,7 +192,7 @@ pub fn lead_from(expr: &Expr, root: usize, text: &Text, place: usize, steps: &mu
     let mut index = root;
     let mut at = place;
     loop {
-        match rest_behind(expr, index, text, at, steps) {
+        match rest_after(expr, index, text, at, steps) {
             Rest::Part(part, from) => {
                 index = part;
                 at = from;

@@ -25,8 +25,8 @@ fn are_apart(bytes: &[u8], first: &Fixed, second: &Fixed, place: usize) -> bool
     ensures { IsTrue result → ApartIn first.now second.now bytes.now place (place + 32) }
 {
     let ahead = lanes_at(bytes, place + first.offset);
-    let behind = lanes_at(bytes, place + second.offset);
-    let both = first.few.zeros(ahead) | second.few.zeros(behind);
+    let next = lanes_at(bytes, place + second.offset);
+    let both = first.few.zeros(ahead) | second.few.zeros(next);
     both.simd_eq(u8x32::splat(0)).to_bitmask() == 0
 }
 

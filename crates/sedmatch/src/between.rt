@@ -135,7 +135,7 @@ pub fn between_of(
 }
 
 /// The place after the literal that stands at `start`.
-fn place_behind(head: &Finder, text: &Text, start: usize) -> usize
+fn place_after(head: &Finder, text: &Text, start: usize) -> usize
     requires stands { start + length head.now ≤ length text.now }
     ensures { result ≡ start + length head.now }
 {
@@ -198,15 +198,15 @@ fn first_parted(
 {
     let mut place = from;
     while let Some(start) = text.find_literal(head, place, steps) {
-        let behind = place_behind(head, text, start);
-        let stop = clear_end(outside, text, behind, steps);
-        if last_tail(tail, text, behind, stop, steps).is_some() {
+        let after = place_after(head, text, start);
+        let stop = clear_end(outside, text, after, steps);
+        if last_tail(tail, text, after, stop, steps).is_some() {
             return Some(start);
         }
         if stop >= text.len() {
             return None;
         }
-        place = stop + 1 - (behind - start);
+        place = stop + 1 - (after - start);
     }
     None
 }
@@ -264,9 +264,9 @@ fn parted_end(
     ensures end { PartedEnd (record { head = head.now; outside = outside.now; tail = tail.now }) text.now start result }
     ensures cost { Takes steps.old steps.new (25 * (length text.now + 1)) }
 {
-    let behind = place_behind(head, text, start);
-    let stop = clear_end(outside, text, behind, steps);
-    match last_tail(tail, text, behind, stop, steps) {
+    let after = place_after(head, text, start);
+    let stop = clear_end(outside, text, after, steps);
+    match last_tail(tail, text, after, stop, steps) {
         Some(last) => last + tail_len(tail),
         None => unreachable!(),
     }

@@ -12,7 +12,7 @@ ghost use Rattle.sedmatch.specs.FarAhead.{EndsFar, GoesFar, IsNearer, AllRepeat,
 ghost use Rattle.sedmatch.specs.FarAhead.{NoneBefore, far_of, further_of};
 ghost use Rattle.sedre.specs.Steps.{Takes};
 
-use crate::ahead::{Lead, Rest, rest_behind, rest_of_node, rest_of_seq};
+use crate::ahead::{Lead, Rest, rest_after, rest_of_node, rest_of_seq};
 use crate::beginnings::left_part;
 use crate::counted::Text;
 use sedre::{ByteSet, Expr, Node, Steps};
@@ -228,7 +228,7 @@ fn opt_end(
 }
 
 /// What is left of the spans of a concatenation, which stands at the index, after its first part.
-fn seq_behind(
+fn seq_after(
     expr: &Expr,
     index: usize,
     node: &Node,
@@ -260,7 +260,7 @@ fn seq_behind(
 }
 
 /// What is left of the spans of the node at the index that begin at the place, after its first part.
-fn far_behind(expr: &Expr, index: usize, text: &Text, place: usize, steps: &mut Steps) -> Further
+fn far_after(expr: &Expr, index: usize, text: &Text, place: usize, steps: &mut Steps) -> Further
     requires inside { index < length expr.now.nodes }
     requires place { place ≤ length text.now }
     ensures goes { GoesFar expr.now.nodes text.now (At expr.now.nodes text.now index place) result }
@@ -269,10 +269,10 @@ fn far_behind(expr: &Expr, index: usize, text: &Text, place: usize, steps: &mut 
 {
     let node = expr.look(expr.id(index), steps);
     match node {
-        Node::Seq(_, _) => seq_behind(expr, index, &node, text, place, steps),
+        Node::Seq(_, _) => seq_after(expr, index, &node, text, place, steps),
         Node::Star(_, _) => Further::End(star_end(expr, index, &node, text, place, steps)),
         Node::Opt(_, _) => Further::End(opt_end(expr, index, &node, text, place, steps)),
-        Node::Alt(_, _) => further_of(rest_behind(expr, index, text, place, steps)),
+        Node::Alt(_, _) => further_of(rest_after(expr, index, text, place, steps)),
         _ => further_of(rest_of_node(expr, index, &node, text, place, steps)),
     }
 }
@@ -297,7 +297,7 @@ pub fn far_from(expr: &Expr, root: usize, text: &Text, place: usize, steps: &mut
     let mut index = root;
     let mut at = place;
     loop {
-        match far_behind(expr, index, text, at, steps) {
+        match far_after(expr, index, text, at, steps) {
             Further::Part(part, from) => {
                 index = part;
                 at = from;

@@ -12,7 +12,7 @@ ghost use Rattle.sedmatch.specs.Fits.{Fits, SameMarks};
 ghost use Rattle.sedmatch.specs.Local.{takes_next};
 ghost use Rattle.sedmatch.specs.Words.{row_of};
 ghost use Rattle.sedmatch.specs.Reach.{Longest, TellBegun, TellEntered, one_start};
-ghost use Rattle.sedmatch.specs.Meet.{IsRoot, MeetsBelow, GoesOnFrom, CameTo, PassTells, MarksGrow, BlockTells, HasKept, IsKept, Served, ServedBehind, HasBehind, FitsBehind, FitsPasses, FitsRows, SameShape, KeepsBehind, KeepsPasses, HasPlace, TurnsTo, BlockTakes, low_of, met_to, begin_to, end_to, blocks_cost};
+ghost use Rattle.sedmatch.specs.Meet.{IsRoot, MeetsBelow, GoesOnFrom, CameTo, PassTells, MarksGrow, BlockTells, HasKept, IsKept, Served, ServedAfter, HasBackPass, FitsBackPass, FitsPasses, FitsRows, SameShape, KeepsBackPass, KeepsPasses, HasPlace, TurnsTo, BlockTakes, low_of, met_to, begin_to, end_to, blocks_cost};
 ghost use Rattle.sedmatch.specs.Occurrences.{next_span, unless_null_at};
 ghost use Rattle.sedmatch.specs.Search.{starts_to};
 ghost use Rattle.sedmatch.specs.Cuts.{LeastFrom};
@@ -29,7 +29,7 @@ use std::alloc::{AllocError, Global};
 
 /// What is kept of a pass from the text's end.
 #[derive(Drop)]
-pub struct Behind {
+pub struct BackPass {
     /// For each place, counted from the text's end, whether a match begins there.
     pub begins: Marks,
     /// For each block of places the marks with which the pass came to the first of them.
@@ -60,13 +60,13 @@ fn root_of(most: usize) -> usize
 }
 
 /// Room for texts of at most so many bytes and expressions of at most so many nodes.
-pub fn new_behind(alloc: Global, max_text: usize, max_nodes: usize) -> Result<Behind, AllocError>
+pub fn new_back_pass(alloc: Global, max_text: usize, max_nodes: usize) -> Result<BackPass, AllocError>
     requires text { max_text ≤ 2 ^ 30 }
     requires nodes { max_nodes ≤ 65536 }
-    ensures { IfOk result (λ b. HasBehind max_text max_nodes b) }
+    ensures { IfOk result (λ b. HasBackPass max_text max_nodes b) }
 {
     let width = root_of(max_text);
-    Ok(Behind {
+    Ok(BackPass {
         begins: Marks::new(alloc, max_text + 1)?,
         edges: Rows::new(alloc, max_text / width + 1, max_nodes)?,
         rows: Rows::new(alloc, width, max_nodes)?,
@@ -135,35 +135,35 @@ fn make_block(
     bytes: &Bytes,
     root: usize,
     block: usize,
-    behind: &mut Behind,
+    back_pass: &mut BackPass,
     steps: &mut Steps,
 )
     requires root { root + 1 ≡ length nodes.now.nodes }
-    requires fits { FitsBehind (length nodes.now.nodes) (length bytes.now) behind.old }
-    requires inside { behind.old.width * block ≤ length bytes.now }
-    requires entered { TellEntered nodes.now.nodes bytes.now root (starts_to 0 (length bytes.now)) (behind.old.width * block) behind.old.sets.entered }
-    ensures turns { TurnsTo block behind.old behind.new }
-    ensures edges { behind.new.edges ≡ behind.old.edges }
-    ensures rows { BlockTells nodes.now.nodes bytes.now root behind.new }
-    ensures begins { MarksGrow nodes.now.nodes bytes.now root (low_of behind.new) (low_of behind.new + behind.new.width) behind.old.begins behind.new.begins }
-    ensures entered { low_of behind.new + behind.new.width ≤ length bytes.now →
-        TellEntered nodes.now.nodes bytes.now root (starts_to 0 (length bytes.now)) (low_of behind.new + behind.new.width) behind.new.sets.entered }
-    ensures cost { BlockTakes (length nodes.now.nodes) (length bytes.now) behind.new steps.old steps.new 0 }
+    requires fits { FitsBackPass (length nodes.now.nodes) (length bytes.now) back_pass.old }
+    requires inside { back_pass.old.width * block ≤ length bytes.now }
+    requires entered { TellEntered nodes.now.nodes bytes.now root (starts_to 0 (length bytes.now)) (back_pass.old.width * block) back_pass.old.sets.entered }
+    ensures turns { TurnsTo block back_pass.old back_pass.new }
+    ensures edges { back_pass.new.edges ≡ back_pass.old.edges }
+    ensures rows { BlockTells nodes.now.nodes bytes.now root back_pass.new }
+    ensures begins { MarksGrow nodes.now.nodes bytes.now root (low_of back_pass.new) (low_of back_pass.new + back_pass.new.width) back_pass.old.begins back_pass.new.begins }
+    ensures entered { low_of back_pass.new + back_pass.new.width ≤ length bytes.now →
+        TellEntered nodes.now.nodes bytes.now root (starts_to 0 (length bytes.now)) (low_of back_pass.new + back_pass.new.width) back_pass.new.sets.entered }
+    ensures cost { BlockTakes (length nodes.now.nodes) (length bytes.now) back_pass.new steps.old steps.new 0 }
 {
-    let from = behind.width * block;
-    let to = block_end(from, behind.width, bytes.len());
+    let from = back_pass.width * block;
+    let to = block_end(from, back_pass.width, bytes.len());
     pass_places(
         nodes,
         bytes,
         root,
         from,
         to,
-        &mut behind.rows,
-        &mut behind.begins,
-        &mut behind.sets,
+        &mut back_pass.rows,
+        &mut back_pass.begins,
+        &mut back_pass.sets,
         steps,
     );
-    behind.block = block;
+    back_pass.block = block;
 }
 
 /// The same of the next block of a pass over the whole text: keeps too with which marks the pass came to it.
@@ -172,58 +172,58 @@ fn keep_block(
     bytes: &Bytes,
     root: usize,
     block: usize,
-    behind: &mut Behind,
+    back_pass: &mut BackPass,
     steps: &mut Steps,
 )
     requires root { root + 1 ≡ length nodes.now.nodes }
-    requires fits { FitsBehind (length nodes.now.nodes) (length bytes.now) behind.old }
-    requires inside { behind.old.width * block ≤ length bytes.now }
-    requires came { CameTo nodes.now.nodes bytes.now root block behind.old }
-    ensures turns { TurnsTo block behind.old behind.new }
-    ensures came { CameTo nodes.now.nodes bytes.now root (block + 1) behind.new }
-    ensures rows { BlockTells nodes.now.nodes bytes.now root behind.new }
-    ensures cost { let m = length nodes.now.nodes in BlockTakes m (length bytes.now) behind.new steps.old steps.new m }
+    requires fits { FitsBackPass (length nodes.now.nodes) (length bytes.now) back_pass.old }
+    requires inside { back_pass.old.width * block ≤ length bytes.now }
+    requires came { CameTo nodes.now.nodes bytes.now root block back_pass.old }
+    ensures turns { TurnsTo block back_pass.old back_pass.new }
+    ensures came { CameTo nodes.now.nodes bytes.now root (block + 1) back_pass.new }
+    ensures rows { BlockTells nodes.now.nodes bytes.now root back_pass.new }
+    ensures cost { let m = length nodes.now.nodes in BlockTakes m (length bytes.now) back_pass.new steps.old steps.new m }
 {
-    behind
+    back_pass
         .edges
-        .store(block, &behind.sets.entered, root + 1, steps);
-    make_block(nodes, bytes, root, block, behind, steps);
+        .store(block, &back_pass.sets.entered, root + 1, steps);
+    make_block(nodes, bytes, root, block, back_pass, steps);
 }
 
 /// The pass over the whole text from its beginning: it ends with the rows of the last block.
-fn keep_blocks(nodes: &Nodes, bytes: &Bytes, root: usize, behind: &mut Behind, steps: &mut Steps)
+fn keep_blocks(nodes: &Nodes, bytes: &Bytes, root: usize, back_pass: &mut BackPass, steps: &mut Steps)
     requires root { root + 1 ≡ length nodes.now.nodes }
     requires few { length nodes.now.nodes ≤ 65536 }
     requires short { length bytes.now ≤ 2 ^ 30 }
-    requires fits { HasBehind (length bytes.now) (length nodes.now.nodes) behind.old }
-    ensures kept { KeepsBehind behind.old behind.new }
-    ensures all { HasKept nodes.now.nodes bytes.now root behind.new }
-    ensures last { length bytes.now < low_of behind.new + behind.new.width }
+    requires fits { HasBackPass (length bytes.now) (length nodes.now.nodes) back_pass.old }
+    ensures kept { KeepsBackPass back_pass.old back_pass.new }
+    ensures all { HasKept nodes.now.nodes bytes.now root back_pass.new }
+    ensures last { length bytes.now < low_of back_pass.new + back_pass.new.width }
     ensures cost { let m = length nodes.now.nodes in Takes steps.old steps.new (25 * m * (length bytes.now + 1)) }
 {
-    behind.sets.entered.clear(root + 1, steps);
-    let last = bytes.len() / behind.width;
+    back_pass.sets.entered.clear(root + 1, steps);
+    let last = bytes.len() / back_pass.width;
     for block in 0..last {
-        keep_block(nodes, bytes, root, block, behind, steps);
+        keep_block(nodes, bytes, root, block, back_pass, steps);
     }
-    keep_block(nodes, bytes, root, last, behind, steps);
+    keep_block(nodes, bytes, root, last, back_pass, steps);
 }
 
 /// The pass from the text's end over the mirrored expression.
-pub fn keep_behind(expr: &Expr, text: &Text, root: usize, behind: &mut Behind, steps: &mut Steps)
+pub fn keep_back_pass(expr: &Expr, text: &Text, root: usize, back_pass: &mut BackPass, steps: &mut Steps)
     requires root { root + 1 ≡ length expr.now.nodes }
     requires few { length expr.now.nodes ≤ 65536 }
     requires short { length text.now ≤ 2 ^ 30 }
-    requires fits { HasBehind (length text.now) (length expr.now.nodes) behind.old }
-    ensures kept { KeepsBehind behind.old behind.new }
-    ensures all { IsKept expr.now text.now root behind.new }
-    ensures reaches { length text.now < low_of behind.new + behind.new.width }
-    ensures inside { low_of behind.new ≤ length text.now }
+    requires fits { HasBackPass (length text.now) (length expr.now.nodes) back_pass.old }
+    ensures kept { KeepsBackPass back_pass.old back_pass.new }
+    ensures all { IsKept expr.now text.now root back_pass.new }
+    ensures reaches { length text.now < low_of back_pass.new + back_pass.new.width }
+    ensures inside { low_of back_pass.new ≤ length text.now }
     ensures cost { let m = length expr.now.nodes in Takes steps.old steps.new (25 * m * (length text.now + 1)) }
 {
     let nodes = Nodes::mirrored(expr);
     let bytes = text.backwards();
-    keep_blocks(&nodes, &bytes, root, behind, steps);
+    keep_blocks(&nodes, &bytes, root, back_pass, steps);
 }
 
 /// Makes the rows of a block again, from the marks with which the pass came to it.
@@ -232,21 +232,21 @@ fn remake(
     bytes: &Bytes,
     root: usize,
     block: usize,
-    behind: &mut Behind,
+    back_pass: &mut BackPass,
     steps: &mut Steps,
 )
     requires root { root + 1 ≡ length nodes.now.nodes }
-    requires fits { FitsBehind (length nodes.now.nodes) (length bytes.now) behind.old }
-    requires all { HasKept nodes.now.nodes bytes.now root behind.old }
-    requires inside { behind.old.width * block ≤ length bytes.now }
-    ensures turns { TurnsTo block behind.old behind.new }
-    ensures all { HasKept nodes.now.nodes bytes.now root behind.new }
-    ensures cost { let m = length nodes.now.nodes in Takes steps.old steps.new (m + 22 * m * behind.new.width) }
+    requires fits { FitsBackPass (length nodes.now.nodes) (length bytes.now) back_pass.old }
+    requires all { HasKept nodes.now.nodes bytes.now root back_pass.old }
+    requires inside { back_pass.old.width * block ≤ length bytes.now }
+    ensures turns { TurnsTo block back_pass.old back_pass.new }
+    ensures all { HasKept nodes.now.nodes bytes.now root back_pass.new }
+    ensures cost { let m = length nodes.now.nodes in Takes steps.old steps.new (m + 22 * m * back_pass.new.width) }
 {
-    behind
+    back_pass
         .edges
-        .load(block, &mut behind.sets.entered, root + 1, steps);
-    make_block(nodes, bytes, root, block, behind, steps);
+        .load(block, &mut back_pass.sets.entered, root + 1, steps);
+    make_block(nodes, bytes, root, block, back_pass, steps);
 }
 
 /// Sees that the rows are kept of the block that has the place, counted from the text's end.
@@ -255,27 +255,27 @@ fn bring(
     text: &Text,
     root: usize,
     place: usize,
-    behind: &mut Behind,
+    back_pass: &mut BackPass,
     steps: &mut Steps,
 )
     requires root { root + 1 ≡ length expr.now.nodes }
-    requires fits { FitsBehind (length expr.now.nodes) (length text.now) behind.old }
-    requires all { IsKept expr.now text.now root behind.old }
+    requires fits { FitsBackPass (length expr.now.nodes) (length text.now) back_pass.old }
+    requires all { IsKept expr.now text.now root back_pass.old }
     requires inside { place ≤ length text.now }
-    requires before { place < low_of behind.old + behind.old.width }
-    ensures kept { KeepsBehind behind.old behind.new }
-    ensures all { IsKept expr.now text.now root behind.new }
-    ensures here { HasPlace place behind.new }
+    requires before { place < low_of back_pass.old + back_pass.old.width }
+    ensures kept { KeepsBackPass back_pass.old back_pass.new }
+    ensures all { IsKept expr.now text.now root back_pass.new }
+    ensures here { HasPlace place back_pass.new }
     ensures cost { let m = length expr.now.nodes in
-        Pays steps.old steps.new (blocks_cost m behind.old) (blocks_cost m behind.new) }
+        Pays steps.old steps.new (blocks_cost m back_pass.old) (blocks_cost m back_pass.new) }
 {
-    if behind.width * behind.block <= place {
+    if back_pass.width * back_pass.block <= place {
         return;
     }
     let nodes = Nodes::mirrored(expr);
     let bytes = text.backwards();
-    let block = place / behind.width;
-    remake(&nodes, &bytes, root, block, behind, steps);
+    let block = place / back_pass.width;
+    remake(&nodes, &bytes, root, block, back_pass, steps);
 }
 
 /// Whether the node takes the byte, if there is one.
@@ -293,19 +293,19 @@ fn meets(
     expr: &Expr,
     root: usize,
     front: &Marks,
-    behind: &Marks,
+    back_pass: &Marks,
     next: Option<u8>,
     steps: &mut Steps,
 ) -> bool
     requires root { root < length expr.now.nodes }
     requires few { length expr.now.nodes ≤ 65536 }
     requires front_fits { root < length front.now }
-    requires behind_fits { root < length behind.now }
-    ensures meets { IsTrue result ↔ MeetsBelow expr.now.nodes (root + 1) front.now behind.now next }
+    requires back_fits { root < length back_pass.now }
+    ensures meets { IsTrue result ↔ MeetsBelow expr.now.nodes (root + 1) front.now back_pass.now next }
     ensures cost { Takes steps.old steps.new (3 * (root + 1)) }
 {
     for x in 0..root + 1 {
-        if front.get(x, steps) && behind.get(x, steps) {
+        if front.get(x, steps) && back_pass.get(x, steps) {
             let node = expr.look(expr.id(x), steps);
             if takes(&node, next) {
                 return true;
@@ -322,29 +322,29 @@ fn goes_on(
     text: &Text,
     start: usize,
     place: usize,
-    behind: &mut Behind,
+    back_pass: &mut BackPass,
     sets: &mut Sets,
     steps: &mut Steps,
 ) -> bool
     requires root { IsRoot expr.now.nodes root }
     requires place { (start ≤ place) × (place ≤ length text.now) }
-    requires fits { FitsPasses (length expr.now.nodes) (length text.now) sets.old behind.old }
-    requires served { Served expr.now text.now root place behind.old }
+    requires fits { FitsPasses (length expr.now.nodes) (length text.now) sets.old back_pass.old }
+    requires served { Served expr.now text.now root place back_pass.old }
     requires begun { TellBegun expr.now.nodes text.now root (one_start start) place sets.old.entered }
-    ensures kept { KeepsPasses sets.old sets.new behind.old behind.new }
+    ensures kept { KeepsPasses sets.old sets.new back_pass.old back_pass.new }
     ensures entered { sets.new.entered ≡ sets.old.entered }
-    ensures served { Served expr.now text.now root place behind.new }
+    ensures served { Served expr.now text.now root place back_pass.new }
     ensures goes { IsTrue result ↔ GoesOnFrom expr.now.nodes text.now root start place }
     ensures cost { let m = length expr.now.nodes in
-        Pays steps.old steps.new (blocks_cost m behind.old + 4 * m + 1) (blocks_cost m behind.new) }
+        Pays steps.old steps.new (blocks_cost m back_pass.old + 4 * m + 1) (blocks_cost m back_pass.new) }
 {
     if place >= text.len() {
         return false;
     }
     let back = text.len() - place - 1;
-    bring(expr, text, root, back, behind, steps);
-    let row = back - behind.width * behind.block;
-    behind.rows.load(row, &mut sets.ended, root + 1, steps);
+    bring(expr, text, root, back, back_pass, steps);
+    let row = back - back_pass.width * back_pass.block;
+    back_pass.rows.load(row, &mut sets.ended, root + 1, steps);
     let next = text.byte(place, steps);
     meets(expr, root, &sets.entered, &sets.ended, Some(next), steps)
 }
@@ -355,20 +355,20 @@ fn longest_met(
     root: usize,
     text: &Text,
     start: usize,
-    behind: &mut Behind,
+    back_pass: &mut BackPass,
     sets: &mut Sets,
     steps: &mut Steps,
 ) -> Option<usize>
     requires root { IsRoot expr.now.nodes root }
     requires start { start ≤ length text.now }
-    requires fits { FitsPasses (length expr.now.nodes) (length text.now) sets.old behind.old }
-    requires served { Served expr.now text.now root start behind.old }
-    ensures kept { KeepsPasses sets.old sets.new behind.old behind.new }
-    ensures served { Served expr.now text.now root (met_to start result) behind.new }
+    requires fits { FitsPasses (length expr.now.nodes) (length text.now) sets.old back_pass.old }
+    requires served { Served expr.now text.now root start back_pass.old }
+    ensures kept { KeepsPasses sets.old sets.new back_pass.old back_pass.new }
+    ensures served { Served expr.now text.now root (met_to start result) back_pass.new }
     ensures longest { Longest (tree expr.now) text.now start result }
     ensures lies { IfSome result (λ end. (start ≤ end) × (end ≤ length text.now)) }
     ensures cost { let m = length expr.now.nodes in
-        Pays steps.old steps.new (m + 25 * m * (met_to start result + 1) + blocks_cost m behind.old) (25 * m * start + blocks_cost m behind.new) }
+        Pays steps.old steps.new (m + 25 * m * (met_to start result + 1) + blocks_cost m back_pass.old) (25 * m * start + blocks_cost m back_pass.new) }
 {
     sets.entered.clear(root + 1, steps);
     let mut best = None;
@@ -377,7 +377,7 @@ fn longest_met(
         if here.matched {
             best = Some(place);
         }
-        if !goes_on(expr, root, text, start, place, behind, sets, steps) {
+        if !goes_on(expr, root, text, start, place, back_pass, sets, steps) {
             return best;
         }
     }
@@ -405,7 +405,7 @@ fn next_begin(text: &Text, begins: &Marks, from: usize, steps: &mut Steps) -> Op
 pub fn is_null_at(span: Option<(usize, usize)>, at: usize) -> bool
     ensures passed { (other : Option (ℕ × ℕ)) → unless_null_at at span other ≡ if result then other else span }
     ensures null { IsTrue result → span ≡ Some (at, at) }
-    ensures behind { result ≡ false → IfSome span (λ f. at ≤ f.0 → f.0 ≤ f.1 → at < f.1) }
+    ensures back_pass { result ≡ false → IfSome span (λ f. at ≤ f.0 → f.0 ≤ f.1 → at < f.1) }
 {
     match span {
         None => false,
@@ -420,57 +420,57 @@ fn next_met(
     root: usize,
     text: &Text,
     from: usize,
-    behind: &mut Behind,
+    back_pass: &mut BackPass,
     sets: &mut Sets,
     steps: &mut Steps,
 ) -> Option<(usize, usize)>
     requires root { IsRoot expr.now.nodes root }
     requires from { from ≤ length text.now }
-    requires fits { FitsPasses (length expr.now.nodes) (length text.now) sets.old behind.old }
-    requires served { Served expr.now text.now root from behind.old }
-    ensures kept { KeepsPasses sets.old sets.new behind.old behind.new }
-    ensures served { ServedBehind expr.now text.now root result behind.new }
+    requires fits { FitsPasses (length expr.now.nodes) (length text.now) sets.old back_pass.old }
+    requires served { Served expr.now text.now root from back_pass.old }
+    ensures kept { KeepsPasses sets.old sets.new back_pass.old back_pass.new }
+    ensures served { ServedAfter expr.now text.now root result back_pass.new }
     ensures next { result ≡ found (tree expr.now) text.now from }
     ensures lies { IfSome result (λ f. (from ≤ f.0) × (f.0 ≤ f.1) × (f.1 ≤ length text.now)) }
     ensures cost { let m = length expr.now.nodes in
-        Pays steps.old steps.new (27 * m + 25 * m * end_to (length text.now) result + blocks_cost m behind.old) (25 * m * from + blocks_cost m behind.new) }
+        Pays steps.old steps.new (27 * m + 25 * m * end_to (length text.now) result + blocks_cost m back_pass.old) (25 * m * from + blocks_cost m back_pass.new) }
 {
-    let Some(start) = next_begin(text, &behind.begins, from, steps) else {
+    let Some(start) = next_begin(text, &back_pass.begins, from, steps) else {
         return None;
     };
-    match longest_met(expr, root, text, start, behind, sets, steps) {
+    match longest_met(expr, root, text, start, back_pass, sets, steps) {
         None => unreachable!(),
         Some(end) => Some((start, end)),
     }
 }
 
 /// The next occurrence after one that ended at `at`: the null string at `at` is none.
-pub fn next_behind(
+pub fn next_after(
     expr: &Expr,
     root: usize,
     text: &Text,
     at: usize,
-    behind: &mut Behind,
+    back_pass: &mut BackPass,
     sets: &mut Sets,
     steps: &mut Steps,
 ) -> Option<(usize, usize)>
     requires root { IsRoot expr.now.nodes root }
     requires at { at ≤ length text.now }
-    requires fits { FitsPasses (length expr.now.nodes) (length text.now) sets.old behind.old }
-    requires served { Served expr.now text.now root at behind.old }
-    ensures kept { KeepsPasses sets.old sets.new behind.old behind.new }
-    ensures served { IfSome result (λ f. Served expr.now text.now root f.1 behind.new) }
+    requires fits { FitsPasses (length expr.now.nodes) (length text.now) sets.old back_pass.old }
+    requires served { Served expr.now text.now root at back_pass.old }
+    ensures kept { KeepsPasses sets.old sets.new back_pass.old back_pass.new }
+    ensures served { IfSome result (λ f. Served expr.now text.now root f.1 back_pass.new) }
     ensures next { result ≡ next_span (found (tree expr.now) text.now) (length text.now) (Some at) }
     ensures lies { IfSome result (λ f. (at ≤ f.0) × (at < f.1) × (f.0 ≤ f.1) × (f.1 ≤ length text.now)) }
     ensures cost { let m = length expr.now.nodes in
-        Pays steps.old steps.new (54 * m + 25 * m * end_to (length text.now) result + blocks_cost m behind.old) (25 * m * at + blocks_cost m behind.new) }
+        Pays steps.old steps.new (54 * m + 25 * m * end_to (length text.now) result + blocks_cost m back_pass.old) (25 * m * at + blocks_cost m back_pass.new) }
 {
-    let first = next_met(expr, root, text, at, behind, sets, steps);
+    let first = next_met(expr, root, text, at, back_pass, sets, steps);
     if !is_null_at(first, at) {
         return first;
     }
     if at >= text.len() {
         return None;
     }
-    next_met(expr, root, text, at + 1, behind, sets, steps)
+    next_met(expr, root, text, at + 1, back_pass, sets, steps)
 }

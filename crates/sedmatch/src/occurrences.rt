@@ -2,7 +2,7 @@
 ghost use Rattle.std.specs.Prelude.{◌≡◌, ℕ, false, ◌+◌, ◌*◌, ◌^◌, ◌<◌, ◌≤◌, length, nat_lt, if◌then◌else◌, None, Some, IfOk, IfSome, IsTrue};
 ghost use Rattle.sedre.specs.Arena.{Written, tree};
 ghost use Rattle.sedmatch.specs.Matching.{found, report};
-ghost use Rattle.sedmatch.specs.Meet.{FitsBehind, KeepsBehind, Served};
+ghost use Rattle.sedmatch.specs.Meet.{FitsBackPass, KeepsBackPass, Served};
 ghost use Rattle.sedmatch.specs.Occurrences.{EndsWithin, Keeps, KeepsOn, KeepsRoom, LiesOn, Occurs, RoomFor, Serves, ServesOn};
 ghost use Rattle.sedmatch.specs.Occurrences.{next_span, owed, owed_after, owed_apart, owed_met, owed_together};
 ghost use Rattle.sedmatch.specs.Parts.{SpanIn, span_of};
@@ -13,7 +13,7 @@ ghost use Rattle.sedre.specs.Steps.{Takes};
 
 use crate::counted::Text;
 use crate::groups::report;
-use crate::meet::{Behind, is_null_at, keep_behind, new_behind, next_behind};
+use crate::meet::{BackPass, is_null_at, keep_back_pass, new_back_pass, next_after};
 use crate::quick::TableMatcher;
 use crate::scratch::Scratch;
 use sedre::{Expr, Steps};
@@ -31,7 +31,7 @@ use std::alloc::{AllocError, Global};
 /// many rows of a bit for each node.
 #[derive(Drop)]
 pub struct Occurrences {
-    behind: Behind,
+    back_pass: BackPass,
     /// How many steps the searches in this text may still take before a pass from its end is made.
     left: usize,
     /// Whether a pass from the text's end was made.
@@ -59,7 +59,7 @@ impl Occurrences {
         ensures { IfOk result (λ o. RoomFor max_text max_nodes o) }
     {
         Ok(Occurrences {
-            behind: new_behind(alloc, max_text, max_nodes)?,
+            back_pass: new_back_pass(alloc, max_text, max_nodes)?,
             left: 0,
             met: false,
         })
@@ -90,18 +90,18 @@ fn see_met(
 )
     requires root { root + 1 ≡ length expr.now.nodes }
     requires at { at ≤ length text.now }
-    requires fits { FitsBehind (length expr.now.nodes) (length text.now) occurrences.old.behind }
-    requires serves { IsTrue occurrences.old.met → Served expr.now text.now root at occurrences.old.behind }
-    ensures kept { KeepsBehind occurrences.old.behind occurrences.new.behind }
+    requires fits { FitsBackPass (length expr.now.nodes) (length text.now) occurrences.old.back_pass }
+    requires serves { IsTrue occurrences.old.met → Served expr.now text.now root at occurrences.old.back_pass }
+    ensures kept { KeepsBackPass occurrences.old.back_pass occurrences.new.back_pass }
     ensures met { IsTrue occurrences.new.met × (occurrences.new.left ≡ occurrences.old.left) }
-    ensures served { Served expr.now text.now root at occurrences.new.behind }
+    ensures served { Served expr.now text.now root at occurrences.new.back_pass }
     ensures cost { let m = length expr.now.nodes in let n = length text.now in
         Pays steps.old steps.new (owed_together m n at occurrences.old) (owed_met m n at occurrences.new) }
 {
     if occurrences.met {
         return;
     }
-    keep_behind(expr, text, root, &mut occurrences.behind, steps);
+    keep_back_pass(expr, text, root, &mut occurrences.back_pass, steps);
     occurrences.met = true;
 }
 
@@ -182,7 +182,7 @@ impl TableMatcher {
         requires left { (occurrences.old.met ≡ false) × (0 < occurrences.old.left) }
         ensures same { self.new ≡ self.old }
         ensures scratch { scratch.new ≡ scratch.old }
-        ensures kept { (occurrences.new.met ≡ false) × (occurrences.new.behind ≡ occurrences.old.behind) }
+        ensures kept { (occurrences.new.met ≡ false) × (occurrences.new.back_pass ≡ occurrences.old.back_pass) }
         ensures next { result ≡ next_span (found (tree self.old) text.now) (length text.now) last }
         ensures lies { IfSome result (LiesOn (length text.now) last) }
         ensures cost { let m = length self.old.nodes in let n = length text.now in
@@ -220,12 +220,12 @@ impl TableMatcher {
     {
         scratch.bounds();
         see_met(&self.expr, self.root, text, at, occurrences, steps);
-        next_behind(
+        next_after(
             &self.expr,
             self.root,
             text,
             at,
-            &mut occurrences.behind,
+            &mut occurrences.back_pass,
             &mut scratch.sets,
             steps,
         )

@@ -42,10 +42,10 @@ pub fn openings_of(
 
 /// Lanes of which those are 0 in which the two bytes stand.
 #[inline(always)]
-fn pair_zeros(opening: Opening, ahead: u8x32, behind: u8x32) -> u8x32
-    ensures { ZerosWhere (PairIn opening ahead behind) result }
+fn pair_zeros(opening: Opening, ahead: u8x32, next: u8x32) -> u8x32
+    ensures { ZerosWhere (PairIn opening ahead next) result }
 {
-    byte_zeros(opening.first, ahead) | byte_zeros(opening.second, behind)
+    byte_zeros(opening.first, ahead) | byte_zeros(opening.second, next)
 }
 
 /// The opening at a place of the list.
@@ -59,13 +59,13 @@ fn opening_at(openings: &[Opening], x: usize) -> Opening
 
 /// Lanes of which those are 0 in which one of the openings stands.
 #[inline(always)]
-fn opening_zeros(openings: &[Opening], ahead: u8x32, behind: u8x32) -> u8x32
-    ensures { ZerosWhere (OpensIn openings.now (length openings.now) ahead behind) result }
+fn opening_zeros(openings: &[Opening], ahead: u8x32, next: u8x32) -> u8x32
+    ensures { ZerosWhere (OpensIn openings.now (length openings.now) ahead next) result }
 {
     let mut zeros = u8x32::splat(255);
     for x in 0..openings.len() {
         let opening = opening_at(openings, x);
-        zeros = zeros.simd_min(pair_zeros(opening, ahead, behind));
+        zeros = zeros.simd_min(pair_zeros(opening, ahead, next));
     }
     zeros
 }
@@ -78,8 +78,8 @@ fn opened(openings: &[Opening], bytes: &[u8], at: usize) -> u64
     ensures bits { (k : ℕ) → k < 32 → OpensAt openings.now bytes.now (at + k) → bit_at result k ≡ 1 }
 {
     let ahead = lanes_at(bytes, at);
-    let behind = lanes_at(bytes, at + 1);
-    let zeros = opening_zeros(openings, ahead, behind);
+    let next = lanes_at(bytes, at + 1);
+    let zeros = opening_zeros(openings, ahead, next);
     zeros.simd_eq(u8x32::splat(0)).to_bitmask()
 }
 

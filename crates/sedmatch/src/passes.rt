@@ -69,10 +69,10 @@ fn marks_here(
         Node::Begin => (begin, false),
         Node::End => (end, false),
         Node::Seq(a, b) => {
-            let null_behind = null.get(b.index(), steps);
+            let null_after = null.get(b.index(), steps);
             (
-                null_behind && null.get(a.index(), steps),
-                ended.get(b.index(), steps) || (null_behind && ended.get(a.index(), steps)),
+                null_after && null.get(a.index(), steps),
+                ended.get(b.index(), steps) || (null_after && ended.get(a.index(), steps)),
             )
         }
         Node::Alt(a, b) => (

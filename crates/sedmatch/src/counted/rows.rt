@@ -120,7 +120,7 @@ fn copy_words(words: &mut Vec<u64>, to: usize, other: &Vec<u64>, from: usize, co
     ensures len { length words.new.items ≡ length words.old.items }
     ensures same { (k : ℕ) → k < count → slice_index_or words.new.items (to + k) 0 ≡ slice_index_or other.now.items (from + k) 0 }
     ensures before { (k : ℕ) → k < to → slice_index_or words.new.items k 0 ≡ slice_index_or words.old.items k 0 }
-    ensures behind { (k : ℕ) → to + count ≤ k → slice_index_or words.new.items k 0 ≡ slice_index_or words.old.items k 0 }
+    ensures rest { (k : ℕ) → to + count ≤ k → slice_index_or words.new.items k 0 ≡ slice_index_or words.old.items k 0 }
 {
     for x in 0..count {
         words[to + x] = other[from + x];

@@ -21,10 +21,10 @@ returns-clause-goes c =
     let w = c.args.text.now in
     let root = c.args.root in
     let q = c.len-2.result - c.args.place - 1 in
-    let behind = c.bring.new.behind in
+    let back_pass = c.bring.new.back_pass in
     let sum : c.args.place + 1 + q ≡ length w = omega arith in
     let row = c.bring.ensures.all.block q c.bring.ensures.here.0 c.bring.ensures.here.1 (omega (arith, length-reverse w)) in
     let told : TellBegun (seen true e).nodes (reverse w) root (starts_to 0 (length (reverse w))) q c.load.new.marks =
-    same_told (root + 1) (row_of behind.rows (q - low_of behind)) c.load.new.marks (λ x. Enters (seen true e).nodes (reverse w) root (starts_to 0 (length (reverse w))) x q) c.load.ensures.same row.1 in
+    same_told (root + 1) (row_of back_pass.rows (q - low_of back_pass)) c.load.new.marks (λ x. Enters (seen true e).nodes (reverse w) root (starts_to 0 (length (reverse w))) x q) c.load.ensures.same row.1 in
     goes_met e w root c.args.start c.args.place q c.byte-next.result c.args.sets.now.entered c.load.new.marks c.meets.result
     c.requires.root.0 (omega (arith, c.requires.root.1)) c.requires.place.0 sum c.byte-next.ensures.byte c.requires.begun told c.meets.ensures.meets

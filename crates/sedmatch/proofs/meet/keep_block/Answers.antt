@@ -9,7 +9,7 @@ use Rattle.sedmatch.proofs.meet.keep_block.Goals as goal
 
 pub returns-clause-turns : goal.returns-clause-turns
 returns-clause-turns c = (
-  λ text nodes has. c.make_block.ensures.turns.0 text nodes (edges_kept c.args.behind.now c.store.new.self c.store.ensures.len c.store.ensures.lens text nodes has),
+  λ text nodes has. c.make_block.ensures.turns.0 text nodes (edges_kept c.args.back_pass.now c.store.new.self c.store.ensures.len c.store.ensures.lens text nodes has),
   c.make_block.ensures.turns.1,
   c.make_block.ensures.turns.2,
 )
@@ -20,8 +20,8 @@ returns-clause-came c =
     let w = c.args.bytes.now in
     let root = c.args.root in
     let block = c.args.block in
-    let old = c.args.behind.now in
-    let new = c.make_block.new.behind in
+    let old = c.args.back_pass.now in
+    let new = c.make_block.new.back_pass in
     let there : block < length old.edges = edge_there (length w) (length nodes) block old c.requires.fits.0 c.requires.inside in
     let wide : root + 1 ≤ length (row_of c.store.new.self block) = omega (arith, c.store.ensures.lens block there, c.requires.fits.0.edges_fit block there) in
     let edges : EdgesTell nodes w root new.width (block + 1) new.edges =

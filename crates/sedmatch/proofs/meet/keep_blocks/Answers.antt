@@ -11,11 +11,11 @@ loop-block-preserved c =
     let root = c.args.root in
     let block = c.loop-block.block in
     let inv = c.loop-block.invariant in
-    let new = c.keep_block.new.behind in
-    let width : new.width ≡ c.args.behind.now.width = c.keep_block.ensures.turns.1 ∙ inv.width in
+    let new = c.keep_block.new.back_pass in
+    let width : new.width ≡ c.args.back_pass.now.width = c.keep_block.ensures.turns.1 ∙ inv.width in
     let high : new.width * (block + 1) ≤ length w =
     subst (λ v. v * (block + 1) ≤ length w) (sym width)
-    (next_inside c.args.behind.now.width block (length w) (subst (λ v. block < v / c.args.behind.now.width) c.len.ensures (omega arith))) in
+    (next_inside c.args.back_pass.now.width block (length w) (subst (λ v. block < v / c.args.back_pass.now.width) c.len.ensures (omega arith))) in
     record {
       has = c.keep_block.ensures.turns.0 (length w) (length nodes) inv.has;
       kept = λ t n h. c.keep_block.ensures.turns.0 t n (inv.kept t n h);
@@ -30,13 +30,13 @@ loop-block-preserved c =
 
 pub returns-clause-kept : goal.returns-clause-kept
 returns-clause-kept c text nodes has =
-    c.keep_block-2.ensures.turns.0 text nodes (c.loop-block.invariant.kept text nodes (sets_kept c.args.behind.now c.clear.new.self c.clear.ensures.len text nodes has))
+    c.keep_block-2.ensures.turns.0 text nodes (c.loop-block.invariant.kept text nodes (sets_kept c.args.back_pass.now c.clear.new.self c.clear.ensures.len text nodes has))
 
 pub returns-clause-all : goal.returns-clause-all
 returns-clause-all c =
     let w = c.args.bytes.now in
-    let new = c.keep_block-2.new.behind in
-    let old = c.args.behind.now.width in
+    let new = c.keep_block-2.new.back_pass in
+    let old = c.args.back_pass.now.width in
     let width : new.width ≡ old = c.keep_block-2.ensures.turns.1 ∙ c.loop-block.invariant.width in
     let last : c.len.result / old ≡ length w / old = ap (λ v. v / old) c.len.ensures in
     let block : new.block ≡ length w / old = c.keep_block-2.ensures.turns.2 ∙ last in

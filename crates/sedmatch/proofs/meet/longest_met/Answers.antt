@@ -71,7 +71,7 @@ returns-then-not-goes_on-clause-cost c =
           let from = met_from start (length c.args.text.now) c.loop-place.best c.loop-place.invariant.lies in
           subst (λ b. place ≤ met_to start b) (sym w.best-is) (omega arith)
     ]) in
-    let paid = met_cost m start place (met_to start c.if-here.best) (blocks_cost m c.goes_on.new.behind) (blocks_cost m c.args.behind.now) c.args.steps.now c.goes_on.new.steps (omega arith) end in
+    let paid = met_cost m start place (met_to start c.if-here.best) (blocks_cost m c.goes_on.new.back_pass) (blocks_cost m c.args.back_pass.now) c.args.steps.now c.goes_on.new.steps (omega arith) end in
     (omega arith, omega (arith, paid))
 
 pub loop-place-preserved : goal.loop-place-preserved

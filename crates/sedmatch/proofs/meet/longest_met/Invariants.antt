@@ -2,18 +2,18 @@ use Rattle.std.proofs.Common.{◌≡◌, ℕ, ◌+◌, ◌*◌, ◌≤◌, IfSom
 use Rattle.sedre.specs.Arena.{tree}
 use Rattle.sedmatch.specs.Fits.{SameMarks}
 use Rattle.sedmatch.specs.Reach.{Marked, Below, one_start, Entered, LongestBelow}
-use Rattle.sedmatch.specs.Meet.{GoesOnFrom, HasBehind, KeepsBehind, IsKept, Reaches, blocks_cost}
+use Rattle.sedmatch.specs.Meet.{GoesOnFrom, HasBackPass, KeepsBackPass, IsKept, Reaches, blocks_cost}
 use Rattle.sedmatch.proofs.meet.longest_met.Given as goal
 
 abbrev pub invariant-loop-place : goal.invariant-loop-place
 invariant-loop-place l = record {
   marks : SameMarks l.initial.sets l.sets;
-  has : HasBehind (length l.text) (length l.expr.nodes) l.behind;
-  kept : KeepsBehind l.initial.behind l.behind;
-  all : IsKept l.expr l.text l.root l.behind;
-  reaches : Reaches (length l.text) l.place l.behind;
+  has : HasBackPass (length l.text) (length l.expr.nodes) l.back_pass;
+  kept : KeepsBackPass l.initial.back_pass l.back_pass;
+  all : IsKept l.expr l.text l.root l.back_pass;
+  reaches : Reaches (length l.text) l.place l.back_pass;
   grows : l.initial.steps ≤ l.steps;
-  cost : l.steps + 25 * length l.expr.nodes * l.start + blocks_cost (length l.expr.nodes) l.behind ≤ l.initial.steps + 25 * length l.expr.nodes * l.place + blocks_cost (length l.expr.nodes) l.initial.behind;
+  cost : l.steps + 25 * length l.expr.nodes * l.start + blocks_cost (length l.expr.nodes) l.back_pass ≤ l.initial.steps + 25 * length l.expr.nodes * l.place + blocks_cost (length l.expr.nodes) l.initial.back_pass;
   entered : Marked l.sets.entered (Below (l.root + 1)) (λ c. Entered l.expr.nodes l.text l.root (one_start l.start) c l.place);
   longest : LongestBelow (tree l.expr) l.text l.start l.place l.best;
   lies : IfSome l.best (λ end. (l.start ≤ end) × (end ≤ length l.text));

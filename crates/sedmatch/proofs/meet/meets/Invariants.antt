@@ -6,5 +6,5 @@ abbrev pub invariant-loop-x : goal.invariant-loop-x
 invariant-loop-x l = record {
   grows : l.initial.steps ≤ l.steps;
   cost : l.steps ≤ l.initial.steps + 3 * l.x;
-  missed : MeetsBelow l.expr.nodes l.x l.front l.behind l.next → ⊥;
+  missed : MeetsBelow l.expr.nodes l.x l.front l.back_pass l.next → ⊥;
 }

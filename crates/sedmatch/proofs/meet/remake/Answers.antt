@@ -5,15 +5,15 @@ use Rattle.sedmatch.proofs.meet.remake.Goals as goal
 
 pub returns-clause-turns : goal.returns-clause-turns
 returns-clause-turns c = (
-  λ text nodes has. c.make_block.ensures.turns.0 text nodes (sets_kept c.args.behind.now c.load.new.marks c.load.ensures.len text nodes has),
+  λ text nodes has. c.make_block.ensures.turns.0 text nodes (sets_kept c.args.back_pass.now c.load.new.marks c.load.ensures.len text nodes has),
   c.make_block.ensures.turns.1,
   c.make_block.ensures.turns.2,
 )
 
 pub returns-clause-all : goal.returns-clause-all
 returns-clause-all c =
-    let old = c.args.behind.now in
-    let new = c.make_block.new.behind in
+    let old = c.args.back_pass.now in
+    let new = c.make_block.new.back_pass in
     let low : low_of new ≡ old.width * c.args.block = low_is new old.width c.args.block c.make_block.ensures.turns.1 c.make_block.ensures.turns.2 in
     record {
       begins = λ q le. c.make_block.ensures.begins.1 q (c.requires.all.begins q le);

@@ -11,6 +11,6 @@ loop-x-preserved c =
     let a = c.loop-x.zeros in
     let b = c.pair_zeros.result in
     record {
-      zeros = subst (λ tops. ZerosWhere (OpensIn openings (c.loop-x.x + 1) c.args.ahead c.args.behind) (sel_l tops a b)) (sym (tops_compared w8 ltb a b))
-          (more_zeros openings c.loop-x.x c.opening_at-opening.result c.args.ahead c.args.behind a b c.opening_at-opening.ensures.opening c.loop-x.invariant.zeros c.pair_zeros.ensures);
+      zeros = subst (λ tops. ZerosWhere (OpensIn openings (c.loop-x.x + 1) c.args.ahead c.args.next) (sel_l tops a b)) (sym (tops_compared w8 ltb a b))
+          (more_zeros openings c.loop-x.x c.opening_at-opening.result c.args.ahead c.args.next a b c.opening_at-opening.ensures.opening c.loop-x.invariant.zeros c.pair_zeros.ensures);
     }

@@ -3,5 +3,5 @@ use Rattle.sedmatch.proofs.openings.opening_zeros.Given as goal
 
 abbrev pub invariant-loop-x : goal.invariant-loop-x
 invariant-loop-x l = record {
-  zeros : ZerosWhere (OpensIn l.openings l.x l.ahead l.behind) l.zeros;
+  zeros : ZerosWhere (OpensIn l.openings l.x l.ahead l.next) l.zeros;
 }

@@ -1,20 +1,20 @@
 use Rattle.std.proofs.Common.{◌+◌, ◌≤◌, length, sym, subst, arith, rules}
 use Rattle.sedmatch.specs.declared.occurrences.Occurrences.{Occurrences}
-use Rattle.sedmatch.specs.Meet.{HasBehind, blocks_cost}
+use Rattle.sedmatch.specs.Meet.{HasBackPass, blocks_cost}
 use Rattle.sedmatch.specs.Occurrences.{owed_after, owed_together}
 use Rattle.sedmatch.proofs.OccurrenceLemmas.{search_paid, after_is_met}
 use Rattle.sedmatch.proofs.quick.TableMatcher.next_together.Goals as goal
 
-pub next_behind-requires-clause-fits : goal.next_behind-requires-clause-fits
-next_behind-requires-clause-fits c = (
+pub next_after-requires-clause-fits : goal.next_after-requires-clause-fits
+next_after-requires-clause-fits c = (
   search rules,
-  subst (λ v. HasBehind (length c.args.text.now) (length v.nodes) c.see_met.new.occurrences.behind) (sym c.self.view_is)
+  subst (λ v. HasBackPass (length c.args.text.now) (length v.nodes) c.see_met.new.occurrences.back_pass) (sym c.self.view_is)
       (c.see_met.ensures.kept (length c.args.text.now) (length c.args.self.now.nodes) c.requires.room_fits),
 )
 
 pub returns-clause-keeps : goal.returns-clause-keeps
 returns-clause-keeps c = (
-  (λ text nodes has. c.next_behind.ensures.kept.1 text nodes (c.see_met.ensures.kept text nodes has)),
+  (λ text nodes has. c.next_after.ensures.kept.1 text nodes (c.see_met.ensures.kept text nodes has)),
   search rules,
   search rules,
 )
@@ -24,9 +24,9 @@ returns-clause-cost c =
     let m = length c.self.inside.expr.nodes in
     let n = length c.args.text.now in
     let met = c.see_met.new.occurrences in
-    let new : Occurrences = record { behind = c.next_behind.new.behind; left = met.left; met = met.met } in
-    let paid = search_paid m n c.args.at (blocks_cost m met.behind) (blocks_cost m new.behind) c.see_met.new.steps c.next_behind.new.steps c.next_behind.result c.requires.at c.next_behind.ensures.lies (omega arith) in
+    let new : Occurrences = record { back_pass = c.next_after.new.back_pass; left = met.left; met = met.met } in
+    let paid = search_paid m n c.args.at (blocks_cost m met.back_pass) (blocks_cost m new.back_pass) c.see_met.new.steps c.next_after.new.steps c.next_after.result c.requires.at c.next_after.ensures.lies (omega arith) in
     let before = c.see_met.ensures.cost.1 in
-    let both : c.next_behind.new.steps + owed_after m n c.next_behind.result new ≤ c.args.steps.now + owed_together m n c.args.at c.args.occurrences.now =
-    subst (λ v. c.next_behind.new.steps + v ≤ c.args.steps.now + owed_together m n c.args.at c.args.occurrences.now) (sym (after_is_met m n c.next_behind.result new c.see_met.ensures.met.0)) (omega (arith, paid, before)) in
-    (omega (arith, c.see_met.ensures.cost.0), subst (λ e. c.next_behind.new.steps + owed_after (length e.nodes) n c.next_behind.result new ≤ c.args.steps.now + owed_together (length e.nodes) n c.args.at c.args.occurrences.now) c.self.view_is both)
+    let both : c.next_after.new.steps + owed_after m n c.next_after.result new ≤ c.args.steps.now + owed_together m n c.args.at c.args.occurrences.now =
+    subst (λ v. c.next_after.new.steps + v ≤ c.args.steps.now + owed_together m n c.args.at c.args.occurrences.now) (sym (after_is_met m n c.next_after.result new c.see_met.ensures.met.0)) (omega (arith, paid, before)) in
+    (omega (arith, c.see_met.ensures.cost.0), subst (λ e. c.next_after.new.steps + owed_after (length e.nodes) n c.next_after.result new ≤ c.args.steps.now + owed_together (length e.nodes) n c.args.at c.args.occurrences.now) c.self.view_is both)

@@ -58,6 +58,6 @@ returns-clause-other c q lt apart =
     rows_of-get after width marks c.self.inside.count q (omega (arith, few, lt))
     ∙ row_kept words after width marks q wide
     (λ x low.
-    ⊎_elim (c.copy_words.ensures.before (width * q + x)) (c.copy_words.ensures.behind (width * q + x))
+    ⊎_elim (c.copy_words.ensures.before (width * q + x)) (c.copy_words.ensures.rest (width * q + x))
     (row_apart width q row x c.div_ceil.result low most apart))
     ∙ row_seen c.self.inside.words.items c.self.inside.width c.self.inside.marks c.self.inside.count c.args.self.now c.self.view_is c.self.invariant.0 c.self.invariant.1 q lt

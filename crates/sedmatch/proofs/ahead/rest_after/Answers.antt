@@ -3,7 +3,7 @@ use Rattle.std.specs.Prelude.{slice_get}
 use Rattle.sedre.specs.declared.types.Node.TheVariants.{Alt}
 use Rattle.sedmatch.specs.Reach.{At}
 use Rattle.sedmatch.proofs.AheadLemmas.{second_left, alternatives_before}
-use Rattle.sedmatch.proofs.ahead.rest_behind.Goals as goal
+use Rattle.sedmatch.proofs.ahead.rest_after.Goals as goal
 
 pub fails_early-requires-clause-inside : goal.fails_early-requires-clause-inside
 fails_early-requires-clause-inside c =

@@ -1,7 +1,7 @@
 use Rattle.std.proofs.Common.{◌+◌, ◌∙◌, length, false, ap}
 use Rattle.std.proofs.lemmas.List.{length-replicate}
 use Rattle.sedmatch.proofs.BlockLemmas.{behind_made}
-use Rattle.sedmatch.proofs.meet.new_behind.Goals as goal
+use Rattle.sedmatch.proofs.meet.new_back_pass.Goals as goal
 
 pub returns : goal.returns
 returns c =

@@ -5,7 +5,7 @@ use Rattle.sedmatch.specs.Reach.{At}
 use Rattle.sedmatch.specs.FarAhead.{AllRepeat, NoneBefore}
 use Rattle.sedmatch.proofs.AheadLemmas.{first_before, second_before}
 use Rattle.sedmatch.proofs.FarLemmas.{behind_run}
-use Rattle.sedmatch.proofs.far_ahead.seq_behind.Goals as goal
+use Rattle.sedmatch.proofs.far_ahead.seq_after.Goals as goal
 
 pub look-first-requires : goal.look-first-requires
 look-first-requires c =

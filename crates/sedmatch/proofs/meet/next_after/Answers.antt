@@ -1,11 +1,11 @@
 use Rattle.std.proofs.Common.{length, arith}
 use Rattle.sedmatch.specs.Meet.{Reaches, blocks_cost, end_to}
 use Rattle.sedmatch.proofs.MeetLemmas.{lies_behind, null_reaches, twice_cost}
-use Rattle.sedmatch.proofs.meet.next_behind.Goals as goal
+use Rattle.sedmatch.proofs.meet.next_after.Goals as goal
 
 pub returns-then-not-is_null_at-clause-lies : goal.returns-then-not-is_null_at-clause-lies
 returns-then-not-is_null_at-clause-lies c =
-    lies_behind c.args.at (length c.args.text.now) c.next_met-first.result c.next_met-first.ensures.lies (c.is_null_at.ensures.behind c.if-not-is_null_at.true)
+    lies_behind c.args.at (length c.args.text.now) c.next_met-first.result c.next_met-first.ensures.lies (c.is_null_at.ensures.back_pass c.if-not-is_null_at.true)
 
 pub next_met-requires-clause-fits : goal.next_met-requires-clause-fits
 next_met-requires-clause-fits c = (
@@ -15,7 +15,7 @@ next_met-requires-clause-fits c = (
 
 pub next_met-requires-clause-served : goal.next_met-requires-clause-served
 next_met-requires-clause-served c =
-    let here = null_reaches c.args.at (λ v. Reaches (length c.args.text.now) v c.next_met-first.new.behind) c.next_met-first.result (c.is_null_at.ensures.null c.if-not-is_null_at.false) c.next_met-first.ensures.served.1 in
+    let here = null_reaches c.args.at (λ v. Reaches (length c.args.text.now) v c.next_met-first.new.back_pass) c.next_met-first.result (c.is_null_at.ensures.null c.if-not-is_null_at.false) c.next_met-first.ensures.served.1 in
     (c.next_met-first.ensures.served.0, omega (arith, here))
 
 pub returns-clause-kept : goal.returns-clause-kept
@@ -28,6 +28,6 @@ pub returns-clause-cost : goal.returns-clause-cost
 returns-clause-cost c =
     let m = length c.args.expr.now.nodes in
     let n = length c.args.text.now in
-    let paid = twice_cost m n c.args.at (end_to n c.next_met.result) (blocks_cost m c.args.behind.now) (blocks_cost m c.next_met-first.new.behind) (blocks_cost m c.next_met.new.behind)
+    let paid = twice_cost m n c.args.at (end_to n c.next_met.result) (blocks_cost m c.args.back_pass.now) (blocks_cost m c.next_met-first.new.back_pass) (blocks_cost m c.next_met.new.back_pass)
     c.args.steps.now c.next_met-first.new.steps c.next_met.new.steps c.next_met-first.result (c.is_null_at.ensures.null c.if-not-is_null_at.false) (omega arith) (omega (arith, c.next_met.ensures.cost.1)) in
     (omega arith, omega (arith, paid))
