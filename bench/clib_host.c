@@ -38,7 +38,7 @@ struct one_case {
 struct answer {
     int32_t status;
     struct sed_report report;
-    uint8_t *output; /* room bytes and a guard behind them */
+    uint8_t *output; /* room bytes and a guard after them */
 };
 
 /* What the library asks for memory, where it is counted: only while one thread runs. */

@@ -54,7 +54,7 @@ struct sed_limits {
     size_t queue;   /* entries of a and r that wait for the end of a cycle, 0 to 2^24 */
     size_t look;    /* bytes of the input that are taken at once, 1 to 2^30; 4096 is plenty */
     size_t nodes;   /* nodes of one regular expression written out, 1 to 65536 */
-    uint64_t turns; /* turns of a run: starts of cycles, and commands come to */
+    uint64_t turns; /* turns of a run: starts of cycles, and commands reached */
 };
 
 /*

@@ -1,16 +1,14 @@
 -- From the end of an edit to the status of the program.
-use Rattle.std.proofs.Common.{◌≡◌, ◌∙◌, ◌+◌, ◌<◌, ◌∷◌, ◌++◌, ℕ, Bool, true, false, List, [], Option, Result, Ok, Err, take, map, length, get_or, refl, sym, ap, arith}
+use Rattle.std.proofs.Common.{◌≡◌, ◌∙◌, ◌+◌, ◌<◌, ◌∷◌, ◌++◌, ℕ, Bool, true, false, List, [], Option, Result, Ok, take, map, length, get_or, refl, sym, ap, arith}
 use Rattle.std.proofs.lemmas.List.{map_more, take-map, take_all}
 use Rattle.clap.specs.Words.{Text, kind_of, takes}
 use Rattle.clap.specs.declared.error.Error.{Error}
 use Rattle.clap.specs.declared.error.kind.ErrorKind.TheVariants.{DisplayHelp}
 use Rattle.sedspace.specs.Failures.{Rose}
-use Rattle.sedengine.specs.Calls.{Puts}
-use Rattle.sedengine.specs.Devices.{FailedSink, Gained}
+use Rattle.sedengine.specs.Devices.{Gained}
 use Rattle.sedengine.specs.Move.{to_sink}
 use Rattle.sedengine.specs.declared.ends.Ended.{Ended}
 use Rattle.sedengine.specs.declared.ends.Ended.TheVariants.{InputBroken, OutputBroken}
-use Rattle.sedengine.proofs.Gains.{take-to_sink}
 use Rattle.sededit.specs.CommandLine.{IsRefusal, sed_command}
 use Rattle.sededit.specs.Program.{AsksHelp, HasFailed}
 use Rattle.sededit.specs.Sinks.{Creates, CreatesFirst}
@@ -23,11 +21,6 @@ pub next_name : {X : Type 0} (f : X → List ℕ) (xs : List X) (names : List (L
 next_name f xs names i x are inside at =
     let more : take (i + 1) names ≡ take i names ++ f (get_or xs i x) ∷ [] = rw (← are, take-map f (i + 1) xs, take-map f i xs) (map_more f xs i x inside) in
     more ∙ ap (λ z. take i names ++ f z ∷ []) (sym at)
-
--- what was written of a text before its sink failed is a beginning of it
-pub begun : (old new : ℕ → Option (List ℕ)) (text : List ℕ) (end : Ended) →
-    Puts (Gained old new) (to_sink 0 text) (Err end) → (count : ℕ) × Gained old new (to_sink 0 (take count text))
-begun old new text end (k, b, byte, is, due, gained) = (b, rw (sym (take-to_sink 0 b text)) gained)
 
 -- all of it is one too
 pub begun_whole : (old new : ℕ → Option (List ℕ)) (text : List ℕ) →
@@ -45,10 +38,6 @@ pub has_failed : {E : Type 0} (source_old source_new : ℕ) (sinks_old sinks_new
 has_failed source_old source_new sinks_old sinks_new r InputBroken is input failed = input is
 has_failed source_old source_new sinks_old sinks_new r (OutputBroken k) is input failed = failed k is
 has_failed source_old source_new sinks_old sinks_new r _ is input failed = tt
-
--- so has the standard output where a write ended by its failure
-pub output_failed : (old new : ℕ → ℕ) (end : Ended) → end ≡ OutputBroken 0 → FailedSink old new (Err end) → Rose (old 0) (new 0)
-output_failed old new end is h = rw is at h
 
 not_true : (b : Bool) → (b ≡ true → ⊥) → b ≡ false
 not_true true h = absurd (h refl)

@@ -14,25 +14,25 @@ pub struct Line {
     pub quiet: bool,
     /// Whether `-E` was given, which chooses extended expressions.
     pub extended: bool,
-    /// The parts of the script, in the order of the words; none where no script was given.
+    /// The parts of the script, in the order of the words. There are none where no script was given.
     pub parts: Vec<Part>,
-    /// The names of the input files, `-` for the standard input; where there are none, the standard input is read.
+    /// The names of the input files, where `-` is the standard input. Where there are none, the standard input is read.
     pub operands: Vec<String>,
 }
 
 /// A part of a script.
 #[derive(Debug, Drop)]
 pub enum Part {
-    /// Its text: a word of `-e`, or the first operand where there is neither `-e` nor `-f`.
+    /// The text of the part: a word of `-e`, or the first operand where there is neither `-e` nor `-f`.
     Script(String),
-    /// The name of the file that holds it, a word of `-f`.
+    /// The name of the file that holds the part: a word of `-f`.
     File(String),
 }
 
-/// Why the words ask for nothing that can be done.
+/// Why a command line isn't run.
 #[derive(Debug, Drop)]
 pub enum Refused {
-    /// What `clap` has to say: its help, where that was asked for, or what is wrong.
+    /// What `clap` answers: the help, where that was asked for, or what is wrong with the words.
     Words(clap::Error),
     /// A request for memory was refused.
     NoMemory,

@@ -17,7 +17,7 @@ use std::convert::AsStr;
 /// Reads the words of a command line, those after the program's name.
 ///
 /// # Errors
-/// What `clap` has to say where it doesn't take the words, or asks for help; or want of memory.
+/// What `clap` answers where the words are wrong or ask for help; or that a request for memory was refused.
 pub fn line<S: AsStr>(alloc: Global, words: &[S]) -> Result<Line, Refused>
     // The line is what `clap` makes of the words.
     ensures line { IfOk result (IsLine (matches_of sed_command (map S.text words.now))) }

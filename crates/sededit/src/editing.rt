@@ -14,13 +14,14 @@ use sedscript::{Kind, NO_MEMORY, Script, ScriptFault};
 use sedspace::{ByteSource, Lines, Outputs, Room, Texts};
 use std::alloc::{AllocError, Global};
 
-/// Reads a script: the commands that a text means (XCU sed, "Extended Description").
+/// Reads the script that a text means (XCU sed, "Extended Description").
 ///
-/// `kind` chooses basic or extended expressions, and `nodes` is the most nodes of one written out, 1 to 65,536. The crate
-/// `own_limits` is an example.
+/// `kind` chooses basic or extended expressions, and `nodes` is the most nodes that one may have, with what it repeats
+/// written out, 1 to 65,536. The crate `own_limits` is an example.
 ///
 /// # Errors
-/// The first fault of the text with its place, a byte counted from 0; or `NO_MEMORY`.
+/// The first fault of the text, with the place of its byte, counted from 0; or `NO_MEMORY` where a request for memory was
+/// refused.
 pub fn script(alloc: Global, text: &[u8], kind: Kind, nodes: usize) -> Result<Script, ScriptFault>
     requires nodes { (1 ≤ nodes) × (nodes ≤ 65536) }
     // What is answered is what the text means.
@@ -33,14 +34,14 @@ pub fn script(alloc: Global, text: &[u8], kind: Kind, nodes: usize) -> Result<Sc
     sedscript::read(alloc, text, kind, nodes)
 }
 
-/// Runs a script over the source's bytes, from the start of a run to its end. Sink 0 is the standard output, sink 1 the
-/// first of the script's `wfiles` and so on; text 0 is the first of its `rfiles`.
+/// Runs a script over the source's bytes, to the end of the run, and answers how it ended. Sink 0 is the standard output,
+/// sink 1 the first of the script's `wfiles` and so on; text 0 is the first of its `rfiles`.
 ///
-/// What the engine holds and what each sink gains stays within the limits, whatever the input; what was written stands
-/// at every end. The crate `own_limits` is an example.
+/// Whatever the input, what the engine holds and what each sink gains stay within the limits. What was written is never
+/// taken back, however the run ends. The crate `own_limits` is an example.
 ///
 /// # Errors
-/// `AllocError` where a request for memory was refused, before anything is read or written.
+/// `AllocError` where a request for memory was refused. Nothing was read or written then.
 pub fn edit<R: ByteSource, O: Outputs, T: Texts>(
     alloc: Global,
     script: Script,

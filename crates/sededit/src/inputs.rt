@@ -10,10 +10,10 @@ ghost use Rattle.sededit.specs.Opening.{CountsRefusal, Opens, KeepsFiles, GivesW
 use sedspace::Broken;
 use std::alloc::{AllocError, Global};
 
-/// Files by name, of which one is current. They may tell their bytes to contracts or not: where they don't, clauses on
-/// them claim nothing. The name `-` is the standard input, and a second opening of it goes on where the first ended.
+/// Files by name, of which one at a time is current. They may let contracts see their bytes; of files that don't, clauses
+/// on bytes claim nothing. The name `-` is the standard input; opened again, it goes on where it was left.
 pub trait Inputs {
-    /// What the current file has still to give, where it tells.
+    /// The bytes of the current file that are still to be read, where contracts may see them.
     ghost current: { Self → Option (List ℕ) };
 
     /// What the files of these names, as bytes of UTF-8, will give, opened one after another from now on and each read
@@ -23,22 +23,22 @@ pub trait Inputs {
     /// What reading the file of this name as a whole will give; None where it can't be read.
     ghost text: { Self → List ℕ → Option (Option (List ℕ)) };
 
-    /// How often a read failed, up to 2^64 - 1, where the number stays.
+    /// How often a read failed. The count stops at 2^64 - 1.
     ghost failures: { Self → ℕ };
 
-    /// How often a file couldn't be opened, up to 2^64 - 1, where the number stays.
+    /// How often a file couldn't be opened. The count stops at 2^64 - 1.
     ghost refusals: { Self → ℕ };
 
     /// What no call changes: the references that it holds, the outermost first, by which their lenders learn what became
     /// of them.
     ghost reference: { Self → List GName };
 
-    /// How often a file couldn't be opened, up to 2^64 - 1, where the number stays.
+    /// How often a file couldn't be opened. The count stops at 2^64 - 1.
     fn refused(&self) -> u64
         ensures { result ≡ refusals self.now };
 
-    /// Makes the file of this name the current one, and says whether it could be opened: one that couldn't gives
-    /// nothing. What wasn't read of the file before it is no longer given.
+    /// Makes the file of this name the current one, and answers whether it could be opened: a file that couldn't gives
+    /// nothing. What wasn't read of the file before it can't be read any more.
     fn open(&mut self, name: &str) -> bool
         ensures opens { (names : List (List ℕ)) → Opens (ahead self.old (name.now ∷ names)) result
             (current self.new) (ahead self.new names) }
@@ -46,9 +46,9 @@ pub trait Inputs {
         ensures failed { failures self.new ≡ failures self.old }
         ensures same_reference { reference self.new ≡ reference self.old };
 
-    /// Places the next bytes of the current file at the buffer's front, and says how many, in pieces of any size. 0
-    /// for a buffer that isn't empty is the file's end. An `Err` gives none and raises the number of failures by one;
-    /// nothing else raises it.
+    /// Reads the next bytes of the current file into the front of the buffer, and answers how many, which may be fewer
+    /// than there is room for. 0, for a buffer that isn't empty, means the end of the file. An `Err` reads none and
+    /// raises the number of failures by one; nothing else raises it.
     fn read(&mut self, buf: &mut [u8]) -> Result<usize, Broken>
         ensures bound { ReadsAtMost result buf.new }
         ensures bytes { ReadConsumes (current self.old) (current self.new) result buf.new }
@@ -57,8 +57,8 @@ pub trait Inputs {
         ensures failed { FailsAtErr result (failures self.old) (failures self.new) }
         ensures same_reference { reference self.new ≡ reference self.old };
 
-    /// The whole file of this name, as a script of -f is read; `None` where it can't be read. The name `-` is a file's
-    /// name here. The current file and those ahead stay as they are.
+    /// Reads the whole file of this name, as a script of -f is read. Answers `None` where it can't be read. Here the name
+    /// `-` is a file's own. The current file and those still to be opened stay as they are.
     fn whole(&mut self, alloc: Global, name: &str) -> Result<Option<Vec<u8>>, AllocError>
         ensures given { IfOk result (λ file. GivesWhole (text self.old name.now) (option_map (λ bytes. bytes.items) file)) }
         ensures kept { Keeps (current self.old) (current self.new) }
@@ -72,7 +72,7 @@ pub trait Inputs {
     ghost none_ahead: { (inputs : Self) → IfSome (ahead inputs []) (λ files. files ≡ []) };
 }
 
-/// Inputs that are lent give the lender's files.
+/// Inputs that are lent open and read the lender's files.
 impl<I: Inputs> Inputs for &mut I {
     ghost current = { λ r. I.current r.now };
 

@@ -1,7 +1,7 @@
 //! The files of a command line as one source.
 //!
-//! A file is opened by the read that has no byte left to give of those before it, so no two are held open together. One
-//! that can't be opened is as an empty one, and is noted as missed.
+//! A file is opened by the read that finds no byte left of the files before it, so no two are open at once. A file that
+//! can't be opened counts as empty, and is noted as missed.
 ghost use Rattle.std.specs.Prelude.{◌≡◌, ◌<◌, ◌⊎◌, [], ◌∷◌, ℕ, List, Ok, true, false, length, map, string_bytes, slice_get, unwrap_or, IfOk};
 ghost use Rattle.std.specs.Io.{ReadsAtMost};
 ghost use Rattle.std.specs.Io.KnownBytes.{IsAtEnd, ReadConsumes};
@@ -50,7 +50,8 @@ impl<'a, I: Inputs> Model for Joined<'a, I> {
 impl<'a, I: Inputs> Joined<'a, I> {
     ghost use Rattle.sededit.specs.Joining.{Joining, joined_files, left, left_of_file, OpensNext};
 
-    /// The files of these names, of which none is opened yet. At an `Err` the inputs are gone: lend them to keep them.
+    /// Makes a source of the files of these names, of which none is opened yet. Where a request for memory is refused,
+    /// the inputs are dropped: lend them to keep them.
     pub fn new(alloc: Global, inputs: I, names: &'a [String]) -> Result<Joined<'a, I>, AllocError>
     where
         I: Drop,
@@ -79,15 +80,15 @@ impl<'a, I: Inputs> Joined<'a, I> {
         })
     }
 
-    /// Whether the file of this number, counted from 0, couldn't be opened when its turn came. One that is still to be
-    /// opened isn't missed.
+    /// Whether the file of this number, counted from 0, couldn't be opened when its turn came. A file whose turn is still
+    /// to come isn't missed.
     pub fn missed(&self, number: usize) -> bool
         ensures { result ≡ unwrap_or (slice_get self.now.missed number) false }
     {
         number < self.next && self.missed[number]
     }
 
-    /// Whether a file that was opened since `new` was missed.
+    /// Whether any file was missed since `new`.
     pub fn has_missed(&self) -> bool
         ensures { WereRefused result self.now.start (I.refusals self.now.inputs) }
     {

@@ -42,7 +42,7 @@ impl Model for MemoryFile {
 }
 
 impl MemoryFile {
-    /// A file of this name with these bytes.
+    /// Makes a file of this name with these bytes.
     pub fn new(name: String, bytes: Vec<u8>) -> MemoryFile
         ensures { result ≡ record { name = string_bytes name; bytes = bytes.items } }
     {
@@ -89,8 +89,8 @@ pub(crate) fn all_of<'a>(files: &'a [MemoryFile], standard: &'a [u8], current: C
     }
 }
 
-/// Files in memory by name, and a standard input. A name that is no file's can't be opened. The standard input gives
-/// its bytes when it is opened first, and none when it is opened again. One read can be told to fail.
+/// Files in memory by name, and a standard input. A name that no file has can't be opened. The standard input gives its
+/// bytes when it is first opened, and none when it is opened again. One read can be told to fail.
 #[derive(Drop)]
 pub struct MemoryInputs {
     files: Vec<MemoryFile>,
@@ -128,7 +128,7 @@ impl Model for MemoryInputs {
 }
 
 impl MemoryInputs {
-    /// A standard input of these bytes, and these files, of which none is open.
+    /// Makes inputs of these bytes as the standard input, and these files. None is open.
     pub fn new(standard: Vec<u8>, files: Vec<MemoryFile>) -> MemoryInputs
         ensures { result ≡ record {
           files = files.items;
@@ -155,7 +155,7 @@ impl MemoryInputs {
         }
     }
 
-    /// No read gives more than `most` bytes.
+    /// Lets no read give more than `most` bytes.
     pub fn give_at_most(&mut self, most: usize)
         requires { 0 < most }
         ensures { self.new ≡ record self.old { most = most } }
@@ -163,14 +163,14 @@ impl MemoryInputs {
         self.most = most;
     }
 
-    /// The read of this number fails, counted from 1; the reads after it work again.
+    /// Makes one read fail, the one of this number, counted from 1. The reads after it work again.
     pub fn fail_at(&mut self, call: u64)
         ensures { self.new ≡ record self.old { fails_at = Some call } }
     {
         self.fails_at = Some(call);
     }
 
-    /// How many reads came.
+    /// How often `read` was called.
     pub fn calls(&self) -> u64
         ensures { result ≡ self.now.calls }
     {

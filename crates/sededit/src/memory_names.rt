@@ -9,7 +9,8 @@ use sedspace::Texts;
 use std::alloc::{AllocError, Global};
 use std::marker::Model;
 
-/// Files in memory by name. The texts are those of the names that are told; a name that is no file's can't be read.
+/// Files in memory by name. The texts are the files of the names that `name` was given; a name that no file has can't be
+/// read.
 #[derive(Drop)]
 pub struct MemoryNames {
     files: Vec<MemoryFile>,
@@ -25,7 +26,7 @@ impl Model for MemoryNames {
 }
 
 impl MemoryNames {
-    /// These files, of which none is named.
+    /// Makes texts of these files, with no name given yet.
     pub fn new(alloc: Global, files: Vec<MemoryFile>) -> MemoryNames
         ensures { result ≡ record { files = files.items; named = [] } }
     {

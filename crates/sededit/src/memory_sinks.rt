@@ -10,9 +10,9 @@ use sedspace::{Broken, MemoryOutputs, Outputs};
 use std::alloc::{AllocError, Global};
 use std::marker::Model;
 
-/// The standard output, and files that can be created: those of some names, each once and in their order, and no others.
-/// All have room for as many bytes, reserved when they are made; a write past it fails, as a device does. A flush is one
-/// write more to each sink, of no bytes, so that it can be told to fail as a write can.
+/// The standard output, and files that can be created: those of the names that `with_room` is given, each once and in that
+/// order, and no others. All have the same room, reserved at the start; a write to a sink that is full fails, as on a full
+/// device. A flush is one more write to each sink, of no bytes, so that it can be told to fail as a write can.
 #[derive(Drop)]
 pub struct MemorySinks {
     outputs: MemoryOutputs,
@@ -37,7 +37,7 @@ impl Model for MemorySinks {
 }
 
 impl MemorySinks {
-    /// The standard output, and files of these names that can be created, each with room for so many bytes.
+    /// Makes the standard output, and files of these names that can be created, each with room for this many bytes.
     pub fn with_room(
         alloc: Global,
         names: Vec<Vec<u8>>,
@@ -57,7 +57,7 @@ impl MemorySinks {
         })
     }
 
-    /// No write takes more than `most` bytes.
+    /// Lets no write take more than `most` bytes.
     pub fn take_at_most(&mut self, most: usize)
         requires { 0 < most }
         ensures { self.new ≡ record self.old { outputs = record self.old.outputs { most = most } } }
@@ -65,7 +65,8 @@ impl MemorySinks {
         self.outputs.take_at_most(most);
     }
 
-    /// The write of this number to the sink fails, counted from 1, a flush among them; those after it work again.
+    /// Makes one write to the sink fail, the one of this number, counted from 1, where a flush counts as a write. Those
+    /// after it work again.
     pub fn fail_at(&mut self, sink: usize, write: u64)
         requires { sink < length self.old.outputs.held }
         ensures told { IfSome (slice_get self.old.outputs.held sink) (λ s. self.new ≡ record self.old {
@@ -88,7 +89,7 @@ impl MemorySinks {
         }
     }
 
-    /// What the sink holds; one that isn't there yet holds nothing.
+    /// What the sink holds. A sink that hasn't been created holds nothing.
     pub fn bytes(&self, sink: usize) -> &[u8]
         ensures { Some result.now ≡ contents_of self.now sink }
     {

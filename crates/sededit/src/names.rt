@@ -1,21 +1,21 @@
-//! The files that a script reads, as texts that are told their names.
+//! The files that a script reads, as texts that are given their names.
 ghost use Rattle.std.specs.Prelude.{◌≡◌, ◌≢◌, ◌+◌, ℕ, List, Option, OnErr, OnOk};
 
 use sedspace::Texts;
 use std::alloc::AllocError;
 
-/// Texts that are files: each number is told its file's name before the text is read.
+/// Texts that are files: each number is given its file's name before the text is read.
 pub trait Names: Texts {
-    /// How many names were told.
+    /// How many names were given.
     ghost named: { Self → ℕ };
 
-    /// What the file of this name gives where it is read as a text, where that is told; nothing where it can't be read.
+    /// The bytes of the file of this name, read as a text, where contracts may see them; none where it can't be read.
     ghost file: { Self → List ℕ → Option (List ℕ) };
 
-    /// The next text is the file of this name. Names are told by their numbers from 0 on.
+    /// Makes the file of this name the next text. Names are given in the order of their numbers, from 0 on.
     ///
     /// # Errors
-    /// `AllocError` where a request for memory was refused; nothing has changed.
+    /// `AllocError` where a request for memory was refused. Nothing was changed then.
     fn name(&mut self, number: usize, name: &[u8]) -> Result<(), AllocError>
         requires next { number ≡ named self.old }
         ensures named { OnOk result (named self.new ≡ named self.old + 1) }

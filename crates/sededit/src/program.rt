@@ -2,7 +2,6 @@
 ghost use Rattle.std.specs.Prelude.{◌≡◌, ◌≢◌, ◌<◌, ◌⊎◌, [], ◌∷◌, ℕ, IfErr, IfOk, IfSome, IsNone, OnOk, length, map, take, ⊤};
 ghost use Rattle.std.specs.String.{string_bytes};
 ghost use Rattle.sedspace.specs.Failures.{Rose};
-ghost use Rattle.sedengine.specs.Calls.{Puts, Writes};
 ghost use Rattle.sedengine.specs.Devices.{Gained};
 ghost use Rattle.sedengine.specs.Move.{to_sink};
 ghost use Rattle.clap.specs.Words.{kind_of};
@@ -22,7 +21,7 @@ use crate::sinks::Sinks;
 use clap::error::ErrorKind;
 use sedengine::{Ended, Limits};
 use sedscript::Script;
-use sedspace::Broken;
+use sedspace::write_all;
 use std::alloc::{AllocError, Global};
 use std::convert::AsStr;
 use std::io::Write;
@@ -30,11 +29,11 @@ use std::string::ToString;
 
 /// Runs the program and gives its exit status (XCU sed, "Exit Status"; which number above 0 is this project's own).
 ///
-/// `words` are those after the program's name. `inputs` opens the input files, of which `-` is the standard input, and the
-/// script's files of -f; `sinks` has sink 0 alone, the standard output, to which the files that the script writes are
-/// added; `names` are the files that it reads; and `errors` is the standard error. Where a message can't be written, it is
-/// lost. In this order the work is done: the command line, the script's files, the script, the files that it writes, the
-/// run.
+/// `words` are the arguments after the program's name. `inputs` opens the input files, of which `-` is the standard input,
+/// and the script's files of -f; `sinks` has the standard output alone, as sink 0, and the files that the script writes are
+/// added to it; `names` are the files that the script reads; and `errors` is the standard error. A message that can't be
+/// written is lost. The work is done in this order: the command line, the script's files, the script, the files that it
+/// writes, the run.
 ///
 /// * 0: the script ran over the whole input; or `-h` or `--help` was given, and the help was written
 /// * 1: the words are refused, with the text of `clap`; `sed: no script`; a file of -f can't be read, or one that the
@@ -159,7 +158,7 @@ fn run_line<I: Inputs, O: Sinks, N: Names, E: Write>(
     )
 }
 
-/// The operands that stand for none.
+/// The operands where none are given.
 fn standard_input(alloc: Global) -> Result<Vec<String>, AllocError>
     ensures { IfOk result (λ names. map string_bytes names.items ≡ dash ∷ []) }
 {
@@ -168,7 +167,7 @@ fn standard_input(alloc: Global) -> Result<Vec<String>, AllocError>
     Ok(names)
 }
 
-/// The files of a line's operands, or what stands for none.
+/// The files of a line's operands, or the standard input where it has none.
 fn operands_of<'a>(line: &'a Line, standard: &'a [String]) -> &'a [String]
     requires { map string_bytes standard.now ≡ dash ∷ [] }
     ensures { map string_bytes result.now ≡ or_standard (map string_bytes line.now.operands.items) }
@@ -180,7 +179,7 @@ fn operands_of<'a>(line: &'a Line, standard: &'a [String]) -> &'a [String]
     }
 }
 
-/// Writes what `clap` has to say: help to the standard output, anything else to the standard error.
+/// Writes what `clap` answers: help to the standard output, anything else to the standard error.
 fn answer_words<O: Sinks, E: Write>(
     alloc: Global,
     error: &clap::Error,
@@ -215,31 +214,16 @@ fn write_out<O: Sinks>(sinks: &mut O, bytes: &[u8]) -> Result<(), Ended>
     ensures failed { IfErr result (λ end. (k : ℕ)
         × (end ≡ Ended.OutputBroken k) × Rose (O.failures sinks.old k) (O.failures sinks.new k)) }
 {
-    write_all(sinks, bytes)?;
+    if let Err(_) = write_all(sinks, 0, bytes) {
+        return Err(Ended::OutputBroken(0));
+    }
     match sinks.flush() {
         Ok(()) => Ok(()),
         Err(sink) => Err(Ended::OutputBroken(sink)),
     }
 }
 
-/// Writes the bytes to sink 0, however short the writes are.
-fn write_all<O: Sinks>(sinks: &mut O, bytes: &[u8]) -> Result<(), Ended>
-    requires { 0 < O.count sinks.old }
-    ensures puts { Puts (Gained (O.contents sinks.old) (O.contents sinks.new)) (to_sink 0 bytes.now) result }
-    ensures sink { IfErr result (λ end. end ≡ Ended.OutputBroken 0) }
-    ensures devices { Writes O.failures O.count sinks.old sinks.new result }
-{
-    let mut done = 0;
-    while done < bytes.len() {
-        match sinks.write(0, &bytes[done..]) {
-            Ok(count) => done += count,
-            Err(Broken) => return Err(Ended::OutputBroken(0)),
-        }
-    }
-    Ok(())
-}
-
-/// Creates the files that a script writes, in their order, up to one that can't be created, and answers that one's name.
+/// Creates the files that a script writes, in their order. Stops at one that can't be created, and answers its name.
 fn create_files<'a, O: Sinks>(script: &'a Script, sinks: &mut O) -> Option<&'a [u8]>
     requires { O.count sinks.old ≡ 1 }
     ensures count { IsNone result → length script.entry.now.wfiles < O.count sinks.new }
@@ -257,7 +241,7 @@ fn create_files<'a, O: Sinks>(script: &'a Script, sinks: &mut O) -> Option<&'a [
     None
 }
 
-/// Tells the names of the files that a script reads.
+/// Gives the texts the names of the files that a script reads.
 fn name_files<N: Names>(script: &Script, names: &mut N) -> Result<(), AllocError>
     requires { N.named names.old ≡ 0 }
     ensures { IfOk result (λ _. (k : ℕ) → N.text names.new k ≡ texts_of (N.file names.old) (N.text names.old) script.now k) }

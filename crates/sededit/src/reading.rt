@@ -20,7 +20,7 @@ pub(crate) enum NoScript<'a> {
     NotGiven,
     /// The file of this name, a word of -f, can't be read.
     Unreadable(&'a str),
-    /// The text means no script; or want of memory.
+    /// The text means no script; or a request for memory was refused.
     Faulty(ScriptFault),
     /// A request for memory was refused.
     NoMemory,

@@ -1,4 +1,4 @@
-//! The run of a script over the files of a command line, and the status that it comes to.
+//! The run of a script over the files of a command line, and the status that it gives.
 ghost use Rattle.std.specs.Prelude.{◌≡◌, ◌≢◌, ◌<◌, ◌≤◌, ◌⊎◌, ◌∷◌, ℕ, length, map, true, false};
 ghost use Rattle.std.specs.String.{string_bytes};
 ghost use Rattle.sedspace.specs.Failures.{Rose};
@@ -20,7 +20,7 @@ use std::io::Write;
 /// The script ran over the whole input, or help was asked for and written.
 pub(crate) const SUCCESS: u8 = 0;
 
-/// Nothing was written: the words, the script, a file or the memory don't allow a run.
+/// Nothing was written: there was no run, because of the words, the script, a file or a lack of memory.
 pub(crate) const REFUSED: u8 = 1;
 
 /// The script ran over the whole input, and an input file couldn't be opened.

@@ -10,14 +10,14 @@ use Rattle.sedspace.specs.Stream.{Stream, TakesAtMost, left, lines_left}
 use Rattle.sedengine.specs.Limits.{Limits}
 use Rattle.sedengine.specs.State.{Entry, Task, do_at, State, Move, Setting}
 use Rattle.sedengine.specs.Select.{Choice, selects}
-use Rattle.sedengine.specs.Move.{move, comes_to, performs, acts, passes, writing, quietly, queueing, then_do, none_left, in_table, is_active, tells_at}
-use Rattle.sedengine.specs.Ends.{Fits, comes, reads, asks_last, is_next, names_last}
+use Rattle.sedengine.specs.Move.{move, reach, performs, acts, passes, writing, quietly, queueing, then_do, none_left, in_table, is_active, tells_at}
+use Rattle.sedengine.specs.Ends.{Fits, reaches, reads, asks_last, is_next, names_last}
 use Rattle.sedengine.specs.Meters.{Sent, Tally}
 use Rattle.sedengine.specs.Calls.{Puts}
 use Rattle.sedengine.specs.Run.{Run, at_lines, setting}
-use Rattle.sedengine.specs.Choose.{Judges, as_choice, come_with, current}
+use Rattle.sedengine.specs.Choose.{Judges, as_choice, reached_with, current}
 use Rattle.sedengine.specs.Queueing.{QueuesOrFull, queued_more}
-use Rattle.sedengine.specs.Steps.{ComesTo, HasAction, Moves, Performs, PerformsSteps, Steps, TakesLines}
+use Rattle.sedengine.specs.Steps.{Reaches, HasAction, Moves, Performs, PerformsSteps, Steps, TakesLines}
 use Rattle.sedengine.specs.Inside.{run_of, entry_by, entry_for, IsRun}
 use Rattle.sedengine.specs.declared.machine.Machine.TheInside.{Inside}
 use Rattle.sedengine.specs.declared.select.Chosen.{Chosen}
@@ -26,7 +26,7 @@ use Rattle.sedengine.specs.declared.ends.Ended.TheVariants.{QueueFull, TurnsSpen
 use Rattle.sedengine.proofs.Streams.{TakesAtMost-more, lines_same}
 use Rattle.sedengine.proofs.Moves.{move_at, ran_quietly, stopped_here, moves_writing}
 use Rattle.sedengine.proofs.NextLines.{looked_moves, looked_then, none_taken}
-use Rattle.sedengine.proofs.Tasks.{fits_of, halts_here, comes_spent, steps_by_moves}
+use Rattle.sedengine.proofs.Tasks.{fits_of, halts_here, reach_spent, steps_by_moves}
 
 -- what a command that takes no line does leaves the lines
 pub acts_here : {R : Type 0} (remaining : R → Option (List ℕ)) (old : Stream R) (ls : List (List ℕ)) (l : Limits) (g : Setting) (o : Option Move) (asks : Bool) (e e' : Run) (P : List (ℕ × ℕ) → Type 0) (r : Result Unit Ended) → lines_left remaining old ≡ Some ls →
@@ -101,8 +101,8 @@ module _ (a : Inside) (e : Run) (seen : run_of a ≡ e) (i : IsRun a) (ls : List
   acts_queueing entry e' (Err other) is h = absurd h
 
 -- what no `{` does that doesn't apply
-pub passes_other : (s : State) (action : Action) → ((behind : ℕ) → action ≡ Block behind → ⊥) → passes s action ≡ quietly s
-passes_other s (Block behind) h = absurd (h behind refl)
+pub passes_other : (s : State) (action : Action) → ((next : ℕ) → action ≡ Block next → ⊥) → passes s action ≡ quietly s
+passes_other s (Block next) h = absurd (h next refl)
 passes_other s other h = refl
 
 -- a turn is left
@@ -121,7 +121,7 @@ command_seen a e k c seen is = let Q : Run → Type 0 = λ e. slice_get e.script
 pub steps_spent : {R : Type 0} (remaining : R → Option (List ℕ)) (old : Stream R) (a : Inside) (e : Run) (seen : run_of a ≡ e) (i : IsRun a) (files : ℕ → List ℕ) (ls : List (List ℕ)) → lines_left remaining old ≡ Some ls → (sinks : Tally) (k : ℕ) →
     e.state.tasks ≡ do_at k ∷ [] → k < length a.script.commands → a.turns ≡ a.limits.turns → Steps remaining old old ls e.limits (setting e files) e e (Sent sinks sinks) (Err TurnsSpent)
 steps_spent {R} remaining old a e seen i files ls known sinks k t there spent =
-    steps_by_moves remaining old ls e.limits (setting e files) e e (Sent sinks sinks) (Err TurnsSpent) known (comes_spent a e seen i files ls k t sinks there spent)
+    steps_by_moves remaining old ls e.limits (setting e files) e e (Sent sinks sinks) (Err TurnsSpent) known (reach_spent a e seen i files ls k t sinks there spent)
 
 or_else : (x y : Bool) → y ≡ true → x || y ≡ true
 or_else true y h = refl
@@ -141,43 +141,43 @@ module _ {R : Type 0} (remaining : R → Option (List ℕ)) (old new : Stream R)
   bytes_stay : (n : ℕ) → TakesAtMost (left remaining old) (left remaining new) n
   bytes_stay n = TakesAtMost-more _ _ _ _ (omega arith) (rw (none_taken taken.lines ls taken.are) at taken.bytes)
 
-  come_as : (choice : Option Choice) → selects (current e (none_left ls)) (is_active e.state k) c ≡ choice →
+  reach_as : (choice : Option Choice) → selects (current e (none_left ls)) (is_active e.state k) c ≡ choice →
       move (setting e files) (at_lines e ls) ≡ option_and_then (performs (setting e files) (at_lines e ls) k c) choice
-  come_as choice h =
-      move_at _ _ _ t ∙ ap (comes_to (setting e files) (at_lines e ls) k) (command_seen a e k c seen is) ∙ ap (option_and_then (performs (setting e files) (at_lines e ls) k c)) h
+  reach_as choice h =
+      move_at _ _ _ t ∙ ap (reach (setting e files) (at_lines e ls) k) (command_seen a e k c seen is) ∙ ap (option_and_then (performs (setting e files) (at_lines e ls) k c)) h
 
   -- the end comes where the addresses are judged
-  pub comes_stopping : (sinks : Tally) (used : Option ℕ) (end : Ended) (e' : Run) → e' ≡ e → Judges (current e (none_left ls)) (is_active e.state k) c used (Err end) →
+  pub reach_stopping : (sinks : Tally) (used : Option ℕ) (end : Ended) (e' : Run) → e' ≡ e → Judges (current e (none_left ls)) (is_active e.state k) c used (Err end) →
       Steps remaining old new ls e.limits (setting e files) e e' (Sent sinks sinks) (Err end)
-  comes_stopping sinks used end e' same h =
+  reach_stopping sinks used end e' same h =
       let Q : Run → Type 0 = λ e'. Steps remaining old new ls e.limits (setting e files) e e' (Sent sinks sinks) (Err end) in
       subst Q (sym same) (stops end h)
     where
       stops : (end : Ended) → Judges (current e (none_left ls)) (is_active e.state k) c used (Err end) → Steps remaining old new ls e.limits (setting e files) e e (Sent sinks sinks) (Err end)
       stops (NoPrevious n) (without, number) =
           halts_here remaining old new e.limits (setting e files) (at_lines e ls) e sinks (NoPrevious n) here refl
-          (number, (λ _. turn_left a e seen i more), ap comes t, come_as None without) (record { pattern = refl; hold = refl; queue = λ _. refl; entries = omega arith }) (bytes_stay _)
+          (number, (λ _. turn_left a e seen i more), ap reaches t, reach_as None without) (record { pattern = refl; hold = refl; queue = λ _. refl; entries = omega arith }) (bytes_stay _)
       stops InputBroken h =
           halts_here remaining old new e.limits (setting e files) (at_lines e ls) e sinks InputBroken here refl
           (ap (reads (setting e files)) t ∙ ap asks_last (command_seen a e k c seen is) ∙ either (names_last c) (is_next c.action) h) (record { pattern = refl; hold = refl; queue = λ _. refl; entries = omega arith }) (bytes_stay _)
       stops other h = absurd h
 
   -- The addresses chose.
-  module _ (choice : Chosen) (used : Option ℕ) (e1 e2 : Run) (chose : selects (current e (none_left ls)) (is_active e.state k) c ≡ Some (as_choice choice used)) (came : e1 ≡ come_with e k (slice_set e.state.ranges k choice.active) used) where
+  module _ (choice : Chosen) (used : Option ℕ) (e1 e2 : Run) (chose : selects (current e (none_left ls)) (is_active e.state k) c ≡ Some (as_choice choice used)) (came : e1 ≡ reached_with e k (slice_set e.state.ranges k choice.active) used) where
     moves_as : (b : Bool) → choice.yes ≡ b → move (setting e files) (at_lines e ls) ≡
-        cond b (acts (setting e files) (at_lines (come_with e k (slice_set e.state.ranges k choice.active) used) ls) (tells_at c choice.end) c.action) (passes (at_lines (come_with e k (slice_set e.state.ranges k choice.active) used) ls) c.action)
-    moves_as b chosen = come_as (Some (as_choice choice used)) chose ∙
-        ap (λ b. cond b (acts (setting e files) (at_lines (come_with e k (slice_set e.state.ranges k choice.active) used) ls) (tells_at c choice.end) c.action) (passes (at_lines (come_with e k (slice_set e.state.ranges k choice.active) used) ls) c.action)) chosen
+        cond b (acts (setting e files) (at_lines (reached_with e k (slice_set e.state.ranges k choice.active) used) ls) (tells_at c choice.end) c.action) (passes (at_lines (reached_with e k (slice_set e.state.ranges k choice.active) used) ls) c.action)
+    moves_as b chosen = reach_as (Some (as_choice choice used)) chose ∙
+        ap (λ b. cond b (acts (setting e files) (at_lines (reached_with e k (slice_set e.state.ranges k choice.active) used) ls) (tells_at c choice.end) c.action) (passes (at_lines (reached_with e k (slice_set e.state.ranges k choice.active) used) ls) c.action)) chosen
 
     acted : (P : List (ℕ × ℕ) → Type 0) (r : Result Unit Ended) → Moves e.limits (setting e files) (at_lines e ls) (at_lines e2 ls) P r → Steps remaining old new ls e.limits (setting e files) e e2 P r
     acted P (Ok u) h = (ls, taken, h)
     acted P (Err end) h = record { rest = ls; stopped = h; lines = []; are = refl; bytes = bytes_stay _ }
 
     -- the command is reached in the state in which it acts
-    here_comes : ComesTo e.limits (setting e files) (at_lines e ls) (at_lines (come_with e k (slice_set e.state.ranges k choice.active) used) ls)
-    here_comes = record {
+    here_reaches : Reaches e.limits (setting e files) (at_lines e ls) (at_lines (reached_with e k (slice_set e.state.ranges k choice.active) used) ls)
+    here_reaches = record {
       fits = here;
-      comes = ap comes t;
+      reaches = ap reaches t;
       turn = λ _. turn_left a e seen i more;
       lines = refl;
       number = refl;
@@ -185,22 +185,22 @@ module _ {R : Type 0} (remaining : R → Option (List ℕ)) (old new : Stream R)
     }
 
     -- the command applies; `to` is where the lines then stand
-    pub comes_acting : (to : Stream R) (P : List (ℕ × ℕ) → Type 0) (r : Result Unit Ended) (tells : Bool) → choice.yes ≡ true → tells ≡ tells_at c choice.end →
+    pub reach_acting : (to : Stream R) (P : List (ℕ × ℕ) → Type 0) (r : Result Unit Ended) (tells : Bool) → choice.yes ≡ true → tells ≡ tells_at c choice.end →
         PerformsSteps remaining new to ls e1.limits (setting e1 files) (acts (setting e1 files) (at_lines e1 ls) tells c.action) (is_next c.action) (at_lines e1 ls) e2 P r → Steps remaining old to ls e.limits (setting e files) e e2 P r
-    comes_acting to P r tells chosen tells_is h =
+    reach_acting to P r tells chosen tells_is h =
         let Q : Run → Type 0 = λ e1. PerformsSteps remaining new to ls e1.limits (setting e1 files) (acts (setting e1 files) (at_lines e1 ls) tells c.action) (is_next c.action) (at_lines e1 ls) e2 P r in
-        let now : State = at_lines (come_with e k (slice_set e.state.ranges k choice.active) used) ls in
+        let now : State = at_lines (reached_with e k (slice_set e.state.ranges k choice.active) used) ls in
         let S : Bool → Type 0 = λ b. PerformsSteps remaining new to ls e.limits (setting e files) (acts (setting e files) now b c.action) (is_next c.action) now e2 P r in
         let there = subst S tells_is (subst Q came h) in
-        looked_then remaining old new to ls e.limits (setting e files) (at_lines e ls) e2 P r taken (there (at_lines e ls) here_comes (λ asks. ap (reads (setting e files)) t ∙ ap asks_last (command_seen a e k c seen is) ∙ or_else (names_last c) (is_next c.action) asks) (moves_as true chosen))
+        looked_then remaining old new to ls e.limits (setting e files) (at_lines e ls) e2 P r taken (there (at_lines e ls) here_reaches (λ asks. ap (reads (setting e files)) t ∙ ap asks_last (command_seen a e k c seen is) ∙ or_else (names_last c) (is_next c.action) asks) (moves_as true chosen))
 
     -- it doesn't
-    pub comes_passing : (sinks : Tally) → choice.yes ≡ false →
+    pub reach_passing : (sinks : Tally) → choice.yes ≡ false →
         Performs e1.limits (setting e1 files) (passes (at_lines e1 ls) c.action) (at_lines e1 ls) (at_lines e2 ls) (Sent sinks sinks) (Ok tt) → Steps remaining old new ls e.limits (setting e files) e e2 (Sent sinks sinks) (Ok tt)
-    comes_passing sinks passed h =
+    reach_passing sinks passed h =
         let Q : Run → Type 0 = λ e1. Performs e1.limits (setting e1 files) (passes (at_lines e1 ls) c.action) (at_lines e1 ls) (at_lines e2 ls) (Sent sinks sinks) (Ok tt) in
         let there = subst Q came h in
-        acted (Sent sinks sinks) (Ok tt) (there (at_lines e ls) here_comes (moves_as false passed))
+        acted (Sent sinks sinks) (Ok tt) (there (at_lines e ls) here_reaches (moves_as false passed))
 
 -- the entry of a command that has this action
 pub entry_is : (texts : List (List ℕ)) (o : Option Command) (action : Action) → HasAction o action → entry_by texts o ≡ entry_for texts action

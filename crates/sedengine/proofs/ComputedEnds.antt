@@ -10,7 +10,7 @@ use Rattle.sedengine.specs.Limits.{Limits}
 use Rattle.sedengine.specs.State.{State, Task, Move, Setting}
 use Rattle.sedengine.specs.Move.{move, after, start, to_sink}
 use Rattle.sedengine.specs.Run.{setting_of}
-use Rattle.sedengine.specs.Ends.{Fits, Within, HasTurn, IsCause, Cause, WholeOrCut, Whole, named_sink, takes_turn, line_at, comes}
+use Rattle.sedengine.specs.Ends.{Fits, Within, HasTurn, IsCause, Cause, WholeOrCut, Whole, named_sink, takes_turn, line_at, reaches}
 use Rattle.sedengine.specs.declared.ends.Ended.{Ended}
 use Rattle.sedengine.specs.declared.ends.Ended.TheVariants.{Done, PatternFull, HoldFull, QueueFull, TurnsSpent, NoPrevious}
 use Rattle.sedengine.proofs.ComputedRun.{course, course_so, stays, after_first}
@@ -111,7 +111,7 @@ is_cause l g s (HoldFull n) =
 is_cause l g s (QueueFull n) =
     eqb n s.number && (has_turn l g s && leads (move g s) (λ m. ltb l.queue (length m.next.queue)))
 is_cause l g s TurnsSpent = eqb s.turns l.turns && takes_turn g s s.tasks
-is_cause l g s (NoPrevious n) = eqb n s.number && (has_turn l g s && (comes s.tasks && no_move (move g s)))
+is_cause l g s (NoPrevious n) = eqb n s.number && (has_turn l g s && (reaches s.tasks && no_move (move g s)))
 is_cause l g s other = false
 
 -- what is so after the first t moves, where the end is none of a sink

@@ -13,9 +13,9 @@ use Rattle.sedspace.specs.Spaces.{Contents}
 use Rattle.sedspace.specs.declared.errors.Full.{Full}
 use Rattle.sedengine.specs.Substitute.{Match, chosen, next_occurrence, occurrences, put_for, replaced_from}
 use Rattle.sedengine.specs.Run.{match_at, search_for}
-use Rattle.sedengine.specs.Replacing.{Appends, GroupsOf, LiesBehind, Replaces, Skips, has_group, with_groups}
-use Rattle.sedengine.specs.Replacing.{occurrence, occurrences_behind, pending}
-use Rattle.sedengine.proofs.Occurrences.{behind_is}
+use Rattle.sedengine.specs.Replacing.{Appends, GroupsOf, LiesAfter, Replaces, Skips, has_group, with_groups}
+use Rattle.sedengine.specs.Replacing.{occurrence, occurrences_after, pending}
+use Rattle.sedengine.proofs.Occurrences.{after_is}
 use Rattle.sedengine.proofs.Replacements.{put_same}
 
 -- bytes are appended as a space does it
@@ -63,21 +63,21 @@ due_last old mid new all part (Err f) due full =
     (omega arith, full.1 ∙ due.0)
 
 -- what comes after an occurrence that is replaced
-abbrev pub behind_it : Written → List ℕ → Bool → ℕ → List Match
-behind_it e w global q = if global then occurrences_behind e w (Some q) else []
+abbrev pub rest_after : Written → List ℕ → Bool → ℕ → List Match
+rest_after e w global q = if global then occurrences_after e w (Some q) else []
 
 -- for an occurrence the text before it is due, what stands for it, and what comes after it
 pub due_next : (old mid : Contents) (all : List ℕ) (e : Written) (w : List ℕ) (ps : List Piece) (global : Bool)
     (at : ℕ) (groups : Groups) (o : Option (ℕ × ℕ)) (span : ℕ × ℕ) → o ≡ Some span →
     GroupsOf e w (has_group ps) o groups → Due old mid all (replaced_from w ps at (pending e w global o)) →
     Due old mid all (slice_range w at span.0
-    ++ (put_for w (with_groups span groups) ps ++ replaced_from w ps span.1 (behind_it e w global span.1)))
+    ++ (put_for w (with_groups span groups) ps ++ replaced_from w ps span.1 (rest_after e w global span.1)))
 due_next old mid all e w ps global at groups None span is told due = let never : None ≡ Some span = is in cc
 due_next old mid all e w ps global at groups (Some this) span is told due =
     let same : this ≡ span = cc in
     let Parts : ℕ × ℕ → List ℕ → Type 0 =
     λ s put. Due old mid all (slice_range w at s.0
-    ++ (put ++ replaced_from w ps s.1 (behind_it e w global s.1))) in
+    ++ (put ++ replaced_from w ps s.1 (rest_after e w global s.1))) in
     let flat : Parts this (put_for w (occurrence e w this) ps) = due_as old mid all _ _ (simp append_assoc) due in
     subst (λ (s : ℕ × ℕ). Parts s (put_for w (with_groups s groups) ps)) same
     (subst (Parts this) (sym (put_same w this groups (report (tree e) w this.0 this.1) ps told)) flat)
@@ -87,24 +87,24 @@ pub due_cut : (old mid cut : Contents) (all : List ℕ) (e : Written) (w : List 
     (at : ℕ) (groups : Groups) (o : Option (ℕ × ℕ)) (span : ℕ × ℕ) → o ≡ Some span →
     GroupsOf e w (has_group ps) o groups → qs ≡ ps → Due old mid all (replaced_from w ps at (pending e w global o)) →
     cut ≡ record mid { bytes = mid.bytes ++ slice_range w at span.0 } →
-    Due old cut all (put_for w (with_groups span groups) qs ++ replaced_from w ps span.1 (behind_it e w global span.1))
+    Due old cut all (put_for w (with_groups span groups) qs ++ replaced_from w ps span.1 (rest_after e w global span.1))
 due_cut old mid cut all e w ps qs global at groups o span is told same due before =
     let next = due_next old mid all e w ps global at groups o span is told due in
     let left = due_less old mid cut all (slice_range w at span.0) _ next before in
-    let rest = replaced_from w ps span.1 (behind_it e w global span.1) in
+    let rest = replaced_from w ps span.1 (rest_after e w global span.1) in
     subst (λ (qs : List Piece). Due old cut all (put_for w (with_groups span groups) qs ++ rest)) (sym same) left
 
 -- and after that what comes after it
-pub due_behind : (old mid cut new : Contents) (all : List ℕ) (e : Written) (w : List ℕ) (ps qs : List Piece)
+pub due_after : (old mid cut new : Contents) (all : List ℕ) (e : Written) (w : List ℕ) (ps qs : List Piece)
     (global : Bool) (at : ℕ) (groups : Groups) (o : Option (ℕ × ℕ)) (span : ℕ × ℕ) (ms : List Match) → o ≡ Some span →
     GroupsOf e w (has_group ps) o groups → qs ≡ ps → Due old mid all (replaced_from w ps at (pending e w global o)) →
     cut ≡ record mid { bytes = mid.bytes ++ slice_range w at span.0 } →
     new ≡ record cut { bytes = cut.bytes ++ put_for w (with_groups span groups) qs } →
-    behind_it e w global span.1 ≡ ms → Due old new all (replaced_from w ps span.1 ms)
-due_behind old mid cut new all e w ps qs global at groups o span ms is told same due before put more =
+    rest_after e w global span.1 ≡ ms → Due old new all (replaced_from w ps span.1 ms)
+due_after old mid cut new all e w ps qs global at groups o span ms is told same due before put more =
     let left = due_cut old mid cut all e w ps qs global at groups o span is told same due before in
-    let behind = due_less old cut new all (put_for w (with_groups span groups) qs) _ left put in
-    subst (λ (ms : List Match). Due old new all (replaced_from w ps span.1 ms)) more behind
+    let rest_is = due_less old cut new all (put_for w (with_groups span groups) qs) _ left put in
+    subst (λ (ms : List Match). Due old new all (replaced_from w ps span.1 ms)) more rest_is
 
 to_end : (w : List ℕ) (at : ℕ) → take (length w - at) (drop at w) ≡ drop at w
 to_end w at = ap (λ (n : ℕ). take n (drop at w)) (sym (length-drop at w)) ∙ take-length (drop at w)
@@ -121,16 +121,16 @@ due_rest old mid new all e w ps global at (Some span) r is due rest = let never 
 -- after an occurrence that is replaced the next one is, with the flag `g`
 pub more_pending : (e : Written) (w : List ℕ) (global : Bool) (q : ℕ) (r : Option (ℕ × ℕ)) → global ≡ true →
     q ≤ length w → match_at e w r ≡ next_occurrence (search_for (Some e) w) (length w) (Some q) →
-    behind_it e w global q ≡ pending e w global r
-more_pending e w true q r is fits next = behind_is e w (Some q) r fits next
+    rest_after e w global q ≡ pending e w global r
+more_pending e w true q r is fits next = after_is e w (Some q) r fits next
 more_pending e w false q r is fits next = absurd (false≢true is)
 
-pub none_pending : (e : Written) (w : List ℕ) (global : Bool) (q : ℕ) → global ≡ false → behind_it e w global q ≡ []
+pub none_pending : (e : Written) (w : List ℕ) (global : Bool) (q : ℕ) → global ≡ false → rest_after e w global q ≡ []
 none_pending e w true q is = absurd (false≢true (sym is))
 none_pending e w false q is = refl
 
 -- where an occurrence lies after which another was
-pub lies_on : (n q : ℕ) (r : Option (ℕ × ℕ)) → IfSome r (LiesBehind n (Some q)) →
+pub lies_on : (n q : ℕ) (r : Option (ℕ × ℕ)) → IfSome r (LiesAfter n (Some q)) →
     IfSome r (λ span. (q ≤ span.0) × (span.0 ≤ span.1) × (span.1 ≤ n))
 lies_on n q None lies = tt
 lies_on n q (Some span) lies = (lies.0, lies.2, lies.3)
@@ -139,7 +139,7 @@ lies_on n q (Some span) lies = (lies.0, lies.2, lies.3)
 pub chosen_is : (e : Written) (w : List ℕ) (number : ℕ) (global : Bool) (last : Option ℕ) (r : Option (ℕ × ℕ)) →
     Skips e w (number - 1) (Some last) → match_at e w r ≡ next_occurrence (search_for (Some e) w) (length w) last →
     chosen number global (occurrences (search_for (Some e) w) (length w)) ≡ pending e w global r
-chosen_is e w number global last r skips next = by_flag global r (skips.0 ∙ behind_is e w last r skips.1 next)
+chosen_is e w number global last r skips next = by_flag global r (skips.0 ∙ after_is e w last r skips.1 next)
   where
     by_flag : (global : Bool) (r : Option (ℕ × ℕ)) →
         drop (number - 1) (occurrences (search_for (Some e) w) (length w)) ≡ pending e w true r →

@@ -6,7 +6,7 @@ use Rattle.sedspace.specs.Spaces.{Entries}
 use Rattle.sedspace.specs.declared.errors.Full.{Full}
 use Rattle.sedengine.specs.Limits.{Limits}
 use Rattle.sedengine.specs.State.{Task, begin, rebegin, do_at, print_pattern, empty_pattern, flush, State, Move, Setting}
-use Rattle.sedengine.specs.Move.{comes_to, writing, quietly, then_do, at_end, line_to}
+use Rattle.sedengine.specs.Move.{reach, writing, quietly, then_do, at_end, line_to}
 use Rattle.sedengine.specs.Ends.{Fits, takes_turn}
 use Rattle.sedengine.specs.Held.{SameLengths}
 use Rattle.sedengine.specs.Meters.{Sent, Tally}
@@ -71,7 +71,7 @@ pub end_moves : (e : Run) (files : ℕ → List ℕ) (ls : List (List ℕ)) (k :
     Moves e.limits (setting e files) (then_do at_end (at_lines e ls)) now (Sent old new) r → Moves e.limits (setting e files) (at_lines e ls) now (Sent old new) r
 end_moves e files ls k now old new r f at over h =
     quietly_then e.limits (setting e files) (at_lines e ls) (then_do at_end (at_lines e ls)) now old new r f
-    (move_at _ _ _ at ∙ ap (comes_to (setting e files) (at_lines e ls) k) (slice_get_past e.script.commands k over)) (fits_tasks _ (at_lines e ls) at_end f) refl h
+    (move_at _ _ _ at ∙ ap (reach (setting e files) (at_lines e ls) k) (slice_get_past e.script.commands k over)) (fits_tasks _ (at_lines e ls) at_end f) refl h
 
 -- the engine whose pattern space is emptied, before the next cycle
 abbrev pub emptied : Run → Run

@@ -1,9 +1,7 @@
 -- What sinks gain, by parts.
-use Rattle.std.proofs.Common.{◌≡◌, ◌≢◌, ℕ, suc, zero, ◌<◌, ◌+◌, ◌-◌, ◌≤◌, ◌⊎◌, inl, inr, true, false, cond, List, [], ◌∷◌, ◌++◌, length, take, drop, Option, Some, None, refl, subst, sym, ap, ◌∙◌, append_assoc, append-nil, arith, rules}
+use Rattle.std.proofs.Common.{◌≡◌, ◌≢◌, ℕ, suc, zero, ◌<◌, ◌⊎◌, inl, inr, true, false, cond, List, [], ◌∷◌, ◌++◌, length, take, Option, Some, None, refl, subst, sym, ap, ◌∙◌, append_assoc, append-nil, arith, rules}
 use Rattle.std.specs.Prelude.{nat_eq, slice_get}
 use Rattle.std.proofs.lemmas.Bool.Decides.{nat_tests}
-use Rattle.std.proofs.lemmas.List.{drop-take, take-append-drop, take-take}
-use Rattle.std.proofs.lemmas.Grind.{common_steps}
 use Rattle.std.specs.Io.KnownBytes.{Appends, Keeps}
 use Rattle.sedengine.specs.Move.{to_sink}
 use Rattle.sedengine.specs.Devices.{part, Gained}
@@ -47,9 +45,6 @@ Gained-append {old} {mid} {new} {xs} {ys} a b = record {
 pub Gained-none : (old : ℕ → Option (List ℕ)) → Gained old old []
 Gained-none old = record { each = λ k. Appends-none (old k) (old k) (Keeps-same (old k)) }
 
-pub Gained-add_none : {old mid new : ℕ → Option (List ℕ)} {xs : List (ℕ × ℕ)} → Gained old mid xs → Gained mid new [] → Gained old new xs
-Gained-add_none {old} {mid} {new} {xs} a b = let h = Gained-append a b in rw append-nil at h
-
 pub same_or_not : (s k : ℕ) → (s ≡ k) ⊎ (s ≢ k)
 same_or_not zero zero = inl refl
 same_or_not zero (suc k) = inr (λ e. absurd (omega (arith, e)))
@@ -65,10 +60,6 @@ at_sink old new s k bs h others (inr other) = rw (part-other s k bs other) (Appe
 pub Gained-one : (old new : ℕ → Option (List ℕ)) (s : ℕ) (bs : List ℕ) → Appends (old s) (new s) bs → ((j : ℕ) → j ≢ s → Keeps (old j) (new j)) → Gained old new (to_sink s bs)
 Gained-one old new s bs h others = record { each = λ k. at_sink old new s k bs h others (same_or_not s k) }
 
--- no sink gains anything
-pub Gained-kept : (old new : ℕ → Option (List ℕ)) (s : ℕ) → Keeps (old s) (new s) → ((j : ℕ) → j ≢ s → Keeps (old j) (new j)) → Gained old new []
-Gained-kept old new s h others = Gained-one old new s [] (Appends-none (old s) (new s) h) others
-
 pub to_sink-append : (k : ℕ) (xs ys : List ℕ) → to_sink k (xs ++ ys) ≡ to_sink k xs ++ to_sink k ys
 to_sink-append k [] ys = refl
 to_sink-append k (x ∷ xs) ys = ap (λ l. (k, x) ∷ l) (to_sink-append k xs ys)
@@ -82,10 +73,3 @@ pub slice_get-to_sink : (k n : ℕ) (xs : List ℕ) → n < length xs → (b : �
 slice_get-to_sink k n [] h = absurd (omega arith)
 slice_get-to_sink k zero (x ∷ xs) h = (x, refl)
 slice_get-to_sink k (suc n) (x ∷ xs) h = slice_get-to_sink k n xs (omega arith)
-
-take_add : (i n : ℕ) (xs : List ℕ) → take (i + n) xs ≡ take i xs ++ take n (drop i xs)
-take_add i n xs = grind (arith, common_steps, drop-take, take-append-drop {A = ℕ}, take-take {A = ℕ})
-
--- the bytes done, and n of those left
-pub take_part : (i n : ℕ) (xs : List ℕ) → i ≤ length xs → n ≤ length xs - i → take (i + n) xs ≡ take i xs ++ take n (take (length xs - i) (drop i xs))
-take_part i n xs h k = grind (arith, common_steps, take_add)

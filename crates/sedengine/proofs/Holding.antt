@@ -16,7 +16,7 @@ use Rattle.sedengine.specs.declared.ends.Ended.TheVariants.{PatternFull, HoldFul
 use Rattle.sedengine.proofs.Moves.{stopped_here}
 use Rattle.sedengine.proofs.Tasks.{fits_of}
 use Rattle.sedengine.proofs.Acts.{acts_leading}
-use Rattle.sedengine.proofs.Substituting.{comes_line}
+use Rattle.sedengine.proofs.Substituting.{reached_line}
 
 taken : (b : ℕ) (bs : List ℕ) (n : ℕ) → take (1 + n) (b ∷ bs) ≡ b ∷ take n bs
 taken b bs n = let more : 1 + n ≡ suc n = omega arith in rw more refl
@@ -69,7 +69,7 @@ module _ (a : Inside) (e : Run) (seen : run_of a ≡ e) (i : IsRun a) (ls : List
   acts_growing pattern hold e' (Err (PatternFull n)) (same, number, more) is =
       let Q : Run → Type 0 = λ e'. Performs e.limits g o (at_lines e ls) (at_lines e' ls) (Sent sinks sinks) (Err (PatternFull n)) in
       subst Q (sym same) (λ s c first. stopped_here e.limits g s (at_lines e ls) sinks (PatternFull n) c.fits refl
-      (number ∙ sym c.number ∙ sym (comes_line s s.tasks c.comes), c.turn, (_, first ∙ is, more)) c.same c.lines)
+      (number ∙ sym c.number ∙ sym (reached_line s s.tasks c.reaches), c.turn, (_, first ∙ is, more)) c.same c.lines)
   acts_growing pattern hold e' (Err (HoldFull n)) (same, number, more) is =
       let Q : Run → Type 0 = λ e'. Performs e.limits g o (at_lines e ls) (at_lines e' ls) (Sent sinks sinks) (Err (HoldFull n)) in
       subst Q (sym same) (λ s c first. stopped_here e.limits g s (at_lines e ls) sinks (HoldFull n) c.fits refl

@@ -10,9 +10,9 @@ use Rattle.sedmatch.specs.Matching.{found}
 use Rattle.sedmatch.specs.Occurrences.{next_span, unless_null_at}
 use Rattle.sedmatch.proofs.MatchingLemmas.{found-iff, Found-within}
 use Rattle.sedmatch.proofs.SpanLemmas.{Spans-forward, Spans-within}
-use Rattle.sedengine.specs.Substitute.{Match, unless_empty_at, next_occurrence, then_behind, occurrences_from}
+use Rattle.sedengine.specs.Substitute.{Match, unless_empty_at, next_occurrence, with_rest, occurrences_from}
 use Rattle.sedengine.specs.Run.{match_at, search_for}
-use Rattle.sedengine.specs.Replacing.{EndsIn, LiesBehind, Skips, occurrence, occurrences_behind, pending}
+use Rattle.sedengine.specs.Replacing.{EndsIn, LiesAfter, Skips, occurrence, occurrences_after, pending}
 
 -- a match lies in the text, after the place from which it is sought
 pub found_lies : (e : Written) (w : List ℕ) (p i j : ℕ) → p ≤ length w → found (tree e) w p ≡ Some (i, j) →
@@ -71,20 +71,20 @@ later sought n q m o fits is =
     other true fits k is = o.lies (q + 1) k (fits refl) is
     other false fits k is = let none : None ≡ Some k = is in cc
 
-then_behind_none : (o : Option Match) (f : Match → List Match) → o ≡ None → then_behind o f ≡ []
-then_behind_none o f none = rw none refl
+with_rest_none : (o : Option Match) (f : Match → List Match) → o ≡ None → with_rest o f ≡ []
+with_rest_none o f none = rw none refl
 
-then_behind_some : (o : Option Match) (f : Match → List Match) (m : Match) → o ≡ Some m → then_behind o f ≡ m ∷ f m
-then_behind_some o f m some = rw some refl
+with_rest_some : (o : Option Match) (f : Match → List Match) (m : Match) → o ≡ Some m → with_rest o f ≡ m ∷ f m
+with_rest_some o f m some = rw some refl
 
-then_behind_same : (o : Option Match) (f g : Match → List Match) → ((m : Match) → o ≡ Some m → f m ≡ g m) →
-    then_behind o f ≡ then_behind o g
-then_behind_same None f g same = refl
-then_behind_same (Some m) f g same = ap (λ (ms : List Match). m ∷ ms) (same m refl)
+with_rest_same : (o : Option Match) (f g : Match → List Match) → ((m : Match) → o ≡ Some m → f m ≡ g m) →
+    with_rest o f ≡ with_rest o g
+with_rest_same None f g same = refl
+with_rest_same (Some m) f g same = ap (λ (ms : List Match). m ∷ ms) (same m refl)
 
 -- no occurrence after the last place
 none_left : (o : Option Match) (n q : ℕ) → n ≤ q → ((m : Match) → o ≡ Some m → (q < m.end) × (m.end ≤ n)) →
-    (f : Match → List Match) → then_behind o f ≡ []
+    (f : Match → List Match) → with_rest o f ≡ []
 none_left None n q over lies f = refl
 none_left (Some m) n q over lies f = let at = lies m refl in absurd (omega arith)
 
@@ -100,7 +100,7 @@ enough sought n o (suc most) zero q fits some other =
     none_left (next_occurrence sought n (Some q)) n q (omega arith) (λ m. later sought n q m o fits)
     (λ m. occurrences_from sought n most (Some m.end))
 enough sought n o (suc most) (suc more) q fits some other =
-    then_behind_same (next_occurrence sought n (Some q)) (λ m. occurrences_from sought n most (Some m.end))
+    with_rest_same (next_occurrence sought n (Some q)) (λ m. occurrences_from sought n most (Some m.end))
     (λ m. occurrences_from sought n more (Some m.end))
     (λ m is. let at = later sought n q m o fits is in
     enough sought n o most more m.end at.1 (omega arith) (omega arith))
@@ -111,7 +111,7 @@ from_none : (sought : ℕ → Option Match) (n most : ℕ) (last : Option ℕ) �
 unfolding occurrences_from
 from_none sought n zero last none = refl
 from_none sought n (suc most) last none =
-    then_behind_none (next_occurrence sought n last) (λ m. occurrences_from sought n most (Some m.end)) none
+    with_rest_none (next_occurrence sought n last) (λ m. occurrences_from sought n most (Some m.end)) none
 
 -- the one that comes next, and those after it
 from_some : (sought : ℕ → Option Match) (n most : ℕ) (last : Option ℕ) (m : Match) → Ordered sought n → m.end ≤ n →
@@ -119,20 +119,20 @@ from_some : (sought : ℕ → Option Match) (n most : ℕ) (last : Option ℕ) (
     occurrences_from sought n (suc most) last ≡ m ∷ occurrences_from sought n (n - m.end) (Some m.end)
 unfolding occurrences_from
 from_some sought n most last m o fits some is =
-    then_behind_some (next_occurrence sought n last) (λ m. occurrences_from sought n most (Some m.end)) m is
+    with_rest_some (next_occurrence sought n last) (λ m. occurrences_from sought n most (Some m.end)) m is
     ∙ ap (λ (ms : List Match). m ∷ ms) (enough sought n o most (n - m.end) m.end fits some (omega arith))
 
 -- the occurrences after a place are the one that comes next and those after it
-pub behind_is : (e : Written) (w : List ℕ) (last : Option ℕ) (r : Option (ℕ × ℕ)) → EndsIn (length w) last →
+pub after_is : (e : Written) (w : List ℕ) (last : Option ℕ) (r : Option (ℕ × ℕ)) → EndsIn (length w) last →
     match_at e w r ≡ next_occurrence (search_for (Some e) w) (length w) last →
-    occurrences_behind e w last ≡ pending e w true r
-behind_is e w None None fits is = from_none (search_for (Some e) w) (length w) (length w + 1) None (sym is)
-behind_is e w (Some q) None fits is = from_none (search_for (Some e) w) (length w) (length w - q) (Some q) (sym is)
-behind_is e w None (Some span) fits is =
+    occurrences_after e w last ≡ pending e w true r
+after_is e w None None fits is = from_none (search_for (Some e) w) (length w) (length w + 1) None (sym is)
+after_is e w (Some q) None fits is = from_none (search_for (Some e) w) (length w) (length w - q) (Some q) (sym is)
+after_is e w None (Some span) fits is =
     let at = (ordered e w).lies 0 (occurrence e w span) (omega arith) (sym is) in
     rw add-one (from_some (search_for (Some e) w) (length w) (length w) None (occurrence e w span) (ordered e w) at.2
     (omega arith) (sym is))
-behind_is e w (Some q) (Some span) fits is =
+after_is e w (Some q) (Some span) fits is =
     let at = later (search_for (Some e) w) (length w) q (occurrence e w span) (ordered e w) fits (sym is) in
     let most : length w - q ≡ suc (length w - q - 1) = omega arith in
     rw most (from_some (search_for (Some e) w) (length w) (length w - q - 1) (Some q) (occurrence e w span)
@@ -147,22 +147,22 @@ drop_more ms k count more none =
 -- fewer occurrences are there than are to be skipped
 pub skips_none : (e : Written) (w : List ℕ) (last : Option ℕ) (k count : ℕ) (skipped : Option (Option ℕ)) →
     skipped ≡ None → k ≤ count → EndsIn (length w) last →
-    drop k (occurrences_behind e w None) ≡ occurrences_behind e w last →
+    drop k (occurrences_after e w None) ≡ occurrences_after e w last →
     match_at e w None ≡ next_occurrence (search_for (Some e) w) (length w) last → Skips e w count skipped
-skips_none e w last k count None none more fits behind is =
-    drop_more (occurrences_behind e w None) k count more (behind ∙ behind_is e w last None fits is)
-skips_none e w last k count (Some place) none more fits behind is = let never : Some place ≡ None = none in cc
+skips_none e w last k count None none more fits skipped is =
+    drop_more (occurrences_after e w None) k count more (skipped ∙ after_is e w last None fits is)
+skips_none e w last k count (Some place) none more fits skipped is = let never : Some place ≡ None = none in cc
 
 -- one more is skipped
 pub skips_one : (e : Written) (w : List ℕ) (last : Option ℕ) (k : ℕ) (span : ℕ × ℕ) → EndsIn (length w) last →
-    drop k (occurrences_behind e w None) ≡ occurrences_behind e w last →
+    drop k (occurrences_after e w None) ≡ occurrences_after e w last →
     match_at e w (Some span) ≡ next_occurrence (search_for (Some e) w) (length w) last →
-    drop (k + 1) (occurrences_behind e w None) ≡ occurrences_behind e w (Some span.1)
-skips_one e w last k span fits behind is =
-    sym (drop-drop 1 k (occurrences_behind e w None)) ∙ ap (drop 1) (behind ∙ behind_is e w last (Some span) fits is)
+    drop (k + 1) (occurrences_after e w None) ≡ occurrences_after e w (Some span.1)
+skips_one e w last k span fits skipped is =
+    sym (drop-drop 1 k (occurrences_after e w None)) ∙ ap (drop 1) (skipped ∙ after_is e w last (Some span) fits is)
 
 -- an occurrence ends in the text
-pub ends_in : (n : ℕ) (last : Option ℕ) (span : ℕ × ℕ) → LiesBehind n last span → span.1 ≤ n
+pub ends_in : (n : ℕ) (last : Option ℕ) (span : ℕ × ℕ) → LiesAfter n last span → span.1 ≤ n
 ends_in n None span lies = lies.1
 ends_in n (Some q) span lies = lies.3
 

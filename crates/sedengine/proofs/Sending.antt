@@ -1,10 +1,10 @@
 -- What sinks gain that are counted, by parts.
-use Rattle.std.proofs.Common.{◌≡◌, ◌≢◌, ℕ, ◌+◌, ◌⊎◌, inl, inr, List, [], ◌++◌, length, Option, Some, None, refl, sym, arith, length-append, append-nil}
+use Rattle.std.proofs.Common.{◌≡◌, ◌≢◌, ℕ, ◌+◌, ◌⊎◌, inl, inr, List, [], ◌++◌, length, Option, Some, None, refl, sym, arith, length-append}
 use Rattle.std.specs.Io.KnownBytes.{Appends, Keeps}
 use Rattle.sedengine.specs.Move.{to_sink}
 use Rattle.sedengine.specs.Devices.{part}
 use Rattle.sedengine.specs.Meters.{Counts, Sent, Tally}
-use Rattle.sedengine.proofs.Gains.{Gained-append, Gained-none, Gained-one, Gained-kept, part-append, part-same, part-other, same_or_not}
+use Rattle.sedengine.proofs.Gains.{Gained-append, Gained-none, Gained-one, part-append, part-same, part-other, same_or_not}
 
 Counts-append : (a b c : Option ℕ) (m n : ℕ) → Counts a b m → Counts b c n → Counts a c (m + n)
 Counts-append None b c m n h i = tt
@@ -29,9 +29,6 @@ Sent-append {old} {mid} {new} {xs} {ys} a b = record {
 pub Sent-none : (old : Tally) → Sent old old []
 Sent-none old = record { gained = Gained-none old.contents; counts = λ k. Counts-none (old.sent k) }
 
-pub Sent-add_none : {old mid new : Tally} {xs : List (ℕ × ℕ)} → Sent old mid xs → Sent mid new [] → Sent old new xs
-Sent-add_none {old} {mid} {new} {xs} a b = let h = Sent-append a b in rw append-nil at h
-
 counts_at : (old new : ℕ → Option ℕ) (s k : ℕ) (bs : List ℕ) → Counts (old s) (new s) (length bs) → ((j : ℕ) → j ≢ s → new j ≡ old j) → (s ≡ k) ⊎ (s ≢ k) → Counts (old k) (new k) (length (part k (to_sink s bs)))
 counts_at old new s k bs h others (inl same) = rw (← same, part-same) h
 counts_at old new s k bs h others (inr other) = rw (part-other s k bs other, others k (λ e. other (sym e))) (Counts-none (old k))
@@ -43,7 +40,3 @@ Sent-one old new s bs h others counts uncounted = record {
   gained = Gained-one old.contents new.contents s bs h others;
   counts = λ k. counts_at old.sent new.sent s k bs counts uncounted (same_or_not s k);
 }
-
--- no sink gains anything
-pub Sent-kept : (old new : Tally) (s : ℕ) → Keeps (old.contents s) (new.contents s) → ((j : ℕ) → j ≢ s → Keeps (old.contents j) (new.contents j)) → new.sent ≡ old.sent → Sent old new []
-Sent-kept old new s h others same = record { gained = Gained-kept old.contents new.contents s h others; counts = λ k. rw same (Counts-none (old.sent k)) }

@@ -14,12 +14,12 @@ use Rattle.sedengine.specs.State.{Task, begin, rebegin, do_at, print_pattern, em
 use Rattle.sedengine.specs.Substitute.{Match, chosen, occurrences, replaced_from}
 use Rattle.sedengine.specs.Select.{stands_for}
 use Rattle.sedengine.specs.Move.{move, becomes, chosen_in, quietly, writing, line_to, line_to_file, replaces, substitutes, written_by}
-use Rattle.sedengine.specs.Ends.{Fits, Leads, comes, line_at}
+use Rattle.sedengine.specs.Ends.{Fits, Leads, reaches, line_at}
 use Rattle.sedengine.specs.Held.{SameLengths}
 use Rattle.sedengine.specs.Meters.{Sent, Tally}
 use Rattle.sedengine.specs.Calls.{Puts}
 use Rattle.sedengine.specs.Run.{Run, at_lines, search_in, setting}
-use Rattle.sedengine.specs.Steps.{ComesTo, Moves, Performs}
+use Rattle.sedengine.specs.Steps.{Reaches, Moves, Performs}
 use Rattle.sedengine.specs.Substituting.{Makes, ReplacesIn, same_but_replaced}
 use Rattle.sedengine.specs.Inside.{run_of, tasks_of, IsRun, IsEmptied}
 use Rattle.sedengine.specs.declared.machine.Machine.TheInside.{Inside}
@@ -33,7 +33,7 @@ use Rattle.sedengine.proofs.Tasks.{fits_of}
 use Rattle.sedengine.proofs.Tried.{standing}
 
 -- Where a command is reached the pattern space needn't be empty.
-may_hold : (p : Place) (bytes : List ℕ) → comes (tasks_of p) ≡ true → IsEmptied p bytes
+may_hold : (p : Place) (bytes : List ℕ) → reaches (tasks_of p) ≡ true → IsEmptied p bytes
 may_hold p.Begin bytes h = cc
 may_hold p.Rebegin bytes h = tt
 may_hold (p.Do k) bytes h = tt
@@ -41,7 +41,7 @@ may_hold p.Quit bytes h = tt
 may_hold p.Ended bytes h = tt
 
 -- the fields of the engine after a substitution with the expression e
-pub replaced_is_run : (a : Inside) (pattern build : Contents) (scratch : Room) (seeking : Occurrences) (matchers : Vec Written Global) (e : ℕ) (replaced : Bool) → IsRun a → comes (tasks_of a.place) ≡ true → e < length a.script.expressions →
+pub replaced_is_run : (a : Inside) (pattern build : Contents) (scratch : Room) (seeking : Occurrences) (matchers : Vec Written Global) (e : ℕ) (replaced : Bool) → IsRun a → reaches (tasks_of a.place) ≡ true → e < length a.script.expressions →
     pattern.limit ≡ a.pattern.limit → length pattern.bytes ≤ pattern.limit → build.limit ≡ a.build.limit → scratch ≡ a.scratch → KeepsRoom a.seeking seeking → matchers.items ≡ a.matchers.items →
     IsRun (record a { pattern = pattern; build = build; scratch = scratch; seeking = seeking; matchers = matchers; used = Some e; replaced = replaced })
 replaced_is_run a pattern build scratch seeking matchers e replaced i at within limit fits limit' same kept same' = record {
@@ -106,17 +106,17 @@ there_is (x ∷ xs) zero h = (x, refl)
 there_is (x ∷ xs) (suc k) h = there_is xs k (omega arith)
 
 -- the line of a command that is reached
-pub comes_line : (s : State) (ts : List Task) → comes ts ≡ true → line_at s ts ≡ s.number
-comes_line s [] h = cc
-comes_line s (do_at k ∷ rest) h = refl
-comes_line s (begin ∷ rest) h = cc
-comes_line s (rebegin ∷ rest) h = cc
-comes_line s (fetch ∷ rest) h = cc
-comes_line s (join ∷ rest) h = cc
-comes_line s (copy k o ∷ rest) h = cc
-comes_line s (print_pattern ∷ rest) h = cc
-comes_line s (empty_pattern ∷ rest) h = cc
-comes_line s (flush ∷ rest) h = cc
+pub reached_line : (s : State) (ts : List Task) → reaches ts ≡ true → line_at s ts ≡ s.number
+reached_line s [] h = cc
+reached_line s (do_at k ∷ rest) h = refl
+reached_line s (begin ∷ rest) h = cc
+reached_line s (rebegin ∷ rest) h = cc
+reached_line s (fetch ∷ rest) h = cc
+reached_line s (join ∷ rest) h = cc
+reached_line s (copy k o ∷ rest) h = cc
+reached_line s (print_pattern ∷ rest) h = cc
+reached_line s (empty_pattern ∷ rest) h = cc
+reached_line s (flush ∷ rest) h = cc
 
 -- The engine with the fields a, which is seen as r, was led to the engine r' by a call that makes the move o of a substitution.
 module _ (a : Inside) (r r' : Run) (seen : run_of a ≡ r) (i : IsRun a) (same : r' ≡ same_but_replaced r r'.state) (within : length r'.state.pattern ≤ r'.limits.space) (ls : List (List ℕ)) (g : Setting) (old new : Tally) (o : Option Move) (t : Substitution) where
@@ -144,7 +144,7 @@ module _ (a : Inside) (r r' : Run) (seen : run_of a ≡ r) (i : IsRun a) (same :
   pub replaced_not : (end : Ended) → r'.state.pattern ≡ r.state.pattern → Makes r.limits o t (at_lines r ls) (at_lines r' ls) (Err end) → Performs r.limits g o (at_lines r ls) (at_lines r' ls) (Sent old old) (Err end)
   replaced_not end kept is = λ s c first. stops s c first end is
     where
-      lengths : (s : State) → ComesTo r.limits g s (at_lines r ls) → SameLengths s (at_lines r' ls)
+      lengths : (s : State) → Reaches r.limits g s (at_lines r ls) → SameLengths s (at_lines r' ls)
       lengths s c =
           let w = c.same in
           record {
@@ -154,11 +154,11 @@ module _ (a : Inside) (r r' : Run) (seen : run_of a ≡ r) (i : IsRun a) (same :
             entries = let more = w.entries in let queue = ap (λ (r : Run). length r.state.queue) same in omega arith;
           }
 
-      stops : (s : State) (c : ComesTo r.limits g s (at_lines r ls)) → move g s ≡ o → (end : Ended) → Makes r.limits o t (at_lines r ls) (at_lines r' ls) (Err end) → Moves r.limits g s (at_lines r' ls) (Sent old old) (Err end)
+      stops : (s : State) (c : Reaches r.limits g s (at_lines r ls)) → move g s ≡ o → (end : Ended) → Makes r.limits o t (at_lines r ls) (at_lines r' ls) (Err end) → Moves r.limits g s (at_lines r' ls) (Sent old old) (Err end)
       stops s c first (NoPrevious n) (without, number) =
-          stopped_here r.limits g s (at_lines r' ls) old (NoPrevious n) c.fits refl (number ∙ sym c.number, c.turn, c.comes, first ∙ without) (lengths s c) c.lines
+          stopped_here r.limits g s (at_lines r' ls) old (NoPrevious n) c.fits refl (number ∙ sym c.number, c.turn, c.reaches, first ∙ without) (lengths s c) c.lines
       stops s c first (PatternFull n) ((m, is, more), number) =
-          stopped_here r.limits g s (at_lines r' ls) old (PatternFull n) c.fits refl (number ∙ sym c.number ∙ sym (comes_line s s.tasks c.comes), c.turn, (m, first ∙ is, more)) (lengths s c) c.lines
+          stopped_here r.limits g s (at_lines r' ls) old (PatternFull n) c.fits refl (number ∙ sym c.number ∙ sym (reached_line s s.tasks c.reaches), c.turn, (m, first ∙ is, more)) (lengths s c) c.lines
       stops s c first other h = absurd h
 
 -- what the flag `p` writes, and then the flag `w`

@@ -163,9 +163,9 @@ module _ {R : Type 0} (remaining : R → Option (List ℕ)) (old new : Stream R)
 -- An engine with the fields a that stands before command k, or before the end of the script.
 module _ (a : Inside) (e : Run) (seen : run_of a ≡ e) (i : IsRun a) (files : ℕ → List ℕ) (ls : List (List ℕ)) (k : ℕ) (at : e.state.tasks ≡ do_at k ∷ []) where
   -- a command with no turn left
-  pub comes_spent : (sinks : Tally) → k < length a.script.commands → a.turns ≡ a.limits.turns →
+  pub reach_spent : (sinks : Tally) → k < length a.script.commands → a.turns ≡ a.limits.turns →
       Moves e.limits (setting e files) (at_lines e ls) (at_lines e ls) (Sent sinks sinks) (Err TurnsSpent)
-  comes_spent sinks there spent =
+  reach_spent sinks there spent =
       let Q : Run → Type 0 = λ e. e.state.tasks ≡ do_at k ∷ [] → Moves e.limits (setting e files) (at_lines e ls) (at_lines e ls) (Sent sinks sinks) (Err TurnsSpent) in
       subst Q seen (λ t. stopped_here a.limits (setting (run_of a) files) (at_lines (run_of a) ls) (at_lines (run_of a) ls) sinks TurnsSpent (fits_of a ls i) refl
       (spent, ap (takes_turn (setting (run_of a) files) (at_lines (run_of a) ls)) t ∙ is_there a.script.commands k there) (record { pattern = refl; hold = refl; queue = λ _. refl; entries = omega arith }) refl) at

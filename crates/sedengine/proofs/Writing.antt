@@ -1,5 +1,5 @@
 -- Calls that write, one after another.
-use Rattle.std.proofs.Common.{◌≡◌, ◌≢◌, ℕ, suc, zero, ◌<◌, ◌+◌, ◌≤◌, ◌⊎◌, inl, inr, List, [], ◌∷◌, ◌++◌, length, Some, Result, Ok, Err, refl, sym, ◌∙◌, arith, rules}
+use Rattle.std.proofs.Common.{◌≡◌, ℕ, suc, zero, ◌<◌, ◌+◌, ◌≤◌, List, [], ◌∷◌, ◌++◌, length, take, Some, Result, Ok, Err, refl, ◌∙◌, arith, rules}
 use Rattle.std.proofs.lemmas.List.{take-append-le}
 use Rattle.std.proofs.lemmas.Option.{slice_get_within}
 use Rattle.std.proofs.Math.Seq.{take-append-add}
@@ -7,11 +7,13 @@ use Rattle.std.proofs.Math.Nat.{suc-add}
 use Rattle.std.specs.Prelude.{slice_get}
 use Rattle.sedengine.specs.Devices.{FailedSink}
 use Rattle.sedengine.specs.Meters.{Sent, Tally, FullSink}
-use Rattle.sedengine.specs.Calls.{Puts, Writes, Delivers, NoSinkFailed}
+use Rattle.sedengine.specs.Move.{to_sink}
+use Rattle.sedengine.specs.Ends.{named_sink}
+use Rattle.sedengine.specs.Calls.{Puts, Delivers, NoSinkFailed}
 use Rattle.sedengine.specs.declared.ends.Ended.{Ended}
 use Rattle.sedengine.specs.declared.ends.Ended.TheVariants.{OutputBroken, OutputFull}
 use Rattle.sedengine.proofs.Sending.{Sent-append}
-use Rattle.sedengine.proofs.Gains.{same_or_not}
+use Rattle.sedengine.proofs.Gains.{slice_get-to_sink, take-to_sink}
 
 pub slice_get-append_add : {A : Type 0} (xs ys : List A) (n : ℕ) → slice_get (xs ++ ys) (length xs + n) ≡ slice_get ys n
 slice_get-append_add [] ys n = search rules
@@ -24,18 +26,6 @@ FailedSink-then a b c (Err (OutputFull k)) h i = λ j. i j ∙ h j
 FailedSink-then a b c (Err other) h i = tt
 
 -- one call after another
-pub Writes-then : {O : Type 0} (failures : O → ℕ → ℕ) (count : O → ℕ) (a b c : O) (r : Result Unit Ended) → Writes failures count a b (Ok tt) → Writes failures count b c r → Writes failures count a c r
-Writes-then failures count a b c r w v = record { same_count = v.same_count ∙ w.same_count; failed = FailedSink-then (failures a) (failures b) (failures c) r w.failed v.failed }
-
-at_all : (old new : ℕ → ℕ) (s k : ℕ) → new s ≡ old s → ((j : ℕ) → j ≢ s → new j ≡ old j) → (s ≡ k) ⊎ (s ≢ k) → new k ≡ old k
-at_all old new s k h others (inl same) = rw (← same) h
-at_all old new s k h others (inr other) = others k (λ e. other (sym e))
-
--- a write that took bytes
-pub grown : {O : Type 0} (failures : O → ℕ → ℕ) (count : O → ℕ) (a b : O) (s : ℕ) → count b ≡ count a → failures b s ≡ failures a s → ((j : ℕ) → j ≢ s → failures b j ≡ failures a j) → Writes failures count a b (Ok tt)
-grown failures count a b s same here others = record { same_count = same; failed = λ k. at_all (failures a) (failures b) s k here others (same_or_not s k) }
-
--- the same for sinks that are counted
 pub Delivers-then : {O : Type 0} (tally : O → Tally) (count : O → ℕ) (a b c : O) (r : Result Unit Ended) → Delivers tally count a b (Ok tt) → Delivers tally count b c r → Delivers tally count a c r
 Delivers-then tally count a b c r w v = record {
   same_count = v.same_count ∙ w.same_count;
@@ -65,6 +55,10 @@ pub Puts-append : (old mid new : Tally) (xs ys : List (ℕ × ℕ)) (r : Result 
 Puts-append old mid new xs ys (Ok u) a h = Sent-append a h
 Puts-append old mid new xs ys (Err end) a (k, b, byte, is, due, gained) =
     (k, length xs + b, byte, is, slice_get-append_add xs ys b ∙ due, rw (take-append-add xs ys b) (Sent-append a gained))
+
+-- so many bytes for a sink were written, and then it failed or was full
+pub Puts-cut : (old new : Tally) (s n : ℕ) (bytes : List ℕ) (end : Ended) → named_sink end ≡ Some s → n < length bytes → Sent old new (to_sink s (take n bytes)) → Puts (Sent old new) (to_sink s bytes) (Err end)
+Puts-cut old new s n bytes end named more sent = let due = slice_get-to_sink s n bytes more in (s, n, due.0, named, due.1, rw take-to_sink sent)
 
 unwritten : (f : ℕ → ℕ) (end : Ended) → NoSinkFailed {T = Unit {0}} (Err end) → FailedSink f f (Err end)
 unwritten f (OutputBroken k) h = absurd h

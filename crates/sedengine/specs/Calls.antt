@@ -15,11 +15,6 @@ Puts gained out (Ok u) = gained out
 Puts gained out (Err end) =
     (k : ℕ) × (b : ℕ) × (byte : ℕ) × (named_sink end ≡ Some k) × (slice_get out b ≡ Some (k, byte)) × gained (take b out)
 
--- A call that may write to outputs: there are as many sinks as before, and one has failed only where the answer names it.
-pub record Writes {O : Type 0} (failures : O → ℕ → ℕ) (count : O → ℕ) (old new : O) (result : Result Unit Ended) : Type 0 where
-  pub same_count : count new ≡ count old
-  pub failed : FailedSink (failures old) (failures new) result
-
 -- A call that may write to sinks that are counted: nothing of them changes but what they hold, their failures and the
 -- counts, and one has failed or is full only where the answer names it.
 pub record Delivers {O : Type 0} (tally : O → Tally) (count : O → ℕ) (old new : O) (result : Result Unit Ended) : Type 0 where

@@ -100,8 +100,8 @@ Judges c active command used (Err InputBroken) = names_last command ≡ true
 Judges c active command used (Err _) = ⊥
 
 -- the engine that has reached command k, with these ranges and this expression last used
-abbrev pub come_with : Run → ℕ → List Bool → Option ℕ → Run
-come_with e k ranges used = record e {
+abbrev pub reached_with : Run → ℕ → List Bool → Option ℕ → Run
+reached_with e k ranges used = record e {
   state = record e.state {
     ranges = ranges;
     used = used;
@@ -111,9 +111,9 @@ come_with e k ranges used = record e {
 }
 
 -- how a call that judges the addresses of command k leaves the engine
-abbrev pub Comes : Run → Run → ℕ → Result Chosen Ended → Type 0
-Comes e e' k (Ok choice) = e' ≡ come_with e k (slice_set e.state.ranges k choice.active) e'.state.used
-Comes e e' k (Err end) = e' ≡ e
+abbrev pub TakesTurn : Run → Run → ℕ → Result Chosen Ended → Type 0
+TakesTurn e e' k (Ok choice) = e' ≡ reached_with e k (slice_set e.state.ranges k choice.active) e'.state.used
+TakesTurn e e' k (Err end) = e' ≡ e
 
 -- what a call that asks for the last line answers
 abbrev pub TellsLine : Bool → Result Bool Ended → Type 0

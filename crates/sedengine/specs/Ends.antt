@@ -67,7 +67,7 @@ abbrev pub asks_last : Option Command → Bool
 asks_last None = false
 asks_last (Some c) = names_last c || is_next c.action
 
--- whether the first task may look at the input: it fetches a line, or comes to a command with an address `$` or to an `n`
+-- whether the first task may look at the input: it fetches a line, or reaches a command with an address `$` or an `n`
 abbrev pub reads : Setting → List Task → Bool
 reads g [] = false
 reads g (begin ∷ rest) = true
@@ -76,11 +76,11 @@ reads g (join ∷ rest) = true
 reads g (do_at k ∷ rest) = asks_last (slice_get g.commands k)
 reads g (other ∷ rest) = false
 
--- whether the first task comes to a command, or to the end of the script
-abbrev pub comes : List Task → Bool
-comes [] = false
-comes (do_at k ∷ rest) = true
-comes (other ∷ rest) = false
+-- whether the first task reaches a command, or the end of the script
+abbrev pub reaches : List Task → Bool
+reaches [] = false
+reaches (do_at k ∷ rest) = true
+reaches (other ∷ rest) = false
 
 -- there is a move, and what it leads to is so
 abbrev pub Leads : Option Move → (Move → Type 0) → Type 0
@@ -102,7 +102,7 @@ IsCause l g s (HoldFull n) =
 IsCause l g s (QueueFull n) =
     (n ≡ s.number) × HasTurn l g s × Leads (move g s) (λ m. l.queue < length m.next.queue)
 IsCause l g s TurnsSpent = (s.turns ≡ l.turns) × (takes_turn g s s.tasks ≡ true)
-IsCause l g s (NoPrevious n) = (n ≡ s.number) × HasTurn l g s × (comes s.tasks ≡ true) × (move g s ≡ None)
+IsCause l g s (NoPrevious n) = (n ≡ s.number) × HasTurn l g s × (reaches s.tasks ≡ true) × (move g s ≡ None)
 IsCause l g s InputBroken = reads g s.tasks ≡ true
 IsCause l g s (OutputBroken k) = Unit {0}
 IsCause l g s (OutputFull k) = Unit {0}

@@ -22,10 +22,10 @@ abbrev pub FitsIn : Option ℕ → List ℕ → ℕ → ℕ → Type 0
 FitsIn None sent sink n = Unit {0}
 FitsIn (Some most) sent sink n = get_or sent sink 0 + n ≤ most
 
--- a sink has gained exactly the limit
-abbrev pub IsFull : Option ℕ → List ℕ → ℕ → Type 0
-IsFull None sent sink = ⊥
-IsFull (Some most) sent sink = get_or sent sink 0 ≡ most
+-- so many bytes more make a sink full
+abbrev pub Fills : Option ℕ → List ℕ → ℕ → ℕ → Type 0
+Fills None sent sink n = ⊥
+Fills (Some most) sent sink n = get_or sent sink 0 + n ≡ most
 
 -- how many bytes a sink has gained, where they are counted
 abbrev pub counted : Option ℕ → List ℕ → ℕ → Option ℕ

@@ -135,7 +135,7 @@ queueing entry s = record s { queue = s.queue ++ entry ∷ [] }
 -- after the command unless a case says otherwise. `tells` says whether `c` writes its text here.
 abbrev pub acts : Setting → State → Bool → Action → Option Move
 -- `{`: "Execute a list of sed editing commands only when the pattern space is selected", so they come next
-acts g s tells (Block behind) = quietly s
+acts g s tells (Block next) = quietly s
 -- `a`: "Write text to standard output as described previously": it waits in the queue
 acts g s tells (Append k) = quietly (queueing (text (text_of (slice_get g.texts k))) s)
 -- `b`: "Branch to the ':' command verb bearing the label"
@@ -199,7 +199,7 @@ acts g s tells (Transliterate k) = quietly (record s { pattern = map (in_table (
 
 -- What a command does that doesn't apply: `{` passes over its block.
 abbrev pub passes : State → Action → Option Move
-passes s (Block behind) = quietly (then_do (do_at behind ∷ []) s)
+passes s (Block next) = quietly (then_do (do_at next ∷ []) s)
 passes s other = quietly s
 
 -- what addresses are judged by in this state
@@ -217,8 +217,8 @@ abbrev pub is_active : State → ℕ → Bool
 is_active s k = slice_index_or s.ranges k false
 
 -- the state that has reached command k: the turn is taken, its addresses are judged, and the next task is the next command
-abbrev pub come : State → ℕ → Choice → State
-come s k choice = record s {
+abbrev pub reached : State → ℕ → Choice → State
+reached s k choice = record s {
   ranges = slice_set s.ranges k choice.active;
   used = choice.used;
   tasks = do_at (k + 1) ∷ [];
@@ -232,12 +232,12 @@ tells_at c end = is_none c.second || end || c.negate
 -- a command with its choice
 abbrev pub performs : Setting → State → ℕ → Command → Choice → Option Move
 performs g s k c choice =
-    if choice.yes then acts g (come s k choice) (tells_at c choice.end) c.action else passes (come s k choice) c.action
+    if choice.yes then acts g (reached s k choice) (tells_at c choice.end) c.action else passes (reached s k choice) c.action
 
 -- A command, or the end of the script. A command that needs an expression which isn't there has no move.
-abbrev pub comes_to : Setting → State → ℕ → Option Command → Option Move
-comes_to g s k None = quietly (then_do at_end s)
-comes_to g s k (Some c) = do
+abbrev pub reach : Setting → State → ℕ → Option Command → Option Move
+reach g s k None = quietly (then_do at_end s)
+reach g s k (Some c) = do
   choice ← selects (current_of g s) (is_active s k) c
   performs g s k c choice
 
@@ -246,7 +246,7 @@ abbrev pub first_task : Setting → State → List Task → Option Move
 first_task g s [] = None
 first_task g s (begin ∷ rest) = begins s s.lines
 first_task g s (rebegin ∷ rest) = quietly (record s { tasks = do_at 0 ∷ []; turns = s.turns + 1 })
-first_task g s (do_at k ∷ rest) = comes_to g s k (slice_get g.commands k)
+first_task g s (do_at k ∷ rest) = reach g s k (slice_get g.commands k)
 first_task g s (print_pattern ∷ rest) = writing (if g.quiet then [] else line_to 0 s.pattern) (then_do rest s)
 first_task g s (empty_pattern ∷ rest) = quietly (record s { pattern = []; tasks = rest })
 first_task g s (flush ∷ rest) = flushes s rest s.queue

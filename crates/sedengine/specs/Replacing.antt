@@ -53,15 +53,15 @@ GroupsOf e w wanted None groups = Unit {0}
 GroupsOf e w wanted (Some span) groups = wanted ≡ true → groups ≡ report (tree e) w span.0 span.1
 
 -- the span lies in a text of n bytes, and after the occurrence that ended at a place
-abbrev pub LiesBehind : ℕ → Option ℕ → ℕ × ℕ → Type 0
-LiesBehind n None span = (span.0 ≤ span.1) × (span.1 ≤ n)
-LiesBehind n (Some q) span = (q ≤ span.0) × (q < span.1) × (span.0 ≤ span.1) × (span.1 ≤ n)
+abbrev pub LiesAfter : ℕ → Option ℕ → ℕ × ℕ → Type 0
+LiesAfter n None span = (span.0 ≤ span.1) × (span.1 ≤ n)
+LiesAfter n (Some q) span = (q ≤ span.0) × (q < span.1) × (span.0 ≤ span.1) × (span.1 ≤ n)
 
 -- what was found is the next occurrence in the text w after the one that ended at a place, or none where there is none; its
 -- span lies after that place
 abbrev pub IsNext : Written → List ℕ → Option ℕ → Option (ℕ × ℕ) → Type 0
 IsNext e w last found =
-    (match_at e w found ≡ next_occurrence (search_for (Some e) w) (length w) last) × IfSome found (LiesBehind (length w) last)
+    (match_at e w found ≡ next_occurrence (search_for (Some e) w) (length w) last) × IfSome found (LiesAfter (length w) last)
 
 -- the place lies in a text of n bytes
 abbrev pub EndsIn : ℕ → Option ℕ → Type 0
@@ -69,29 +69,29 @@ EndsIn n None = Unit {0}
 EndsIn n (Some q) = q ≤ n
 
 -- the occurrences after the one that ended at a place, or all
-abbrev pub occurrences_behind : Written → List ℕ → Option ℕ → List Match
-occurrences_behind e w None = occurrences (search_for (Some e) w) (length w)
-occurrences_behind e w (Some q) = occurrences_from (search_for (Some e) w) (length w) (length w - q) (Some q)
+abbrev pub occurrences_after : Written → List ℕ → Option ℕ → List Match
+occurrences_after e w None = occurrences (search_for (Some e) w) (length w)
+occurrences_after e w (Some q) = occurrences_from (search_for (Some e) w) (length w) (length w - q) (Some q)
 
 -- the occurrences after a number of them, where the last of these ended if there are so many
 abbrev pub Skips : Written → List ℕ → ℕ → Option (Option ℕ) → Type 0
-Skips e w count None = drop count (occurrences_behind e w None) ≡ []
+Skips e w count None = drop count (occurrences_after e w None) ≡ []
 Skips e w count (Some last) =
-    (drop count (occurrences_behind e w None) ≡ occurrences_behind e w last) × EndsIn (length w) last
+    (drop count (occurrences_after e w None) ≡ occurrences_after e w last) × EndsIn (length w) last
 
 -- the occurrences that are still to be replaced: the one that has the span, if there is one, and with the flag `g` all
 -- after it
 abbrev pub pending : Written → List ℕ → Bool → Option (ℕ × ℕ) → List Match
 pending e w global None = []
-pending e w global (Some span) = occurrence e w span ∷ (if global then occurrences_behind e w (Some span.1) else [])
+pending e w global (Some span) = occurrence e w span ∷ (if global then occurrences_after e w (Some span.1) else [])
 
 -- what seeks, and the room for its searches, are as before
 abbrev pub SeeksAsBefore : {T : Type 0} → T → T → Room → Room → Type 0
 SeeksAsBefore old new before after = (new ≡ old) × (after ≡ before)
 
 -- there is as much room as before, and what is kept serves to search after the occurrences skipped, if there are so many
-abbrev pub ServesBehind : Written → List ℕ → Option (Option ℕ) → Occurrences → Occurrences → Type 0
-ServesBehind e w skipped old new = KeepsRoom old new × IfSome skipped (λ last. Serves e w last new)
+abbrev pub ServesAfter : Written → List ℕ → Option (Option ℕ) → Occurrences → Occurrences → Type 0
+ServesAfter e w skipped old new = KeepsRoom old new × IfSome skipped (λ last. Serves e w last new)
 
 -- the steps that the searches may still take after the occurrences skipped: none where there are fewer
 abbrev pub owed_skipped : ℕ → ℕ → Option (Option ℕ) → Occurrences → ℕ

@@ -1,4 +1,4 @@
--- The engine as its callers see it, and what a run of it comes to (this project's own).
+-- The engine as its callers see it, and how a run of it ends (this project's own).
 use Rattle.std.specs.Prelude.{◌≡◌, ℕ, ◌+◌, ◌<◌, Bool, true, false, Option, Some, None, Result, Ok, Err, List, [], ◌∷◌, ◌++◌, length, is_some, slice_get, get_or, IfSome}
 use Rattle.sedre.specs.Arena.{Written, tree}
 use Rattle.sedmatch.specs.Matching.{found, report}

@@ -8,7 +8,7 @@ use Rattle.sedscript.specs.declared.types.Action.TheVariants.{NextLine, AppendNe
 use Rattle.sedengine.specs.Limits.{Limits}
 use Rattle.sedengine.specs.State.{Task, do_at, State, Move, Setting}
 use Rattle.sedengine.specs.Move.{move, after, written}
-use Rattle.sedengine.specs.Ends.{Fits, HasTurn, Within, Cause, named_sink, comes, reads}
+use Rattle.sedengine.specs.Ends.{Fits, HasTurn, Within, Cause, named_sink, reaches, reads}
 use Rattle.sedengine.specs.Held.{HoldsAt, SameLengths}
 use Rattle.sedengine.specs.Run.{Run, InOneCycle, at_lines, size_of}
 use Rattle.sedengine.specs.declared.ends.Ended.{Ended}
@@ -37,9 +37,9 @@ Moves l g s now gained (Ok u) = Ran l g s now gained
 Moves l g s now gained (Err end) = Stopped l g s now gained end
 
 -- A state in which a command is reached with a turn left. In the state `there` the turn is taken, and the command acts.
-pub record ComesTo (l : Limits) (g : Setting) (s there : State) : Type 0 where
+pub record Reaches (l : Limits) (g : Setting) (s there : State) : Type 0 where
   pub fits : Fits l s
-  pub comes : comes s.tasks ≡ true
+  pub reaches : reaches s.tasks ≡ true
   pub turn : HasTurn l g s
   pub lines : s.lines ≡ there.lines
   pub number : s.number ≡ there.number
@@ -49,7 +49,7 @@ pub record ComesTo (l : Limits) (g : Setting) (s there : State) : Type 0 where
 -- the command that acts in the state `there`.
 abbrev pub Performs : Limits → Setting → Option Move → State → State → (List (ℕ × ℕ) → Type 0) →
     Result Unit Ended → Type 0
-Performs l g o there now gained r = (s : State) → ComesTo l g s there → move g s ≡ o → Moves l g s now gained r
+Performs l g o there now gained r = (s : State) → Reaches l g s there → move g s ≡ o → Moves l g s now gained r
 
 -- a command that has this action
 abbrev pub HasAction : Option Command → Action → Type 0
@@ -102,7 +102,7 @@ Steps remaining old new ls l g e e' gained r = StepsFrom remaining old new ls l 
 abbrev pub PerformsSteps : {R : Type 0} → (R → Option (List ℕ)) → Stream R → Stream R → List (List ℕ) → Limits →
     Setting → Option Move → Bool → State → Run → (List (ℕ × ℕ) → Type 0) → Result Unit Ended → Type 0
 PerformsSteps remaining old new ls l g o asks there e' gained r =
-    (s : State) → ComesTo l g s there → (asks ≡ true → reads g s.tasks ≡ true) → move g s ≡ o →
+    (s : State) → Reaches l g s there → (asks ≡ true → reads g s.tasks ≡ true) → move g s ≡ o →
     StepsFrom remaining old new ls l g s e' gained r
 
 -- A number that falls with each move: the turns left, and then what the tasks may do without one.

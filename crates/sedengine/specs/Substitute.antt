@@ -24,15 +24,15 @@ abbrev pub next_occurrence : (ℕ → Option Match) → ℕ → Option ℕ → O
 next_occurrence search n None = search 0
 next_occurrence search n (Some q) = unless_empty_at q (search q) (if nat_lt q n then search (q + 1) else None)
 
-abbrev pub then_behind : Option Match → (Match → List Match) → List Match
-then_behind None rest = []
-then_behind (Some m) rest = m ∷ rest m
+abbrev pub with_rest : Option Match → (Match → List Match) → List Match
+with_rest None rest = []
+with_rest (Some m) rest = m ∷ rest m
 
 -- at most so many of the occurrences after a place
 unfoldable pub occurrences_from : (ℕ → Option Match) → ℕ → ℕ → Option ℕ → List Match
 occurrences_from search n zero last = []
 occurrences_from search n (suc most) last =
-    then_behind (next_occurrence search n last) (λ m. occurrences_from search n most (Some m.end))
+    with_rest (next_occurrence search n last) (λ m. occurrences_from search n most (Some m.end))
 
 -- all occurrences in a text of n bytes, from left to right. Each but the first ends after the one before
 abbrev pub occurrences : (ℕ → Option Match) → ℕ → List Match

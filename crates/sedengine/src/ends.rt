@@ -7,26 +7,26 @@ ghost use Rattle.sedengine.specs.Held.{total_of};
 pub enum Ended {
     /// F0: the script ran over the whole input.
     Done,
-    /// F1: the next line, which is the one of this number, or what a command makes on this line is longer than the
-    /// pattern space may be.
+    /// F1: the pattern space would become longer than its limit, by the next line, which has this number, or by what a
+    /// command makes of this line.
     PatternFull(u64),
-    /// F2: what a command makes on this line is longer than the hold space may be.
+    /// F2: the hold space would become longer than its limit, by a command on this line.
     HoldFull(u64),
-    /// F3: the queue may hold no further entry, and a command on this line has one.
+    /// F3: the queue is full, and a command on this line has a further entry for it.
     QueueFull(u64),
-    /// F4: all turns were taken, and a further one is due.
+    /// F4: all turns were taken, and one more is due.
     TurnsSpent,
-    /// F5: on this line an empty regular expression stands for the one last used, and none was.
+    /// F5: on this line an empty regular expression stands for the last one used, and none has been used.
     NoPrevious(u64),
     /// F6: the source failed.
     InputBroken,
     /// F7: this sink failed.
     OutputBroken(usize),
-    /// F8: this sink has gained all the bytes that the limits let it gain, and a further one is due.
+    /// F8: this sink has gained as many bytes as the limits allow, and one more is due.
     OutputFull(usize),
 }
 
-/// What one cycle led to.
+/// How the run goes on after a cycle.
 #[derive(Clone, Copy, Debug, PartialEq, Eq)]
 pub enum Progress {
     /// A next cycle is due.
@@ -35,8 +35,8 @@ pub enum Progress {
     Ended(Ended),
 }
 
-/// What an engine holds: the bytes in its three spaces, the bytes that are read ahead, counted with their whole room,
-/// and the entries of the queue. The counts of what sinks have gained are left out.
+/// How much an engine holds: the bytes in its three spaces, the bytes that may be read ahead, all of which count, and the
+/// entries of the queue. The counts of what sinks have gained are left out.
 #[derive(Clone, Copy, Debug, PartialEq, Eq)]
 pub struct Held {
     pub pattern: usize,
@@ -47,7 +47,7 @@ pub struct Held {
 }
 
 impl Held {
-    /// The bytes in all, 8 for each entry of the queue.
+    /// The number of bytes in all. An entry of the queue takes 8.
     pub fn total(&self) -> u128
         ensures { result ≡ total_of self.now }
     {

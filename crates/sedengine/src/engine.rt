@@ -20,8 +20,8 @@ use std::marker::Model;
 
 /// An editor that runs a script over the lines of a stream.
 ///
-/// Contracts see it as a `Run`: its script, its limits, its state without the lines, what its sinks have gained, and its
-/// end.
+/// Contracts see it as a `Run`: its script, its limits, its state without the lines, what its sinks have gained, and how
+/// it ended.
 #[derive(Drop)]
 pub struct Engine {
     machine: Machine,
@@ -41,7 +41,7 @@ impl Model for Engine {
 }
 
 impl Engine {
-    /// An engine that stands at the start of a run. It reserves all the memory that its run takes, with a count for each
+    /// Makes an engine at the start of its run. All the memory that the run takes is reserved here, with a count for each
     /// sink that the script names.
     ///
     /// # Errors
@@ -61,12 +61,13 @@ impl Engine {
         Ok(Engine { machine, meter })
     }
 
-    /// Runs one cycle: the next line is read, the script runs over it, and the pattern space is written.
+    /// Runs one cycle: reads the next line, runs the script over it, and writes the pattern space. Answers whether a next
+    /// cycle is due, or how the run ended.
     ///
-    /// All calls of a run get the same lines, outputs and texts; the lines read ahead as much as the limits say, and
-    /// sink 0 is the standard output, and there is one for each of the script's files to write, sink 1 for the first
-    /// of `wfiles`; text 0 is the first of `rfiles`. An engine whose run has ended answers the same end again, and
-    /// touches no device. The crate `by_cycles` is an example.
+    /// All calls of a run get the same lines, outputs and texts. The lines read ahead as much as the limits say. Sink 0 is
+    /// the standard output, and each of the script's files to write has a sink, from sink 1 for the first of `wfiles`
+    /// on; text 0 is the first of `rfiles`. An engine whose run has ended answers the same end again, and touches no
+    /// device. The crate `by_cycles` is an example.
     pub fn cycle<R: ByteSource, O: Outputs, T: Texts>(
         &mut self,
         lines: &mut Lines<R>,
@@ -84,7 +85,7 @@ impl Engine {
             (Sends self.old self.new (O.contents outputs.old) (O.contents outputs.new) (outcome result))
             (R.remaining lines.old.source) (R.remaining lines.new.source)
             self.new (lines_left R.remaining lines.new) result) }
-        // A device that the end names has failed in this call; before a next cycle none has.
+        // A device that the end names has failed in this call; where a next cycle is due none has.
         ensures input { IsNone self.old.ended → lines.old.fault ≡ None →
             FailedSource (R.failures lines.old.source) (R.failures lines.new.source) (outcome result) }
         ensures output { IsNone self.old.ended →
@@ -108,7 +109,7 @@ impl Engine {
         progress
     }
 
-    /// Runs cycles to the end, and says which it was. The conditions on the devices are those of `cycle`.
+    /// Runs all cycles that are left, and answers how the run ended. The devices are those of `cycle`.
     ///
     /// An engine whose run has ended answers the same end again, and touches no device.
     pub fn run<R: ByteSource, O: Outputs, T: Texts>(
@@ -150,8 +151,8 @@ impl Engine {
         end
     }
 
-    /// What the engine holds. The read-ahead counts with its whole room; the counts of what sinks have gained are
-    /// left out.
+    /// How much the engine holds. Of the bytes read ahead it counts as many as there may be; the counts of what sinks have
+    /// gained are left out.
     pub fn held(&self) -> Held
         ensures pattern { result.pattern ≡ length self.now.state.pattern }
         ensures hold { result.hold ≡ length self.now.state.hold }

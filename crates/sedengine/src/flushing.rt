@@ -13,7 +13,7 @@ ghost use Rattle.sedengine.specs.Flushing.{Copies, Flushes};
 use crate::ends::Ended;
 use crate::limits::Limits;
 use crate::meter::Sinks;
-use crate::write::{write_all, write_line};
+use crate::write::write_line;
 use sedscript::{Action, Script};
 use sedspace::{Queue, Space, Texts};
 
@@ -62,7 +62,7 @@ fn copy_file<O: Sinks, T: Texts>(
         if left == 0 {
             return Err(Ended::TurnsSpent);
         }
-        write_all(outputs, 0, build.bytes())?;
+        outputs.write_all(0, build.bytes())?;
         *turns += count as u64;
         offset += count as u64;
     }

@@ -37,13 +37,13 @@ impl Model for Limits {
 }
 
 impl Limits {
-    /// The limits of these numbers, or None where a number is out of its range. What sinks may gain isn't limited.
+    /// Makes limits of these numbers, or answers `None` where one is out of its range. What sinks may gain isn't limited.
     ///
-    /// * `space`: the bytes that the pattern space, the hold space and the build space may hold each, 1 to 2^30
+    /// * `space`: the bytes that each of the pattern space, the hold space and the build space may hold, 1 to 2^30
     /// * `queue`: the entries that wait for the end of a cycle, 0 to 2^24
     /// * `look`: the bytes that are read ahead, 1 to 2^30
-    /// * `turns`: the turns that a run may take: starts of cycles, commands reached, bytes of files copied
-    /// * `nodes`: the nodes of an expression written out, 1 to 65,536
+    /// * `turns`: the turns that a run may take: one for each start of a cycle, command reached and byte of a file copied
+    /// * `nodes`: the nodes of an expression, with what it repeats written out, 1 to 65,536
     pub fn new(space: usize, queue: usize, look: usize, turns: u64, nodes: usize) -> Option<Limits>
         ensures given { IfSome result (λ l. (l ≡ limits_of space queue look turns nodes) × AreLimits l) }
         ensures refused { IsNone result → AreLimits (limits_of space queue look turns nodes) → ⊥ }
@@ -64,7 +64,7 @@ impl Limits {
         }
     }
 
-    /// The same limits, and no sink may gain more than so many bytes in the run.
+    /// The same limits, with one more: no sink may gain more than this many bytes in the run.
     pub fn with_output(self, bytes: u64) -> Limits
         ensures { result ≡ record self { output = Some bytes } }
     {
@@ -74,7 +74,7 @@ impl Limits {
         }
     }
 
-    /// The most bytes in a space, 1 to 2^30.
+    /// The most bytes that a space may hold, 1 to 2^30.
     pub fn space(&self) -> usize
         ensures value { result ≡ self.now.space }
         ensures least { 1 ≤ result }
@@ -83,7 +83,7 @@ impl Limits {
         self.most_space
     }
 
-    /// The most entries in the queue, 0 to 2^24.
+    /// The most entries that the queue may hold, 0 to 2^24.
     pub fn queue(&self) -> usize
         ensures value { result ≡ self.now.queue }
         ensures most { result ≤ 2 ^ 24 }
@@ -91,7 +91,7 @@ impl Limits {
         self.most_queue
     }
 
-    /// The most bytes that are read ahead, 1 to 2^30.
+    /// The most bytes that may be read ahead, 1 to 2^30.
     pub fn look(&self) -> usize
         ensures value { result ≡ self.now.look }
         ensures least { 1 ≤ result }
@@ -100,14 +100,14 @@ impl Limits {
         self.most_look
     }
 
-    /// The most turns.
+    /// The most turns that a run may take.
     pub fn turns(&self) -> u64
         ensures { result ≡ self.now.turns }
     {
         self.most_turns
     }
 
-    /// The most nodes of an expression, 1 to 65,536.
+    /// The most nodes that an expression may have, 1 to 65,536.
     pub fn nodes(&self) -> usize
         ensures value { result ≡ self.now.nodes }
         ensures least { 1 ≤ result }

@@ -8,7 +8,6 @@ ghost use Rattle.sedengine.specs.Calls.{Puts, Delivers};
 
 use crate::ends::Ended;
 use crate::meter::Sinks;
-use crate::write::write_all;
 use std::marker::Model;
 
 /// The most bytes of a piece of the listing.
@@ -32,13 +31,13 @@ pub(crate) fn write_listing<O: Sinks>(outputs: &mut O, bytes: &[u8]) -> Result<(
     'parts: while rest.len() > PART {
         let (part, after) = rest.split_at(PART);
         gathered.list(part);
-        write_all(outputs, 0, gathered.bytes())?;
+        outputs.write_all(0, gathered.bytes())?;
         gathered.clear();
         rest = after;
     }
     gathered.list(rest);
     gathered.finish();
-    write_all(outputs, 0, gathered.bytes())
+    outputs.write_all(0, gathered.bytes())
 }
 
 /// The bytes of a listing that are to be written, and how many bytes the current piece has.

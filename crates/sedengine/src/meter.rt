@@ -2,14 +2,13 @@
 //!
 //! The machine's calls write to `Sinks`. In a run these are the outputs with a meter, which counts what each sink has
 //! gained since the engine was opened; where no limit is set nothing is counted.
-ghost use Rattle.std.specs.Prelude.{◌≡◌, ◌≢◌, ◌<◌, ◌≤◌, [], ℕ, Some, Ok, Err, IfOk, IfErr, MatchResult, length, min, replicate, take};
+ghost use Rattle.std.specs.Prelude.{◌≡◌, ◌≢◌, ◌<◌, ◌≤◌, ℕ, IfOk, length, min, replicate};
 ghost use Rattle.sedengine.specs.Move.{to_sink};
-ghost use Rattle.sedengine.specs.Ends.{named_sink};
-ghost use Rattle.sedengine.specs.Calls.{Delivers};
-ghost use Rattle.sedengine.specs.Meters.{Counts, FitsIn, InLimit, IsFull, Meter, Sent, Tally, counted};
+ghost use Rattle.sedengine.specs.Calls.{Delivers, Puts};
+ghost use Rattle.sedengine.specs.Meters.{Counts, Fills, FitsIn, InLimit, Meter, Sent, Tally, counted};
 
 use crate::ends::Ended;
-use sedspace::{Broken, Outputs};
+use sedspace::{Outputs, write_all};
 use std::alloc::{AllocError, Global};
 use std::marker::Model;
 
@@ -53,7 +52,7 @@ impl Meter {
         requires { sink < length self.now.sent }
         ensures most { result ≤ bytes }
         ensures fits { FitsIn self.now.most self.now.sent sink result }
-        ensures none { result ≡ 0 → 0 < bytes → IsFull self.now.most self.now.sent sink }
+        ensures fills { result < bytes → Fills self.now.most self.now.sent sink result }
     {
         match self.limit {
             None => bytes,
@@ -86,18 +85,12 @@ pub(crate) trait Sinks {
     /// What they hold and have gained.
     ghost tally: { Self → Tally };
 
-    /// Appends the first of the bytes to this sink alone, at least one, and says how many. An `Err` appends none: the
-    /// sink failed, or it is full and no write was tried.
-    fn write(&mut self, sink: usize, bytes: &[u8]) -> Result<usize, Ended>
-        requires sink { sink < count self.old }
-        requires some { 0 < length bytes.now }
-        ensures bound { IfOk result (λ n. n ≤ length bytes.now) }
-        ensures progress { IfOk result (λ n. 0 < n) }
-        ensures sent { MatchResult result (λ n. Sent (tally self.old) (tally self.new) (to_sink sink (take n bytes.now)))
-            (λ end. Sent (tally self.old) (tally self.new) []) }
-        ensures refused { IfErr result (λ end. named_sink end ≡ Some sink) }
-        ensures devices { MatchResult result (λ n. Delivers tally count self.old self.new (Ok tt))
-            (λ end. Delivers tally count self.old self.new (Err end)) };
+    /// Appends all the bytes to this sink alone. At an `Err` it has gained those before one that was due when a write
+    /// failed, or when the sink was full; a full sink isn't written to.
+    fn write_all(&mut self, sink: usize, bytes: &[u8]) -> Result<(), Ended>
+        requires { sink < count self.old }
+        ensures puts { Puts (Sent (tally self.old) (tally self.new)) (to_sink sink bytes.now) result }
+        ensures devices { Delivers tally count self.old self.new result };
 }
 
 /// Outputs with a meter.
@@ -123,18 +116,16 @@ impl<'a, O: Outputs> Sinks for Metered<'a, O> {
       };
     } };
 
-    #[inline(always)]
-    fn write(&mut self, sink: usize, bytes: &[u8]) -> Result<usize, Ended> {
+    fn write_all(&mut self, sink: usize, bytes: &[u8]) -> Result<(), Ended> {
         let room = self.meter.room(sink, bytes.len());
-        if room == 0 {
+        if let Err(done) = write_all(&mut *self.outputs, sink, &bytes[..room]) {
+            self.meter.add(sink, done);
+            return Err(Ended::OutputBroken(sink));
+        }
+        self.meter.add(sink, room);
+        if room < bytes.len() {
             return Err(Ended::OutputFull(sink));
         }
-        match self.outputs.write(sink, &bytes[..room]) {
-            Ok(count) => {
-                self.meter.add(sink, count);
-                Ok(count)
-            }
-            Err(Broken) => Err(Ended::OutputBroken(sink)),
-        }
+        Ok(())
     }
 }

@@ -12,8 +12,8 @@ ghost use Rattle.sedscript.specs.Replacement.{GroupsWithin, pieces_in};
 ghost use Rattle.sedengine.specs.Substitute.{chosen, occurrences, put_for, replaced_from};
 ghost use Rattle.sedengine.specs.Fitting.{AllFitInto, seeks_more};
 ghost use Rattle.sedengine.specs.Run.{search_for, search_in};
-ghost use Rattle.sedengine.specs.Replacing.{Appends, EndsIn, GroupsIn, GroupsOf, IsNext, LiesBehind, Replaces};
-ghost use Rattle.sedengine.specs.Replacing.{SeeksAsBefore, ServesBehind, Skips, TakesFor, has_group, owed_skipped, pending, with_groups};
+ghost use Rattle.sedengine.specs.Replacing.{Appends, EndsIn, GroupsIn, GroupsOf, IsNext, LiesAfter, Replaces};
+ghost use Rattle.sedengine.specs.Replacing.{SeeksAsBefore, ServesAfter, Skips, TakesFor, has_group, owed_skipped, pending, with_groups};
 
 use sedmatch::{Occurrences, Scratch, TableMatcher, Text};
 use sedre::Steps;
@@ -132,7 +132,7 @@ fn skip(
     ensures skips { Skips matcher.old text.now count result }
     ensures none { count ≡ 0 → result ≡ Some None }
     ensures same { SeeksAsBefore matcher.old matcher.new scratch.old scratch.new }
-    ensures serves { ServesBehind matcher.old text.now result seeking.old seeking.new }
+    ensures serves { ServesAfter matcher.old text.now result seeking.old seeking.new }
     ensures cost { let m = length matcher.old.nodes in let n = length text.now in
         Pays steps.old steps.new (416 * m * (n + 1)) (owed_skipped m n result seeking.new) }
 {
@@ -227,7 +227,7 @@ fn replace(
     steps: &mut Steps,
 ) -> Result<(), Full>
     requires fits { FitInto (length text.now) (length matcher.old.nodes) scratch.old }
-    requires lies { LiesBehind (length text.now) None first }
+    requires lies { LiesAfter (length text.now) None first }
     requires groups { GroupsOf matcher.old text.now (has_group substitution.now.replacement) (Some first) groups.old }
     requires groups_in { GroupsIn (length text.now) groups.old }
     requires more { IsTrue substitution.now.global →
@@ -249,11 +249,9 @@ fn replace(
         build.append(&text[copied..span.0])?;
         put(parts, span, groups, text, build)?;
         copied = span.1;
-        let behind = Some(copied);
+        let last = Some(copied);
         occurrence = if substitution.global {
-            next_occurrence(
-                matcher, text, behind, wanted, groups, seeking, scratch, steps,
-            )
+            next_occurrence(matcher, text, last, wanted, groups, seeking, scratch, steps)
         } else {
             None
         };
@@ -270,7 +268,7 @@ fn put(
     build: &mut Space,
 ) -> Result<(), Full>
     requires within { GroupsWithin 9 (pieces_in parts.now) }
-    requires lies { LiesBehind (length text.now) None span }
+    requires lies { LiesAfter (length text.now) None span }
     requires groups_in { GroupsIn (length text.now) groups.now }
     ensures { Appends build.old build.new
         (put_for text.now (with_groups span groups.now) (pieces_in parts.now)) result }
@@ -290,7 +288,7 @@ fn put_part(
     build: &mut Space,
 ) -> Result<(), Full>
     requires within { GroupsWithin 9 (pieces_in (part.now ∷ [])) }
-    requires lies { LiesBehind (length text.now) None span }
+    requires lies { LiesAfter (length text.now) None span }
     requires groups_in { GroupsIn (length text.now) groups.now }
     ensures { Appends build.old build.new
         (put_for text.now (with_groups span groups.now) (pieces_in (part.now ∷ []))) result }

@@ -1,32 +1,16 @@
-//! Writing to a sink.
+//! Writing lines to a sink.
 ghost use Rattle.std.specs.Prelude.{◌≡◌, ◌<◌, ◌≤◌, ◌+◌, [], ◌∷◌, ◌++◌, length, take};
-ghost use Rattle.sedengine.specs.Move.{line_to, to_sink};
+ghost use Rattle.sedengine.specs.Move.{line_to};
 ghost use Rattle.sedengine.specs.Meters.{Sent};
 ghost use Rattle.sedengine.specs.Calls.{Puts, Delivers};
 
 use crate::ends::Ended;
 use crate::meter::Sinks;
 
-/// Writes all the bytes, however few each write takes.
-pub(crate) fn write_all<O: Sinks>(outputs: &mut O, sink: usize, bytes: &[u8]) -> Result<(), Ended>
-    requires { sink < O.count outputs.old }
-    ensures puts { Puts (Sent (O.tally outputs.old) (O.tally outputs.new)) (to_sink sink bytes.now) result }
-    ensures devices { Delivers O.tally O.count outputs.old outputs.new result }
-{
-    let mut done = 0;
-    while done < bytes.len() {
-        match outputs.write(sink, &bytes[done..]) {
-            Ok(count) => done += count,
-            Err(end) => return Err(end),
-        }
-    }
-    Ok(())
-}
-
 /// The most bytes that are copied, so that they are written with their newline at once.
 const SHORT: usize = 127;
 
-/// The bytes and newlines after them.
+/// The bytes, followed by newlines.
 fn with_newline(bytes: &[u8]) -> [u8; 128]
     requires { length bytes.now ≤ 127 }
     ensures { take (length bytes.now + 1) result ≡ bytes.now ++ 10 ∷ [] }
@@ -42,8 +26,8 @@ fn write_apart<O: Sinks>(outputs: &mut O, sink: usize, bytes: &[u8]) -> Result<(
     ensures puts { Puts (Sent (O.tally outputs.old) (O.tally outputs.new)) (line_to sink bytes.now) result }
     ensures devices { Delivers O.tally O.count outputs.old outputs.new result }
 {
-    write_all(outputs, sink, bytes)?;
-    write_all(outputs, sink, b"\n")
+    outputs.write_all(sink, bytes)?;
+    outputs.write_all(sink, b"\n")
 }
 
 /// Writes all the bytes and a newline.
@@ -56,5 +40,5 @@ pub(crate) fn write_line<O: Sinks>(outputs: &mut O, sink: usize, bytes: &[u8]) -
         return write_apart(outputs, sink, bytes);
     }
     let line = with_newline(bytes);
-    write_all(outputs, sink, &line[..bytes.len() + 1])
+    outputs.write_all(sink, &line[..bytes.len() + 1])
 }

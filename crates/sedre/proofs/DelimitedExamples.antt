@@ -73,9 +73,9 @@ none_after_a_last_backslash : delimiter_at (codes "a\\") 0 47 ≡ None
 unfolding delimiter_at list_end
 none_after_a_last_backslash = refl
 
-none_from_behind_the_text : delimiter_at (codes "a/") 3 47 ≡ None
+none_from_past_the_text : delimiter_at (codes "a/") 3 47 ≡ None
 unfolding delimiter_at list_end
-none_from_behind_the_text = refl
+none_from_past_the_text = refl
 
 -- A [ that is the delimiter ends the expression, and a ] closes also where it is the delimiter (this project's own).
 

@@ -4,10 +4,10 @@ use Rattle.std.specs.List.{list_any}
 use Rattle.std.proofs.lemmas.List.{get_or-drop, length-drop, at_drop_more, drop-drop}
 use Rattle.sedre.proofs.ByteLemmas.{apart_false}
 use Rattle.sedre.specs.Brackets.{list_end}
-use Rattle.sedre.specs.Delimited.{behind, first_delimiter}
+use Rattle.sedre.specs.Delimited.{next_place, first_delimiter}
 
-pub behind_list : (d at : ℕ) (text : List ℕ) → at < length text → get_or text at 0 ≡ 91 → list_end (Some d) (at + 1) (drop (at + 1) text) ≡ behind d at (drop at text)
-behind_list d at text inside is = sym (at_drop_more (behind d at) text at 0 inside ∙ ap (λ b. behind d at (b ∷ drop (at + 1) text)) is)
+pub after_list : (d at : ℕ) (text : List ℕ) → at < length text → get_or text at 0 ≡ 91 → list_end (Some d) (at + 1) (drop (at + 1) text) ≡ next_place d at (drop at text)
+after_list d at text inside is = sym (at_drop_more (next_place d at) text at 0 inside ∙ ap (λ b. next_place d at (b ∷ drop (at + 1) text)) is)
 
 -- whether a newline stands in some bytes
 abbrev pub breaks : List ℕ → Bool
@@ -25,23 +25,23 @@ skipped d (suc k) place (b ∷ bs) =
     choice (b == 10) (breaks (take k bs)) (first_delimiter d k (place + 1) bs) (first_delimiter d 0 (place + suc k) (drop k bs))
     (skipped d k (place + 1) bs ∙ ap (λ p. if breaks (take k bs) then None else first_delimiter d 0 p (drop k bs)) (let e : place + 1 + k ≡ place + suc k = omega arith in e))
 
-front : (d place next b : ℕ) (bs : List ℕ) → (b == d) ≡ false → behind d place (b ∷ bs) ≡ Some next → place < next →
+front : (d place next b : ℕ) (bs : List ℕ) → (b == d) ≡ false → next_place d place (b ∷ bs) ≡ Some next → place < next →
     first_delimiter d 0 place (b ∷ bs) ≡ (if breaks (take (next - place) (b ∷ bs)) then None else first_delimiter d 0 next (drop (next - place) (b ∷ bs)))
 front d place next b bs isnt is more =
     let k : ℕ = next - (place + 1) in
     let go : ℕ → Option ℕ = λ n. first_delimiter d (n - (place + 1)) (place + 1) bs in
-    ap (λ (t : Bool). if b == 10 then None else (if t then Some place else option_and_then go (behind d place (b ∷ bs)))) isnt
+    ap (λ (t : Bool). if b == 10 then None else (if t then Some place else option_and_then go (next_place d place (b ∷ bs)))) isnt
     ∙ ap (λ o. if b == 10 then None else option_and_then go o) is
     ∙ choice (b == 10) (breaks (take k bs)) (first_delimiter d k (place + 1) bs) (first_delimiter d 0 next (drop k bs))
     (skipped d k (place + 1) bs ∙ ap (λ p. if breaks (take k bs) then None else first_delimiter d 0 p (drop k bs)) (let e : place + 1 + k ≡ next = omega arith in e))
     ∙ sym (ap (λ n. if breaks (take n (b ∷ bs)) then None else first_delimiter d 0 next (drop n (b ∷ bs))) (let e : next - place ≡ suc k = omega arith in e))
 
-front_of : (d place next : ℕ) (bs : List ℕ) → 0 < length bs → (get_or bs 0 0 == d) ≡ false → behind d place bs ≡ Some next → place < next →
+front_of : (d place next : ℕ) (bs : List ℕ) → 0 < length bs → (get_or bs 0 0 == d) ≡ false → next_place d place bs ≡ Some next → place < next →
     first_delimiter d 0 place bs ≡ (if breaks (take (next - place) bs) then None else first_delimiter d 0 next (drop (next - place) bs))
 front_of d place next [] some isnt is more = absurd (omega arith)
 front_of d place next (b ∷ bs) some isnt is more = front d place next b bs isnt is more
 
-pub stepped : (d place next : ℕ) (text : List ℕ) (broken : Bool) → place < length text → (get_or text place 0 ≡ d → ⊥) → behind d place (drop place text) ≡ Some next → place < next →
+pub stepped : (d place next : ℕ) (text : List ℕ) (broken : Bool) → place < length text → (get_or text place 0 ≡ d → ⊥) → next_place d place (drop place text) ≡ Some next → place < next →
     broken ≡ breaks (take (next - place) (drop place text)) →
     first_delimiter d 0 place (drop place text) ≡ (if broken then None else first_delimiter d 0 next (drop next text))
 stepped d place next text broken inside isnt is more is_broken =

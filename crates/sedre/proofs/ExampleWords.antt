@@ -82,10 +82,10 @@ members_from n (false ∷ rest) = members_from (n + 1) rest
 
 -- the bytes that a list matches, and the place after it
 abbrev pub members : Result (ByteSet × ℕ) ExprFault → Option (List ℕ × ℕ)
-members (Ok (found, behind)) = Some (members_from 0 found, behind)
+members (Ok (found, next)) = Some (members_from 0 found, next)
 members (Err fault) = None
 
 -- the bytes that it doesn't match
 abbrev pub others : Result (ByteSet × ℕ) ExprFault → Option (List ℕ × ℕ)
-others (Ok (found, behind)) = Some (members_from 0 (map not found), behind)
+others (Ok (found, next)) = Some (members_from 0 (map not found), next)
 others (Err fault) = None

@@ -61,7 +61,7 @@ mutual
 
 module _ (kind : Kind) (folded : Bool) (delimiter : Option ℕ) (text : List ℕ) where
   -- a cut that goes on after another
-  record Behind (before : Option Item) (at : ℕ) (is : List Item) (to : ℕ) (js : List Item) (mid : ℕ) : Type 0 where
+  record After (before : Option Item) (at : ℕ) (is : List Item) (to : ℕ) (js : List Item) (mid : ℕ) : Type 0 where
     pub rest : List Item
     pub whole : is ≡ js ++ rest
     pub cut : Cut kind folded delimiter text (last_of before js) mid rest to
@@ -69,7 +69,7 @@ module _ (kind : Kind) (folded : Bool) (delimiter : Option ℕ) (text : List ℕ
 
   -- a whole cut begins with each other one
   begins : {before : Option Item} {at to mid : ℕ} {is js : List Item} → Cut kind folded delimiter text before at is to → item_at kind folded delimiter text (last_of before is) to ≡ Ends →
-      Cut kind folded delimiter text before at js mid → Behind before at is to js mid
+      Cut kind folded delimiter text before at js mid → After before at is to js mid
   begins {is = is} c e done = record { rest = is; whole = refl; cut = c; last = refl }
   begins done e (item f d) = absurd cc
   begins {before = before} {at = at} {to = to} {mid = mid} (item {next = n} {i = i} {is = is} g c) e (item {next = m} {i = j} {is = js} f d) =
@@ -79,7 +79,7 @@ module _ (kind : Kind) (folded : Bool) (delimiter : Option ℕ) (text : List ℕ
       let C : Item → ℕ → Type 0 = λ x y. Cut kind folded delimiter text (Some x) y js mid in
       let d' : C i n = subst (λ (x : Item). C x n) (sym same_item) (subst (λ (y : ℕ). C j y) (sym same_place) d) in
       let b = begins c e d' in
-      let D : Item → Type 0 = λ x. Behind before at (i ∷ is) to (x ∷ js) mid in
+      let D : Item → Type 0 = λ x. After before at (i ∷ is) to (x ∷ js) mid in
       subst D same_item (record { rest = b.rest; whole = ap (λ (r : List Item). i ∷ r) b.whole; cut = b.cut; last = b.last })
 
   never_bad : {before : Option Item} {mid to : ℕ} {rest : List Item} {place : ℕ} {reason : Reason} → Cut kind folded delimiter text before mid rest to →
@@ -99,12 +99,12 @@ module _ (kind : Kind) (folded : Bool) (delimiter : Option ℕ) (text : List ℕ
   at_end done f = refl
   at_end (item g c) f = absurd cc
 
-  same_items : {before : Option Item} {at to mid : ℕ} {is js : List Item} → Behind before at is to js mid → item_at kind folded delimiter text (last_of before js) mid ≡ Ends → is ≡ js
+  same_items : {before : Option Item} {at to mid : ℕ} {is js : List Item} → After before at is to js mid → item_at kind folded delimiter text (last_of before js) mid ≡ Ends → is ≡ js
   same_items {js = js} b f = b.whole ∙ ap (λ (r : List Item). js ++ r) (at_end b.cut f) ∙ append-nil js
 
   -- the fault's row can't hold
   no_row : (max_nodes : ℕ) {groups to mid opened place : ℕ} {is js : List Item} {bs : List Tree} {reason : Reason} → AreAlternatives 0 is bs groups →
-      item_at kind folded delimiter text (last_of None is) to ≡ Ends → Behind None 0 is to js mid → open_groups 0 js ≡ Some opened →
+      item_at kind folded delimiter text (last_of None is) to ≡ Ends → After None 0 is to js mid → open_groups 0 js ≡ Some opened →
       depth (alternation bs) ≤ 600 → size (alternation bs) ≤ max_nodes → Row kind folded delimiter text max_nodes js opened mid place reason → ⊥
   no_row max_nodes {to = to} {is = is} {js = js} a e b balanced shallow small (bad f) =
       never_bad b.cut (ap (λ (x : Option Item). item_at kind folded delimiter text x to) (sym b.last) ∙ e) f

@@ -14,7 +14,7 @@ use Rattle.sedre.specs.declared.syntax.Item.TheVariants.{Byte, Open, Close, Bar,
 use Rattle.sedre.specs.Tree.{Tree, size, depth, alternatives_depth}
 use Rattle.sedre.specs.Tree as t
 use Rattle.sedre.specs.Repeats.{concatenation, alternation, copies, optional, further, repetition}
-use Rattle.sedre.specs.Brackets.{Listing, judged, list_at, listed, items_behind, is_negated}
+use Rattle.sedre.specs.Brackets.{Listing, judged, list_at, listed, items_from, is_negated}
 use Rattle.sedre.specs.Symbols.{symbol}
 use Rattle.sedre.specs.Items.{item_at, item_for, list_item}
 use Rattle.sedre.specs.Grammar.{AreAlternatives, ArePieces, IsPiece, first, another, none, more, byte, begin_anchor, end_anchor, subexpression, repeated, Cut, done, item, last_of, open_groups, Row, bad, stray, unclosed, deep, large, FaultyWith}
@@ -115,8 +115,8 @@ split (i ∷ is) (next {j = j} x a) =
     let s = split is a in
     record { left = j ∷ s.left; right = s.right; whole = ap (λ (l : List Item). j ∷ l) s.whole; lefts = next x s.lefts; rights = s.rights }
 
-behind_bar : {js ks : List Item} → Alike (Bar ∷ js) ks → (rest : List Item) × (Bar ∷ rest ≡ ks) × Alike js rest
-behind_bar (next {js = rest} one a) = (rest, refl, a)
+after_bar : {js ks : List Item} → Alike (Bar ∷ js) ks → (rest : List Item) × (Bar ∷ rest ≡ ks) × Alike js rest
+after_bar (next {js = rest} one a) = (rest, refl, a)
 
 only_close : {ks : List Item} → Alike (Close ∷ []) ks → Close ∷ [] ≡ ks
 only_close (next one empty) = refl
@@ -124,8 +124,8 @@ only_close (next one empty) = refl
 only_repeat : {least : ℕ} {most : Option ℕ} {ks : List Item} → Alike (Repeat least most ∷ []) ks → Repeat least most ∷ [] ≡ ks
 only_repeat (next one empty) = refl
 
-behind_open : {js ks : List Item} → Alike (Open ∷ js) ks → (rest : List Item) × (Open ∷ rest ≡ ks) × Alike js rest
-behind_open (next {js = rest} one a) = (rest, refl, a)
+after_open : {js ks : List Item} → Alike (Open ∷ js) ks → (rest : List Item) × (Open ∷ rest ≡ ks) × Alike js rest
+after_open (next {js = rest} one a) = (rest, refl, a)
 
 mutual
   alternatives_alike : {g h : ℕ} {is js : List Item} {bs : List Tree} → AreAlternatives g is bs h → Alike is js → (ds : List Tree) × AreAlternatives g js ds h × SameAll bs ds
@@ -134,7 +134,7 @@ mutual
       (concatenation q.0 ∷ [], first q.1, also (concatenation-same q.2) nothing)
   alternatives_alike {g = g} {h = h} (another {is = is} b p) a =
       let s = split is a in
-      let r = behind_bar s.rights in
+      let r = after_bar s.rights in
       let c = alternatives_alike b s.lefts in
       let q = pieces_alike p r.2 in
       let R : List Item → Type 0 = λ l. AreAlternatives g l (c.0 ++ concatenation q.0 ∷ []) h in
@@ -155,7 +155,7 @@ mutual
   piece_alike begin_anchor (next one empty) = (t.begin, begin_anchor, same)
   piece_alike end_anchor (next one empty) = (t.end, end_anchor, same)
   piece_alike {g = g} {h = h} (subexpression {is = is} b) a =
-      let o = behind_open a in
+      let o = after_open a in
       let s = split is o.2 in
       let c = alternatives_alike b s.lefts in
       let R : List Item → Type 0 = λ l. IsPiece g l (t.group (suc g) (alternation c.0)) h in
@@ -194,7 +194,7 @@ data AlikeBefore : Option Item → Option Item → Type 0 where
 list_alike : (f g negated : Bool) (at : ℕ) (l : Listing) (end : Option ℕ) → AlikeHere (list_item (judged f negated at l end)) (list_item (judged g negated at l end))
 list_alike f g negated at (Err x) end = this
 list_alike f g negated at (Ok set) None = this
-list_alike f g negated at (Ok set) (Some behind) = stands bytes
+list_alike f g negated at (Ok set) (Some end) = stands bytes
 
 is_alike : {x y : Here} {i : Item} {n : ℕ} → AlikeHere x y → x ≡ Is i n → (j : Item) × (y ≡ Is j n) × AlikeItem i j
 is_alike {i = i} this e = (i, e, one)
@@ -229,27 +229,27 @@ module _ (kind : Kind) (f g : Bool) (delimiter : Option ℕ) (text : List ℕ) w
   folded_for before at (Some (Interval, n)) = this
   folded_for before at (Some (IntervalEnd, n)) = this
   folded_for before at (Some (BracketOpening, n)) =
-      list_alike f g (is_negated (drop (at + 1) text)) at (listed (items_behind delimiter (at + 1) (drop (at + 1) text)).0) (items_behind delimiter (at + 1) (drop (at + 1) text)).1
+      list_alike f g (is_negated (drop (at + 1) text)) at (listed (items_from delimiter (at + 1) (drop (at + 1) text)).0) (items_from delimiter (at + 1) (drop (at + 1) text)).1
   folded_for before at (Some (Caret, n)) = this
   folded_for before at (Some (Dollar, n)) = this
   folded_for before at (Some (Unknown reason, n)) = this
 
-  behind_byte : (m n : List Bool) (at : ℕ) (s : Option (Symbol × ℕ)) → item_for kind g delimiter text (Some (Byte m)) at s ≡ item_for kind g delimiter text (Some (Byte n)) at s
-  behind_byte m n at None = refl
-  behind_byte m n at (Some (Literal b, k)) = refl
-  behind_byte m n at (Some (AnyByte, k)) = refl
-  behind_byte m n at (Some (Opening, k)) = refl
-  behind_byte m n at (Some (Closing, k)) = refl
-  behind_byte m n at (Some (Parting, k)) = refl
-  behind_byte m n at (Some (Star, k)) = refl
-  behind_byte m n at (Some (Plus, k)) = refl
-  behind_byte m n at (Some (Question, k)) = refl
-  behind_byte m n at (Some (Interval, k)) = refl
-  behind_byte m n at (Some (IntervalEnd, k)) = refl
-  behind_byte m n at (Some (BracketOpening, k)) = refl
-  behind_byte m n at (Some (Caret, k)) = refl
-  behind_byte m n at (Some (Dollar, k)) = refl
-  behind_byte m n at (Some (Unknown reason, k)) = refl
+  after_byte : (m n : List Bool) (at : ℕ) (s : Option (Symbol × ℕ)) → item_for kind g delimiter text (Some (Byte m)) at s ≡ item_for kind g delimiter text (Some (Byte n)) at s
+  after_byte m n at None = refl
+  after_byte m n at (Some (Literal b, k)) = refl
+  after_byte m n at (Some (AnyByte, k)) = refl
+  after_byte m n at (Some (Opening, k)) = refl
+  after_byte m n at (Some (Closing, k)) = refl
+  after_byte m n at (Some (Parting, k)) = refl
+  after_byte m n at (Some (Star, k)) = refl
+  after_byte m n at (Some (Plus, k)) = refl
+  after_byte m n at (Some (Question, k)) = refl
+  after_byte m n at (Some (Interval, k)) = refl
+  after_byte m n at (Some (IntervalEnd, k)) = refl
+  after_byte m n at (Some (BracketOpening, k)) = refl
+  after_byte m n at (Some (Caret, k)) = refl
+  after_byte m n at (Some (Dollar, k)) = refl
+  after_byte m n at (Some (Unknown reason, k)) = refl
 
   here_alike : {before after : Option Item} (at : ℕ) → AlikeBefore before after → AlikeHere (item_at kind f delimiter text before at) (item_at kind g delimiter text after at)
   unfolding item_at
@@ -257,7 +257,7 @@ module _ (kind : Kind) (f g : Bool) (delimiter : Option ℕ) (text : List ℕ) w
   here_alike at (there (one {i = i})) = folded_for (Some i) at (symbol kind delimiter (drop at text))
   here_alike at (there (bytes {m = m} {n = n})) =
       let s = symbol kind delimiter (drop at text) in
-      subst (λ (h : Here). AlikeHere (item_for kind f delimiter text (Some (Byte m)) at s) h) (behind_byte m n at s) (folded_for (Some (Byte m)) at s)
+      subst (λ (h : Here). AlikeHere (item_for kind f delimiter text (Some (Byte m)) at s) h) (after_byte m n at s) (folded_for (Some (Byte m)) at s)
 
   record CutAlike (before after : Option Item) (at : ℕ) (is : List Item) (to : ℕ) : Type 0 where
     pub items : List Item

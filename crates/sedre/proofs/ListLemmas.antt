@@ -13,7 +13,7 @@ use Rattle.sedre.specs.declared.types.ExprFault.{ExprFault}
 use Rattle.sedre.specs.declared.types.Reason.TheVariants.{OpenBracket}
 use Rattle.sedre.specs.declared.byte_set.ByteSet.{ByteSet}
 use Rattle.sedre.specs.Sets.{has, union, no_byte}
-use Rattle.sedre.specs.Brackets.{content, form, form_of, of_class, of_one, item, items, items_behind, is_dash, goes_on, single, range, both, listed, judged, matched, is_negated, is_delimiter, Listing, list_at, list_end}
+use Rattle.sedre.specs.Brackets.{content, form, form_of, of_class, of_one, item, items, items_from, is_dash, goes_on, single, range, both, listed, judged, matched, is_negated, is_delimiter, Listing, list_at, list_end}
 use Rattle.sedre.specs.ListReading.{is_range, located, members_at, items_start, is_closing}
 
 -- the items from a place on, and where the list ends
@@ -170,14 +170,14 @@ joined_ok : (folded negated : Bool) (at : ℕ) (set h : List Bool) (rest : Listi
 joined_ok folded negated at set h (Err f) end = refl
 joined_ok folded negated at set h (Ok l) end = ap (λ s. judged folded negated at (Ok s) end) (union_assoc set h l)
 
-joined : (d : Option ℕ) (text : List ℕ) (folded negated : Bool) (at behind : ℕ) (set : List Bool) (here : Listing) (rest : Listing) (end : Option ℕ) →
-    rest ≡ listed (items d false 0 behind (drop behind text)).0 → end ≡ (items d false 0 behind (drop behind text)).1 →
-    judged folded negated at (both (Ok set) (both here rest)) end ≡ after d text folded negated at set (located behind here)
-joined d text folded negated at behind set (Err f) rest end is_rest is_end = refl
-joined d text folded negated at behind set (Ok h) rest end is_rest is_end =
+joined : (d : Option ℕ) (text : List ℕ) (folded negated : Bool) (at next : ℕ) (set : List Bool) (here : Listing) (rest : Listing) (end : Option ℕ) →
+    rest ≡ listed (items d false 0 next (drop next text)).0 → end ≡ (items d false 0 next (drop next text)).1 →
+    judged folded negated at (both (Ok set) (both here rest)) end ≡ after d text folded negated at set (located next here)
+joined d text folded negated at next set (Err f) rest end is_rest is_end = refl
+joined d text folded negated at next set (Ok h) rest end is_rest is_end =
     joined_ok folded negated at set h rest end
     ∙ ap (λ l. judged folded negated at (both (Ok (union set h)) l) end) is_rest
-    ∙ ap (judged folded negated at (both (Ok (union set h)) (listed (items d false 0 behind (drop behind text)).0))) is_end
+    ∙ ap (judged folded negated at (both (Ok (union set h)) (listed (items d false 0 next (drop next text)).0))) is_end
 
 opened_front : (d : Option ℕ) (first : Bool) (place : ℕ) (bs : List ℕ) → 0 < length bs → (get_or bs 0 0 == 93 && not first) ≡ false →
     items d first 0 place bs ≡ OneMore place (item d bs).0 (items d false 0 (place + (item d bs).1) (drop (item d bs).1 bs))
@@ -236,39 +236,39 @@ one_step d text first folded negated at place set inside isnt =
     let found : Element × ℕ = item d (drop place text) in
     let next : ℕ = place + found.1 in
     let last : Element × ℕ = item d (drop (next + 1) text) in
-    let behind : ℕ = next + 1 + last.1 in
+    let end : ℕ = next + 1 + last.1 in
     let more : Items = items d false 0 next (drop next text) in
-    let rest : Items = items d false 0 behind (drop behind text) in
+    let rest : Items = items d false 0 end (drop end text) in
     let ranges : Bool = is_range (drop next text) in
-    let on : Bool = is_range (drop behind text) in
+    let on : Bool = is_range (drop end text) in
     ap (go_on folded negated at set) (opened_at d first place text inside isnt)
     ∙ ⊎_elim
     (λ (is : ranges ≡ true).
     ap (λ (all : Items). go_on folded negated at set (OneMore place found.0 all)) (ranged_at d next text is)
-    ∙ ap (λ g. judged folded negated at (both (Ok set) (both (range (place, found.0) (next + 1, last.0) g) (listed rest.0))) rest.1) (goes_on-items d behind (drop behind text))
-    ∙ joined d text folded negated at behind set (range (place, found.0) (next + 1, last.0) on) (listed rest.0) rest.1 refl refl
-    ∙ ap (λ (t : Bool). after d text folded negated at set (if t then located behind (range (place, found.0) (next + 1, last.0) on) else located next (single (place, found.0)))) (sym is))
+    ∙ ap (λ g. judged folded negated at (both (Ok set) (both (range (place, found.0) (next + 1, last.0) g) (listed rest.0))) rest.1) (goes_on-items d end (drop end text))
+    ∙ joined d text folded negated at end set (range (place, found.0) (next + 1, last.0) on) (listed rest.0) rest.1 refl refl
+    ∙ ap (λ (t : Bool). after d text folded negated at set (if t then located end (range (place, found.0) (next + 1, last.0) on) else located next (single (place, found.0)))) (sym is))
     (λ (is : ranges ≡ false).
     ap (λ l. judged folded negated at (both (Ok set) l) more.1) (listed_single (place, found.0) more.0 (goes_on-items d next (drop next text) ∙ is))
     ∙ joined d text folded negated at next set (single (place, found.0)) (listed more.0) more.1 refl refl
-    ∙ ap (λ (t : Bool). after d text folded negated at set (if t then located behind (range (place, found.0) (next + 1, last.0) on) else located next (single (place, found.0)))) (sym is))
+    ∙ ap (λ (t : Bool). after d text folded negated at set (if t then located end (range (place, found.0) (next + 1, last.0) on) else located next (single (place, found.0)))) (sym is))
     (decided ranges)
 
 -- ---- the loop over a whole list
 
-begun_behind : (d : Option ℕ) (place b : ℕ) (bs : List ℕ) (t : Bool) → (b == 94) ≡ t → items_behind d place (b ∷ bs) ≡ items d true 0 (if t then place + 1 else place) (drop (if t then 1 else 0) (b ∷ bs))
-begun_behind d place b bs true is = ap (λ (t : Bool). if t then items d true 0 (place + 1) bs else items d true 0 place (b ∷ bs)) is
-begun_behind d place b bs false is = ap (λ (t : Bool). if t then items d true 0 (place + 1) bs else items d true 0 place (b ∷ bs)) is
+begun_from : (d : Option ℕ) (place b : ℕ) (bs : List ℕ) (t : Bool) → (b == 94) ≡ t → items_from d place (b ∷ bs) ≡ items d true 0 (if t then place + 1 else place) (drop (if t then 1 else 0) (b ∷ bs))
+begun_from d place b bs true is = ap (λ (t : Bool). if t then items d true 0 (place + 1) bs else items d true 0 place (b ∷ bs)) is
+begun_from d place b bs false is = ap (λ (t : Bool). if t then items d true 0 (place + 1) bs else items d true 0 place (b ∷ bs)) is
 
-begun_at : (d : Option ℕ) (place : ℕ) (bs : List ℕ) → items_behind d place bs ≡ items d true 0 (items_start place bs) (drop (items_start 0 bs) bs)
+begun_at : (d : Option ℕ) (place : ℕ) (bs : List ℕ) → items_from d place bs ≡ items d true 0 (items_start place bs) (drop (items_start 0 bs) bs)
 begun_at d place [] = refl
-begun_at d place (b ∷ bs) = begun_behind d place b bs (b == 94) refl
+begun_at d place (b ∷ bs) = begun_from d place b bs (b == 94) refl
 
 start_add : (place : ℕ) (t : Bool) → place + (if t then 0 + 1 else 0) ≡ (if t then place + 1 else place)
 start_add place true = omega arith
 start_add place false = omega arith
 
-pub begun : (d : Option ℕ) (place : ℕ) (text : List ℕ) → items_behind d place (drop place text) ≡ items d true 0 (items_start place (drop place text)) (drop (items_start place (drop place text)) text)
+pub begun : (d : Option ℕ) (place : ℕ) (text : List ℕ) → items_from d place (drop place text) ≡ items d true 0 (items_start place (drop place text)) (drop (items_start place (drop place text)) text)
 begun d place text =
     let bytes : List ℕ = drop place text in
     begun_at d place bytes
@@ -329,31 +329,31 @@ list_begun d text at start folded negated set is_neg is_start is_set =
     ∙ ap (λ s. go_on folded negated at s (items d true 0 start (drop start text))) (sym is_set)
     ∙ ap (λ t. go_on folded negated at set (items d t 0 start (drop start text))) (sym (eq-eqb start start refl))
 
--- what a list comes to where `set` was read up to a place
-abbrev pub comes_to : Option ℕ → List ℕ → Bool → Bool → (at start place : ℕ) → List Bool → Result (ByteSet × ℕ) ExprFault
-comes_to d text folded negated at start place set = go_on folded negated at set (items d (place == start) 0 place (drop place text))
+-- the answer for a list of which `set` was read up to a place
+abbrev pub list_from : Option ℕ → List ℕ → Bool → Bool → (at start place : ℕ) → List Bool → Result (ByteSet × ℕ) ExprFault
+list_from d text folded negated at start place set = go_on folded negated at set (items d (place == start) 0 place (drop place text))
 
-pub list_more : (d : Option ℕ) (text : List ℕ) (folded negated : Bool) (at start place behind : ℕ) (set members : List Bool) (whole : Result (ByteSet × ℕ) ExprFault) →
-    whole ≡ comes_to d text folded negated at start place set → place < length text → is_closing text start place ≡ false → members_at d text place ≡ Ok (members, behind) →
-    start ≤ place → place < behind → whole ≡ comes_to d text folded negated at start behind (union set members)
-list_more d text folded negated at start place behind set members whole so_far inside isnt here low more =
+pub list_more : (d : Option ℕ) (text : List ℕ) (folded negated : Bool) (at start place next : ℕ) (set members : List Bool) (whole : Result (ByteSet × ℕ) ExprFault) →
+    whole ≡ list_from d text folded negated at start place set → place < length text → is_closing text start place ≡ false → members_at d text place ≡ Ok (members, next) →
+    start ≤ place → place < next → whole ≡ list_from d text folded negated at start next (union set members)
+list_more d text folded negated at start place next set members whole so_far inside isnt here low more =
     so_far ∙ one_step d text (place == start) folded negated at place set inside isnt ∙ ap (after d text folded negated at set) here
-    ∙ ap (λ t. go_on folded negated at (union set members) (items d t 0 behind (drop behind text))) (sym (apart_false behind start (λ e. omega arith)))
+    ∙ ap (λ t. go_on folded negated at (union set members) (items d t 0 next (drop next text))) (sym (apart_false next start (λ e. omega arith)))
 
 pub list_fault : (d : Option ℕ) (text : List ℕ) (folded negated : Bool) (at start place : ℕ) (set : List Bool) (f : ExprFault) (whole : Result (ByteSet × ℕ) ExprFault) →
-    whole ≡ comes_to d text folded negated at start place set → place < length text → is_closing text start place ≡ false → members_at d text place ≡ Err f → Err f ≡ whole
+    whole ≡ list_from d text folded negated at start place set → place < length text → is_closing text start place ≡ false → members_at d text place ≡ Err f → Err f ≡ whole
 list_fault d text folded negated at start place set f whole so_far inside isnt here =
     sym (so_far ∙ one_step d text (place == start) folded negated at place set inside isnt ∙ ap (after d text folded negated at set) here)
 
 pub list_closed : (d : Option ℕ) (text : List ℕ) (folded negated : Bool) (at start place : ℕ) (set : List Bool) (whole : Result (ByteSet × ℕ) ExprFault) →
-    whole ≡ comes_to d text folded negated at start place set → place < length text → is_closing text start place ≡ true → union set no_byte ≡ set →
+    whole ≡ list_from d text folded negated at start place set → place < length text → is_closing text start place ≡ true → union set no_byte ≡ set →
     whole ≡ Ok (matched folded negated set, place + 1)
 list_closed d text folded negated at start place set whole so_far inside is normal =
     so_far ∙ ap (go_on folded negated at set) (closed_at d text (place == start) place inside is)
     ∙ ap (λ (s : List Bool). Ok (matched folded negated s, place + 1)) normal
 
 pub list_open : (d : Option ℕ) (text : List ℕ) (folded negated : Bool) (at start place : ℕ) (set : List Bool) (whole : Result (ByteSet × ℕ) ExprFault) →
-    whole ≡ comes_to d text folded negated at start place set → length text ≤ place → Err (record { place = at; reason = OpenBracket }) ≡ whole
+    whole ≡ list_from d text folded negated at start place set → length text ≤ place → Err (record { place = at; reason = OpenBracket }) ≡ whole
 list_open d text folded negated at start place set whole so_far past =
     sym (so_far ∙ ap (go_on folded negated at set) (ended_at d text (place == start) place past))
 

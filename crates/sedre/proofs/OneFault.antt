@@ -52,14 +52,14 @@ module _ (kind : Kind) (folded : Bool) (delimiter : Option ℕ) (text : List ℕ
   same_row (large bs f a near far) (large ds g d close more) = (refl, refl)
 
   -- a cut that goes on after another
-  record Behind (before : Option Item) (is : List Item) (to : ℕ) (js : List Item) (mid : ℕ) : Type 0 where
+  record After (before : Option Item) (is : List Item) (to : ℕ) (js : List Item) (mid : ℕ) : Type 0 where
     pub rest : List Item
     pub whole : is ≡ js ++ rest
     pub cut : Cut kind folded delimiter text (last_of before js) mid rest to
 
   -- of two cuts from one place one goes on after the other
   either : {before : Option Item} {at to mid : ℕ} {is js : List Item} → Cut kind folded delimiter text before at is to → Cut kind folded delimiter text before at js mid →
-      Behind before is to js mid ⊎ Behind before js mid is to
+      After before is to js mid ⊎ After before js mid is to
   either {is = is} c done = inl (record { rest = is; whole = refl; cut = c })
   either {js = js} done (item f d) = inr (record { rest = js; whole = refl; cut = item f d })
   either {before = before} {to = to} {mid = mid} (item {next = n} {i = i} {is = is} g c) (item {next = m} {i = j} {is = js} f d) =
@@ -68,7 +68,7 @@ module _ (kind : Kind) (folded : Bool) (delimiter : Option ℕ) (text : List ℕ
       let same_place : n ≡ m = cc in
       let C : Item → ℕ → Type 0 = λ x y. Cut kind folded delimiter text (Some x) y js mid in
       let d' : C i n = subst (λ (x : Item). C x n) (sym same_item) (subst (λ (y : ℕ). C j y) (sym same_place) d) in
-      let D : Item → Type 0 = λ x. Behind before (i ∷ is) to (x ∷ js) mid ⊎ Behind before (x ∷ js) mid (i ∷ is) to in
+      let D : Item → Type 0 = λ x. After before (i ∷ is) to (x ∷ js) mid ⊎ After before (x ∷ js) mid (i ∷ is) to in
       subst D same_item (elim (either c d') [
         | inl b ↦ inl (record { rest = b.rest; whole = ap (λ (r : List Item). i ∷ r) b.whole; cut = b.cut })
         | inr b ↦ inr (record { rest = b.rest; whole = ap (λ (r : List Item). i ∷ r) b.whole; cut = b.cut })
@@ -88,9 +88,9 @@ module _ (kind : Kind) (folded : Bool) (delimiter : Option ℕ) (text : List ℕ
   row_ends (large ds f d near far) (item g c) h = absurd cc
 
   -- the faults after two cuts, the one after the other, are one
-  behind_same : {o n mid to p q : ℕ} {is js : List Item} {r s : Reason} → Behind None is to js mid → open_groups 0 is ≡ Some n → open_groups 0 js ≡ Some o →
+  after_same : {o n mid to p q : ℕ} {is js : List Item} {r s : Reason} → After None is to js mid → open_groups 0 is ≡ Some n → open_groups 0 js ≡ Some o →
       Row kind folded delimiter text max_nodes is n to p r → Row kind folded delimiter text max_nodes js o mid q s → Same p q r s
-  behind_same {o = o} {n = n} {mid = mid} {to = to} {p = p} {is = is} {js = js} {r = r} b h k v w =
+  after_same {o = o} {n = n} {mid = mid} {to = to} {p = p} {is = is} {js = js} {r = r} b h k v w =
       let on : open_groups o b.rest ≡ Some n = ap (λ (x : Option ℕ). go_on x b.rest) (sym k) ∙ sym (open-append 0 js b.rest) ∙ ap (open_groups 0) (sym b.whole) ∙ h in
       let ends = row_ends w b.cut on in
       let items : is ≡ js = b.whole ∙ ap (λ (x : List Item). js ++ x) ends.0 ∙ append-nil js in
@@ -102,6 +102,6 @@ module _ (kind : Kind) (folded : Bool) (delimiter : Option ℕ) (text : List ℕ
   -- the first fault is one
   pub one_fault : {p q : ℕ} {r s : Reason} → FaultyWith kind folded delimiter text max_nodes p r → FaultyWith kind folded delimiter text max_nodes q s → Same p q r s
   one_fault f g = elim (either f.cut g.cut) [
-    | inl b ↦ behind_same b f.balanced g.balanced f.row g.row
-    | inr b ↦ turned (behind_same b g.balanced f.balanced g.row f.row)
+    | inl b ↦ after_same b f.balanced g.balanced f.row g.row
+    | inr b ↦ turned (after_same b g.balanced f.balanced g.row f.row)
   ]

@@ -16,15 +16,15 @@ copies-append zero a bs cs = refl
 copies-append (suc n) a bs cs = ap (λ (r : List Tree). a ∷ r) (copies-append n a bs cs)
 
 -- after some trees and copies
-behind : (ts : List Tree) (n : ℕ) (a : Tree) (bs : List Tree) → (ts ++ copies n a []) ++ bs ≡ ts ++ copies n a bs
-behind ts n a bs = append_assoc ts (copies n a []) bs ∙ ap (λ (r : List Tree). ts ++ r) (copies-append n a [] bs)
+copies_then : (ts : List Tree) (n : ℕ) (a : Tree) (bs : List Tree) → (ts ++ copies n a []) ++ bs ≡ ts ++ copies n a bs
+copies_then ts n a bs = append_assoc ts (copies n a []) bs ∙ ap (λ (r : List Tree). ts ++ r) (copies-append n a [] bs)
 
 module _ (limit : ℕ) (ts : List Tree) (a : Tree) where
   pub copies_start : (s : Stack) → Stored limit s (ts ++ a ∷ []) → Stored limit s ((ts ++ copies 0 a []) ++ a ∷ [])
   copies_start s = subst (λ (x : List Tree). Stored limit s (x ++ a ∷ [])) (sym (append-nil ts))
 
   pub copies_step : (s : Stack) (k : ℕ) → Stored limit s (((ts ++ copies k a []) ++ a ∷ []) ++ a ∷ []) → Stored limit s ((ts ++ copies (k + 1) a []) ++ a ∷ [])
-  copies_step s k = subst (λ (x : List Tree). Stored limit s (x ++ a ∷ [])) (behind ts k a (a ∷ []) ∙ ap (λ (r : List Tree). ts ++ r) (sym (copies_add k 1 a [])))
+  copies_step s k = subst (λ (x : List Tree). Stored limit s (x ++ a ∷ [])) (copies_then ts k a (a ∷ []) ∙ ap (λ (r : List Tree). ts ++ r) (sym (copies_add k 1 a [])))
 
   -- the innermost optional copy
   pub nest_start : (s : Stack) (count : ℕ) (first mark : Bool) → mark ≡ (first && nat_eq 0 count) → Stored limit s ((ts ++ copies count a []) ++ opt a mark ∷ []) →
@@ -50,7 +50,7 @@ module _ (limit : ℕ) (ts : List Tree) (a : Tree) where
       let m : ℕ = count - (k + 1) in
       let P : List Tree → Bool → Type 0 = λ x b. Stored limit s (x ++ optional k a b ∷ []) in
       let one : ts ++ copies (count - k) a [] ≡ (ts ++ copies m a []) ++ a ∷ [] =
-      ap (λ (n : ℕ). ts ++ copies n a []) (let e : count - k ≡ m + 1 = omega (arith, h) in e) ∙ ap (λ (r : List Tree). ts ++ r) (copies_add m 1 a []) ∙ sym (behind ts m a (a ∷ [])) in
+      ap (λ (n : ℕ). ts ++ copies n a []) (let e : count - k ≡ m + 1 = omega (arith, h) in e) ∙ ap (λ (r : List Tree). ts ++ r) (copies_add m 1 a []) ∙ sym (copies_then ts m a (a ∷ [])) in
       let Q : List Tree → Type 0 = λ x. Stored limit s x in
       subst Q (append_assoc (ts ++ copies m a []) (a ∷ []) (optional k a false ∷ [])) (subst (λ (x : List Tree). P x false) one (subst (λ (b : Bool). P (ts ++ copies (count - k) a []) b) (not_yet first k count h) st))
 
@@ -77,25 +77,25 @@ module _ (limit : ℕ) (ts : List Tree) (a : Tree) where
   pub open_end : (s : Stack) (least : ℕ) (mark : Bool) → mark ≡ nat_eq least 0 → Stored limit s ((ts ++ copies least a []) ++ star a mark ∷ []) → Stored limit s (ts ++ copies least a (star a (nat_eq least 0) ∷ []))
   open_end s least mark e st =
       let P : List Tree → Type 0 = λ x. Stored limit s x in
-      subst P (behind ts least a (star a mark ∷ []) ∙ ap (λ (b : Bool). ts ++ copies least a (star a b ∷ [])) e) st
+      subst P (copies_then ts least a (star a mark ∷ []) ∙ ap (λ (b : Bool). ts ++ copies least a (star a b ∷ [])) e) st
 
   -- a number of copies
   pub exactly : (s : Stack) (count less : ℕ) → less + 1 ≡ count → Stored limit s ((ts ++ copies less a []) ++ a ∷ []) → Stored limit s (ts ++ copies count a (further (count - count) a (nat_eq count 0)))
   exactly s count less e st =
       let P : List Tree → Type 0 = λ x. Stored limit s x in
-      subst P (behind ts less a (a ∷ []) ∙ ap (λ (r : List Tree). ts ++ r) (sym (copies_add less 1 a []) ∙ ap (λ (n : ℕ). copies n a []) e ∙ ap (λ (n : ℕ). copies count a (further n a (nat_eq count 0))) (let h : 0 ≡ count - count = omega arith in h))) st
+      subst P (copies_then ts less a (a ∷ []) ∙ ap (λ (r : List Tree). ts ++ r) (sym (copies_add less 1 a []) ∙ ap (λ (n : ℕ). copies n a []) e ∙ ap (λ (n : ℕ). copies count a (further n a (nat_eq count 0))) (let h : 0 ≡ count - count = omega arith in h))) st
 
   -- the optional copies stand after those that must
   pub split_copies : (s : Stack) (least more all : ℕ) → all ≡ least + more → Stored limit s ((ts ++ copies all a []) ++ a ∷ []) → Stored limit s (((ts ++ copies least a []) ++ copies more a []) ++ a ∷ [])
   split_copies s least more all e st =
       let P : List Tree → Type 0 = λ x. Stored limit s (x ++ a ∷ []) in
-      subst P (ap (λ (n : ℕ). ts ++ copies n a []) e ∙ ap (λ (r : List Tree). ts ++ r) (copies_add least more a []) ∙ sym (behind ts least a (copies more a []))) st
+      subst P (ap (λ (n : ℕ). ts ++ copies n a []) e ∙ ap (λ (r : List Tree). ts ++ r) (copies_add least more a []) ∙ sym (copies_then ts least a (copies more a []))) st
 
   pub within : (s : Stack) (least more most : ℕ) (mark : Bool) → mark ≡ nat_eq least 0 → most ≡ least + (more + 1) → Stored limit s ((ts ++ copies least a []) ++ optional more a mark ∷ []) →
       Stored limit s (ts ++ copies least a (further (most - least) a (nat_eq least 0)))
   within s least more most mark e em st =
       let P : List Tree → Type 0 = λ x. Stored limit s x in
-      subst P (behind ts least a (optional more a mark ∷ []) ∙ ap (λ (b : Bool). ts ++ copies least a (optional more a b ∷ [])) e
+      subst P (copies_then ts least a (optional more a mark ∷ []) ∙ ap (λ (b : Bool). ts ++ copies least a (optional more a b ∷ [])) e
       ∙ ap (λ (n : ℕ). ts ++ copies least a (further n a (nat_eq least 0))) (let h : suc more ≡ most - least = omega (arith, em) in h)) st
 
   -- how many trees stand before

@@ -17,7 +17,7 @@ use Rattle.sedre.specs.declared.syntax.Item.TheVariants.{Byte, Open, Close, Bar,
 use Rattle.sedre.specs.Repeats.{IsInterval}
 use Rattle.sedre.specs.Brackets.{list_at}
 use Rattle.sedre.specs.Symbols.{symbol}
-use Rattle.sedre.specs.Intervals.{numeral, begins, closes, limit, behind_least, interval}
+use Rattle.sedre.specs.Intervals.{numeral, begins, closes, limit, after_least, interval}
 use Rattle.sedre.specs.Items.{item_at, item_for, is_repeatable, is_repeat, is_first, ends_alternative, repeats, interval_item, list_item, star_item, question_item, caret_item, dollar_item}
 
 -- a repetition stands where one may, with bounds in order
@@ -55,51 +55,51 @@ fine_limit kind delimiter least digits front None = by_test (closes kind delimit
 fine_limit kind delimiter least digits front (Some (most, more)) =
     by_test (closes kind delimiter (drop more front) && nat_le least most) _ _ (λ h. in_order least most (second_true (closes kind delimiter (drop more front)) (nat_le least most) h)) tt
 
-fine_behind : (kind : Kind) (delimiter : Option ℕ) (front : List ℕ) (o : Option (ℕ × ℕ)) → FineBounds (behind_least kind delimiter front o)
-fine_behind kind delimiter front None = tt
-fine_behind kind delimiter front (Some (least, digits)) =
+fine_least : (kind : Kind) (delimiter : Option ℕ) (front : List ℕ) (o : Option (ℕ × ℕ)) → FineBounds (after_least kind delimiter front o)
+fine_least kind delimiter front None = tt
+fine_least kind delimiter front (Some (least, digits)) =
     by_test (closes kind delimiter (drop digits front)) _ _ (λ h. omega arith)
     (by_test (begins (drop digits front) 44) _ _ (λ h. fine_limit kind delimiter least digits (drop 1 (drop digits front)) (numeral (drop 1 (drop digits front)))) tt)
 
 fine_interval : (kind : Kind) (delimiter : Option ℕ) (front : List ℕ) → FineBounds (interval kind delimiter front)
 unfolding interval
-fine_interval kind delimiter front = fine_behind kind delimiter front (numeral front)
+fine_interval kind delimiter front = fine_least kind delimiter front (numeral front)
 
-fine_interval_item : (may : Bool) (o : Option Bounds) (at behind : ℕ) → FineBounds o → Fine may (repeats may at (interval_item o at behind))
-fine_interval_item true None at behind h = tt
-fine_interval_item true (Some i) at behind h = (refl, h)
-fine_interval_item false o at behind h = tt
+fine_interval_item : (may : Bool) (o : Option Bounds) (at next : ℕ) → FineBounds o → Fine may (repeats may at (interval_item o at next))
+fine_interval_item true None at next h = tt
+fine_interval_item true (Some i) at next h = (refl, h)
+fine_interval_item false o at next h = tt
 
 fine_list : (may : Bool) (r : Result (ByteSet × ℕ) ExprFault) → Fine may (list_item r)
-fine_list may (Ok (members, behind)) = tt
+fine_list may (Ok (members, next)) = tt
 fine_list may (Err f) = tt
 
-fine_star : (kind : Kind) (may : Bool) (at behind : ℕ) → Fine may (star_item kind may at behind)
-fine_star Basic true at behind = (refl, tt)
-fine_star Basic false at behind = tt
-fine_star Extended true at behind = (refl, tt)
-fine_star Extended false at behind = tt
+fine_star : (kind : Kind) (may : Bool) (at next : ℕ) → Fine may (star_item kind may at next)
+fine_star Basic true at next = (refl, tt)
+fine_star Basic false at next = tt
+fine_star Extended true at next = (refl, tt)
+fine_star Extended false at next = tt
 
-fine_question : (kind : Kind) (may repeated : Bool) (at behind : ℕ) → Fine may (question_item kind may repeated at behind)
-fine_question Basic true repeated at behind = (refl, omega arith)
-fine_question Basic false repeated at behind = tt
-fine_question Extended true true at behind = tt
-fine_question Extended true false at behind = (refl, omega arith)
-fine_question Extended false repeated at behind = tt
+fine_question : (kind : Kind) (may repeated : Bool) (at next : ℕ) → Fine may (question_item kind may repeated at next)
+fine_question Basic true repeated at next = (refl, omega arith)
+fine_question Basic false repeated at next = tt
+fine_question Extended true true at next = tt
+fine_question Extended true false at next = (refl, omega arith)
+fine_question Extended false repeated at next = tt
 
-fine_plus : (may : Bool) (at behind : ℕ) → Fine may (repeats may at (Is (Repeat 1 None) behind))
-fine_plus true at behind = (refl, tt)
-fine_plus false at behind = tt
+fine_plus : (may : Bool) (at next : ℕ) → Fine may (repeats may at (Is (Repeat 1 None) next))
+fine_plus true at next = (refl, tt)
+fine_plus false at next = tt
 
-fine_caret : (kind : Kind) (may first : Bool) (behind : ℕ) → Fine may (caret_item kind first behind)
-fine_caret Basic may true behind = tt
-fine_caret Basic may false behind = tt
-fine_caret Extended may first behind = tt
+fine_caret : (kind : Kind) (may first : Bool) (next : ℕ) → Fine may (caret_item kind first next)
+fine_caret Basic may true next = tt
+fine_caret Basic may false next = tt
+fine_caret Extended may first next = tt
 
-fine_dollar : (kind : Kind) (may last : Bool) (behind : ℕ) → Fine may (dollar_item kind last behind)
-fine_dollar Basic may true behind = tt
-fine_dollar Basic may false behind = tt
-fine_dollar Extended may last behind = tt
+fine_dollar : (kind : Kind) (may last : Bool) (next : ℕ) → Fine may (dollar_item kind last next)
+fine_dollar Basic may true next = tt
+fine_dollar Basic may false next = tt
+fine_dollar Extended may last next = tt
 
 fine_for : (kind : Kind) (folded : Bool) (delimiter : Option ℕ) (text : List ℕ) (before : Option Item) (at : ℕ) (o : Option (Symbol × ℕ)) → Fine (is_repeatable before) (item_for kind folded delimiter text before at o)
 fine_for kind folded delimiter text before at None = tt

@@ -11,7 +11,7 @@ use Rattle.sedre.specs.Stacks.{Level, with_last, with_piece, all_alternatives}
 -- finished alternatives, and the pieces of the one after them
 pub data Body : ℕ → List Item → List Tree → List Tree → ℕ → Type 0 where
   only : {g h : ℕ} {is : List Item} {ps : List Tree} → ArePieces g is ps h → Body g is [] ps h
-  behind : {g h k : ℕ} {is js : List Item} {bs ps : List Tree} → AreAlternatives g is bs h → ArePieces h js ps k → Body g (is ++ Bar ∷ js) bs ps k
+  following : {g h k : ℕ} {is js : List Item} {bs ps : List Tree} → AreAlternatives g is bs h → ArePieces h js ps k → Body g (is ++ Bar ∷ js) bs ps k
 
 -- the items stand as this level inside those
 pub data Stands : List Item → ℕ → Level → List Level → Type 0 where
@@ -21,16 +21,16 @@ pub data Stands : List Item → ℕ → Level → List Level → Type 0 where
 
 body_piece : {g h k : ℕ} {is js : List Item} {bs ps : List Tree} {t : Tree} → Body g is bs ps h → IsPiece h js t k → Body g (is ++ js) bs (ps ++ t ∷ []) k
 body_piece (only p) q = only (more p q)
-body_piece {g = g} {k = k} {js = ks} {bs = bs} {ps = ps} {t = t} (behind {is = is} {js = js} a p) q =
+body_piece {g = g} {k = k} {js = ks} {bs = bs} {ps = ps} {t = t} (following {is = is} {js = js} a p) q =
     let B : List Item → Type 0 = λ xs. Body g xs bs (ps ++ t ∷ []) k in
-    subst B (sym (append_assoc is (Bar ∷ js) ks)) (behind a (more p q))
+    subst B (sym (append_assoc is (Bar ∷ js) ks)) (following a (more p q))
 
 body_all : {g h : ℕ} {is : List Item} {bs ps : List Tree} → Body g is bs ps h → AreAlternatives g is (bs ++ concatenation ps ∷ []) h
 body_all (only p) = first p
-body_all (behind a p) = another a p
+body_all (following a p) = another a p
 
 body_bar : {g h : ℕ} {is : List Item} {bs ps : List Tree} → Body g is bs ps h → Body g (is ++ Bar ∷ []) (bs ++ concatenation ps ∷ []) [] h
-body_bar b = behind (body_all b) none
+body_bar b = following (body_all b) none
 
 pieces_repeat : {g h : ℕ} {is : List Item} {ps : List Tree} (least : ℕ) (most : Option ℕ) → ArePieces g is ps h → ps ≢ [] → ArePieces g (is ++ Repeat least most ∷ []) (with_last (repetition least most) ps) h
 pieces_repeat least most none ne = absurd (ne refl)
@@ -43,9 +43,9 @@ pieces_repeat {g = g} {h = h} least most (more {is = is} {js = js} {ts = ts} {t 
 
 body_repeat : {g h : ℕ} {is : List Item} {bs ps : List Tree} (least : ℕ) (most : Option ℕ) → Body g is bs ps h → ps ≢ [] → Body g (is ++ Repeat least most ∷ []) bs (with_last (repetition least most) ps) h
 body_repeat least most (only p) ne = only (pieces_repeat least most p ne)
-body_repeat {g = g} {h = h} {bs = bs} {ps = ps} least most (behind {is = is} {js = js} a p) ne =
+body_repeat {g = g} {h = h} {bs = bs} {ps = ps} least most (following {is = is} {js = js} a p) ne =
     let B : List Item → Type 0 = λ xs. Body g xs bs (with_last (repetition least most) ps) h in
-    subst B (sym (append_assoc is (Bar ∷ js) (Repeat least most ∷ []))) (behind a (pieces_repeat least most p ne))
+    subst B (sym (append_assoc is (Bar ∷ js) (Repeat least most ∷ []))) (following a (pieces_repeat least most p ne))
 
 pub stands_piece : {h k : ℕ} {is js : List Item} {l : Level} {ls : List Level} {t : Tree} → Stands is h l ls → IsPiece h js t k → Stands (is ++ js) k (with_piece t l) ls
 stands_piece (base b) q = base (body_piece b q)

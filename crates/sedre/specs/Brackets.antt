@@ -158,9 +158,9 @@ listed (x ∷ y ∷ z ∷ rest) =
 -- ---- a whole list
 
 -- the items from the place after the opening [ on, where a ^ makes a non-matching list (XBD 9.3.5, 3)
-abbrev pub items_behind : Option ℕ → (place : ℕ) → List ℕ → List (ℕ × Element) × Option ℕ
-items_behind delimiter place [] = ([], None)
-items_behind delimiter place (b ∷ bs) =
+abbrev pub items_from : Option ℕ → (place : ℕ) → List ℕ → List (ℕ × Element) × Option ℕ
+items_from delimiter place [] = ([], None)
+items_from delimiter place (b ∷ bs) =
     if b == 94 then items delimiter true 0 (place + 1) bs else items delimiter true 0 place (b ∷ bs)
 
 abbrev pub is_negated : List ℕ → Bool
@@ -176,15 +176,15 @@ matched folded negated set = if negated then complement (matching folded set) el
 abbrev pub judged : (folded negated : Bool) → (at : ℕ) → Listing → Option ℕ → Result (ByteSet × ℕ) ExprFault
 judged folded negated at (Err f) end = Err f
 judged folded negated at (Ok set) None = Err (record { place = at; reason = OpenBracket })
-judged folded negated at (Ok set) (Some behind) = Ok (matched folded negated set, behind)
+judged folded negated at (Ok set) (Some next) = Ok (matched folded negated set, next)
 
--- what a text's list comes to whose [ stands at a place
+-- the list of a text whose [ stands at a place: the bytes that it matches and the place after it, or its first fault
 unfoldable pub list_at : (folded : Bool) → Option ℕ → (text : List ℕ) → (at : ℕ) → Result (ByteSet × ℕ) ExprFault
 list_at folded delimiter text at =
     let bytes = drop (at + 1) text in
-    let found = items_behind delimiter (at + 1) bytes in
+    let found = items_from delimiter (at + 1) bytes in
     judged folded (is_negated bytes) at (listed found.0) found.1
 
 -- the place after a list, whatever it lists, from the place after its [ on
 unfoldable pub list_end : Option ℕ → (place : ℕ) → List ℕ → Option ℕ
-list_end delimiter place bytes = (items_behind delimiter place bytes).1
+list_end delimiter place bytes = (items_from delimiter place bytes).1

@@ -4,15 +4,15 @@ use Rattle.std.specs.Prelude.{option_and_then}
 use Rattle.sedre.specs.Brackets.{list_end}
 
 -- a backslash at a place and its next byte
-abbrev pub behind_escape : (place : ℕ) → List ℕ → Option ℕ
-behind_escape place [] = None
-behind_escape place (c ∷ rest) = Some (place + 2)
+abbrev pub after_escape : (place : ℕ) → List ℕ → Option ℕ
+after_escape place [] = None
+after_escape place (c ∷ rest) = Some (place + 2)
 
 -- the place after what stands at a place: an escape, a bracket expression or a byte; None where the text ends before
-abbrev pub behind : (delimiter place : ℕ) → List ℕ → Option ℕ
-behind d place [] = None
-behind d place (b ∷ bs) =
-    if b == 92 then behind_escape place bs
+abbrev pub next_place : (delimiter place : ℕ) → List ℕ → Option ℕ
+next_place d place [] = None
+next_place d place (b ∷ bs) =
+    if b == 92 then after_escape place bs
     else if b == 91 then list_end (Some d) (place + 1) bs
     else Some (place + 1)
 
@@ -25,7 +25,7 @@ first_delimiter d (suc skip) place (b ∷ bs) = if b == 10 then None else first_
 first_delimiter d zero place (b ∷ bs) =
     if b == 10 then None
     else if b == d then Some place
-    else option_and_then (λ next. first_delimiter d (next - (place + 1)) (place + 1) bs) (behind d place (b ∷ bs))
+    else option_and_then (λ next. first_delimiter d (next - (place + 1)) (place + 1) bs) (next_place d place (b ∷ bs))
 
 -- the delimiter that ends the expression at a place
 unfoldable pub delimiter_at : (text : List ℕ) → (at delimiter : ℕ) → Option ℕ

@@ -50,9 +50,9 @@ limit kind delimiter least digits front (Some (most, more)) =
     then bounds least (Some most) (digits + 1 + more + closing_width kind) else None
 
 -- after the first number
-abbrev pub behind_least : Kind → Option ℕ → List ℕ → Option (ℕ × ℕ) → Option Interval
-behind_least kind delimiter front None = None
-behind_least kind delimiter front (Some (least, digits)) =
+abbrev pub after_least : Kind → Option ℕ → List ℕ → Option (ℕ × ℕ) → Option Interval
+after_least kind delimiter front None = None
+after_least kind delimiter front (Some (least, digits)) =
     let rest = drop digits front in
     if closes kind delimiter rest then bounds least (Some least) (digits + closing_width kind)
     else if begins rest 44 then limit kind delimiter least digits (drop 1 rest) (numeral (drop 1 rest))
@@ -60,4 +60,4 @@ behind_least kind delimiter front (Some (least, digits)) =
 
 -- the interval whose opening stands before what is left of a text, with the bytes that it takes from there
 unfoldable pub interval : Kind → Option ℕ → List ℕ → Option Interval
-interval kind delimiter front = behind_least kind delimiter front (numeral front)
+interval kind delimiter front = after_least kind delimiter front (numeral front)

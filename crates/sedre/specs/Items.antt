@@ -55,39 +55,39 @@ abbrev pub repeats : Bool → (at : ℕ) → Here → Here
 repeats true at repeat = repeat
 repeats false at repeat = fault at NothingToRepeat
 
-abbrev pub interval_item : Option Bounds → (at behind : ℕ) → Here
-interval_item None at behind = fault at BadInterval
-interval_item (Some i) at behind = Is (Repeat i.least i.most) (behind + i.width)
+abbrev pub interval_item : Option Bounds → (at next : ℕ) → Here
+interval_item None at next = fault at BadInterval
+interval_item (Some i) at next = Is (Repeat i.least i.most) (next + i.width)
 
 abbrev pub list_item : Result (ByteSet × ℕ) ExprFault → Here
-list_item (Ok (members, behind)) = Is (Byte members) behind
+list_item (Ok (members, next)) = Is (Byte members) next
 list_item (Err f) = Bad f
 
 -- * is a literal in a basic expression where nothing stands that it could repeat (XBD 9.3.3)
-abbrev pub star_item : Kind → Bool → (at behind : ℕ) → Here
-star_item Basic true at behind = Is (Repeat 0 None) behind
-star_item Basic false at behind = Is (Byte (only 42)) behind
-star_item Extended may at behind = repeats may at (Is (Repeat 0 None) behind)
+abbrev pub star_item : Kind → Bool → (at next : ℕ) → Here
+star_item Basic true at next = Is (Repeat 0 None) next
+star_item Basic false at next = Is (Byte (only 42)) next
+star_item Extended may at next = repeats may at (Is (Repeat 0 None) next)
 
 -- where something stands before it, ? repeats; directly after a repetition of an extended expression it is left out by
 -- name
-abbrev pub question_item : Kind → (may repeated : Bool) → (at behind : ℕ) → Here
-question_item Basic may repeated at behind = repeats may at (Is (Repeat 0 (Some 1)) behind)
-question_item Extended may repeated at behind = repeats (may && not repeated) at (Is (Repeat 0 (Some 1)) behind)
+abbrev pub question_item : Kind → (may repeated : Bool) → (at next : ℕ) → Here
+question_item Basic may repeated at next = repeats may at (Is (Repeat 0 (Some 1)) next)
+question_item Extended may repeated at next = repeats (may && not repeated) at (Is (Repeat 0 (Some 1)) next)
 
 -- ^ is an anchor where it is first in a basic expression, and everywhere in an extended one (XBD 9.3.8, 9.4.9); that it
 -- is first after an opening or an alternation symbol is this project's own
-abbrev pub caret_item : Kind → (first : Bool) → (behind : ℕ) → Here
-caret_item Basic true behind = Is AtBegin behind
-caret_item Basic false behind = Is (Byte (only 94)) behind
-caret_item Extended first behind = Is AtBegin behind
+abbrev pub caret_item : Kind → (first : Bool) → (next : ℕ) → Here
+caret_item Basic true next = Is AtBegin next
+caret_item Basic false next = Is (Byte (only 94)) next
+caret_item Extended first next = Is AtBegin next
 
 -- $ is an anchor where an alternative of a basic expression ends, and everywhere in an extended one (XBD 9.3.8, 9.4.9);
 -- before a closing or an alternation symbol of a basic one this is this project's own
-abbrev pub dollar_item : Kind → (last : Bool) → (behind : ℕ) → Here
-dollar_item Basic true behind = Is AtEnd behind
-dollar_item Basic false behind = Is (Byte (only 36)) behind
-dollar_item Extended last behind = Is AtEnd behind
+abbrev pub dollar_item : Kind → (last : Bool) → (next : ℕ) → Here
+dollar_item Basic true next = Is AtEnd next
+dollar_item Basic false next = Is (Byte (only 36)) next
+dollar_item Extended last next = Is AtEnd next
 
 -- what a symbol is, after an item. Where case is folded, a literal byte stands for both cases of its letter (this
 -- project's own); those of * ^ and $ are no letters. An interval's closing that stands alone is refused
@@ -119,7 +119,7 @@ item_at kind folded delimiter text before at =
     item_for kind folded delimiter text before at (symbol kind delimiter (drop at text))
 
 -- an item ends after its place, and a fault is reported within the text
-abbrev pub IsBehind : (at len : ℕ) → Here → Type 0
-IsBehind at len (Is i next) = (at < next) × (next ≤ len)
-IsBehind at len Ends = Unit {0}
-IsBehind at len (Bad f) = f.place ≤ len
+abbrev pub IsAfter : (at len : ℕ) → Here → Type 0
+IsAfter at len (Is i next) = (at < next) × (next ≤ len)
+IsAfter at len Ends = Unit {0}
+IsAfter at len (Bad f) = f.place ≤ len

@@ -14,8 +14,8 @@ is_range (b ∷ c ∷ rest) = b == 45 && not (c == 93)
 
 -- what an item or a range lists, and the place after it
 abbrev pub located : ℕ → Listing → Result (ByteSet × ℕ) ExprFault
-located behind (Err f) = Err f
-located behind (Ok set) = Ok (set, behind)
+located next (Err f) = Err f
+located next (Ok set) = Ok (set, next)
 
 -- the item or the range that stands at a place
 unfoldable pub members_at : Option ℕ → (text : List ℕ) → (at : ℕ) → Result (ByteSet × ℕ) ExprFault
@@ -23,9 +23,9 @@ members_at delimiter text at =
     let first = item delimiter (drop at text) in
     let next = at + first.1 in
     let last = item delimiter (drop (next + 1) text) in
-    let behind = next + 1 + last.1 in
+    let end = next + 1 + last.1 in
     if is_range (drop next text) then
-    located behind (range (at, first.0) (next + 1, last.0) (is_range (drop behind text)))
+    located end (range (at, first.0) (next + 1, last.0) (is_range (drop end text)))
     else located next (single (at, first.0))
 
 -- where the items of a list begin, from the place after its [

@@ -17,8 +17,8 @@ alternation (a ∷ b ∷ rest) = alt a (alternation (b ∷ rest))
 
 -- a number of copies, and what stands after them
 abbrev pub copies : ℕ → Tree → List Tree → List Tree
-copies zero e behind = behind
-copies (suc n) e behind = e ∷ copies n e behind
+copies zero e rest = rest
+copies (suc n) e rest = e ∷ copies n e rest
 
 -- up to one copy more than the number, each held by the one before it
 abbrev pub optional : ℕ → Tree → Bool → Tree

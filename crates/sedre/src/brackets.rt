@@ -87,7 +87,7 @@ fn is_range_at(text: &[u8], at: usize) -> bool
 fn members_at(delimiter: Option<u8>, text: &[u8], at: usize) -> Result<(ByteSet, usize), ExprFault>
     requires { at < length text.now }
     ensures is { result ≡ members_at delimiter text.now at }
-    ensures behind { IfOk result (λ found. (at < found.1) × (found.1 ≤ length text.now)) }
+    ensures after { IfOk result (λ found. (at < found.1) × (found.1 ≤ length text.now)) }
     ensures fault { IfErr result (λ f. (at ≤ f.place) × (f.place < length text.now)) }
 {
     let (first, width) = item_at(delimiter, text, at);
@@ -96,9 +96,9 @@ fn members_at(delimiter: Option<u8>, text: &[u8], at: usize) -> Result<(ByteSet,
         return Ok((single(at, first)?, next));
     }
     let (last, width) = item_at(delimiter, text, next + 1);
-    let behind = next + 1 + width;
-    let goes_on = is_range_at(text, behind);
-    Ok((range(at, first, next + 1, last, goes_on)?, behind))
+    let end = next + 1 + width;
+    let goes_on = is_range_at(text, end);
+    Ok((range(at, first, next + 1, last, goes_on)?, end))
 }
 
 /// Whether the list whose items begin at a place is a non-matching one.
@@ -158,7 +158,7 @@ pub fn list_at(
 ) -> Result<(ByteSet, usize), ExprFault>
     requires { at < length text.now }
     ensures is { result ≡ list_at folded delimiter text.now at }
-    ensures behind { IfOk result (λ found. (at < found.1) × (found.1 ≤ length text.now)) }
+    ensures after { IfOk result (λ found. (at < found.1) × (found.1 ≤ length text.now)) }
     ensures fault { IfErr result (λ f. (at ≤ f.place) × (f.place < length text.now)) }
 {
     let negated = is_negated(text, at + 1);
@@ -169,9 +169,9 @@ pub fn list_at(
         if is_closing(text, start, place) {
             return Ok((matched(folded, negated, set), place + 1));
         }
-        let (members, behind) = members_at(delimiter, text, place)?;
+        let (members, next) = members_at(delimiter, text, place)?;
         set = set.union(&members);
-        place = behind;
+        place = next;
     }
     Err(ExprFault {
         place: at,
@@ -184,7 +184,7 @@ pub fn list_at(
 pub fn list_end(delimiter: Option<u8>, text: &[u8], at: usize) -> Option<usize>
     requires { at < length text.now }
     ensures is { result ≡ list_end delimiter (at + 1) (drop (at + 1) text.now) }
-    ensures behind { IfSome result (λ end. (at < end) × (end ≤ length text.now)) }
+    ensures after { IfSome result (λ end. (at < end) × (end ≤ length text.now)) }
 {
     let start = items_start(text, at + 1);
     let mut place = start;

@@ -1,7 +1,7 @@
 //! Where an expression ends that stands between delimiters (XCU sed, "Regular Expressions in sed").
 ghost use Rattle.std.specs.Prelude.{◌≡◌, ◌≢◌, ◌<◌, ◌≤◌, ◌+◌, ◌==◌, length, drop, IfSome};
 ghost use Rattle.std.specs.List.{list_any};
-ghost use Rattle.sedre.specs.Delimited.{delimiter_at, behind};
+ghost use Rattle.sedre.specs.Delimited.{delimiter_at, next_place};
 
 use crate::brackets::list_end;
 
@@ -23,7 +23,7 @@ pub fn delimited(text: &[u8], at: usize, delimiter: u8) -> Option<usize>
         if b == delimiter {
             return Some(place);
         }
-        let next = behind(text, place, delimiter)?;
+        let next = next_place(text, place, delimiter)?;
         if has_newline(&text[place..next]) {
             return None;
         }
@@ -34,9 +34,9 @@ pub fn delimited(text: &[u8], at: usize, delimiter: u8) -> Option<usize>
 
 /// The place after what stands at a place: an escape, a bracket expression or a byte; None where the
 /// text ends before.
-fn behind(text: &[u8], at: usize, delimiter: u8) -> Option<usize>
+fn next_place(text: &[u8], at: usize, delimiter: u8) -> Option<usize>
     requires { at < length text.now }
-    ensures is { result ≡ behind delimiter at (drop at text.now) }
+    ensures is { result ≡ next_place delimiter at (drop at text.now) }
     ensures within { IfSome result (λ to. (at < to) × (to ≤ length text.now)) }
 {
     match text[at] {

@@ -6,7 +6,7 @@ ghost use Rattle.sedre.specs.Symbols.{symbol};
 ghost use Rattle.sedre.specs.Intervals.{interval};
 ghost use Rattle.sedre.specs.Items.{is_first, is_repeatable, is_repeat, ends_alternative, fault, repeats};
 ghost use Rattle.sedre.specs.Items.{interval_item, list_item, star_item, question_item, caret_item, dollar_item};
-ghost use Rattle.sedre.specs.Items.{item_at, IsBehind};
+ghost use Rattle.sedre.specs.Items.{item_at, IsAfter};
 
 use crate::brackets::list_at;
 use crate::byte_set::ByteSet;
@@ -83,13 +83,13 @@ fn question_item(kind: Kind, may: bool, repeated: bool, at: usize, next: usize) 
     }
 }
 
-fn interval_item(interval: Option<Interval>, at: usize, behind: usize) -> Here
-    requires { ForSome interval (λ found. behind + found.width ≤ usize.MAX) }
-    ensures { result ≡ interval_item interval at behind }
+fn interval_item(interval: Option<Interval>, at: usize, next: usize) -> Here
+    requires { ForSome interval (λ found. next + found.width ≤ usize.MAX) }
+    ensures { result ≡ interval_item interval at next }
 {
     match interval {
         None => fault(at, Reason::BadInterval),
-        Some(found) => Here::Is(Item::Repeat(found.least, found.most), behind + found.width),
+        Some(found) => Here::Is(Item::Repeat(found.least, found.most), next + found.width),
     }
 }
 
@@ -97,7 +97,7 @@ fn list_item(list: Result<(ByteSet, usize), ExprFault>) -> Here
     ensures { result ≡ list_item list }
 {
     match list {
-        Ok((members, behind)) => Here::Is(Item::Byte(members), behind),
+        Ok((members, next)) => Here::Is(Item::Byte(members), next),
         Err(fault) => Here::Bad(fault),
     }
 }
@@ -140,7 +140,7 @@ pub fn item_at(
 ) -> Here
     requires { at ≤ length text.now }
     ensures item { result ≡ item_at kind folded delimiter text.now before at }
-    ensures behind { IsBehind at (length text.now) result }
+    ensures after { IsAfter at (length text.now) result }
 {
     let Some((symbol, width)) = symbol_at(kind, delimiter, text, at) else {
         return Here::Ends;

@@ -273,9 +273,9 @@ second_bounds text count first at h =
     (address_bounds text count at)
     (λ n x le p. second_within n first at x x.address p.0 (address_more count n (Some first) le h) p.1)
 
-behind_bounds : (text : List ℕ) (count at : ℕ) (o : Option Address) → AddressWithin count o → Bounds HeadedWithin count (after_first text count at o)
-behind_bounds text count at None h = (refl, (tt, tt))
-behind_bounds text count at (Some first) h =
+after_bounds : (text : List ℕ) (count at : ℕ) (o : Option Address) → AddressWithin count o → Bounds HeadedWithin count (after_first text count at o)
+after_bounds text count at None h = (refl, (tt, tt))
+after_bounds text count at (Some first) h =
     bounds_if HeadedWithin count (is_byte 44 (slice_get text (past Blank text at))) _ _ (second_bounds text count first (past Blank text (past Blank text at + 1)) h)
     (refl, (h, tt))
 
@@ -285,7 +285,7 @@ addresses_bounds text count at =
     bounds_then AddressedWithin HeadedWithin count (address_at text count at) (λ (x : Addressed). after_first text x.count x.at x.address)
     (address_bounds text count at)
     (λ n x le p. subst (λ (k : ℕ). Bounds HeadedWithin k (after_first text x.count x.at x.address)) p.0
-    (behind_bounds text x.count x.at x.address (address_more n x.count x.address (omega (arith, p.0)) p.1)))
+    (after_bounds text x.count x.at x.address (address_more n x.count x.address (omega (arith, p.0)) p.1)))
 
 -- functions
 

@@ -1,5 +1,5 @@
 -- Bytes that are known to hold no newline.
-use Rattle.std.proofs.Common.{◌≡◌, ℕ, ◌+◌, ◌-◌, ◌<◌, ◌≤◌, List, ◌++◌, length, take, drop, get_or, get_or-take, Option, None, Some, sym, ap, ◌∙◌, arith, position, take-append-drop, not, if◌then◌else◌, min, length-append, length-drop, length-take, nat_lt, nat_eq, Bool, true, false, refl, ◌⊎◌, inl, inr, ◌≢◌, eqb}
+use Rattle.std.proofs.Common.{◌≡◌, ℕ, ◌+◌, ◌-◌, ◌<◌, ◌≤◌, List, ◌++◌, length, take, drop, get_or, get_or-take, None, Some, sym, ap, ◌∙◌, arith, position, take-append-drop, not, if◌then◌else◌, min, length-append, length-drop, nat_lt, nat_eq, Bool, true, false, refl, ◌⊎◌, inl, inr, ◌≢◌, eqb}
 use Rattle.std.specs.List.{position_or_len}
 use Rattle.std.proofs.Math.Dec.{ltb}
 use Rattle.std.proofs.lemmas.Bool.{ltb-false}

@@ -21,8 +21,8 @@ replaced_more table xs ys i inside long whole h =
     ap (λ z. slice_set ys i z) (get_or_default table b 0 b whole) ∙ map_over_more (λ b. slice_index_or table b b) xs ys i b inside h (get_or_default ys i 0 b long)
 
 -- what stands at a place is first from there on
-pub first_behind : {A : Type 0} (xs : List A) (n : ℕ) → slice_get (drop n xs) 0 ≡ slice_get xs n
-first_behind [] zero = refl
-first_behind [] (suc n) = refl
-first_behind (x ∷ xs) zero = refl
-first_behind (x ∷ xs) (suc n) = first_behind xs n
+pub first_of_drop : {A : Type 0} (xs : List A) (n : ℕ) → slice_get (drop n xs) 0 ≡ slice_get xs n
+first_of_drop [] zero = refl
+first_of_drop [] (suc n) = refl
+first_of_drop (x ∷ xs) zero = refl
+first_of_drop (x ∷ xs) (suc n) = first_of_drop xs n

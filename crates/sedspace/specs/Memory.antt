@@ -49,7 +49,7 @@ abbrev pub sink_failures : Sinks → ℕ → ℕ
 sink_failures o k = unwrap_or (option_map (λ s. s.failures) (slice_get o.held k)) 0
 
 -- a write is counted, and takes as many bytes as are given, as may be taken at once, and as there is room for; it fails
--- where it is told to, and where none of some bytes has room; without reserved room memory may be wanting, too
+-- where it is told to, and where none of some bytes has room; without reserved room it may be refused memory, too
 abbrev pub TakesBytes : Sink → Sink → ℕ → List ℕ → Result ℕ Broken → Type 0
 TakesBytes old new most bytes (Ok n) =
     (n ≡ min (min (length bytes) most) old.room) × (0 < length bytes → 0 < n) × ¬ (old.fails_at ≡ Some new.writes)

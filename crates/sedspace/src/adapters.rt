@@ -4,7 +4,8 @@ ghost use Rattle.std.specs.Prelude.{◌≡◌, ◌==◌, [], None, if◌then◌e
 use super::{Broken, ByteSource, Outputs};
 use std::io::{Error, ErrorKind, Read, Write};
 
-/// A reader as a source. A read that a signal interrupts is tried again, up to 2^64 - 1 times, and is no failure.
+/// A reader of std as a source. A read that a signal interrupts is tried again, up to 2^64 - 1 times, and doesn't count
+/// as a failure.
 #[derive(Drop)]
 pub struct FromReader<R> {
     reader: R,
@@ -12,7 +13,7 @@ pub struct FromReader<R> {
 }
 
 impl<R> FromReader<R> {
-    /// The reader as a source that hasn't failed.
+    /// Makes a source of the reader, with no failure so far.
     pub fn new(reader: R) -> FromReader<R>
         ensures { result ≡ record { reader = reader; failed = 0 } }
     {
@@ -54,8 +55,8 @@ impl<R: Read> ByteSource for FromReader<R> {
     }
 }
 
-/// A writer as the one sink of outputs, sink 0. A write that a signal interrupts is tried again, up to 2^64 - 1 times,
-/// and is no failure; a writer that takes none of some bytes has failed.
+/// A writer of std as outputs of one sink, sink 0. A write that a signal interrupts is tried again, up to 2^64 - 1
+/// times, and doesn't count as a failure; a write that takes none of some bytes does.
 #[derive(Drop)]
 pub struct ToWriter<W> {
     writer: W,
@@ -63,7 +64,7 @@ pub struct ToWriter<W> {
 }
 
 impl<W> ToWriter<W> {
-    /// The writer as a sink that hasn't failed.
+    /// Makes a sink of the writer, with no failure so far.
     pub fn new(writer: W) -> ToWriter<W>
         ensures { result ≡ record { writer = writer; failed = 0 } }
     {

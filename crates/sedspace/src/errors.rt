@@ -1,7 +1,7 @@
 //! What can go wrong.
 use thiserror::Error;
 
-/// A limit would be passed. Nothing was changed.
+/// A limit would have been passed. Nothing was changed.
 #[derive(Clone, Copy, Debug, PartialEq, Eq, Error)]
 #[error("the limit would be passed")]
 pub struct Full;
@@ -11,7 +11,7 @@ pub struct Full;
 #[error("the device failed")]
 pub struct Broken;
 
-/// Why no line is given.
+/// Why the next line can't be given.
 #[derive(Clone, Copy, Debug, PartialEq, Eq, Error)]
 pub enum LineFault {
     /// The next line doesn't fit into the space.

@@ -1,8 +1,8 @@
 //! Bounded spaces and streams: what a stream editor holds, what it reads from and what it writes to.
 //!
-//! - `Space` and `Queue` hold bytes and numbers within a limit, in room that is reserved when they are made.
-//! - `ByteSource`, `Outputs` and `Texts` are the devices, each with the laws that its readers rest on. There are forms
-//!   of them over memory, and adapters over the readers and writers of std.
+//! - `Space` and `Queue` hold bytes and numbers up to a limit, in memory that is reserved when they are made.
+//! - `ByteSource`, `Outputs` and `Texts` are the devices, each with the laws that its callers rely on. Each is there over
+//!   memory, and `FromReader` and `ToWriter` make them of the readers and writers of std. `write_all` repeats short writes.
 //! - `Lines` gives the lines of a source, in whatever pieces its bytes come, and reads ahead by a fixed number of
 //!   bytes.
 #![tactic(auto)]
@@ -21,7 +21,7 @@ pub use adapters::{FromReader, ToWriter};
 pub use errors::{Broken, Full, LineFault};
 pub use lines::{Got, Lines, Room};
 pub use memory::{MemoryOutputs, MemorySource, MemoryTexts};
-pub use outputs::Outputs;
+pub use outputs::{Outputs, write_all};
 pub use queue::Queue;
 pub use source::ByteSource;
 pub use space::Space;

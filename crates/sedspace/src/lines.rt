@@ -1,9 +1,10 @@
 //! The lines of a source, read ahead by a fixed number of bytes.
 //!
 //! XCU sed reads its input a line at a time, each without its newline; a last line without one is a line too. What is
-//! read ahead stands in a buffer from a moving front on: no byte that is left is moved, and the source is read only where
-//! the buffer is used up. A read asks for few bytes at first, and for twice as many after each read that gave all that it
-//! asked for: of an input of which little is wanted, little is read, and the rest of the buffer's memory stays untouched.
+//! read ahead stands in a buffer and begins at a front that moves: no byte that is left is moved, and the source is read
+//! only when the buffer is used up. The first read asks for few bytes, and after each read that gave all that it asked for
+//! the next asks for twice as many. So of an input of which little is wanted, little is read, and the rest of the buffer's
+//! memory stays untouched.
 ghost use Rattle.std.specs.Prelude.{◌≡◌, ◌↔◌, ◌+◌, ◌-◌, ◌<◌, ◌≤◌, ◌^◌, ℕ, List, [], ◌∷◌, ◌++◌, length, true, false, IsTrue, is_ok, if◌then◌else◌, None, Some, IfOk, IfSome, OnOk, OnErr, Contains, vec_len, vec_capacity};
 ghost use Rattle.std.specs.List.{position, before_first};
 ghost use Rattle.std.specs.Result.{result_err};
@@ -18,19 +19,19 @@ use std::marker::Model;
 // How many bytes the first read asks for, where there is room for them.
 const FIRST: usize = 4096;
 
-/// What a call for the next line found.
+/// Whether there was a next line.
 #[derive(Clone, Copy, Debug, PartialEq, Eq)]
 pub enum Got {
-    /// A line, now at the end of the space.
+    /// There was; it was appended to the space.
     Line,
-    /// No line: all were given.
+    /// There was none: all lines were given before.
     End,
 }
 
-/// Room for the bytes that are read ahead. Contracts see how many it has room for.
+/// Memory for the bytes that are read ahead. Contracts see how many bytes it is for.
 #[derive(Drop)]
 pub struct Room {
-    // As long as the next read may give; more is reserved.
+    // As long as the next read may be; more is reserved.
     buffer: Vec<u8>,
     look: usize,
 }
@@ -46,7 +47,7 @@ impl Model for Room {
 }
 
 impl Room {
-    /// Room for `look` bytes, 1 to 2^30, reserved here. Little of it is used before the reads ask for more.
+    /// Reserves memory for `look` bytes, from 1 to 2^30. Little of it is touched before the reads ask for more.
     pub fn new(alloc: Global, look: usize) -> Result<Room, AllocError>
         requires positive { 0 < look }
         requires bound { look ≤ 2 ^ 30 }
@@ -58,7 +59,7 @@ impl Room {
     }
 }
 
-/// The lines of a source, which is read ahead by at most `look` bytes. After the making no call asks for memory.
+/// The lines of a source, which is read ahead by at most `look` bytes. Once made, it asks for no memory.
 ///
 /// The first read asks for 4096 bytes, or for `look` where that is less. Each read that gives all that it asked for makes
 /// the next one ask for twice as many, up to `look`.
@@ -67,7 +68,7 @@ impl Room {
 #[derive(Drop)]
 pub struct Lines<R: ByteSource> {
     from: R,
-    // As long as the next read may give; more is reserved.
+    // As long as the next read may be; more is reserved.
     buffer: Vec<u8>,
     look: usize,
     front: usize,
@@ -100,8 +101,9 @@ impl<R: ByteSource> Lines<R> {
     ghost use Rattle.sedspace.specs.Stream.{Stream, left, lines_left, GivesLine, TakesLine, TakesAtMost, FirstIsLonger, NoneLeft, FailsIfBroken, TellsLast, KeepsLines, KeepsFault, ReadsOn};
     ghost use Rattle.sedspace.specs.Gathering.{Gathers};
 
-    /// The lines of the source, read ahead by at most `look` bytes, 1 to 2^30, which are reserved here. It reads
-    /// nothing yet. At an `Err` the source is gone: to keep it, make the `Room` first and then call `over`.
+    /// Makes the lines of the source, and reserves memory to read ahead by at most `look` bytes, from 1 to 2^30. Nothing
+    /// is read yet. Where the memory is refused, the source is dropped: to keep it, make the `Room` first and call
+    /// `over`.
     pub fn new(alloc: Global, source: R, look: usize) -> Result<Lines<R>, AllocError>
     where
         R: Drop,
@@ -114,7 +116,7 @@ impl<R: ByteSource> Lines<R> {
         Ok(Lines::over(source, room))
     }
 
-    /// The lines of the source, read ahead into this room. It reads nothing yet.
+    /// Makes the lines of the source, read ahead into this room. Nothing is read yet.
     pub fn over(source: R, room: Room) -> Lines<R>
         ensures { result ≡ record { source = source; ahead = []; look = room; ended = false; fault = None } }
     {
@@ -146,18 +148,18 @@ impl<R: ByteSource> Lines<R> {
         from
     }
 
-    /// Lends the source.
+    /// The source.
     pub fn source(&self) -> &R
         ensures { result.now ≡ self.now.source }
     {
         &self.from
     }
 
-    /// Appends the next line, without its newline, to the space, and says whether there was one. It reads only where no
-    /// whole line is ahead and the end isn't known.
+    /// Appends the next line to the space, without its newline, and answers whether there was one. The source is read
+    /// only while no whole line has been read ahead and its end hasn't been seen.
     ///
-    /// `TooLong` where the line doesn't fit into the space, `Broken` where the source failed; the space then has its
-    /// old bytes, and each later call answers the same fault.
+    /// Answers `TooLong` where the line doesn't fit into the space, and `Broken` where the source failed. The space then
+    /// holds what it held before, and each later call answers the same fault.
     pub fn next_into(&mut self, space: &mut Space) -> Result<Got, LineFault>
         ensures line { result ≡ Ok Got.Line → (line : List ℕ)
             × (space.new ≡ record space.old { bytes = space.old.bytes ++ line })
@@ -197,8 +199,9 @@ impl<R: ByteSource> Lines<R> {
         got
     }
 
-    /// Whether no further line comes: what was given last was the last line of the input. It reads, and once, only
-    /// where nothing is ahead and the end isn't known. `Broken` where the source failed; what is still to come stays.
+    /// Whether no line is left, so that the line given last was the last of the input. The source is read, once, only
+    /// where nothing has been read ahead and its end hasn't been seen. Answers `Broken` where that read failed; no byte is
+    /// lost by it.
     pub fn is_last(&mut self) -> Result<bool, LineFault>
         ensures last { IfOk result (TellsLast (lines_left R.remaining self.old)) }
         ensures left { Keeps (left R.remaining self.old) (left R.remaining self.new) }

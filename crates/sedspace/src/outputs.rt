@@ -1,32 +1,33 @@
 //! Where bytes go.
-ghost use Rattle.std.specs.Prelude.{◌≡◌, ◌≢◌, ◌<◌, ℕ, List, Option, length, IfOk};
+ghost use Rattle.std.specs.Prelude.{◌≡◌, ◌≢◌, ◌<◌, ℕ, List, Option, length, take, IfErr, IfOk, MatchResult};
 ghost use Rattle.std.specs.Io.{WritesAtMost};
-ghost use Rattle.std.specs.Io.KnownBytes.{Keeps, WriteAppends};
+ghost use Rattle.std.specs.Io.KnownBytes.{Appends, Keeps, WriteAppends};
 ghost use Rattle.sedspace.specs.Failures.{FailsAtErr};
 
 use super::Broken;
 
-/// Sinks that bytes are written to, by number from 0. They may tell what they hold to contracts or not: where they
-/// don't, clauses on it claim nothing.
+/// Sinks that bytes are written to, numbered from 0. They may let contracts see what they hold; of sinks that don't,
+/// clauses on it claim nothing.
 pub trait Outputs {
     /// How many sinks there are.
     ghost count: { Self → ℕ };
 
-    /// What a sink holds, where it tells.
+    /// What a sink holds, where contracts may see it.
     ghost contents: { Self → ℕ → Option (List ℕ) };
 
-    /// How often a sink failed, up to 2^64 - 1, where the number stays.
+    /// How often a sink failed. The count stops at 2^64 - 1.
     ghost failures: { Self → ℕ → ℕ };
 
-    /// The names of the files among the sinks, which are those after the first, where it has any. No write changes them.
+    /// The names of the files among the sinks, which are all but the first sink, where there are any. No write changes
+    /// them.
     ghost names: { Self → List (List ℕ) };
 
     /// How many sinks there are.
     fn sinks(&self) -> usize
         ensures { result ≡ count self.now };
 
-    /// Appends the first of the bytes to this sink alone, and says how many: at least one where there are some. An
-    /// `Err` appends none and raises the sink's number of failures by one; nothing else raises it.
+    /// Appends bytes to this sink, from the first on, and answers how many: at least one where there are any. No other
+    /// sink changes. An `Err` appends none and raises the sink's number of failures by one; nothing else raises it.
     fn write(&mut self, sink: usize, bytes: &[u8]) -> Result<usize, Broken>
         requires { sink < count self.old }
         ensures bound { WritesAtMost result bytes.now }
@@ -37,4 +38,28 @@ pub trait Outputs {
         ensures others_failed { (k : ℕ) → k ≢ sink → failures self.new k ≡ failures self.old k }
         ensures sinks { count self.new ≡ count self.old }
         ensures same_names { names self.new ≡ names self.old };
+}
+
+/// Appends all the bytes to this sink, however few of them each write takes. An `Err` answers how many were appended
+/// before a write failed, and raises the sink's number of failures by one. No other sink changes.
+pub fn write_all<O: Outputs>(outputs: &mut O, sink: usize, bytes: &[u8]) -> Result<(), usize>
+    requires { sink < O.count outputs.old }
+    ensures part { IfErr result (λ n. n < length bytes.now) }
+    ensures appends { MatchResult result
+        (λ _. Appends (O.contents outputs.old sink) (O.contents outputs.new sink) bytes.now)
+        (λ n. Appends (O.contents outputs.old sink) (O.contents outputs.new sink) (take n bytes.now)) }
+    ensures failed { FailsAtErr result (O.failures outputs.old sink) (O.failures outputs.new sink) }
+    ensures others { (k : ℕ) → k ≢ sink → Keeps (O.contents outputs.old k) (O.contents outputs.new k) }
+    ensures others_failed { (k : ℕ) → k ≢ sink → O.failures outputs.new k ≡ O.failures outputs.old k }
+    ensures sinks { O.count outputs.new ≡ O.count outputs.old }
+    ensures same_names { O.names outputs.new ≡ O.names outputs.old }
+{
+    let mut done = 0;
+    while done < bytes.len() {
+        match outputs.write(sink, &bytes[done..]) {
+            Ok(count) => done += count,
+            Err(Broken) => return Err(done),
+        }
+    }
+    Ok(())
 }

@@ -1,11 +1,11 @@
-//! A queue: a list of numbers with a limit, whose room is reserved when it is made.
+//! A queue: numbers up to a limit, in memory that is reserved when it is made.
 ghost use Rattle.std.specs.Prelude.{◌≡◌, ◌<◌, ◌≤◌, [], ◌∷◌, ◌++◌, length, IfOk, OnOk, OnErr, slice_index};
 
 use super::Full;
 use std::alloc::{AllocError, Global};
 use std::marker::Model;
 
-/// Numbers, at most as many as the limit. After `new` no call asks for memory.
+/// At most `limit` numbers. `new` reserves the memory for them; no later call asks for any.
 #[derive(Drop)]
 pub struct Queue {
     held: Vec<u64>,
@@ -26,7 +26,7 @@ impl Model for Queue {
 impl Queue {
     ghost use Rattle.sedspace.specs.Spaces.{Entries};
 
-    /// An empty queue for at most `limit` numbers, reserved here.
+    /// Makes an empty queue, and reserves memory for `limit` numbers.
     pub fn new(alloc: Global, limit: usize) -> Result<Queue, AllocError>
         ensures { IfOk result (λ s. s ≡ record { items = []; limit = limit }) }
     {
@@ -42,7 +42,7 @@ impl Queue {
         self.held.len()
     }
 
-    /// The number at this place, from 0 in the order of their coming.
+    /// The number at this place. Places count from 0, in the order in which the numbers were put in.
     pub fn entry(&self, index: usize) -> u64
         requires { index < length self.now.items }
         ensures { result ≡ slice_index self.now.items index }
@@ -50,14 +50,15 @@ impl Queue {
         self.held[index]
     }
 
-    /// Lets all numbers go.
+    /// Removes all numbers.
     pub fn clear(&mut self)
         ensures { self.new ≡ record self.old { items = [] } }
     {
         self.held.clear();
     }
 
-    /// Puts a number at the end. `Full`, and unchanged, exactly where the queue holds as many as its limit.
+    /// Appends a number. Where the queue holds as many as its limit, and only there, it answers `Full` and changes
+    /// nothing.
     pub fn push(&mut self, entry: u64) -> Result<(), Full>
         ensures ok { OnOk result (self.new ≡ record self.old { items = self.old.items ++ entry ∷ [] }) }
         ensures fits { OnOk result (length self.old.items < self.old.limit) }

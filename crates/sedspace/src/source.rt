@@ -7,20 +7,21 @@ ghost use Rattle.sedspace.specs.Failures.{FailsAtErr};
 
 use super::Broken;
 
-/// A source of bytes. It may tell its bytes to contracts or not: where it doesn't, clauses on them claim nothing.
+/// A source of bytes. It may let contracts see its bytes; of a source that doesn't, clauses on bytes claim nothing.
 pub trait ByteSource {
-    /// The bytes that the source has still to give, where it tells them.
+    /// The bytes that are still to be read, where contracts may see them.
     ghost remaining: { Self → Option (List ℕ) };
 
-    /// How often it failed, up to 2^64 - 1, where the number stays.
+    /// How often it failed. The count stops at 2^64 - 1.
     ghost failures: { Self → ℕ };
 
     /// What no read changes: the references that it holds, the outermost first, by which their lenders learn what became
     /// of them, and numbers that it was made with.
     ghost reference: { Self → List GName };
 
-    /// Places the next bytes at the buffer's front, and says how many, in pieces of any size. 0 for a buffer that isn't
-    /// empty is the end. An `Err` gives none and raises the number of failures by one; nothing else raises it.
+    /// Reads the next bytes into the front of the buffer, and answers how many, which may be fewer than there is room
+    /// for. 0, for a buffer that isn't empty, means the end. An `Err` reads none and raises the number of failures by
+    /// one; nothing else raises it.
     fn read(&mut self, buf: &mut [u8]) -> Result<usize, Broken>
         ensures bound { ReadsAtMost result buf.new }
         ensures bytes { ReadConsumes (remaining self.old) (remaining self.new) result buf.new }
@@ -28,7 +29,7 @@ pub trait ByteSource {
         ensures same_reference { reference self.new ≡ reference self.old };
 }
 
-/// A source that is lent gives the lender's bytes.
+/// A source that is lent reads the lender's bytes.
 impl<R: ByteSource> ByteSource for &mut R {
     ghost remaining = { λ r. R.remaining r.now };
 

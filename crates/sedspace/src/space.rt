@@ -1,10 +1,9 @@
-//! A space: a list of bytes with a limit, whose room is reserved when it is made.
+//! A space: bytes up to a limit, in memory that is reserved when it is made.
 //!
-//! The pattern space and the hold space of XCU sed are spaces. The contents stand from a front on, so that a line is
-//! cut off without moving what stands after it, and a newline is kept after them, so that they can be written with
-//! their newline at once. What stands after that newline is left from longer contents, and is written over. A space
-//! knows of some bytes at its beginning and at its end that no newline is among them, so that `N`, `P` and `D` look at a
-//! line no second time.
+//! The pattern space and the hold space of XCU sed are spaces. The contents begin at a front that moves, so that a line
+//! is cut off without moving what follows it, and a newline is kept after them, so that they can be written with their
+//! newline at once. What follows that newline is left over from longer contents, and is overwritten. A space remembers
+//! how many bytes at its beginning and at its end hold no newline, so that `N`, `P` and `D` don't search a line twice.
 ghost use Rattle.std.specs.Prelude.{◌≡◌, ◌==◌, ◌+◌, ◌-◌, ◌<◌, ◌≤◌, [], ◌∷◌, ◌++◌, if◌then◌else◌, length, IfOk, OnOk, OnErr, IfSome, IsTrue, Contains, ℕ, false, map, nat_lt, position, take, slice_get, slice_index_or, vec_len, vec_capacity};
 ghost use Rattle.std.specs.List.{after_first, before_first};
 ghost use Rattle.std.specs.Io.KnownBytes.{Keeps};
@@ -21,17 +20,17 @@ use std::simd::prelude::*;
 // How many bytes are copied at once where there is room for them: most lines are shorter.
 const SHORT: usize = 128;
 
-/// Bytes, at most as many as the limit. After `new` no call asks for memory.
+/// At most `limit` bytes. `new` reserves the memory for them; no later call asks for any.
 #[derive(Drop)]
 pub struct Space {
     held: Vec<u8>,
     front: usize,
-    // Where the newline stands.
+    // Where the newline stands that follows the contents.
     end: usize,
     most: usize,
-    // The first so many bytes hold no newline,
+    // How many of the first bytes are known to hold no newline,
     clear_first: usize,
-    // and the last so many.
+    // and how many of the last.
     clear_last: usize,
 }
 
@@ -52,7 +51,7 @@ impl Model for Space {
 impl Space {
     ghost use Rattle.sedspace.specs.Spaces.{Contents};
 
-    /// An empty space for at most `limit` bytes, reserved here.
+    /// Makes an empty space, and reserves memory for `limit` bytes.
     pub fn new(alloc: Global, limit: usize) -> Result<Space, AllocError>
         ensures { IfOk result (λ s. s ≡ record { bytes = []; limit = limit }) }
     {
@@ -99,7 +98,7 @@ impl Space {
         &self.held[self.front..self.end]
     }
 
-    /// The bytes that it holds and a newline, as a line is written.
+    /// The bytes that it holds, followed by a newline, as a line is written.
     pub fn line(&self) -> &[u8]
         ensures value { result.now ≡ self.now.bytes ++ 10 ∷ [] }
         ensures bound { length self.now.bytes ≤ self.now.limit }
@@ -107,7 +106,8 @@ impl Space {
         &self.held[self.front..self.end + 1]
     }
 
-    /// The bytes up to the first newline and a newline, as the command `P` writes them.
+    /// The bytes before the first newline, or all where there is none, followed by a newline, as the command `P` writes
+    /// them.
     pub fn first_line(&self) -> &[u8]
         ensures value { result.now ≡ before_first is_newline self.now.bytes ++ 10 ∷ [] }
         ensures bound { length self.now.bytes ≤ self.now.limit }
@@ -134,7 +134,7 @@ impl Space {
         }
     }
 
-    /// Lets all bytes go.
+    /// Removes all bytes.
     pub fn clear(&mut self)
         ensures { self.new ≡ record self.old { bytes = [] } }
     {
@@ -157,7 +157,7 @@ impl Space {
         }
     }
 
-    /// Appends the bytes. `Full`, and unchanged, exactly where the limit would be passed.
+    /// Appends the bytes. Where that would pass the limit, and only there, it answers `Full` and changes nothing.
     pub fn append(&mut self, bytes: &[u8]) -> Result<(), Full>
         ensures ok { OnOk result (self.new ≡ record self.old { bytes = self.old.bytes ++ bytes.now }) }
         ensures fits { OnOk result (length self.old.bytes + length bytes.now ≤ self.old.limit) }
@@ -167,7 +167,7 @@ impl Space {
         self.append_first(bytes, bytes.len())
     }
 
-    /// Appends the first `count` bytes of the text. What the text holds after them makes a short copy faster.
+    /// Appends the first `count` bytes of the text. Where the text holds more than these, a short copy is faster.
     fn append_first(&mut self, text: &[u8], count: usize) -> Result<(), Full>
         requires { count ≤ length text.now }
         ensures ok { OnOk result (self.new ≡ record self.old { bytes = self.old.bytes ++ take count text.now }) }
@@ -178,7 +178,7 @@ impl Space {
         if self.most - self.len() < count {
             return Err(Full);
         }
-        let (front, end) = put_behind(&mut self.held, self.front, self.end, self.most, text, count);
+        let (front, end) = append_to(&mut self.held, self.front, self.end, self.most, text, count);
         self.front = front;
         self.end = end;
         self.clear_last = 0;
@@ -198,7 +198,7 @@ impl Space {
         if self.most - len < count {
             return Err(Full);
         }
-        let (front, end) = put_behind(&mut self.held, self.front, self.end, self.most, text, count);
+        let (front, end) = append_to(&mut self.held, self.front, self.end, self.most, text, count);
         self.front = front;
         self.end = end;
         self.clear_first = clear_with(self.clear_first, len, count);
@@ -206,8 +206,8 @@ impl Space {
         Ok(())
     }
 
-    /// Appends a newline and the bytes, as the commands `G`, `H` and `N` do. `Full`, and unchanged, exactly where the
-    /// limit would be passed.
+    /// Appends a newline and the bytes, as the commands `G`, `H` and `N` do. Where that would pass the limit, and only
+    /// there, it answers `Full` and changes nothing.
     pub fn append_line(&mut self, bytes: &[u8]) -> Result<(), Full>
         ensures ok { OnOk result (self.new ≡ record self.old { bytes = self.old.bytes ++ 10 ∷ bytes.now }) }
         ensures fits { OnOk result (length self.old.bytes + 1 + length bytes.now ≤ self.old.limit) }
@@ -223,7 +223,8 @@ impl Space {
         }
     }
 
-    /// Replaces the contents by the bytes. `Full`, and unchanged, exactly where they are more than the limit.
+    /// Replaces the contents by the bytes. Where these are more than the limit, and only there, it answers `Full` and
+    /// changes nothing.
     pub fn set(&mut self, bytes: &[u8]) -> Result<(), Full>
         ensures ok { OnOk result (self.new ≡ record self.old { bytes = bytes.now }) }
         ensures fits { OnOk result (length bytes.now ≤ self.old.limit) }
@@ -241,8 +242,8 @@ impl Space {
         Ok(())
     }
 
-    /// Deletes through the first newline, as the command `D` does, and says whether there is one. Without one the
-    /// contents stay. No byte is moved.
+    /// Deletes the bytes up to and including the first newline, as the command `D` does, and answers whether there was
+    /// one. Without one nothing changes. No byte is moved.
     pub fn cut_line(&mut self) -> bool
         ensures cut { IsTrue result → (Contains self.old.bytes 10)
             × (self.new ≡ record self.old { bytes = after_first is_newline self.old.bytes }) }
@@ -260,8 +261,8 @@ impl Space {
         }
     }
 
-    /// The contents become what one `read_at` of the text from the offset on into `most` bytes gives. Says how many
-    /// bytes that is. `most` is 1 to the limit.
+    /// Replaces the contents by at most `most` bytes of the text, read from the offset on by one `read_at`, and answers
+    /// how many there were. `most` is from 1 to the limit.
     pub fn fill<T: Texts>(
         &mut self,
         texts: &mut T,
@@ -298,7 +299,7 @@ impl Space {
         translate_between(&mut self.held, self.front, self.end, table);
     }
 
-    /// Exchanges the contents of two spaces of one limit, as the command `x` does.
+    /// Exchanges the contents of two spaces of the same limit, as the command `x` does.
     pub fn swap(&mut self, other: &mut Space)
         requires { self.old.limit ≡ other.old.limit }
         ensures here { self.new ≡ other.old }
@@ -334,10 +335,10 @@ fn clear_of_rest(last: usize, rest: usize) -> usize
     if last < rest { 0 } else { rest }
 }
 
-// Puts the first `count` bytes of the text after the contents, and the newline after them. Says where the contents then
-// begin and end.
+// Appends the first `count` bytes of the text to the contents, and puts the newline after them. Says where the contents
+// then begin and end.
 #[inline(always)]
-fn put_behind(
+fn append_to(
     held: &mut Vec<u8>,
     front: usize,
     end: usize,
@@ -374,9 +375,9 @@ fn put(held: &mut Vec<u8>, end: usize, text: &[u8], count: usize) -> usize
     ensures capacity { vec_capacity held.old ≤ vec_capacity held.new }
 {
     copy_in(held, end, text, count);
-    let behind = end + count;
-    end_line(held, behind);
-    behind
+    let end = end + count;
+    end_line(held, end);
+    end
 }
 
 // Puts the first `count` bytes of the text after the first `end`. Where there is room for more, few bytes are copied
@@ -430,7 +431,7 @@ fn translate_between(held: &mut [u8], front: usize, end: usize, table: &[u8])
     requires order { front ≤ end }
     requires inside { end ≤ length held.old }
     ensures bytes { between front end held.new ≡ map (λ b. slice_index_or table.now b b) (between front end held.old) }
-    ensures behind { slice_get held.new end ≡ slice_get held.old end }
+    ensures after { slice_get held.new end ≡ slice_get held.old end }
     ensures len { length held.new ≡ length held.old }
 {
     translate_all(&mut held[front..end], table);
@@ -446,7 +447,7 @@ fn translate_all(bytes: &mut [u8], table: &[u8])
     }
 }
 
-// Sees that the list has at least this length.
+// Makes the list at least this long.
 fn grow(held: &mut Vec<u8>, len: usize)
     requires room { len ≤ vec_capacity held.old }
     ensures kept { take (vec_len held.old) held.new.items ≡ held.old.items }
@@ -463,7 +464,7 @@ fn grow(held: &mut Vec<u8>, len: usize)
     }
 }
 
-// Sees that `count` bytes and the newline fit after the contents, and says where these then begin and end. They are
+// Makes room for `count` bytes and the newline after the contents, and says where these then begin and end. They are
 // moved to the beginning only where the room after them is too small. Few lines need this call.
 #[inline(never)]
 fn make_room(

@@ -12,7 +12,7 @@ ghost use Rattle.sedengine.specs.Move.{is_active, none_left};
 ghost use Rattle.sedengine.specs.Ends.{is_dollar};
 ghost use Rattle.sedengine.specs.Calls.{NoSinkFailed, Reads};
 ghost use Rattle.sedengine.specs.Steps.{TakesLines};
-ghost use Rattle.sedengine.specs.Choose.{Answers, Comes, Judges, TellsLine, come_with, current, decides, deciding, with_used};
+ghost use Rattle.sedengine.specs.Choose.{Answers, TakesTurn, Judges, TellsLine, reached_with, current, decides, deciding, with_used};
 
 use super::Machine;
 use crate::ends::Ended;
@@ -120,10 +120,10 @@ impl Machine {
     }
 
     /// Reaches command `k`: takes the turn, and goes on after the command.
-    fn come(&mut self, k: usize)
+    fn take_turn(&mut self, k: usize)
         requires there { k < length self.old.script.commands }
         requires turn { self.old.state.turns < self.old.limits.turns }
-        ensures { self.new ≡ come_with self.old k self.old.state.ranges self.old.state.used }
+        ensures { self.new ≡ reached_with self.old k self.old.state.ranges self.old.state.used }
     {
         // The limit fits its type, so there is room for one more.
         let _most = self.limits.turns();
@@ -160,11 +160,11 @@ impl Machine {
             TakesLines R.remaining lines.old lines.new ls ls) }
         ensures input { Reads R.remaining R.failures R.reference lines.old lines.new result }
         ensures output { NoSinkFailed result }
-        ensures comes { Comes self.old self.new k result }
+        ensures reaches { TakesTurn self.old self.new k result }
     {
         let active = self.is_active(k);
         if let Some(yes) = yes_by_number(command, self.number) {
-            self.come(k);
+            self.take_turn(k);
             return Ok(Chosen {
                 yes,
                 end: false,
@@ -174,7 +174,7 @@ impl Machine {
         let matched = self.decide(command, active, lines)?;
         let choice = choose(command, active, self.number, matched);
         self.set_active(k, choice.active);
-        self.come(k);
+        self.take_turn(k);
         Ok(choice)
     }
 }

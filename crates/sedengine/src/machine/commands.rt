@@ -8,7 +8,7 @@ ghost use Rattle.sedspace.specs.Stream.{lines_left};
 ghost use Rattle.sedengine.specs.State.{do_at, print_pattern, flush};
 ghost use Rattle.sedengine.specs.Listing.{listed};
 ghost use Rattle.sedengine.specs.Move.{acts, first_line, passes, line_to, tells_at, text_of, to_sink};
-ghost use Rattle.sedengine.specs.Ends.{comes, is_next};
+ghost use Rattle.sedengine.specs.Ends.{reaches, is_next};
 ghost use Rattle.sedengine.specs.Meters.{Sent, Tally};
 ghost use Rattle.sedengine.specs.Calls.{Puts, Reads, Delivers};
 ghost use Rattle.sedengine.specs.Run.{TellsFiles, at_lines, setting};
@@ -19,7 +19,7 @@ use crate::ends::Ended;
 use crate::listing::write_listing;
 use crate::meter::Sinks;
 use crate::place::Place;
-use crate::write::{write_all, write_line};
+use crate::write::write_line;
 use itoa::Buffer;
 use sedscript::{Action, Command};
 use sedspace::{ByteSource, Lines, Texts};
@@ -33,7 +33,7 @@ fn tells(command: &Command, end: bool) -> bool
 
 impl Machine {
     /// Reaches a command, or the end of the script.
-    pub(super) fn come_to<R: ByteSource, O: Sinks, T: Texts>(
+    pub(super) fn reach<R: ByteSource, O: Sinks, T: Texts>(
         &mut self,
         k: usize,
         lines: &mut Lines<R>,
@@ -75,7 +75,7 @@ impl Machine {
         }
     }
 
-    /// What command `k` does that applies. `tells` says whether `c` writes its text.
+    /// Does what command `k` does where it applies. `tells` says whether `c` writes its text.
     fn act<R: ByteSource, O: Sinks, T: Texts>(
         &mut self,
         k: usize,
@@ -85,7 +85,7 @@ impl Machine {
         outputs: &mut O,
         texts: &mut T,
     ) -> Result<(), Ended>
-        requires at { comes self.old.state.tasks ≡ true }
+        requires at { reaches self.old.state.tasks ≡ true }
         requires number { self.old.state.number < self.old.state.turns }
         requires within { ActionWithin (sizes_of self.old.script) action }
         requires action { HasAction (slice_get self.old.script.commands k) action }
@@ -117,7 +117,7 @@ impl Machine {
         outputs: &mut O,
         texts: &mut T,
     ) -> Result<(), Ended>
-        requires at { comes self.old.state.tasks ≡ true }
+        requires at { reaches self.old.state.tasks ≡ true }
         requires within { ActionWithin (sizes_of self.old.script) action }
         requires action { HasAction (slice_get self.old.script.commands k) action }
         requires here { takes_line action ≡ false }
@@ -182,7 +182,7 @@ impl Machine {
         }
     }
 
-    /// What a command does that doesn't apply: `{` passes over its block.
+    /// Does what a command does where it doesn't apply: `{` passes over its block.
     fn pass(&mut self, action: Action)
         ensures passes { (files : ℕ → List ℕ) (sinks : Tally) (ls : List (List ℕ)) →
             Performs self.old.limits (setting self.old files) (passes (at_lines self.old ls) action)
@@ -190,8 +190,8 @@ impl Machine {
         ensures falls { weight self.new ≤ weight self.old + 8 }
         ensures same { KeepsRun self.old self.new }
     {
-        if let Action::Block(behind) = action {
-            self.place = Place::Do(behind);
+        if let Action::Block(next) = action {
+            self.place = Place::Do(next);
         }
     }
 
@@ -241,7 +241,7 @@ impl Machine {
             (line_to sink self.now.state.pattern) result }
         ensures output { Delivers O.tally O.count outputs.old outputs.new result }
     {
-        write_all(outputs, sink, self.pattern.line())
+        outputs.write_all(sink, self.pattern.line())
     }
 
     /// The command `P`: writes the pattern space up to its first newline.
@@ -251,7 +251,7 @@ impl Machine {
             (line_to 0 (first_line self.now.state.pattern)) result }
         ensures output { Delivers O.tally O.count outputs.old outputs.new result }
     {
-        write_all(outputs, 0, self.pattern.first_line())
+        outputs.write_all(0, self.pattern.first_line())
     }
 
     /// The command `q`: the pattern space and the queue are written for the last time.

@@ -16,8 +16,8 @@ use crate::write::write_line;
 use sedspace::Texts;
 
 impl Machine {
-    /// The command `c`: deletes the pattern space, writes its text where it tells, writes the queue, and the next cycle
-    /// starts.
+    /// The command `c`: deletes the pattern space, writes its text where `tells` says so, writes the queue, and the next
+    /// cycle starts.
     pub(super) fn act_change<O: Sinks, T: Texts>(
         &mut self,
         text: usize,

@@ -1,7 +1,7 @@
 //! The commands `g`, `G`, `h`, `H` and `x`: the hold space (XCU sed, "Editing Commands in sed").
 ghost use Rattle.std.specs.Prelude.{◌≡◌, ◌∷◌, ◌++◌, true};
 ghost use Rattle.sedengine.specs.Move.{newline};
-ghost use Rattle.sedengine.specs.Ends.{comes};
+ghost use Rattle.sedengine.specs.Ends.{reaches};
 ghost use Rattle.sedengine.specs.Holding.{BecomesOrFull};
 
 use super::Machine;
@@ -10,7 +10,7 @@ use crate::ends::Ended;
 impl Machine {
     /// The command `g`: the pattern space becomes what the hold space is.
     pub(super) fn act_copy_hold(&mut self)
-        requires { comes self.old.state.tasks ≡ true }
+        requires { reaches self.old.state.tasks ≡ true }
         ensures { self.new ≡ record self.old { state = record self.old.state { pattern = self.old.state.hold } } }
     {
         match self.pattern.set(self.hold.bytes()) {
@@ -21,7 +21,7 @@ impl Machine {
 
     /// The command `G`: appends a newline and the hold space to the pattern space, if there is room.
     pub(super) fn act_append_hold(&mut self) -> Result<(), Ended>
-        requires { comes self.old.state.tasks ≡ true }
+        requires { reaches self.old.state.tasks ≡ true }
         ensures { BecomesOrFull self.old (record self.old {
           state = record self.old.state {
             pattern = self.old.state.pattern ++ newline ∷ self.old.state.hold;
@@ -60,7 +60,7 @@ impl Machine {
 
     /// The command `x`: exchanges the pattern space and the hold space.
     pub(super) fn act_exchange(&mut self)
-        requires { comes self.old.state.tasks ≡ true }
+        requires { reaches self.old.state.tasks ≡ true }
         ensures { self.new ≡ record self.old {
           state = record self.old.state {
             pattern = self.old.state.hold;

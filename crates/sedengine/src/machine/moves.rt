@@ -36,7 +36,7 @@ impl Machine {
         match self.place {
             Place::Begin => self.begin(lines),
             Place::Rebegin => self.rebegin(),
-            Place::Do(k) => self.come_to(k, lines, outputs, texts),
+            Place::Do(k) => self.reach(k, lines, outputs, texts),
             Place::Quit => self.quit(outputs, texts),
             Place::Ended => Err(Ended::Done),
         }

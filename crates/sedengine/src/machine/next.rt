@@ -7,7 +7,7 @@ ghost use Rattle.sedspace.specs.Spaces.{Contents};
 ghost use Rattle.sedspace.specs.Stream.{lines_left};
 ghost use Rattle.sedengine.specs.State.{empty_pattern, fetch, flush, join, print_pattern};
 ghost use Rattle.sedengine.specs.Move.{acts, newline, then_do};
-ghost use Rattle.sedengine.specs.Ends.{comes};
+ghost use Rattle.sedengine.specs.Ends.{reaches};
 ghost use Rattle.sedengine.specs.Meters.{Sent, Tally};
 ghost use Rattle.sedengine.specs.Calls.{NoSinkFailed, Reads, Delivers};
 ghost use Rattle.sedengine.specs.Run.{TellsFiles, at_lines, setting};
@@ -30,7 +30,7 @@ impl Machine {
         outputs: &mut O,
         texts: &mut T,
     ) -> Result<(), Ended>
-        requires at { comes self.old.state.tasks ≡ true }
+        requires at { reaches self.old.state.tasks ≡ true }
         requires number { self.old.state.number < self.old.state.turns }
         requires sink { 0 < O.count outputs.old }
         ensures acts { lines.old.fault ≡ None → ForSome (lines_left R.remaining lines.old) (λ ls.
@@ -60,7 +60,7 @@ impl Machine {
         outputs: &mut O,
         texts: &mut T,
     ) -> Result<(), Ended>
-        requires at { comes self.old.state.tasks ≡ true }
+        requires at { reaches self.old.state.tasks ≡ true }
         requires number { self.old.state.number < self.old.state.turns }
         requires sink { 0 < O.count outputs.old }
         ensures steps { lines.old.fault ≡ None → ForSome (lines_left R.remaining lines.old) (λ ls.
@@ -80,7 +80,7 @@ impl Machine {
 
     /// Puts the next line in place of the pattern space.
     fn fetch<R: ByteSource>(&mut self, lines: &mut Lines<R>) -> Result<(), Ended>
-        requires at { comes self.old.state.tasks ≡ true }
+        requires at { reaches self.old.state.tasks ≡ true }
         requires number { self.old.state.number < self.old.state.turns }
         ensures steps { lines.old.fault ≡ None → ForSome (lines_left R.remaining lines.old) (λ ls.
             (files : ℕ → List ℕ) (sinks : Tally) →
@@ -100,9 +100,9 @@ impl Machine {
         Ok(())
     }
 
-    /// Goes on with the line that was brought, or ends the run where there was none.
+    /// Goes on with the line that was fetched, or ends the run where there was none.
     fn go_on(&mut self, got: Got)
-        requires at { comes self.old.state.tasks ≡ true }
+        requires at { reaches self.old.state.tasks ≡ true }
         requires number { self.old.state.number < self.old.state.turns }
         ensures { self.new ≡ brought self.old got }
     {
@@ -125,7 +125,7 @@ impl Machine {
         outputs: &mut O,
         texts: &mut T,
     ) -> Result<(), Ended>
-        requires at { comes self.old.state.tasks ≡ true }
+        requires at { reaches self.old.state.tasks ≡ true }
         requires number { self.old.state.number < self.old.state.turns }
         requires sink { 0 < O.count outputs.old }
         ensures acts { lines.old.fault ≡ None → ForSome (lines_left R.remaining lines.old) (λ ls.
@@ -145,7 +145,7 @@ impl Machine {
 
     /// Appends a newline and the next line to the pattern space.
     fn join<R: ByteSource>(&mut self, lines: &mut Lines<R>) -> Result<(), Ended>
-        requires at { comes self.old.state.tasks ≡ true }
+        requires at { reaches self.old.state.tasks ≡ true }
         requires number { self.old.state.number < self.old.state.turns }
         ensures steps { lines.old.fault ≡ None → ForSome (lines_left R.remaining lines.old) (λ ls.
             (files : ℕ → List ℕ) (sinks : Tally) →
@@ -165,7 +165,7 @@ impl Machine {
     }
 }
 
-/// Appends the next line, which is that of a number, to a space, and says whether there was one.
+/// Appends the next line, which has this number, to a space, and says whether there was one.
 fn bring_line<R: ByteSource>(
     space: &mut Space,
     lines: &mut Lines<R>,
@@ -202,7 +202,7 @@ fn bring_none<R: ByteSource>(lines: &mut Lines<R>, number: u64) -> Result<Got, E
     }
 }
 
-/// Appends a newline and the next line, which is that of a number, to a space, and says whether there was one.
+/// Appends a newline and the next line, which has this number, to a space, and says whether there was one.
 fn join_line<R: ByteSource>(
     space: &mut Space,
     lines: &mut Lines<R>,

@@ -15,7 +15,6 @@ use crate::ends::Ended;
 use crate::flushing::flush_queue;
 use crate::meter::Sinks;
 use crate::place::Place;
-use crate::write::write_all;
 use sedscript::Script;
 use sedspace::{Space, Texts};
 
@@ -125,5 +124,5 @@ fn print_by_default<O: Sinks>(
     if script.quiet() {
         return Ok(());
     }
-    write_all(outputs, 0, pattern.line())
+    outputs.write_all(0, pattern.line())
 }

@@ -5,7 +5,7 @@ ghost use Rattle.sedscript.specs.declared.substitution.Substitution.{Substitutio
 ghost use Rattle.sedengine.specs.State.{do_at};
 ghost use Rattle.sedengine.specs.Substitute.{chosen, occurrences};
 ghost use Rattle.sedengine.specs.Move.{chosen_in, in_table, line_to, line_to_file, replaces, substitutes, written_by};
-ghost use Rattle.sedengine.specs.Ends.{comes};
+ghost use Rattle.sedengine.specs.Ends.{reaches};
 ghost use Rattle.sedengine.specs.Meters.{Sent};
 ghost use Rattle.sedengine.specs.Calls.{NoSinkFailed, Puts, Delivers};
 ghost use Rattle.sedre.specs.Arena.{Written};
@@ -82,7 +82,7 @@ impl Machine {
         k: usize,
         outputs: &mut O,
     ) -> Result<(), Ended>
-        requires at { comes self.old.state.tasks ≡ true }
+        requires at { reaches self.old.state.tasks ≡ true }
         requires number { k < length self.old.script.substitutions }
         requires sinks { length self.old.script.wfiles < O.count outputs.old }
         ensures acts { (files : ℕ → List ℕ) (ls : List (List ℕ)) →
@@ -106,7 +106,7 @@ impl Machine {
 
     /// Makes the substitution of number `k` in the pattern space. Says whether anything was replaced.
     fn replace(&mut self, k: usize) -> Result<bool, Ended>
-        requires at { comes self.old.state.tasks ≡ true }
+        requires at { reaches self.old.state.tasks ≡ true }
         requires number { k < length self.old.script.substitutions }
         ensures makes { (t : Substitution) → slice_get self.old.script.substitutions k ≡ Some t →
             (files : ℕ → List ℕ) (ls : List (List ℕ)) →
@@ -126,7 +126,7 @@ impl Machine {
 
     /// The same for the expression of number `e`, which is then the one last used.
     fn replace_by(&mut self, k: usize, e: usize) -> Result<bool, Ended>
-        requires at { comes self.old.state.tasks ≡ true }
+        requires at { reaches self.old.state.tasks ≡ true }
         requires number { k < length self.old.script.substitutions }
         requires expression { e < length self.old.script.expressions }
         ensures makes { (t : Substitution) → slice_get self.old.script.substitutions k ≡ Some t →

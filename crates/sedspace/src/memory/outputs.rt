@@ -85,7 +85,8 @@ impl MemorySink {
     }
 }
 
-/// Sinks in memory, which keep their bytes. A write can be told to take short, and one to fail.
+/// Sinks in memory, which keep what is written to them. They can be told to take only part of each write, and to fail
+/// one write.
 #[derive(Drop)]
 pub struct MemoryOutputs {
     held: Vec<MemorySink>,
@@ -104,7 +105,8 @@ impl Model for MemoryOutputs {
 }
 
 impl MemoryOutputs {
-    /// So many sinks, each with ample room, for which memory is asked as they grow: a write that gets none fails.
+    /// Makes this many sinks, with as much room as memory gives. They ask for memory as they grow, and a write for which
+    /// it is refused fails.
     pub fn new(alloc: Global, sinks: usize) -> Result<MemoryOutputs, AllocError>
         ensures { IfOk result (λ o. o
             ≡ record { held = replicate sinks (new_sink usize.MAX false); most = usize.MAX }) }
@@ -119,7 +121,8 @@ impl MemoryOutputs {
         })
     }
 
-    /// So many sinks, each with room for so many bytes, reserved here. A write past the room fails, as a device does.
+    /// Makes this many sinks, and reserves memory for this many bytes in each. A write to a sink that is full fails, as on
+    /// a full device.
     pub fn with_room(alloc: Global, sinks: usize, bytes: usize) -> Result<MemoryOutputs, AllocError>
         ensures { IfOk result (λ o. o
             ≡ record { held = replicate sinks (new_sink bytes true); most = usize.MAX }) }
@@ -134,7 +137,7 @@ impl MemoryOutputs {
         })
     }
 
-    /// No write takes more than `most` bytes.
+    /// Lets no write take more than `most` bytes.
     pub fn take_at_most(&mut self, most: usize)
         requires { 0 < most }
         ensures { self.new ≡ record self.old { most = most } }
@@ -142,7 +145,7 @@ impl MemoryOutputs {
         self.most = most;
     }
 
-    /// The write of this number to the sink fails, counted from 1; the writes after it work again.
+    /// Makes one write to the sink fail, the one of this number, counted from 1. The writes after it work again.
     pub fn fail_at(&mut self, sink: usize, write: u64)
         requires { sink < length self.old.held }
         ensures { IfSome (slice_get self.old.held sink) (λ s. self.new
@@ -161,7 +164,7 @@ impl MemoryOutputs {
         target.bytes.as_slice()
     }
 
-    /// How many writes to the sink came.
+    /// How often the sink was written to, failed writes included.
     pub fn writes(&self, sink: usize) -> u64
         requires { sink < length self.now.held }
         ensures { Some result ≡ option_map (λ s. s.writes) (slice_get self.now.held sink) }
@@ -170,7 +173,7 @@ impl MemoryOutputs {
         target.writes
     }
 
-    /// How many of them failed.
+    /// How many of these writes failed.
     pub fn failures(&self, sink: usize) -> u64
         requires { sink < length self.now.held }
         ensures { result ≡ sink_failures self.now sink }

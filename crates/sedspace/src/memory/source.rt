@@ -8,7 +8,7 @@ ghost use Rattle.sedspace.specs.Memory.{piece_end};
 use crate::{Broken, ByteSource};
 use std::marker::Model;
 
-/// Bytes in memory, given in pieces. One call can be told to fail.
+/// Bytes in memory, read in pieces. One read can be told to fail.
 #[derive(Drop)]
 pub struct MemorySource {
     bytes: Vec<u8>,
@@ -40,7 +40,7 @@ impl Model for MemorySource {
 }
 
 impl MemorySource {
-    /// The bytes, cut at these places, which rise: no read goes past a cut.
+    /// Makes a source of the bytes. No read goes past a cut; the cuts are places in rising order.
     pub fn new(bytes: Vec<u8>, cuts: Vec<usize>) -> MemorySource
         ensures { result ≡ record {
           bytes = bytes.items;
@@ -63,7 +63,7 @@ impl MemorySource {
         }
     }
 
-    /// No read gives more than `most` bytes. 1 cuts them everywhere.
+    /// Lets no read give more than `most` bytes.
     pub fn give_at_most(&mut self, most: usize)
         requires { 0 < most }
         ensures { self.new ≡ record self.old { most = most } }
@@ -71,28 +71,28 @@ impl MemorySource {
         self.most = most;
     }
 
-    /// The call of this number fails, counted from 1; the calls after it work again.
+    /// Makes one read fail, the one of this number, counted from 1. The reads after it work again.
     pub fn fail_at(&mut self, call: u64)
         ensures { self.new ≡ record self.old { fails_at = Some call } }
     {
         self.fails_at = Some(call);
     }
 
-    /// How many bytes were taken.
+    /// How many bytes were read.
     pub fn taken(&self) -> usize
         ensures { result ≡ self.now.taken }
     {
         self.taken
     }
 
-    /// How many calls of `read` came.
+    /// How often `read` was called.
     pub fn calls(&self) -> u64
         ensures { result ≡ self.now.calls }
     {
         self.calls
     }
 
-    /// How many of them failed.
+    /// How many of these calls failed.
     pub fn failures(&self) -> u64
         ensures { result ≡ self.now.failures }
     {

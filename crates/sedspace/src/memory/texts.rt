@@ -5,21 +5,21 @@ ghost use Rattle.sedspace.specs.Memory.{text_bytes};
 
 use crate::Texts;
 
-/// Texts in memory, by number from 0.
+/// Texts in memory, numbered from 0.
 #[derive(Drop)]
 pub struct MemoryTexts {
     held: Vec<Vec<u8>>,
 }
 
 impl MemoryTexts {
-    /// The texts of a list.
+    /// Makes texts of a list, in its order.
     pub fn new(texts: Vec<Vec<u8>>) -> MemoryTexts
         ensures { result.held ≡ texts }
     {
         MemoryTexts { held: texts }
     }
 
-    /// A read of the text fails from this place on, so that it ends there; at 0 it can't be read at all.
+    /// Makes reads of the text fail from this place on, so that it ends there; with 0 it can't be read at all.
     pub fn fail_at(&mut self, number: usize, place: usize)
         requires { number < length self.old.held.items }
         ensures failed { text_bytes self.new.held.items number ≡ take place (text_bytes self.old.held.items number) }

@@ -29,7 +29,7 @@ returns-in_err-write_all-clause-copies g c = λ setting tells s now rest at turn
     let so_far = h.copied (setting.files file) (tells file) in
     let piece = reads_on _ _ _ _ _ _ (tells file) (h.kept file) c.fill-count.ensures.bytes c.fill-count.ensures.count so_far.0 in
     let tally = g.O.Sinks.tally in
-    let put = put_on (tally c.args.outputs.now) (tally c.pieces.outputs) (tally c.write_all.new.outputs) _ _ _ c.fill-count.result (Err c.in_err-write_all.field-0.0) so_far.1 (c.bytes.ensures.value ∙ piece.0) c.in_err-write_all.ensures.puts in
+    let put = put_on (tally c.args.outputs.now) (tally c.pieces.outputs) (tally c.write_all.new.self) _ _ _ c.fill-count.result (Err c.in_err-write_all.field-0.0) so_far.1 (c.bytes.ensures.value ∙ piece.0) c.in_err-write_all.ensures.puts in
     rw (p.1, p.2) (copied_broken setting s file rest at c.args.limits.now now _ _ (c.pieces.offset + c.fill-count.result) _ fits (omega arith) piece.1 put same lines)
 
 pub pieces-preserved : goal.pieces-preserved
@@ -41,9 +41,9 @@ pieces-preserved g c =
       turns = omega arith;
       most = omega arith;
       kept = λ j. Keeps-trans _ _ _ (h.kept j) (c.fill-count.ensures.kept j);
-      output = Delivers-then g.O.Sinks.tally g.O.Sinks.count c.args.outputs.now c.pieces.outputs c.write_all.new.outputs (Ok tt) h.output c.in_ok-write_all.ensures.devices;
+      output = Delivers-then g.O.Sinks.tally g.O.Sinks.count c.args.outputs.now c.pieces.outputs c.write_all.new.self (Ok tt) h.output c.in_ok-write_all.ensures.devices;
       copied = λ bytes told.
           let so_far = h.copied bytes told in
           let piece = reads_on _ _ _ _ _ _ told (h.kept c.args.file) c.fill-count.ensures.bytes c.fill-count.ensures.count so_far.0 in
-          (piece.1, put_on (tally c.args.outputs.now) (tally c.pieces.outputs) (tally c.write_all.new.outputs) _ _ _ c.fill-count.result (Ok tt) so_far.1 (c.bytes.ensures.value ∙ piece.0) c.in_ok-write_all.ensures.puts);
+          (piece.1, put_on (tally c.args.outputs.now) (tally c.pieces.outputs) (tally c.write_all.new.self) _ _ _ c.fill-count.result (Ok tt) so_far.1 (c.bytes.ensures.value ∙ piece.0) c.in_ok-write_all.ensures.puts);
     }

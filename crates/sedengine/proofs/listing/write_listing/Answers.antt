@@ -21,7 +21,7 @@ returns-in_err-write_all-clause-puts g c =
     let split : l.rest.now ≡ part ++ after = cc (take-append-drop 169 l.rest.now) in
     let p = err_from_is_err_and c.from_residual.result c.from_residual.ensures.1 in
     let out = rw c.bytes.ensures at c.in_err-write_all.ensures.puts in
-    rw (p.1, p.2) (written_not (tally c.args.outputs.now) (tally l.outputs) (tally c.write_all.new.outputs)
+    rw (p.1, p.2) (written_not (tally c.args.outputs.now) (tally l.outputs) (tally c.write_all.new.self)
     c.args.bytes.now l.rest.now part after l.gathered c.list.new.self _ l.invariant.written l.invariant.empty split
     c.list.ensures.lists out)
 
@@ -33,7 +33,7 @@ parts-preserved g c =
     let after = c.split_at.result.1.now in
     let split : l.rest.now ≡ part ++ after = cc (take-append-drop 169 l.rest.now) in
     let out = rw c.bytes.ensures at c.in_ok-write_all.ensures.puts in
-    let w = written_more (tally c.args.outputs.now) (tally l.outputs) (tally c.write_all.new.outputs)
+    let w = written_more (tally c.args.outputs.now) (tally l.outputs) (tally c.write_all.new.self)
     c.args.bytes.now l.rest.now part after l.gathered c.list.new.self l.invariant.written l.invariant.empty split
     c.list.ensures.lists out in
     record {
@@ -47,6 +47,6 @@ returns-clause-puts g c =
     let tally = g.O.Sinks.tally in
     let l = c.parts in
     let out = rw (c.bytes-2.ensures, c.finish.ensures) at c.write_all-2.ensures.puts in
-    written_end (tally c.args.outputs.now) (tally l.outputs) (tally c.write_all-2.new.outputs) c.args.bytes.now
+    written_end (tally c.args.outputs.now) (tally l.outputs) (tally c.write_all-2.new.self) c.args.bytes.now
     l.rest.now l.gathered c.list-2.new.self c.write_all-2.result l.invariant.written l.invariant.empty
     c.list-2.ensures.lists out

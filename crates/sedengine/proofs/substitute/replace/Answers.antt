@@ -1,7 +1,7 @@
 use Rattle.std.proofs.Common.{arith, ◌-◌, ◌∙◌, Bool, Err, ap, drop, length, refl, subst, take}
 use Rattle.std.specs.Prelude.{slice_range}
 use Rattle.sedengine.specs.Replacing.{GroupsOf, has_group}
-use Rattle.sedengine.proofs.Due.{appended, due_behind, due_cut, due_full, due_next, due_rest}
+use Rattle.sedengine.proofs.Due.{appended, due_after, due_cut, due_full, due_next, due_rest}
 use Rattle.sedengine.proofs.Due.{lies_on, more_pending, none_pending}
 use Rattle.sedengine.proofs.substitute.replace.Goals as goal
 
@@ -42,7 +42,7 @@ occurrences-preserved-then-substitution c =
     let lies = rw c.in-Some.is at i.lies in
     let next = c.next_occurrence-occurrence in
     let more = more_pending e w s.global span.1 next.result c.if-substitution.true lies.2 (rw i.matcher at next.ensures.next.0) in
-    let due = due_behind c.args.build.now l.build c.append.new.self c.put.new.build _ e w s.replacement _ s.global
+    let due = due_after c.args.build.now l.build c.append.new.self c.put.new.build _ e w s.replacement _ s.global
     l.copied l.groups l.occurrence span _ c.in-Some.is i.groups c.parts-parts.ensures.pieces (i.limit, i.made)
     c.in_ok-append.ensures.ok c.in_ok-put.ensures more in
     let wanted = c.needs_groups-wanted.ensures ∙ ap has_group c.parts-parts.ensures.pieces in
@@ -74,7 +74,7 @@ occurrences-preserved c =
     let span = c.in-Some.span in
     let lies = rw c.in-Some.is at i.lies in
     let none = none_pending e w s.global span.1 c.if-substitution.false in
-    let due = due_behind c.args.build.now l.build c.append.new.self c.put.new.build _ e w s.replacement _ s.global
+    let due = due_after c.args.build.now l.build c.append.new.self c.put.new.build _ e w s.replacement _ s.global
     l.copied l.groups l.occurrence span _ c.in-Some.is i.groups c.parts-parts.ensures.pieces (i.limit, i.made)
     c.in_ok-append.ensures.ok c.in_ok-put.ensures none in
     record {

@@ -8,7 +8,7 @@ returns-in_err-end-clause-skips c =
     let none : c.from_residual.result ≡ None = cc in
     let l = c.occurrences in
     skips_none c.args.matcher.now c.args.text.now l.last l.counter c.args.count c.from_residual.result none (omega arith)
-    l.invariant.last l.invariant.behind (rw l.invariant.matcher at c.in_err-end.ensures.next.0)
+    l.invariant.last l.invariant.skipped (rw l.invariant.matcher at c.in_err-end.ensures.next.0)
 
 pub occurrences-preserved : goal.occurrences-preserved
 occurrences-preserved c =
@@ -23,7 +23,7 @@ occurrences-preserved c =
       grows = omega (arith, l.invariant.grows, c.in_ok-end.ensures.cost.0);
       cost = (let paid = rw l.invariant.matcher at c.in_ok-end.ensures.cost.1 in omega (arith, paid, l.invariant.cost));
       last = ends_in _ l.last span c.in_ok-end.ensures.next.1;
-      behind = skips_one c.args.matcher.now c.args.text.now l.last l.counter span l.invariant.last l.invariant.behind
+      skipped = skips_one c.args.matcher.now c.args.text.now l.last l.counter span l.invariant.last l.invariant.skipped
           (rw l.invariant.matcher at c.in_ok-end.ensures.next.0);
     }
 

@@ -1,6 +1,6 @@
 use Rattle.std.proofs.Common.{◌≡◌, ◌+◌, ◌*◌, ◌≤◌, length, drop, None}
 use Rattle.sedmatch.specs.Occurrences.{KeepsRoom, Serves, owed}
-use Rattle.sedengine.specs.Replacing.{EndsIn, occurrences_behind}
+use Rattle.sedengine.specs.Replacing.{EndsIn, occurrences_after}
 use Rattle.sedengine.proofs.substitute.skip.Given as goal
 
 abbrev pub invariant-occurrences : goal.invariant-occurrences
@@ -14,5 +14,5 @@ invariant-occurrences l = record {
   grows : l.fn.steps ≤ l.steps;
   cost : l.steps + owed (length l.fn.matcher.nodes) (length l.text) l.last l.seeking
       ≤ l.fn.steps + 416 * length l.fn.matcher.nodes * (length l.text + 1);
-  behind : drop l.counter (occurrences_behind l.fn.matcher l.text None) ≡ occurrences_behind l.fn.matcher l.text l.last;
+  skipped : drop l.counter (occurrences_after l.fn.matcher l.text None) ≡ occurrences_after l.fn.matcher l.text l.last;
 }

@@ -2,12 +2,12 @@ use Rattle.std.proofs.Common.{◌∙◌, sym, ap, arith}
 use Rattle.std.proofs.lemmas.Grind.{common_steps}
 use Rattle.std.proofs.lemmas.Result.{err_from_is_err_and}
 use Rattle.sedre.specs.Brackets.{list_at}
-use Rattle.sedre.proofs.ListLemmas.{comes_to, list_begun, list_more, list_fault, union_none, none_none}
+use Rattle.sedre.proofs.ListLemmas.{list_from, list_begun, list_more, list_fault, union_none, none_none}
 use Rattle.sedre.proofs.brackets.list_at.Goals as goal
 
 pub loop-place-init : goal.loop-place-init
 loop-place-init c = record {
-  behind = omega (arith, c.items_start-start.ensures.within);
+  after = omega (arith, c.items_start-start.ensures.within);
   low = omega arith;
   inside = omega (arith, c.items_start-start.ensures.within);
   normal = rw c.none-set.ensures none_none;
@@ -23,15 +23,15 @@ returns-in_err-members-clause-is c =
 
 pub loop-place-preserved : goal.loop-place-preserved
 loop-place-preserved c = record {
-  behind = omega (arith, c.in_ok-members.ensures.behind);
-  low = omega (arith, c.in_ok-members.ensures.behind);
-  inside = omega (arith, c.in_ok-members.ensures.behind);
+  after = omega (arith, c.in_ok-members.ensures.after);
+  low = omega (arith, c.in_ok-members.ensures.after);
+  inside = omega (arith, c.in_ok-members.ensures.after);
   normal = rw c.union-set.ensures (union_none c.loop-place.set c.in_ok-members.members);
   whole =
-      list_more c.args.delimiter c.args.text.now c.args.folded c.is_negated-negated.result c.args.at c.items_start-start.result c.loop-place.place c.in_ok-members.behind c.loop-place.set c.in_ok-members.members
+      list_more c.args.delimiter c.args.text.now c.args.folded c.is_negated-negated.result c.args.at c.items_start-start.result c.loop-place.place c.in_ok-members.next c.loop-place.set c.in_ok-members.members
       (list_at c.args.folded c.args.delimiter c.args.text.now c.args.at) c.loop-place.invariant.whole (omega arith) (sym c.is_closing.ensures ∙ c.if-is_closing.false)
-      (sym c.members_at.ensures.is ∙ c.in_ok-members.was) c.loop-place.invariant.low (omega (arith, c.in_ok-members.ensures.behind))
-      ∙ ap (λ s. comes_to c.args.delimiter c.args.text.now c.args.folded c.is_negated-negated.result c.args.at c.items_start-start.result c.in_ok-members.behind s) (sym c.union-set.ensures);
+      (sym c.members_at.ensures.is ∙ c.in_ok-members.was) c.loop-place.invariant.low (omega (arith, c.in_ok-members.ensures.after))
+      ∙ ap (λ s. list_from c.args.delimiter c.args.text.now c.args.folded c.is_negated-negated.result c.args.at c.items_start-start.result c.in_ok-members.next s) (sym c.union-set.ensures);
 }
 
 pub returns-clause-is : goal.returns-clause-is

@@ -5,7 +5,7 @@ use Rattle.sedre.proofs.brackets.list_end.Goals as goal
 
 pub loop-place-init : goal.loop-place-init
 loop-place-init c = record {
-  behind = omega (arith, c.items_start-start.ensures.within);
+  after = omega (arith, c.items_start-start.ensures.within);
   low = omega arith;
   inside = omega (arith, c.items_start-start.ensures.within);
   end = end_begun c.args.delimiter c.args.text.now (c.args.at + 1) c.items_start-start.result c.items_start-start.ensures.is;
@@ -13,7 +13,7 @@ loop-place-init c = record {
 
 pub loop-place-preserved : goal.loop-place-preserved
 loop-place-preserved c = record {
-  behind = omega (arith, c.item_at-width.ensures.width);
+  after = omega (arith, c.item_at-width.ensures.width);
   low = omega (arith, c.item_at-width.ensures.width);
   inside = omega (arith, c.item_at-width.ensures.width);
   end =

@@ -4,7 +4,7 @@ use Rattle.sedre.proofs.brackets.list_end.Given as goal
 
 abbrev pub invariant-loop-place : goal.invariant-loop-place
 invariant-loop-place l = record {
-  behind : l.at < l.place;
+  after : l.at < l.place;
   low : l.start ≤ l.place;
   inside : l.place ≤ length l.text;
   end : list_end l.delimiter (l.at + 1) (drop (l.at + 1) l.text) ≡ (items l.delimiter (l.place == l.start) 0 l.place (drop l.place l.text)).1;

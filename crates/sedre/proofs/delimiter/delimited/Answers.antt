@@ -11,7 +11,7 @@ loop-place-init c = record { low = omega arith; rest = refl }
 pub returns-then-has_newline-clause-is : goal.returns-then-has_newline-clause-is
 returns-then-has_newline-clause-is c =
     sym (c.loop-place.invariant.rest
-    ∙ stepped c.args.delimiter c.loop-place.place c.in_ok-next.next c.args.text.now c.has_newline.result (omega arith) c.if-b-delimiter.false (sym c.behind.ensures.is ∙ c.in_ok-next.was) (omega (arith, c.in_ok-next.ensures.within)) c.has_newline.ensures
+    ∙ stepped c.args.delimiter c.loop-place.place c.in_ok-next.next c.args.text.now c.has_newline.result (omega arith) c.if-b-delimiter.false (sym c.next_place.ensures.is ∙ c.in_ok-next.was) (omega (arith, c.in_ok-next.ensures.within)) c.has_newline.ensures
     ∙ ap (λ t. if t then None else first_delimiter c.args.delimiter 0 c.in_ok-next.next (drop c.in_ok-next.next c.args.text.now)) c.if-has_newline.true)
 
 pub loop-place-preserved : goal.loop-place-preserved
@@ -19,7 +19,7 @@ loop-place-preserved c = record {
   low = omega (arith, c.in_ok-next.ensures.within);
   rest =
       c.loop-place.invariant.rest
-      ∙ stepped c.args.delimiter c.loop-place.place c.in_ok-next.next c.args.text.now c.has_newline.result (omega arith) c.if-b-delimiter.false (sym c.behind.ensures.is ∙ c.in_ok-next.was) (omega (arith, c.in_ok-next.ensures.within)) c.has_newline.ensures
+      ∙ stepped c.args.delimiter c.loop-place.place c.in_ok-next.next c.args.text.now c.has_newline.result (omega arith) c.if-b-delimiter.false (sym c.next_place.ensures.is ∙ c.in_ok-next.was) (omega (arith, c.in_ok-next.ensures.within)) c.has_newline.ensures
       ∙ ap (λ t. if t then None else first_delimiter c.args.delimiter 0 c.in_ok-next.next (drop c.in_ok-next.next c.args.text.now)) c.if-has_newline.false;
 }
 

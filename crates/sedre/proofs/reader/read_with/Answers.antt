@@ -3,7 +3,7 @@ use Rattle.sedre.specs.declared.syntax.Here.TheVariants.{Is}
 use Rattle.sedre.specs.declared.syntax.Item.{Item}
 use Rattle.sedre.specs.declared.syntax.Item.TheVariants.{Close}
 use Rattle.sedre.specs.declared.syntax.Here.{Here}
-use Rattle.sedre.specs.Items.{item_at, IsBehind}
+use Rattle.sedre.specs.Items.{item_at, IsAfter}
 use Rattle.sedre.specs.Tree.{size}
 use Rattle.sedre.specs.Stacks.{State, start, step}
 use Rattle.sedre.proofs.Represented.{represents_count}
@@ -42,10 +42,10 @@ items-preserved c =
     let closes : c.in-Is.item ≡ Close → s.below ≢ [] = λ e none. omega (arith, c.if-is_stray.ensures.fine e, represents_count (c.args.max_nodes + 1) c.items.builder s c.items.invariant.state.1, ap length none) in
     let f : item_at c.args.kind c.args.folded c.args.delimiter c.args.text.now c.items.before c.items.at ≡ Is c.in-Is.item c.in-Is.next = sym c.item_at.ensures.item ∙ c.in-Is.is in
     let can = can_take c.args.kind c.args.folded c.args.delimiter c.args.text.now c.in-Is.item c.items.invariant.state.2 f closes in
-    let behind : IsBehind c.items.at (length c.args.text.now) (Is c.in-Is.item c.in-Is.next) = subst (λ (h : Here). IsBehind c.items.at (length c.args.text.now) h) c.in-Is.is c.item_at.ensures.behind in
+    let after : IsAfter c.items.at (length c.args.text.now) (Is c.in-Is.item c.in-Is.next) = subst (λ (h : Here). IsAfter c.items.at (length c.args.text.now) h) c.in-Is.is c.item_at.ensures.after in
     record {
-      within = behind.1;
-      few = omega (arith, behind.0, on_ok c.take.result c.if-is_err.ensures.negation c.take.ensures.opened);
+      within = after.1;
+      few = omega (arith, after.0, on_ok c.take.result c.if-is_err.ensures.negation c.take.ensures.opened);
       state = (
         step c.in-Is.item s,
         on_ok c.take.result c.if-is_err.ensures.negation c.take.ensures.state (c.args.max_nodes + 1) s c.items.invariant.state.1 can,

@@ -74,16 +74,16 @@ returns-in-PrintFirst-clause-acts g c = λ files told ls.
     (ap (acts (setting c.args.self.now files) (at_lines c.args.self.now ls) c.args.tells) c.in-PrintFirst.is) c.act_print_first.ensures.puts
 
 pub returns-in-Change-clause-acts : goal.returns-in-Change-clause-acts
-returns-in-Change-clause-acts g c = λ files told ls s comes first.
-    c.act_change.ensures.acts files told ls s comes (first ∙ ap (acts (setting c.args.self.now files) (at_lines c.args.self.now ls) c.args.tells) c.in-Change.is)
+returns-in-Change-clause-acts g c = λ files told ls s reaches first.
+    c.act_change.ensures.acts files told ls s reaches (first ∙ ap (acts (setting c.args.self.now files) (at_lines c.args.self.now ls) c.args.tells) c.in-Change.is)
 
 pub returns-in-Delete-clause-acts : goal.returns-in-Delete-clause-acts
-returns-in-Delete-clause-acts g c = λ files told ls s comes first.
-    c.act_delete.ensures.acts files told ls s comes (first ∙ ap (acts (setting c.args.self.now files) (at_lines c.args.self.now ls) c.args.tells) c.in-Delete.is)
+returns-in-Delete-clause-acts g c = λ files told ls s reaches first.
+    c.act_delete.ensures.acts files told ls s reaches (first ∙ ap (acts (setting c.args.self.now files) (at_lines c.args.self.now ls) c.args.tells) c.in-Delete.is)
 
 pub returns-in-DeleteFirst-clause-acts : goal.returns-in-DeleteFirst-clause-acts
-returns-in-DeleteFirst-clause-acts g c = λ files told ls s comes first.
-    c.act_delete_first.ensures.acts files told ls s comes (first ∙ ap (acts (setting c.args.self.now files) (at_lines c.args.self.now ls) c.args.tells) c.in-DeleteFirst.is)
+returns-in-DeleteFirst-clause-acts g c = λ files told ls s reaches first.
+    c.act_delete_first.ensures.acts files told ls s reaches (first ∙ ap (acts (setting c.args.self.now files) (at_lines c.args.self.now ls) c.args.tells) c.in-DeleteFirst.is)
 
 pub returns-in-Print-clause-acts : goal.returns-in-Print-clause-acts
 returns-in-Print-clause-acts g c = λ files told ls.

@@ -11,5 +11,5 @@ returns-clause-puts g c =
     let line : c.first_line.result.now ≡ first_line c.args.self.now.state.pattern ++ newline ∷ [] =
     c.first_line.ensures.value ∙ ap (λ (line : List ℕ). line ++ newline ∷ []) (first_line_is c.self.inside.pattern.bytes)
     ∙ ap (λ (e : Run). first_line e.state.pattern ++ newline ∷ []) c.self.view_is in
-    let Q : List ℕ → Type 0 = λ bytes. Puts (Sent (g.O.Sinks.tally c.args.outputs.now) (g.O.Sinks.tally c.write_all.new.outputs)) (to_sink 0 bytes) c.write_all.result in
+    let Q : List ℕ → Type 0 = λ bytes. Puts (Sent (g.O.Sinks.tally c.args.outputs.now) (g.O.Sinks.tally c.write_all.new.self)) (to_sink 0 bytes) c.write_all.result in
     subst Q line c.write_all.ensures.puts

@@ -8,7 +8,7 @@ use Rattle.sedengine.proofs.machine.Machine.pass.Goals as goal
 pub returns-in-Block-clause-passes : goal.returns-in-Block-clause-passes
 returns-in-Block-clause-passes c = λ files sinks ls.
     acts_going c.self.inside c.args.self.now c.self.view_is c.self.invariant ls (setting c.args.self.now files) sinks sinks _
-    (do_at c.in-Block.behind ∷ []) _ (ap (λ e. going e (do_at c.in-Block.behind ∷ [])) c.self.view_is) (ap (passes (at_lines c.args.self.now ls)) c.in-Block.is)
+    (do_at c.in-Block.next ∷ []) _ (ap (λ e. going e (do_at c.in-Block.next ∷ [])) c.self.view_is) (ap (passes (at_lines c.args.self.now ls)) c.in-Block.is)
 
 pub returns-in_default : goal.returns-in_default
 returns-in_default c = record {

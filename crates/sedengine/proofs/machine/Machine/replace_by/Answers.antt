@@ -3,7 +3,7 @@ use Rattle.std.specs.Prelude.{slice_get}
 use Rattle.std.proofs.lemmas.Option.{get_or_from_slice_get, slice_get_within}
 use Rattle.sedre.specs.Arena.{Written}
 use Rattle.sedmatch.proofs.OccurrenceLemmas.{few_places}
-use Rattle.sedengine.specs.Ends.{comes}
+use Rattle.sedengine.specs.Ends.{reaches}
 use Rattle.sedengine.specs.Run.{Run, at_lines}
 use Rattle.sedengine.proofs.Fitting.{fits_at, sought, sought_at, sought_fit}
 use Rattle.sedengine.proofs.Substituting.{makes_full, makes_none, makes_some, replaced_is_run}
@@ -13,19 +13,19 @@ pub invariant_of-self : goal.invariant_of-self
 invariant_of-self c =
     let w = c.replace_in.ensures in
     replaced_is_run c.self.inside c.replace_in.new.pattern c.replace_in.new.build c.replace_in.new.scratch c.replace_in.new.seeking c.replace_in.new.matchers c.args.e true c.self.invariant
-    (ap (λ (e : Run). comes e.state.tasks) c.self.view_is ∙ c.requires.at) (let same = ap (λ (e : Run). e.script) c.self.view_is in rw same c.requires.expression) w.spaces.0 w.spaces.2 w.spaces.1 w.same.1 w.kept w.same.0
+    (ap (λ (e : Run). reaches e.state.tasks) c.self.view_is ∙ c.requires.at) (let same = ap (λ (e : Run). e.script) c.self.view_is in rw same c.requires.expression) w.spaces.0 w.spaces.2 w.spaces.1 w.same.1 w.kept w.same.0
 
 pub invariant_of-self-in-Ok-false : goal.invariant_of-self-in-Ok-false
 invariant_of-self-in-Ok-false c =
     let w = c.replace_in.ensures in
     replaced_is_run c.self.inside c.replace_in.new.pattern c.replace_in.new.build c.replace_in.new.scratch c.replace_in.new.seeking c.replace_in.new.matchers c.args.e c.self.inside.replaced c.self.invariant
-    (ap (λ (e : Run). comes e.state.tasks) c.self.view_is ∙ c.requires.at) (let same = ap (λ (e : Run). e.script) c.self.view_is in rw same c.requires.expression) w.spaces.0 w.spaces.2 w.spaces.1 w.same.1 w.kept w.same.0
+    (ap (λ (e : Run). reaches e.state.tasks) c.self.view_is ∙ c.requires.at) (let same = ap (λ (e : Run). e.script) c.self.view_is in rw same c.requires.expression) w.spaces.0 w.spaces.2 w.spaces.1 w.same.1 w.kept w.same.0
 
 pub invariant_of-self-in-Err : goal.invariant_of-self-in-Err
 invariant_of-self-in-Err c =
     let w = c.replace_in.ensures in
     replaced_is_run c.self.inside c.replace_in.new.pattern c.replace_in.new.build c.replace_in.new.scratch c.replace_in.new.seeking c.replace_in.new.matchers c.args.e c.self.inside.replaced c.self.invariant
-    (ap (λ (e : Run). comes e.state.tasks) c.self.view_is ∙ c.requires.at) (let same = ap (λ (e : Run). e.script) c.self.view_is in rw same c.requires.expression) w.spaces.0 w.spaces.2 w.spaces.1 w.same.1 w.kept w.same.0
+    (ap (λ (e : Run). reaches e.state.tasks) c.self.view_is ∙ c.requires.at) (let same = ap (λ (e : Run). e.script) c.self.view_is in rw same c.requires.expression) w.spaces.0 w.spaces.2 w.spaces.1 w.same.1 w.kept w.same.0
 
 pub replace_in-requires-clause-more : goal.replace_in-requires-clause-more
 replace_in-requires-clause-more c = λ t is more x at.

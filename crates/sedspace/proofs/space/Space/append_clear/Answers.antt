@@ -6,7 +6,7 @@ use Rattle.sedspace.proofs.space.Space.append_clear.Goals as goal
 pub invariant_of-self : goal.invariant_of-self
 invariant_of-self c =
     let s = c.self.inside in
-    let p = c.put_behind-front.ensures in
+    let p = c.append_to-front.ensures in
     let bytes = drop s.front (take s.end s.held.items) in
     let size : c.len-len.result ≡ length bytes = c.len-len.ensures.value ∙ ap (λ z. length z.bytes) (sym c.self.view_is) in
     let more = length-take-le c.args.count c.args.text.now c.requires.inside in

@@ -1,4 +1,4 @@
-use Rattle.std.proofs.Common.{◌≡◌, ◌+◌, ◌-◌, Some, None, ap, arith, sym, ◌∙◌, rules, take, drop, length, length-drop, length-take, position}
+use Rattle.std.proofs.Common.{◌≡◌, ◌+◌, ◌-◌, Some, ap, arith, sym, ◌∙◌, rules, take, drop, length, length-drop, length-take, position}
 use Rattle.std.specs.List.{after_first}
 use Rattle.std.proofs.lemmas.List.{drop-drop}
 use Rattle.sedspace.specs.Lines.{is_newline}

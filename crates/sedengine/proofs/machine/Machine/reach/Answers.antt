@@ -3,8 +3,8 @@ use Rattle.std.proofs.lemmas.Result.{err_from_is_err_and}
 use Rattle.sedengine.proofs.Writing.{Delivers-unwritten}
 use Rattle.sedengine.proofs.Streams.{Reads-then, Reads-told}
 use Rattle.sedengine.proofs.Tasks.{steps_by_moves}
-use Rattle.sedengine.proofs.Acts.{steps_spent, comes_stopping, comes_acting, comes_passing}
-use Rattle.sedengine.proofs.machine.Machine.come_to.Goals as goal
+use Rattle.sedengine.proofs.Acts.{steps_spent, reach_stopping, reach_acting, reach_passing}
+use Rattle.sedengine.proofs.machine.Machine.reach.Goals as goal
 
 pub returns-then-k-len-clause-steps : goal.returns-then-k-len-clause-steps
 returns-then-k-len-clause-steps g c = λ sound ls known files told.
@@ -22,24 +22,24 @@ returns-in_err-choice-clause-output g c =
 pub returns-in_err-choice-clause-steps : goal.returns-in_err-choice-clause-steps
 returns-in_err-choice-clause-steps g c = λ sound ls known files told.
     let p = err_from_is_err_and c.from_residual.result c.from_residual.ensures.1 in
-    rw (p.1, p.2) (comes_stopping g.R.ByteSource.remaining c.args.lines.now c.judge.new.lines c.self.inside c.args.self.now c.self.view_is c.self.invariant files ls c.args.k c.command.result.now
+    rw (p.1, p.2) (reach_stopping g.R.ByteSource.remaining c.args.lines.now c.judge.new.lines c.self.inside c.args.self.now c.self.view_is c.self.invariant files ls c.args.k c.command.result.now
     c.requires.at c.command.ensures.is (λ e. c.if-self-turns.false (e ∙ sym c.turns.ensures)) (c.in_err-choice.ensures.left ls known)
-    (g.O.Sinks.tally c.args.outputs.now) c.judge.new.self.state.used c.in_err-choice.field-0.0 c.judge.new.self c.in_err-choice.ensures.comes (c.in_err-choice.ensures.judges sound ls known))
+    (g.O.Sinks.tally c.args.outputs.now) c.judge.new.self.state.used c.in_err-choice.field-0.0 c.judge.new.self c.in_err-choice.ensures.reaches (c.in_err-choice.ensures.judges sound ls known))
 
 pub returns-then-choice-clause-steps : goal.returns-then-choice-clause-steps
 returns-then-choice-clause-steps g c = λ sound ls known files told.
     let w = c.in_ok-choice.ensures in
     let taken = w.left ls known in
-    comes_acting g.R.ByteSource.remaining c.args.lines.now c.judge.new.lines c.self.inside c.args.self.now c.self.view_is c.self.invariant files ls c.args.k c.command.result.now
+    reach_acting g.R.ByteSource.remaining c.args.lines.now c.judge.new.lines c.self.inside c.args.self.now c.self.view_is c.self.invariant files ls c.args.k c.command.result.now
     c.requires.at c.command.ensures.is (λ e. c.if-self-turns.false (e ∙ sym c.turns.ensures)) taken
-    c.in_ok-choice.choice c.judge.new.self.state.used c.judge.new.self c.act.new.self (w.judges sound ls known) w.comes
+    c.in_ok-choice.choice c.judge.new.self.state.used c.judge.new.self c.act.new.self (w.judges sound ls known) w.reaches
     c.act.new.lines _ _ c.tells.result c.if-choice.true c.tells.ensures (c.act.ensures.acts (w.input.sound sound) ls taken.known files told)
 
 pub returns-else-choice-clause-steps : goal.returns-else-choice-clause-steps
 returns-else-choice-clause-steps g c = λ sound ls known files told.
-    comes_passing g.R.ByteSource.remaining c.args.lines.now c.judge.new.lines c.self.inside c.args.self.now c.self.view_is c.self.invariant files ls c.args.k c.command.result.now
+    reach_passing g.R.ByteSource.remaining c.args.lines.now c.judge.new.lines c.self.inside c.args.self.now c.self.view_is c.self.invariant files ls c.args.k c.command.result.now
     c.requires.at c.command.ensures.is (λ e. c.if-self-turns.false (e ∙ sym c.turns.ensures)) (c.in_ok-choice.ensures.left ls known)
-    c.in_ok-choice.choice c.judge.new.self.state.used c.judge.new.self c.pass.new.self (c.in_ok-choice.ensures.judges sound ls known) c.in_ok-choice.ensures.comes
+    c.in_ok-choice.choice c.judge.new.self.state.used c.judge.new.self c.pass.new.self (c.in_ok-choice.ensures.judges sound ls known) c.in_ok-choice.ensures.reaches
     _ c.if-choice.false (c.pass.ensures.passes files _ ls)
 
 pub returns-then-choice-clause-input : goal.returns-then-choice-clause-input

@@ -1,6 +1,6 @@
 use Rattle.std.proofs.Common.{arith}
 use Rattle.std.proofs.lemmas.Grind.{common_steps}
-use Rattle.sedre.proofs.delimiter.behind.Goals as goal
+use Rattle.sedre.proofs.delimiter.next_place.Goals as goal
 
 pub returns-in-92-clause-is : goal.returns-in-92-clause-is
 returns-in-92-clause-is c = grind (arith, common_steps)
