@@ -1,9 +1,8 @@
-use Rattle.std.proofs.Common.{◌≡◌, ◌≤◌, ◌∙◌, ℕ, List, Some, length, sym, subst}
+use Rattle.std.proofs.Common.{◌≡◌, ◌≤◌, ◌∙◌, ℕ, List, Some, length, subst}
 use Rattle.std.specs.Prelude.{slice_get, if◌then◌else◌}
 use Rattle.sedre.specs.Arena.{Written}
 use Rattle.sedmatch.specs.declared.occurrences.Occurrences.{Occurrences}
 use Rattle.sedmatch.specs.Occurrences.{RoomFor}
-use Rattle.sedengine.specs.Fitting.{AllFit}
 use Rattle.sedengine.proofs.Fitting.{ok_with, room_for_all, sought, sought_fit}
 use Rattle.sedengine.proofs.matchers.room_to_seek.Goals as goal
 use Rattle.sedengine.proofs.matchers.room_to_seek.Goals.{then-seeks_more_than_one, else-seeks_more_than_one}
