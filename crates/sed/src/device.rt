@@ -62,6 +62,11 @@ impl Gathered {
         })
     }
 
+    /// Whether there are bytes that aren't written yet.
+    pub(crate) fn has_gathered(&self) -> bool {
+        !self.writer.buffer().is_empty()
+    }
+
     /// Takes the bytes, and says how many they are. No call after a failure takes any.
     pub(crate) fn write(&mut self, bytes: &[u8]) -> Result<usize, Broken>
         ensures bound { WritesAtMost result bytes.now }

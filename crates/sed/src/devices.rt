@@ -67,6 +67,14 @@ impl Devices {
         }
     }
 
+    /// Whether something is gathered for a sink.
+    pub(crate) fn have_gathered(&self) -> bool {
+        match self.all.try_borrow() {
+            Ok(all) => all.iter().any(|device| device.has_gathered()),
+            Err(_) => true,
+        }
+    }
+
     /// Writes out what is gathered for the sinks from this number on. A failure is told by the sink's next call.
     pub(crate) fn write_out(&self, first: usize) {
         if let Ok(mut all) = self.all.try_borrow_mut() {

@@ -6,8 +6,8 @@ use crate::devices::Devices;
 use sededit::Inputs;
 use sedspace::{Broken, ByteSource, FromReader};
 use std::alloc::{AllocError, Global};
-use std::fs::{self, File};
-use std::io::ErrorKind;
+use std::fs::{self, File, Metadata};
+use std::io::{self, ErrorKind};
 
 /// Which file is current.
 #[derive(Drop)]
@@ -27,7 +27,8 @@ pub(crate) struct FileInputs<'a> {
     rt: &'a HostRuntime,
     devices: &'a Devices,
     current: Current,
-    may_wait: bool,
+    // Whether a read of the current file may wait, once that was asked.
+    may_wait: Option<bool>,
     is_standard_ended: bool,
     failures: u64,
     refusals: u64,
@@ -35,7 +36,12 @@ pub(crate) struct FileInputs<'a> {
 
 /// Whether a read of the file of this name may wait, as one of a pipe, a terminal or a device does.
 pub(crate) fn may_wait(rt: &HostRuntime, name: &str) -> bool {
-    match fs::metadata(rt, name) {
+    is_no_file(fs::metadata(rt, name))
+}
+
+// Whether this isn't said of an ordinary file.
+fn is_no_file(metadata: io::Result<Metadata>) -> bool {
+    match metadata {
         Ok(metadata) => !metadata.is_file(),
         Err(_) => true,
     }
@@ -48,16 +54,43 @@ impl<'a> FileInputs<'a> {
             rt,
             devices,
             current: Current::Nothing,
-            may_wait: false,
+            may_wait: None,
             is_standard_ended: false,
             failures: 0,
             refusals: 0,
         }
     }
 
-    // Writes out what is gathered where the next call may wait.
-    fn prepare_to_wait(&self) {
-        if self.may_wait {
+    // Whether a read of the current file may wait. The system is asked once for each file.
+    fn may_wait(&mut self) -> bool
+        ensures failures { self.new.failures ≡ self.old.failures }
+        ensures refusals { self.new.refusals ≡ self.old.refusals }
+    {
+        if let Some(known) = self.may_wait {
+            return known;
+        }
+        let may_wait = match &self.current {
+            Current::Nothing => false,
+            Current::Standard => may_wait(self.rt, "/dev/stdin"),
+            Current::File(file) => is_no_file(file.metadata()),
+        };
+        self.may_wait = Some(may_wait);
+        may_wait
+    }
+
+    // Writes out what is gathered where the next read may wait.
+    fn prepare_to_read(&mut self)
+        ensures failures { self.new.failures ≡ self.old.failures }
+        ensures refusals { self.new.refusals ≡ self.old.refusals }
+    {
+        if self.devices.have_gathered() && self.may_wait() {
+            self.devices.write_out(0);
+        }
+    }
+
+    // Writes out what is gathered where the file of this name may wait for its other end as it is opened.
+    fn prepare_to_open(&self, name: &str) {
+        if self.devices.have_gathered() && may_wait(self.rt, name) {
             self.devices.write_out(0);
         }
     }
@@ -82,7 +115,7 @@ impl<'a> FileInputs<'a> {
         ensures failures { self.new.failures ≡ self.old.failures }
         ensures refusals { self.new.refusals ≡ self.old.refusals }
     {
-        self.prepare_to_wait();
+        self.prepare_to_read();
         match &self.current {
             Current::Nothing => Ok(0),
             Current::Standard => self.read_standard(buf),
@@ -112,13 +145,12 @@ impl<'a> Inputs for FileInputs<'a> {
 
     fn open(&mut self, name: &str) -> bool {
         self.current = Current::Nothing;
+        self.may_wait = None;
         if name == "-" {
-            self.may_wait = may_wait(self.rt, "/dev/stdin");
             self.current = Current::Standard;
             return true;
         }
-        self.may_wait = may_wait(self.rt, name);
-        self.prepare_to_wait();
+        self.prepare_to_open(name);
         match File::open(self.rt, name) {
             Ok(file) => {
                 self.current = Current::File(file);

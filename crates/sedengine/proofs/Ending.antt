@@ -151,6 +151,8 @@ queue_is_run a q k (Ok u) i h ok room err = let same = i.queue_limit in rw ok (r
   hold_limit = i.hold_limit;
   hold = i.hold;
   build_limit = i.build_limit;
+  build_within = i.build_within;
+  copy_limit = i.copy_limit;
   queue_limit = i.queue_limit;
   queue = omega (arith, length-append a.queue.items (k ∷ []));
   queued = AllQueue-snoc a.script a.queue.items k i.queued h;

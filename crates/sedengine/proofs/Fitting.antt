@@ -6,7 +6,7 @@ use Rattle.std.proofs.lemmas.Bool.{cases_eq, cases_lt}
 use Rattle.std.proofs.Math.Seq.{take-length}
 use Rattle.std.proofs.lemmas.List.{take_more}
 use Rattle.std.proofs.lemmas.List.Elements.{All-append, All-from_get_or, All-get_or, All-nil}
-use Rattle.std.proofs.lemmas.Option.{get_or_from_slice_get, slice_get_within}
+use Rattle.std.proofs.lemmas.Option.{get_or_from_slice_get, slice_get-get_or, slice_get_within}
 use Rattle.sedre.specs.Arena.{Written}
 use Rattle.sedmatch.specs.declared.occurrences.Occurrences.{Occurrences}
 use Rattle.sedmatch.specs.Occurrences.{RoomFor}
@@ -61,6 +61,14 @@ pub sought_at : (es : List Written) (most : ℕ) (ms : List Written) (k : ℕ) �
 sought_at es most ms k h inside =
     let same : length ms ≡ length es = ap (λ (xs : List Written). length xs) (sought es most ms h) in omega arith
 
+-- each fits if each one at a place does
+pub fits_all : (most : ℕ) (es : List Written) → ((i : ℕ) (e : Written) → slice_get es i ≡ Some e → length e.nodes ≤ most) → AllFit most es
+unfolding AllFit
+fits_all most [] each = All-nil (λ (x : Written). length x.nodes ≤ most)
+fits_all most (e ∷ es) each =
+    All-from_get_or (λ (x : Written). length x.nodes ≤ most) (e ∷ es) e
+    (λ i inside. each i (get_or (e ∷ es) i e) (slice_get-get_or (e ∷ es) i e inside))
+
 -- room for longer texts and larger expressions is room for these
 pub room_within : (text more nodes most : ℕ) (o : Occurrences) → text ≤ more → nodes ≤ most → RoomFor more most o → RoomFor text nodes o
 room_within text more nodes most o short few h = record {
@@ -78,7 +86,7 @@ pub room_if : (text nodes : ℕ) (last : Option ℕ) (o : Occurrences) → RoomF
 room_if text nodes None o has = tt
 room_if text nodes (Some q) o has = has
 
-lower : (i k : ℕ) → i < k + 1 → (i ≡ k → ⊥) → i < k
+pub lower : (i k : ℕ) → i < k + 1 → (i ≡ k → ⊥) → i < k
 lower i k low ne = ⊎_elim (λ (lt : i < k). lt) (λ (ge : k ≤ i). absurd (ne (omega arith))) (cases_lt i k)
 
 -- the most nodes of some expressions, and of one more

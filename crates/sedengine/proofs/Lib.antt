@@ -14,6 +14,7 @@ pub mod NextLines
 pub mod Deleting
 pub mod Substituting
 pub mod Fitting
+pub mod Filling
 pub mod Tried
 pub mod Choices
 pub mod Acts

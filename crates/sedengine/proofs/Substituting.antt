@@ -51,7 +51,9 @@ replaced_is_run a pattern build scratch seeking matchers e replaced i at within 
   pattern = let most = i.pattern_limit in omega arith;
   hold_limit = i.hold_limit;
   hold = i.hold;
-  build_limit = limit' ∙ i.build_limit;
+  build_limit = λ some. limit' ∙ i.build_limit some;
+  build_within = rw limit' i.build_within;
+  copy_limit = λ some. limit' ∙ i.copy_limit some;
   queue_limit = i.queue_limit;
   queue = i.queue;
   queued = i.queued;
@@ -59,7 +61,7 @@ replaced_is_run a pattern build scratch seeking matchers e replaced i at within 
   ranges = i.ranges;
   used = within;
   scratch_text = λ some. ap (λ (r : Room). r.text) same ∙ i.scratch_text some;
-  scratch_nodes = ap (λ (r : Room). r.nodes) same ∙ i.scratch_nodes;
+  scratch_nodes = rw (same, same') i.scratch_nodes;
   matchers = rw same' i.matchers;
   seeking = λ k s is more j x at. kept a.limits.space (length x.nodes) (i.seeking k s is more j x at);
   nodes = i.nodes;

@@ -3,12 +3,12 @@
 use Rattle.std.specs.Prelude.{◌≡◌, ℕ, ◌<◌, ◌≤◌, Bool, true, false, Option, Some, None, List, [], ◌∷◌, length, map, slice_get}
 use Rattle.sedscript.specs.declared.types.Command.{Command}
 use Rattle.sedscript.specs.declared.types.Action.{Action}
-use Rattle.sedscript.specs.declared.types.Action.TheVariants.{Append, ReadFile}
+use Rattle.sedscript.specs.declared.types.Action.TheVariants.{Append, Exchange, Hold, HoldMore, ReadFile}
 use Rattle.sedscript.specs.Script.{Program}
 use Rattle.sedengine.specs.State.{Entry, text, file, Task, begin, rebegin, do_at, print_pattern, flush}
 use Rattle.sedengine.specs.Move.{text_of}
 use Rattle.sedengine.specs.Run.{Run}
-use Rattle.sedengine.specs.Fitting.{RoomToSeek, Seek}
+use Rattle.sedengine.specs.Fitting.{AllFit, RoomToSeek, Seek}
 use Rattle.sedengine.specs.declared.place.Place.{Place}
 use Rattle.sedengine.specs.declared.place.Place.TheVariants as p
 use Rattle.sedengine.specs.declared.machine.Machine.TheInside.{Inside}
@@ -75,6 +75,21 @@ abbrev pub AllQueue : Program → List ℕ → Type 0
 AllQueue p [] = Unit {0}
 AllQueue p (i ∷ is) = Queues (slice_get p.commands i) × AllQueue p is
 
+-- whether an action puts something into the hold space
+abbrev pub holds : Action → Bool
+holds Hold = true
+holds HoldMore = true
+holds Exchange = true
+holds other = false
+
+abbrev pub Holds : Option Command → Type 0
+Holds None = ⊥
+Holds (Some c) = holds c.action ≡ true
+
+-- One of the commands of a script puts something into the hold space, which is empty else.
+abbrev pub FillsHold : Program → Type 0
+FillsHold p = (i : ℕ) × Holds (slice_get p.commands i)
+
 -- the expression last used is one of so many
 abbrev pub IsOneOf : ℕ → Option ℕ → Type 0
 IsOneOf expressions None = Unit {0}
@@ -85,9 +100,11 @@ pub record IsRun (a : Inside) : Type 0 where
   pub turns : a.turns ≤ a.limits.turns
   pub pattern_limit : a.pattern.limit ≡ a.limits.space
   pub pattern : length a.pattern.bytes ≤ a.limits.space
-  pub hold_limit : a.hold.limit ≡ a.limits.space
+  pub hold_limit : FillsHold a.script → a.hold.limit ≡ a.limits.space
   pub hold : length a.hold.bytes ≤ a.limits.space
-  pub build_limit : a.build.limit ≡ a.limits.space
+  pub build_limit : 0 < length a.script.substitutions → a.build.limit ≡ a.limits.space
+  pub build_within : a.build.limit ≤ a.limits.space
+  pub copy_limit : 0 < length a.script.rfiles → a.build.limit ≡ a.limits.space
   pub queue_limit : a.queue.limit ≡ a.limits.queue
   pub queue : length a.queue.items ≤ a.limits.queue
   pub queued : AllQueue a.script a.queue.items
@@ -95,7 +112,7 @@ pub record IsRun (a : Inside) : Type 0 where
   pub ranges : length a.ranges.items ≡ length a.script.commands
   pub used : IsOneOf (length a.script.expressions) a.used
   pub scratch_text : 0 < length a.script.expressions → a.scratch.text ≡ a.limits.space
-  pub scratch_nodes : a.scratch.nodes ≡ a.limits.nodes
+  pub scratch_nodes : AllFit a.scratch.nodes a.matchers.items
   pub matchers : Seek a.script.expressions a.limits.nodes a.matchers.items
   pub seeking : RoomToSeek a.script.substitutions a.script.expressions a.limits.space a.seeking
   pub nodes : a.script.max_nodes ≤ a.limits.nodes

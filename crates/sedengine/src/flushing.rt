@@ -1,5 +1,5 @@
 //! Writing the queue, and the files of it.
-ghost use Rattle.std.specs.Prelude.{◌≡◌, ◌<◌, ◌≤◌, [], ◌∷◌, Err, ℕ, List, slice_get};
+ghost use Rattle.std.specs.Prelude.{◌≡◌, ◌<◌, ◌≤◌, [], ◌∷◌, Err, ℕ, List, length, slice_get};
 ghost use Rattle.std.specs.Io.KnownBytes.{Keeps};
 ghost use Rattle.sedengine.specs.State.{Entry, Task, copy, flush, State, Setting};
 ghost use Rattle.sedengine.specs.Meters.{Sent};
@@ -80,7 +80,7 @@ fn write_entry<O: Sinks, T: Texts>(
     texts: &mut T,
 ) -> Result<(), Ended>
     requires sink { 0 < O.count outputs.old }
-    requires room { build.old.limit ≡ limits.now.space }
+    requires room { 0 < length script.now.rfiles → build.old.limit ≡ limits.now.space }
     requires before { turns.old ≤ limits.now.turns }
     requires queued { Queues (slice_get script.now.commands entry) }
     ensures writes { (g : Setting) → TellsFiles (T.text texts.old) g.files → (s now : State) (rest : List Task)
@@ -115,7 +115,7 @@ pub(crate) fn flush_queue<O: Sinks, T: Texts>(
     texts: &mut T,
 ) -> Result<(), Ended>
     requires sink { 0 < O.count outputs.old }
-    requires room { build.old.limit ≡ limits.now.space }
+    requires room { 0 < length script.now.rfiles → build.old.limit ≡ limits.now.space }
     requires before { turns.old ≤ limits.now.turns }
     requires queued { AllQueue script.now queue.now.items }
     ensures flushes { (g : Setting) → TellsFiles (T.text texts.old) g.files → (s : State) (rest : List Task) →

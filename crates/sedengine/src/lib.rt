@@ -23,6 +23,7 @@ mod listing;
 mod machine;
 mod matchers;
 mod meter;
+mod needs;
 mod place;
 mod select;
 mod substitute;

@@ -9,6 +9,7 @@ ghost use Rattle.sedengine.specs.Devices.{FailedSource, SameLines};
 ghost use Rattle.sedengine.specs.Calls.{Delivers};
 ghost use Rattle.sedengine.specs.Meters.{Sent};
 ghost use Rattle.sedengine.specs.Held.{total_of, bound_of};
+ghost use Rattle.sedengine.specs.Inside.{FillsHold};
 ghost use Rattle.sedengine.specs.Run.{outcome, Cycles, Ending, SameRun, TellsFiles, at_lines, end_of, setting};
 
 mod addresses;
@@ -23,8 +24,9 @@ mod tasks;
 
 use crate::ends::{Ended, Held, Progress};
 use crate::limits::Limits;
-use crate::matchers::{matchers_of, room_to_seek};
+use crate::matchers::{matchers_of, room_to_search, room_to_seek};
 use crate::meter::Sinks;
+use crate::needs::{build_room, hold_room};
 use crate::place::Place;
 use sedmatch::{Occurrences, Scratch, TableMatcher};
 use sedscript::Script;
@@ -76,19 +78,6 @@ fn idle_ranges(alloc: Global, count: usize) -> Result<Vec<bool>, AllocError>
     vec![in alloc; false; count]
 }
 
-/// Room for searches: little where the script has no regular expression, since none is sought then.
-fn search_room(alloc: Global, script: &Script, limits: &Limits) -> Result<Scratch, AllocError>
-    ensures text { IfOk result (λ s. 0 < length script.now.expressions → s.text ≡ limits.now.space) }
-    ensures nodes { IfOk result (λ s. s.nodes ≡ limits.now.nodes) }
-{
-    let text = if script.expressions() == 0 {
-        0
-    } else {
-        limits.space()
-    };
-    Scratch::new(alloc, text, limits.nodes())
-}
-
 // The spaces and the queue of an engine, as they are made. They are made in a call of their own: what is let go where a
 // request is refused grows with each request, and so does the proof.
 #[derive(Drop)]
@@ -100,17 +89,19 @@ struct Store {
 }
 
 impl Store {
-    // Empty ones, whose room is reserved here.
-    fn new(alloc: Global, limits: &Limits) -> Result<Store, AllocError>
+    // Empty ones, whose room is reserved here: as much as the script needs.
+    fn new(alloc: Global, script: &Script, limits: &Limits) -> Result<Store, AllocError>
         ensures pattern { IfOk result (λ s. s.pattern ≡ record { bytes = []; limit = limits.now.space }) }
-        ensures hold { IfOk result (λ s. s.hold ≡ record { bytes = []; limit = limits.now.space }) }
-        ensures build { IfOk result (λ s. s.build ≡ record { bytes = []; limit = limits.now.space }) }
+        ensures hold { IfOk result (λ s. s.hold.bytes ≡ []) }
+        ensures holds { IfOk result (λ s. FillsHold script.now → s.hold.limit ≡ limits.now.space) }
+        ensures build { IfOk result (λ s. 0 < length script.now.substitutions → s.build.limit ≡ limits.now.space) }
+        ensures within { IfOk result (λ s. s.build.limit ≤ limits.now.space) }
+        ensures copies { IfOk result (λ s. 0 < length script.now.rfiles → s.build.limit ≡ limits.now.space) }
         ensures queue { IfOk result (λ s. s.queue ≡ record { items = []; limit = limits.now.queue }) }
     {
-        let space = limits.space();
-        let pattern = Space::new(alloc, space)?;
-        let hold = Space::new(alloc, space)?;
-        let build = Space::new(alloc, space)?;
+        let pattern = Space::new(alloc, limits.space())?;
+        let hold = Space::new(alloc, hold_room(script, limits))?;
+        let build = Space::new(alloc, build_room(script, limits))?;
         let queue = Queue::new(alloc, limits.queue())?;
         Ok(Store {
             pattern,
@@ -134,15 +125,15 @@ impl Machine {
         }) }
     {
         let ranges = idle_ranges(alloc, script.len())?;
-        let scratch = search_room(alloc, &script, &limits)?;
         let matchers = matchers_of(alloc, &script, limits.nodes())?;
+        let scratch = room_to_search(alloc, &script, &matchers, &limits)?;
         let seeking = room_to_seek(alloc, &script, &matchers, &limits)?;
         let Store {
             pattern,
             hold,
             build,
             queue,
-        } = Store::new(alloc, &limits)?;
+        } = Store::new(alloc, &script, &limits)?;
         Ok(Machine {
             script,
             limits,

@@ -1,11 +1,11 @@
 //! What seeks the expressions of a script.
-ghost use Rattle.std.specs.Prelude.{◌≡◌, ◌≤◌, ◌^◌, ℕ, false, IfOk, Some, length, slice_get};
+ghost use Rattle.std.specs.Prelude.{◌≡◌, ◌<◌, ◌≤◌, ◌^◌, ℕ, false, IfOk, Some, length, slice_get};
 ghost use Rattle.sedre.specs.Arena.{Written};
 ghost use Rattle.sedscript.specs.declared.substitution.Substitution.{Substitution};
 ghost use Rattle.sedengine.specs.Fitting.{AllFit, RoomToSeek, Seek, seeks_more};
 
 use crate::limits::Limits;
-use sedmatch::{Occurrences, TableMatcher};
+use sedmatch::{Occurrences, Scratch, TableMatcher};
 use sedscript::Script;
 use std::alloc::{AllocError, Global};
 
@@ -68,6 +68,23 @@ fn most_nodes(matchers: &[TableMatcher], limit: usize) -> usize
         }
     }
     most
+}
+
+/// Room for searches of these matchers: little where the script has no regular expression, since none is sought then.
+pub(crate) fn room_to_search(
+    alloc: Global,
+    script: &Script,
+    matchers: &Vec<TableMatcher>,
+    limits: &Limits,
+) -> Result<Scratch, AllocError>
+    requires seek { Seek script.now.expressions limits.now.nodes matchers.now.items }
+    ensures text { IfOk result (λ s. 0 < length script.now.expressions → s.text ≡ limits.now.space) }
+    ensures nodes { IfOk result (λ s. AllFit s.nodes matchers.now.items) }
+{
+    let most = most_nodes(matchers, limits.nodes());
+    let space = limits.space();
+    let longest = if script.expressions() == 0 { 0 } else { space };
+    Scratch::new(alloc, longest, most)
 }
 
 /// Whether a substitution of the script seeks more than one occurrence.

@@ -3,6 +3,7 @@ ghost use Rattle.std.specs.Prelude.{◌≡◌, ◌∷◌, ◌++◌, true};
 ghost use Rattle.sedengine.specs.Move.{newline};
 ghost use Rattle.sedengine.specs.Ends.{reaches};
 ghost use Rattle.sedengine.specs.Holding.{BecomesOrFull};
+ghost use Rattle.sedengine.specs.Inside.{FillsHold};
 
 use super::Machine;
 use crate::ends::Ended;
@@ -36,6 +37,7 @@ impl Machine {
 
     /// The command `h`: the hold space becomes what the pattern space is.
     pub(super) fn act_hold(&mut self)
+        requires { FillsHold self.old.script }
         ensures { self.new ≡ record self.old { state = record self.old.state { hold = self.old.state.pattern } } }
     {
         match self.hold.set(self.pattern.bytes()) {
@@ -46,6 +48,7 @@ impl Machine {
 
     /// The command `H`: appends a newline and the pattern space to the hold space, if there is room.
     pub(super) fn act_hold_more(&mut self) -> Result<(), Ended>
+        requires { FillsHold self.old.script }
         ensures { BecomesOrFull self.old (record self.old {
           state = record self.old.state {
             hold = self.old.state.hold ++ newline ∷ self.old.state.pattern;
@@ -60,7 +63,8 @@ impl Machine {
 
     /// The command `x`: exchanges the pattern space and the hold space.
     pub(super) fn act_exchange(&mut self)
-        requires { reaches self.old.state.tasks ≡ true }
+        requires at { reaches self.old.state.tasks ≡ true }
+        requires holds { FillsHold self.old.script }
         ensures { self.new ≡ record self.old {
           state = record self.old.state {
             pattern = self.old.state.hold;

@@ -1,4 +1,4 @@
-use Rattle.sedengine.proofs.Fitting.{sought, sought_at, sought_fit}
+use Rattle.sedengine.proofs.Fitting.{sought, sought_at}
 use Rattle.sedengine.proofs.Tried.{answered, tried_within}
 use Rattle.sedengine.proofs.machine.Machine.finds.Goals as goal
 
@@ -9,9 +9,7 @@ finds-requires-clause-number c =
     (tried_within a c.args.self.now c.args.named c.in-Some.k c.self.view_is c.self.invariant c.requires c.in-Some.ensures)
 
 pub finds-requires-clause-fit : goal.finds-requires-clause-fit
-finds-requires-clause-fit c =
-    let a = c.self.inside in
-    rw c.self.invariant.scratch_nodes (sought_fit a.script.expressions a.limits.nodes a.matchers.items c.self.invariant.matchers)
+finds-requires-clause-fit c = c.self.invariant.scratch_nodes
 
 pub returns-in-Some-clause-answers : goal.returns-in-Some-clause-answers
 returns-in-Some-clause-answers c = λ last.

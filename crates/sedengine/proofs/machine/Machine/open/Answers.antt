@@ -7,4 +7,4 @@ use Rattle.sedengine.proofs.machine.Machine.open.Goals as goal
 pub returns : goal.returns
 returns c =
     let ranges : c.in_ok-ranges.ranges.items ≡ map (λ _. false) c.args.script.commands = c.in_ok-ranges.ensures ∙ splat_is_map c.args.script.commands c.len.result false (sym c.len.ensures) in
-    opened c.args.script c.args.script c.args.limits _ _ _ _ refl (ap (λ (s : Contents). s.bytes) c.in_ok-pattern.ensures.pattern) (ap (λ (s : Contents). s.bytes) c.in_ok-pattern.ensures.hold) (ap (λ (s : Entries). s.items) c.in_ok-pattern.ensures.queue) ranges
+    opened c.args.script c.args.script c.args.limits _ _ _ _ refl (ap (λ (s : Contents). s.bytes) c.in_ok-pattern.ensures.pattern) c.in_ok-pattern.ensures.hold (ap (λ (s : Entries). s.items) c.in_ok-pattern.ensures.queue) ranges

@@ -54,7 +54,7 @@ replace_in-requires-clause-fit c =
     let text = c.self.invariant.scratch_text (omega arith) in
     let short = c.self.invariant.pattern in (
       omega (arith, text, short),
-      rw c.self.invariant.scratch_nodes (sought_fit a.script.expressions a.limits.nodes a.matchers.items c.self.invariant.matchers),
+      c.self.invariant.scratch_nodes,
     )
 
 pub returns-in-Ok-true-clause-makes : goal.returns-in-Ok-true-clause-makes

@@ -1,0 +1,14 @@
+use Rattle.std.proofs.Common.{◌∙◌, sym, arith}
+use Rattle.sedengine.proofs.Filling.{holds_within, none_holds}
+use Rattle.sedengine.proofs.needs.fills_hold.Goals as goal
+
+pub loop-k-preserved : goal.loop-k-preserved
+loop-k-preserved c =
+    none_holds c.args.script.now.commands c.loop-k.k c.command.result.now c.command.ensures.is
+    (sym c.is_holding.ensures ∙ c.if-is_holding.false) c.loop-k.invariant
+
+pub returns : goal.returns
+returns c = λ no i h.
+    let inside = holds_within c.args.script.now.commands i h in
+    let count = c.len-k-end.ensures in
+    c.loop-k.invariant i (omega arith) h

@@ -1,0 +1,49 @@
+//! How much room a script needs in the spaces besides the pattern space.
+ghost use Rattle.std.specs.Prelude.{◌≡◌, ◌<◌, ◌≤◌, ℕ, false, length, slice_get};
+ghost use Rattle.sedengine.specs.Inside.{FillsHold, Holds, holds};
+
+use crate::limits::Limits;
+use sedscript::{Action, Script};
+
+/// Whether an action puts something into the hold space.
+fn is_holding(action: &Action) -> bool
+    ensures { result ≡ holds action.now }
+{
+    matches!(action, Action::Hold | Action::HoldMore | Action::Exchange)
+}
+
+/// Whether one of the commands puts something into the hold space.
+fn fills_hold(script: &Script) -> bool
+    ensures { result ≡ false → (i : ℕ) → Holds (slice_get script.now.commands i) → ⊥ }
+{
+    for k in 0..script.len() {
+        if is_holding(&script.command(k).action) {
+            return true;
+        }
+    }
+    false
+}
+
+/// How many bytes the hold space has room for: none where no command puts any into it.
+pub(crate) fn hold_room(script: &Script, limits: &Limits) -> usize
+    ensures { FillsHold script.now → result ≡ limits.now.space }
+{
+    if fills_hold(script) {
+        limits.space()
+    } else {
+        0
+    }
+}
+
+/// How many bytes the build space has room for: none where there is no substitution, and no file to copy.
+pub(crate) fn build_room(script: &Script, limits: &Limits) -> usize
+    ensures within { result ≤ limits.now.space }
+    ensures substitutions { 0 < length script.now.substitutions → result ≡ limits.now.space }
+    ensures files { 0 < length script.now.rfiles → result ≡ limits.now.space }
+{
+    if script.substitutions() == 0 && script.rfiles().is_empty() {
+        0
+    } else {
+        limits.space()
+    }
+}
