@@ -36,3 +36,4 @@ mod SpaceRunExamples
 mod CaseRunExamples
 mod EndRunExamples
 mod TextRunExamples
+mod DeviceRunExamples
