@@ -28,8 +28,8 @@ pub mod OccurrenceExamples
 pub mod ListingExamples
 pub mod ListingLines
 pub mod ListingTokens
-mod ComputedRun
-mod ComputedEnds
+pub mod ComputedRun
+pub mod ComputedEnds
 mod AddressRunExamples
 mod SubstitutionRunExamples
 mod SpaceRunExamples

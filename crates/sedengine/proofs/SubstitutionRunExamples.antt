@@ -21,7 +21,7 @@ use Rattle.sedspace.specs.Lines.{lines}
 use Rattle.sedengine.specs.Move.{move, to_sink}
 use Rattle.sedengine.specs.Select.{selects}
 use Rattle.sedengine.specs.Substitute.{occurrences_from}
-use Rattle.sedengine.proofs.ComputedRun.{course, ends_after, Writes, QuietlyWrites, Edits, plain, no_files}
+use Rattle.sedengine.proofs.ComputedRun.{course, ends_after, Writes, QuietlyWrites, Edits, plain, quiet, no_files}
 use Rattle.sedre.specs.declared.types.Kind.TheVariants.{Extended}
 
 second_occurrence : Writes (codes "s/b/[&]/2") (codes "abab\n") (codes "aba[b]\n")
@@ -130,3 +130,8 @@ commas_by_a_loop = is_script (ends_after 200 refl refl)
 nested_stars_last_used : Edits Extended plain no_files (codes "/((a*)*)*b/d;s//x/") (codes "aab\naa\n") (to_sink 0 (codes "aa\n"))
 unfolding verdict cutting walked item_at past function_at addresses_at address_at second_at text_from name_from lines course move selects match_at substitute_at substituted delimiter_at outcome rest_of expression_item_at interval set_of tree_at tree_within list_at list_end found found_from longest greatest spans any copies report caps cut first_copy last_start occurrences_from
 nested_stars_last_used = is_script (ends_after 200 refl refl)
+
+-- Extended, and with -n.
+quiet_and_extended : Edits Extended quiet no_files (codes "s/(a)+/x/p") (codes "aa\n") (to_sink 0 (codes "x\n"))
+unfolding verdict cutting walked item_at past function_at addresses_at address_at second_at text_from name_from lines course move selects match_at substitute_at substituted delimiter_at outcome rest_of expression_item_at interval set_of tree_at tree_within list_at list_end found found_from longest greatest spans any copies report caps cut first_copy last_start occurrences_from
+quiet_and_extended = is_script (ends_after 200 refl refl)
