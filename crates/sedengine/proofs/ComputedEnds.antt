@@ -1,7 +1,8 @@
 -- Ends of runs within limits as a computation, so that examples of them can be computed.
-use Rattle.std.proofs.Common.{◌≡◌, ℕ, zero, suc, ◌≤◌, Bool, false, true, ◌&&◌, List, [], ◌∷◌, length, Option, Some, None, refl, sym, subst, ◌∙◌, arith}
-use Rattle.std.specs.Prelude.{◌<◌, eqb, leb, ltb, if◌then◌else◌}
+use Rattle.std.proofs.Common.{◌≡◌, ℕ, zero, suc, ◌≤◌, Bool, false, true, ◌&&◌, List, [], ◌∷◌, length, take, Option, Some, None, refl, sym, subst, ◌∙◌, arith}
+use Rattle.std.specs.Prelude.{◌<◌, eqb, leb, ltb, if◌then◌else◌, slice_get}
 use Rattle.std.proofs.lemmas.Bool.{leb-true, ltb-true, eqb-true}
+use Rattle.sedre.specs.declared.types.Kind.{Kind}
 use Rattle.sedre.specs.declared.types.Kind.TheVariants.{Basic}
 use Rattle.sedscript.specs.Script.{Program}
 use Rattle.sedscript.proofs.ComputedScript.{Script}
@@ -10,12 +11,12 @@ use Rattle.sedengine.specs.Limits.{Limits}
 use Rattle.sedengine.specs.State.{State, Task, Move, Setting}
 use Rattle.sedengine.specs.Move.{move, after, start, to_sink}
 use Rattle.sedengine.specs.Run.{setting_of}
-use Rattle.sedengine.specs.Ends.{Fits, Within, HasTurn, IsCause, Cause, WholeOrCut, Whole, named_sink, takes_turn, line_at, reaches}
+use Rattle.sedengine.specs.Ends.{Fits, Within, HasTurn, IsCause, Cause, WholeOrCut, Whole, Cut, named_sink, takes_turn, line_at, reaches, reads}
 use Rattle.sedengine.specs.declared.ends.Ended.{Ended}
-use Rattle.sedengine.specs.declared.ends.Ended.TheVariants.{Done, PatternFull, HoldFull, QueueFull, TurnsSpent, NoPrevious}
+use Rattle.sedengine.specs.declared.ends.Ended.TheVariants.{Done, PatternFull, HoldFull, QueueFull, TurnsSpent, NoPrevious, InputBroken}
 use Rattle.sedengine.proofs.ComputedRun.{course, course_so, stays, after_first}
 
-both : (a b : Bool) → (a && b) ≡ true → (a ≡ true) × (b ≡ true)
+pub both : (a b : Bool) → (a && b) ≡ true → (a ≡ true) × (b ≡ true)
 both true b e = (refl, e)
 both false b e = absurd cc
 
@@ -101,7 +102,7 @@ no_move_so : (o : Option Move) → no_move o ≡ true → o ≡ None
 no_move_so None e = refl
 no_move_so (Some m) e = absurd cc
 
--- whether an end has its cause at this state: those of the script and of the limits on the engine
+-- whether an end that names no sink has its cause at this state
 abbrev pub is_cause : Limits → Setting → State → Ended → Bool
 is_cause l g s Done = no_tasks s.tasks
 is_cause l g s (PatternFull n) =
@@ -112,6 +113,7 @@ is_cause l g s (QueueFull n) =
     eqb n s.number && (has_turn l g s && leads (move g s) (λ m. ltb l.queue (length m.next.queue)))
 is_cause l g s TurnsSpent = eqb s.turns l.turns && takes_turn g s s.tasks
 is_cause l g s (NoPrevious n) = eqb n s.number && (has_turn l g s && (reaches s.tasks && no_move (move g s)))
+is_cause l g s InputBroken = reads g s.tasks
 is_cause l g s other = false
 
 -- what is so after the first t moves, where the end is none of a sink
@@ -138,6 +140,7 @@ cause_so l g s (NoPrevious n) e =
     let two = both _ _ one.1 in
     let three = both _ _ two.1 in
     (eqb-true _ _ one.0, has_turn_so l g s two.0, three.0, no_move_so (move g s) three.1)
+cause_so l g s InputBroken e = e
 cause_so l g s other e = absurd cc
 
 -- a run within limits comes to an end, and its sinks have gained these bytes
@@ -149,6 +152,11 @@ whole_or_cut : (l : Limits) (g : Setting) (s : State) (end : Ended) (out : List 
     IsWhole l g s out end t → WholeOrCut l g s (λ bytes. bytes ≡ out) end t o
 whole_or_cut l g s end out t None e h = h
 whole_or_cut l g s end out t (Some k) e h = absurd cc
+
+cut_there : (l : Limits) (g : Setting) (s : State) (end : Ended) (out : List (ℕ × ℕ)) (t k : ℕ) (o : Option ℕ) → o ≡ Some k →
+    Cut l g s (λ bytes. bytes ≡ out) k t → WholeOrCut l g s (λ bytes. bytes ≡ out) end t o
+cut_there l g s end out t k None e h = absurd cc
+cut_there l g s end out t k (Some j) e h = subst (λ (o : Option ℕ). WholeOrCut l g s (λ bytes. bytes ≡ out) end t o) (sym e) h
 
 pub stops_after : {l : Limits} {g : Setting} {s : State} {end : Ended} {out : List (ℕ × ℕ)} (n : ℕ) →
     (course g n s).writes ≡ out → is_cause l g (course g n s).last end ≡ true → all_fit l g n s ≡ true →
@@ -162,8 +170,31 @@ stops_after {l = l} {g = g} {s = s} {end = end} {out = out} n w c f sink = recor
   });
 }
 
--- The script of a text with basic expressions, over the lines of an input, with these files and within these limits, comes
--- to this end when it has written these bytes to the standard output.
+-- The same where a sink breaks or is full: in the move after so many, of whose bytes the next one is for this sink.
+pub stops_within : {l : Limits} {g : Setting} {s : State} {end : Ended} {out : List (ℕ × ℕ)} (n k byte : ℕ) →
+    leb (length (course g n s).writes) (length out) ≡ true →
+    slice_get (course g (suc n) s).writes (length out) ≡ Some (k, byte) →
+    take (length out) (course g (suc n) s).writes ≡ out → all_fit l g (suc n) s ≡ true →
+    named_sink end ≡ Some k → Stops l g s end out
+stops_within {l = l} {g = g} {s = s} {end = end} {out = out} n k byte past due w f sink = record {
+  moves = n;
+  cause = cut_there l g s end out n k (named_sink end) sink (record {
+    within = within_so l g (suc n) s f;
+    b = length out;
+    byte = byte;
+    past = subst (λ (bytes : List (ℕ × ℕ)). length bytes ≤ length out) (sym (course_so g n s).0) (leb-true _ _ past);
+    due = subst (λ (bytes : List (ℕ × ℕ)). slice_get bytes (length out) ≡ Some (k, byte)) (sym (course_so g (suc n) s).0) due;
+    sinks = subst (λ (bytes : List (ℕ × ℕ)). take (length out) bytes ≡ out) (sym (course_so g (suc n) s).0) w;
+  });
+}
+
+-- The script of a text, over the lines of an input, with these files and within these limits, comes to this end when it has
+-- written these bytes, each to its sink.
+abbrev pub StopsBy : Limits → Kind → (Program → Program) → (ℕ → List ℕ) → (text input : List ℕ) → Ended →
+    (out : List (ℕ × ℕ)) → Type 0
+StopsBy l kind asked files text input end out =
+    Script text kind (λ p. Stops l (setting_of (asked p) files) (start p.commands (lines input)) end out)
+
+-- the same, of a script with basic expressions, for the standard output alone
 abbrev pub EndsBy : Limits → (Program → Program) → (ℕ → List ℕ) → (text input : List ℕ) → Ended → (output : List ℕ) → Type 0
-EndsBy l asked files text input end output =
-    Script text Basic (λ p. Stops l (setting_of (asked p) files) (start p.commands (lines input)) end (to_sink 0 output))
+EndsBy l asked files text input end output = StopsBy l Basic asked files text input end (to_sink 0 output)

@@ -146,3 +146,12 @@ turns_spent_at_a_command = is_script (stops_after 7 refl refl refl refl)
 turns_enough : EndsBy (turns 4) plain no_files (codes "p") (codes "a\nb\n") Done (codes "a\na\nb\nb\n")
 unfolding verdict cutting walked item_at past function_at addresses_at address_at second_at text_from name_from lines course move selects all_fit
 turns_enough = is_script (stops_after 20 refl refl refl refl)
+
+-- A cycle and each opening brace take a turn, a closing brace takes none.
+blocks_within_turns : EndsBy (turns 4) plain no_files (codes "{{{}}}") (codes "a\n") Done (codes "a\n")
+unfolding verdict cutting walked item_at past function_at addresses_at address_at second_at text_from name_from lines course move selects all_fit
+blocks_within_turns = is_script (stops_after 20 refl refl refl refl)
+
+blocks_past_the_turns : EndsBy (turns 3) plain no_files (codes "{{{}}}") (codes "a\n") TurnsSpent (codes "")
+unfolding verdict cutting walked item_at past function_at addresses_at address_at second_at text_from name_from lines course move selects all_fit
+blocks_past_the_turns = is_script (stops_after 3 refl refl refl refl)

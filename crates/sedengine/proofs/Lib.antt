@@ -29,11 +29,12 @@ pub mod OccurrenceExamples
 pub mod ListingExamples
 pub mod ListingLines
 pub mod ListingTokens
-mod ComputedRun
-mod ComputedEnds
+pub mod ComputedRun
+pub mod ComputedEnds
 mod AddressRunExamples
 mod SubstitutionRunExamples
 mod SpaceRunExamples
 mod CaseRunExamples
 mod EndRunExamples
 mod TextRunExamples
+mod DeviceRunExamples

@@ -114,3 +114,7 @@ file_without_a_newline = is_script (ends_after 200 refl refl)
 hold_space_by_the_end : QuietlyWrites (codes "H;${x;s/\\n/,/g;p}") (codes "a\nb\n") (codes ",a,b\n")
 unfolding verdict cutting walked item_at past function_at addresses_at address_at second_at text_from name_from lines course move selects match_at substitute_at substituted delimiter_at outcome rest_of expression_item_at interval set_of tree_at tree_within list_at list_end found found_from longest greatest spans any copies report caps cut first_copy last_start occurrences_from
 hold_space_by_the_end = is_script (ends_after 200 refl refl)
+
+file_without_input : Writes (codes "w out") (codes "") (codes "")
+unfolding verdict cutting walked item_at past function_at addresses_at address_at second_at text_from name_from lines course move selects
+file_without_input = is_script (ends_after 200 refl refl)

@@ -21,7 +21,7 @@ use Rattle.sedspace.specs.Lines.{lines}
 use Rattle.sedengine.specs.Move.{move, to_sink}
 use Rattle.sedengine.specs.Select.{selects}
 use Rattle.sedengine.specs.Substitute.{occurrences_from}
-use Rattle.sedengine.proofs.ComputedRun.{course, ends_after, Writes, QuietlyWrites, Edits, plain, no_files}
+use Rattle.sedengine.proofs.ComputedRun.{course, ends_after, Writes, QuietlyWrites, Edits, plain, quiet, no_files}
 use Rattle.sedre.specs.declared.types.Kind.TheVariants.{Extended}
 
 second_occurrence : Writes (codes "s/b/[&]/2") (codes "abab\n") (codes "aba[b]\n")
@@ -111,3 +111,27 @@ star_after_an_anchor = is_script (ends_after 200 refl refl)
 newline_transliterated : Writes (codes "N;y/\\n/,/") (codes "1\n2\n") (codes "1,2\n")
 unfolding verdict cutting walked item_at past function_at addresses_at address_at second_at text_from name_from lines course move selects transliterate_at table_of
 newline_transliterated = is_script (ends_after 200 refl refl)
+
+group_that_the_expression_last_used_lacks : Writes (codes "/a/s//\\1/") (codes "aba\n") (codes "ba\n")
+unfolding verdict cutting walked item_at past function_at addresses_at address_at second_at text_from name_from lines course move selects match_at substitute_at substituted delimiter_at outcome rest_of expression_item_at interval set_of tree_at tree_within list_at list_end found found_from longest greatest spans any copies report caps cut first_copy last_start occurrences_from
+group_that_the_expression_last_used_lacks = is_script (ends_after 200 refl refl)
+
+-- The input of two files, `a` without a newline and `b`.
+end_of_the_last_line : Writes (codes "$s/$/!/") (codes "a\nb\n") (codes "a\nb!\n")
+unfolding verdict cutting walked item_at past function_at addresses_at address_at second_at text_from name_from lines course move selects match_at substitute_at substituted delimiter_at outcome rest_of expression_item_at interval set_of tree_at tree_within list_at list_end found found_from longest greatest spans any copies report caps cut first_copy last_start occurrences_from
+end_of_the_last_line = is_script (ends_after 200 refl refl)
+
+-- Extended.
+commas_by_a_loop : Edits Extended plain no_files (codes ":a;s/^([0-9]+)([0-9]{3})/\\1,\\2/;ta") (codes "1234567\n") (to_sink 0 (codes "1,234,567\n"))
+unfolding verdict cutting walked item_at past function_at addresses_at address_at second_at text_from name_from lines course move selects match_at substitute_at substituted delimiter_at outcome rest_of expression_item_at interval set_of tree_at tree_within list_at list_end found found_from longest greatest spans any copies report caps cut first_copy last_start occurrences_from
+commas_by_a_loop = is_script (ends_after 200 refl refl)
+
+-- Extended. The empty expression is the one of the address, which has no match in the second line.
+nested_stars_last_used : Edits Extended plain no_files (codes "/((a*)*)*b/d;s//x/") (codes "aab\naa\n") (to_sink 0 (codes "aa\n"))
+unfolding verdict cutting walked item_at past function_at addresses_at address_at second_at text_from name_from lines course move selects match_at substitute_at substituted delimiter_at outcome rest_of expression_item_at interval set_of tree_at tree_within list_at list_end found found_from longest greatest spans any copies report caps cut first_copy last_start occurrences_from
+nested_stars_last_used = is_script (ends_after 200 refl refl)
+
+-- Extended, and with -n.
+quiet_and_extended : Edits Extended quiet no_files (codes "s/(a)+/x/p") (codes "aa\n") (to_sink 0 (codes "x\n"))
+unfolding verdict cutting walked item_at past function_at addresses_at address_at second_at text_from name_from lines course move selects match_at substitute_at substituted delimiter_at outcome rest_of expression_item_at interval set_of tree_at tree_within list_at list_end found found_from longest greatest spans any copies report caps cut first_copy last_start occurrences_from
+quiet_and_extended = is_script (ends_after 200 refl refl)

@@ -1,6 +1,6 @@
 -- Examples of whole runs, computed by the definitions, from the bytes of a script and of its input: the functions `c`, `i`
 -- and `l` (XCU sed, "Editing Commands in sed").
-use Rattle.std.proofs.Common.{refl}
+use Rattle.std.proofs.Common.{◌∷◌, [], ◌++◌, refl}
 use Rattle.std.specs.Prelude.{codes}
 use Rattle.sedscript.proofs.ComputedScript.{verdict, cutting, walked, is_script}
 use Rattle.sedscript.specs.Addresses.{address_at, second_at, addresses_at}
@@ -41,3 +41,8 @@ listing_in_one_piece = is_script (ends_after 200 refl refl)
 listing_with_an_item_uncut : QuietlyWrites (codes "l") (codes "aaaaaaaaaaaaaaaaaaaaaaaaaaaaaaaaaaaaaaaaaaaaaaaaaaaaaaaaaaaaaaaaaaaa\t\n") (codes "aaaaaaaaaaaaaaaaaaaaaaaaaaaaaaaaaaaaaaaaaaaaaaaaaaaaaaaaaaaaaaaaaaaa\\\n\\t$\n")
 unfolding verdict cutting walked item_at past function_at addresses_at address_at second_at text_from name_from lines course move selects listed
 listing_with_an_item_uncut = is_script (ends_after 200 refl refl)
+
+-- With -n: a tab and the byte 200.
+listing_of_octal_digits : QuietlyWrites (codes "l") (codes "\t" ++ 200 ∷ 10 ∷ []) (codes "\\t\\310$\n")
+unfolding verdict cutting walked item_at past function_at addresses_at address_at second_at text_from name_from lines course move selects listed
+listing_of_octal_digits = is_script (ends_after 200 refl refl)

@@ -135,10 +135,40 @@ all_of_many n some = record {
   reports = up_to_b n some;
 }
 
--- Forty of them.
+-- A b alone is found behind them, however many they are.
+
+b_reads : ReadsAs Extended false None (codes "b") b 0
+unfolding outcome rest_of item_at
+b_reads = reads_as refl
+
+not_before : (n h k : ℕ) → h < n → Spans b (with_b n) h k → ⊥
+unfolding set_of
+not_before n h k before s =
+    let there : s.0 ≡ 97 = sym (get_or_from_slice_get (with_b n) h s.0 0 s.1) ∙ get_or_from_slice_get (with_b n) h 97 0 (each_a n h before) in
+    let within : false ≡ true = subst (λ v. IsIn v (only 98)) there s.2 in
+    absurd cc
+
+b_behind_many : (n : ℕ) → Finds Extended (codes "b") (with_b n) 0 (n, n + 1) []
+b_behind_many n = record {
+  tree = b;
+  count = 0;
+  reads_so = b_reads;
+  is_found = record {
+    after = omega arith;
+    spans = b_spans n;
+    longest = λ k s. ends_within n n k s;
+    leftmost = λ h k from before s. not_before n h k before s;
+  };
+  reports = (no_groups, refl, refl);
+}
+
+-- Forty of them, and a thousand.
 
 nothing_in_forty : FindsNothing Extended (codes "(a*)*b") (replicate 40 97) 0
 nothing_in_forty = nothing_in_many 40 0
 
 all_of_forty : Finds Extended (codes "(a*)*b") (replicate 40 97 ++ 98 ∷ []) 0 (0, 41) (Some (0, 40) ∷ [])
 all_of_forty = all_of_many 40 (omega arith)
+
+b_behind_a_thousand : Finds Extended (codes "b") (replicate 1000 97 ++ 98 ∷ []) 0 (1000, 1001) []
+b_behind_a_thousand = b_behind_many 1000

@@ -2,7 +2,7 @@
 use Rattle.std.proofs.Common.{◌∷◌, [], Some, None, refl}
 use Rattle.std.specs.Prelude.{codes}
 use Rattle.sedre.specs.declared.types.Kind.TheVariants.{Extended}
-use Rattle.sedmatch.proofs.ComputedSearch.{Finds, search, finds}
+use Rattle.sedmatch.proofs.ComputedSearch.{Finds, FindsNothing, search, finds, finds_nothing}
 
 -- A group in a repetition reports its last copy, and an empty one only where there is no other (this project's own).
 
@@ -51,3 +51,37 @@ copies_within_one_copy = finds refl
 other_alternative : Finds Extended (codes "(a)|(b)") (codes "b") 0 (0, 1) (None ∷ Some (0, 1) ∷ [])
 unfolding search
 other_alternative = finds refl
+
+-- An empty copy forgets the groups within, as any other does (this project's own).
+
+empty_copy_forgets : Finds Extended (codes "(a)**{2}") (codes "a") 0 (0, 1) (None ∷ [])
+unfolding search
+empty_copy_forgets = finds refl
+
+-- The second copy, where it must stand, is empty; one that may stand isn't taken.
+
+second_of_two_copies : Finds Extended (codes "(a*){2}") (codes "a") 0 (0, 1) (Some (1, 1) ∷ [])
+unfolding search
+second_of_two_copies = finds refl
+
+second_of_two_copies_at_least : Finds Extended (codes "(a*){2,}") (codes "a") 0 (0, 1) (Some (1, 1) ∷ [])
+unfolding search
+second_of_two_copies_at_least = finds refl
+
+one_of_one_to_two_copies : Finds Extended (codes "(a*){1,2}") (codes "a") 0 (0, 1) (Some (0, 1) ∷ [])
+unfolding search
+one_of_one_to_two_copies = finds refl
+
+one_of_zero_to_two_copies : Finds Extended (codes "(a*){0,2}") (codes "a") 0 (0, 1) (Some (0, 1) ∷ [])
+unfolding search
+one_of_zero_to_two_copies = finds refl
+
+-- Stars in stars.
+
+stars_in_stars : Finds Extended (codes "((a*)*)*b") (codes "aaab") 0 (0, 4) (Some (0, 3) ∷ Some (0, 3) ∷ [])
+unfolding search
+stars_in_stars = finds refl
+
+stars_in_stars_without_their_end : FindsNothing Extended (codes "((a*)*)*b") (codes "aaa") 0
+unfolding search
+stars_in_stars_without_their_end = finds_nothing refl

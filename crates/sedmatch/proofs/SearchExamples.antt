@@ -14,6 +14,10 @@ leftmost_before_longest : Finds Extended (codes "b*") (codes "abb") 0 (0, 0) []
 unfolding search
 leftmost_before_longest = finds refl
 
+no_copy_before_a_later_one : Finds Extended (codes "b*") (codes "ab") 0 (0, 0) []
+unfolding search
+no_copy_before_a_later_one = finds refl
+
 -- No copies match at once, wherever the search begins, also at the end.
 
 no_copies_at_the_beginning : Finds Extended (codes "x*") (codes "abc") 0 (0, 0) []

@@ -34,3 +34,5 @@ mod HostileExamples
 mod ListExamples
 mod ClassExamples
 mod FoldedExamples
+mod MemoryFaultExamples
+mod ManyGroupsExamples

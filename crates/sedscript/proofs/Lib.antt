@@ -20,3 +20,5 @@ mod SubstitutionFaultExamples
 mod ScriptExamples
 mod TextExamples
 mod ScriptWords
+mod ManyBracesExamples
+mod MemoryFaultExamples
