@@ -44,11 +44,13 @@ fn run(alloc: Global, text: &[u8], input: &[u8]) -> Result<(Vec<u8>, Option<Ende
         Ok(_) => bail!("it writes files"),
         Err(fault) => bail!("byte {}: {}", fault.place, fault.reason.name()),
     };
-    let mut engine = Engine::open(alloc, script, limits)?;
     let mut lines = Lines::new(alloc, FromReader::new(input), limits.look())?;
+    let mut engine = Engine::open(alloc, script, limits)?;
     let mut output = ToWriter::new(Vec::new(alloc));
     let mut texts = MemoryTexts::new(Vec::new(alloc));
     let end = first_cycles(&mut engine, &mut lines, &mut output, &mut texts);
+    // by a call: an engine that is let go of where it stands is proved field by field, each time
+    drop(engine);
     Ok((output.into_writer(), end))
 }
 

@@ -178,16 +178,17 @@ impl Job {
         ensure!(nodes <= MAX_NODES, "EXPRESSION has too many nodes");
         let mut scratch = Scratch::new(alloc, self.size, MAX_NODES)?;
         let mut tables = TableMatcher::new(alloc, &self.expr)?;
-        Ok(
-            self.call.rounds(
-                self.rounds,
-                &self.expr,
-                &mut tables,
-                text,
-                self.size,
-                &mut scratch,
-            ),
-        )
+        let hits = self.call.rounds(
+            self.rounds,
+            &self.expr,
+            &mut tables,
+            text,
+            self.size,
+            &mut scratch,
+        );
+        // by a call: what is let go of where it stands is proved field by field
+        drop(tables);
+        Ok(hits)
     }
 }
 

@@ -54,6 +54,8 @@ fn compare_table(
     let is_one = is_by(&mut matcher, text, from, scratch);
     // with the states that the calls before left
     let found = found_by(&mut matcher, text, from, scratch);
+    // by a call, since letting it go at the end would be proved here field by field
+    drop(matcher);
     if !is_same(&found, span, is_one) {
         report.tell_number(
             "find, find_span and is_match don't agree, states",

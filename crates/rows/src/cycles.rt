@@ -82,6 +82,7 @@ fn run_over(alloc: Global, row: &Row, source: MemorySource, report: &mut Report)
         u128::from(lines.source().calls()),
         report,
     );
+    drop(engine);
 }
 
 /// Runs a cycle, and then the rest.

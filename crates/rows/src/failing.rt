@@ -114,6 +114,7 @@ fn run_failing(alloc: Global, row: &Row, failing: &Row, report: &mut Report) -> 
     if !stays_at(&mut engine, &mut lines, &mut outputs, &mut texts, end) {
         report.tell("the engine goes on after its end");
     }
+    drop(engine);
     if all_writes(&outputs) != writes {
         report.tell("a sink is written after the end");
     }

@@ -312,6 +312,7 @@ fn run_engine(alloc: Global, row: &Row, report: &mut Report) {
     if !stays_at(&mut engine, &mut lines, &mut outputs, &mut texts, end) {
         report.tell("the engine goes on after its end");
     }
+    drop(engine);
     compare_run(alloc, row, Some(end), &outputs, report);
 }
 
