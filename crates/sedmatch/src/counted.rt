@@ -128,10 +128,10 @@ impl<'a> Text<'a> {
         ensures cost { Takes steps.old steps.new (passed_to (length self.now) from (length finder.now) result) }
         ensures counts { Counted steps.old steps.new (passed_to (length self.now) from (length finder.now) result) }
     {
-        let rest = &self.bytes[from..];
-        match finder.find(rest) {
+        let after = &self.bytes[from..];
+        match finder.find(after) {
             None => {
-                steps.add(rest.len());
+                steps.add(after.len());
                 None
             }
             Some(k) => {
@@ -192,10 +192,10 @@ impl<'a> Text<'a> {
         ensures cost { Takes steps.old steps.new (looked_at (length self.now) from result) }
         ensures counts { Counted steps.old steps.new (looked_at (length self.now) from result) }
     {
-        let rest = &self.bytes[from..];
-        match few.find(rest) {
+        let after = &self.bytes[from..];
+        match few.find(after) {
             None => {
-                steps.add(rest.len());
+                steps.add(after.len());
                 None
             }
             Some(place) => {

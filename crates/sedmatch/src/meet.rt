@@ -405,7 +405,7 @@ fn next_begin(text: &Text, begins: &Marks, from: usize, steps: &mut Steps) -> Op
 pub fn is_null_at(span: Option<(usize, usize)>, at: usize) -> bool
     ensures passed { (other : Option (ℕ × ℕ)) → unless_null_at at span other ≡ if result then other else span }
     ensures null { IsTrue result → span ≡ Some (at, at) }
-    ensures back_pass { result ≡ false → IfSome span (λ f. at ≤ f.0 → f.0 ≤ f.1 → at < f.1) }
+    ensures after { result ≡ false → IfSome span (λ f. at ≤ f.0 → f.0 ≤ f.1 → at < f.1) }
 {
     match span {
         None => false,

@@ -5,7 +5,7 @@ use Rattle.sedmatch.proofs.meet.next_after.Goals as goal
 
 pub returns-then-not-is_null_at-clause-lies : goal.returns-then-not-is_null_at-clause-lies
 returns-then-not-is_null_at-clause-lies c =
-    lies_behind c.args.at (length c.args.text.now) c.next_met-first.result c.next_met-first.ensures.lies (c.is_null_at.ensures.back_pass c.if-not-is_null_at.true)
+    lies_behind c.args.at (length c.args.text.now) c.next_met-first.result c.next_met-first.ensures.lies (c.is_null_at.ensures.after c.if-not-is_null_at.true)
 
 pub next_met-requires-clause-fits : goal.next_met-requires-clause-fits
 next_met-requires-clause-fits c = (
