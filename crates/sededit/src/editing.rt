@@ -85,5 +85,6 @@ pub fn edit<R: ByteSource, O: Outputs, T: Texts>(
     let mut lines = Lines::over(&mut *source, room);
     let ended = engine.run(&mut lines, outputs, texts);
     let _source = lines.into_source();
+    drop(engine);
     Ok(ended)
 }

@@ -295,15 +295,16 @@ impl TableMatcher {
         ensures { IfOk result (λ m. m ≡ expr.now) }
     {
         let root = expr.root().index();
+        let copy = expr.copy(alloc)?;
         let mut steps = Steps::new();
         let sight = sight_of(alloc, expr, &mut steps)?;
         let seen = sight.is_some();
         let known = find_known(alloc, expr, seen, &mut steps)?;
-        // Tables that no search comes to have no states.
+        // Tables that no search comes to have no states. They are made last: no request follows that could fail.
         let states = if seen { 0 } else { states };
         let tables = new_tables(alloc, expr, root, states)?;
         Ok(TableMatcher {
-            expr: expr.copy(alloc)?,
+            expr: copy,
             root,
             known,
             sight,
