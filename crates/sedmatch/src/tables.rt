@@ -350,6 +350,8 @@ fn fill_cell(expr: &Nodes, root: usize, table: &mut Table, state: usize, byte: u
 }
 
 /// Finds out what comes after a state and a byte, and fills the cell.
+// Seldom called: apart from it, [`go`] is short enough to stand in the loops.
+#[inline(never)]
 fn fill(
     expr: &Nodes,
     root: usize,
@@ -390,6 +392,7 @@ fn fill(
 }
 
 /// What comes after a state and a byte, after so many bytes that were passed by filled cells.
+#[inline(always)]
 pub fn go(
     expr: &Nodes,
     root: usize,
@@ -420,6 +423,7 @@ pub fn go(
 }
 
 /// Finds out in which state a search begins, and notes it.
+#[inline(never)]
 fn find_first(
     expr: &Nodes,
     root: usize,
