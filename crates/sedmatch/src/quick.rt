@@ -1,11 +1,11 @@
 //! Searches by a table.
-ghost use Rattle.std.specs.Prelude.{IfOk, IfSome, IfNone, true, false, is_some, ◌≡◌, ◌+◌, ◌*◌, ◌^◌, ◌<◌, ◌≤◌, ◌↔◌, length, IsTrue};
+ghost use Rattle.std.specs.Prelude.{IfOk, IfSome, IfNone, true, false, is_some, ◌≡◌, ◌+◌, ◌-◌, ◌*◌, ◌/◌, ◌^◌, ◌<◌, ◌≤◌, ◌↔◌, length, IsTrue};
 ghost use Rattle.sedre.specs.Arena.{tree};
 ghost use Rattle.sedmatch.specs.Fits.{Fits, SameMarks};
 ghost use Rattle.sedmatch.specs.Spans.{SomeFound};
-ghost use Rattle.sedmatch.specs.Tables.{IsSingle, IsSweep};
+ghost use Rattle.sedmatch.specs.Tables.{IsSingle, IsSweep, IsTable, StateAt, ends_of};
 ghost use Rattle.sedmatch.specs.Places.{InOrder};
-ghost use Rattle.sedmatch.specs.Reach.{Longest, LongestBelow};
+ghost use Rattle.sedmatch.specs.Reach.{Longest, LongestBelow, one_start};
 ghost use Rattle.sedmatch.specs.Answer.{IsComputed, MatchAnswer, SpanAnswer};
 ghost use Rattle.sedmatch.specs.Matching.{found};
 ghost use Rattle.sedmatch.specs.Ready.{AreTables, IsKnown, IsPrepared};
@@ -26,8 +26,8 @@ use crate::ready::{Known, Tables, find_known, new_tables};
 use crate::scratch::{Scratch, Sets};
 use crate::search::{better, longest_on};
 use crate::sight::{Sight, sight_find, sight_matches, sight_of, sight_span};
-use crate::states::ends_at;
-use crate::tables::{Next, Table, first_state, follow_past, go, stay};
+use crate::states::{Ends, ends_at};
+use crate::tables::{Next, PLAIN, Table, first_state, go, state_at};
 use sedre::{Expr, Nodes, Steps};
 use std::alloc::{AllocError, Global};
 use std::marker::Model;
@@ -113,6 +113,135 @@ fn some_anywhere(
     }
 }
 
+/// What stands for the ends of a state before one is looked at.
+const NO_ENDS: Ends = Ends {
+    inner: false,
+    last: false,
+    goes: false,
+};
+
+/// Where a pass from one start came to by filled cells.
+#[derive(Clone, Copy)]
+pub struct Passed {
+    /// The state.
+    pub state: usize,
+    /// The place.
+    pub place: usize,
+    /// The end of the longest match so far.
+    pub best: Option<usize>,
+    /// Whether no match ends later.
+    pub over: bool,
+}
+
+/// The place at which such a pass stops, whose looks were counted apart.
+fn passed_at(
+    table: &Table,
+    code: usize,
+    place: usize,
+    best: Option<usize>,
+    over: bool,
+    own: &Steps,
+    steps: &mut Steps,
+) -> Passed
+    requires columns { 0 < table.now.columns }
+    requires code { 32768 ≤ code }
+    requires own { own.now ≤ 2 ^ 32 }
+    requires room { steps.old < 2 ^ 118 }
+    ensures state { result.state ≡ (code - 32768) / table.now.columns }
+    ensures place { result.place ≡ place }
+    ensures best { result.best ≡ best }
+    ensures over { result.over ≡ over }
+    ensures cost { steps.new ≡ steps.old + own.now }
+{
+    let count = own.count();
+    steps.add(count as usize);
+    Passed {
+        state: state_at(table, code - PLAIN as usize),
+        place,
+        best,
+        over,
+    }
+}
+
+/// What is told of the state to which a cell leads, where another cell and what it leads to were looked at before.
+fn ends_by(expr: &Nodes, root: usize, table: &Table, cell: u16, seen: u16, before: Ends) -> Ends
+    requires table { IsTable expr.now.nodes root table.now }
+    requires cell { 0 < cell }
+    requires there { (cell - 1) / table.now.columns < table.now.count }
+    requires seen { 0 < seen → ends_of table.now.ends.items ((seen - 1) / table.now.columns) ≡ before }
+    ensures ends { ends_of table.now.ends.items ((cell - 1) / table.now.columns) ≡ result }
+{
+    if cell == seen {
+        return before;
+    }
+    table.ends[state_at(table, (cell - 1) as usize)]
+}
+
+/// Follows filled cells from a place on, and notes the last place after it at which a match ends: to the place `stop`,
+/// or to one before it at which no match ends later, or where the byte's cell isn't filled.
+fn follow_best(
+    expr: &Nodes,
+    root: usize,
+    table: &Table,
+    text: &Bytes,
+    start: usize,
+    state: usize,
+    from: usize,
+    stop: usize,
+    before: Option<usize>,
+    steps: &mut Steps,
+) -> Passed
+    requires root { root + 1 ≡ length expr.now.nodes }
+    requires table { IsSingle expr.now.nodes root table.now }
+    requires state { state < table.now.count }
+    requires after { start ≤ from }
+    requires order { from < stop }
+    requires within { stop ≤ length text.now }
+    requires short { length text.now ≤ 2 ^ 30 }
+    requires at { StateAt expr.now.nodes text.now root (one_start start) from table.now state }
+    requires best { LongestBelow (tree expr.now) text.now start (from + 1) before }
+    requires lies { IfSome before (λ end. (start ≤ end) × (end ≤ stop)) }
+    requires room { steps.old < 2 ^ 118 }
+    ensures state { result.state < table.now.count }
+    ensures after { from ≤ result.place }
+    ensures within { result.place ≤ stop }
+    ensures at { StateAt expr.now.nodes text.now root (one_start start) result.place table.now result.state }
+    ensures best { LongestBelow (tree expr.now) text.now start result.place result.best }
+    ensures more { result.place < stop → LongestBelow (tree expr.now) text.now start (result.place + 1) result.best }
+    ensures over { IsTrue result.over → LongestBelow (tree expr.now) text.now start (stop + 1) result.best }
+    ensures lies { IfSome result.best (λ end. (start ≤ end) × (end ≤ stop)) }
+    ensures grows { steps.old ≤ steps.new }
+    ensures cost { steps.new + 2 * from ≤ steps.old + 2 * result.place + 2 }
+{
+    let mut own = Steps::new();
+    // The code in place of the state: so the number below is taken off by the address alone.
+    let mut code = PLAIN as usize + table.columns * state;
+    let mut best = before;
+    let mut seen = 0;
+    let mut ends = NO_ENDS;
+    for place in from..stop {
+        let class = table.classes[text.byte(place, &mut own) as usize] as usize;
+        let cell = table.cells[code + class - PLAIN as usize];
+        own.add(1);
+        if cell >= PLAIN {
+            code = cell as usize;
+        } else if cell == 0 {
+            return passed_at(table, code, place, best, false, &own, steps);
+        } else {
+            ends = ends_by(expr, root, table, cell, seen, ends);
+            seen = cell;
+            code = PLAIN as usize + (cell - 1) as usize;
+            if place + 1 < stop {
+                best = better(best, place + 1, ends.inner);
+                if !ends.goes {
+                    return passed_at(table, code, place + 1, best, true, &own, steps);
+                }
+            }
+        }
+    }
+    passed_at(table, code, stop, best, false, &own, steps)
+}
+
 /// The end of the longest match that begins at `start` and ends at `stop` or before, by a table in which no place after
 /// the start is one.
 pub fn longest_to(
@@ -158,22 +287,21 @@ pub fn longest_to(
                 if !ends.goes {
                     return best;
                 }
-                let inner = ends.inner;
-                let run = stay(expr, root, table, text, state, inner, place, stop, steps);
-                if run > place {
-                    best = Some(run - 1);
-                    place = run;
-                } else {
-                    let to = follow_past(expr, root, table, text, state, inner, place, stop, steps);
-                    if to.place >= stop {
-                        let there = ends_at(to.place, text.len(), table.ends[to.state]);
-                        return better(best, to.place, there);
-                    }
-                    let byte = text.byte(to.place, steps);
-                    let passed = to.place - place;
-                    next = go(expr, root, table, to.state, byte, passed, sets, steps);
-                    place = to.place + 1;
+                let to = follow_best(
+                    expr, root, table, text, start, state, place, stop, best, steps,
+                );
+                best = to.best;
+                if to.over {
+                    return best;
                 }
+                if to.place >= stop {
+                    let there = ends_at(to.place, text.len(), table.ends[to.state]);
+                    return better(best, to.place, there);
+                }
+                let byte = text.byte(to.place, steps);
+                let passed = to.place - place;
+                next = go(expr, root, table, to.state, byte, passed, sets, steps);
+                place = to.place + 1;
             }
         }
     }

@@ -19,7 +19,7 @@ use sedre::{Nodes, Steps};
 use std::alloc::{AllocError, Global};
 
 /// The least code of a state at which a search doesn't stop.
-const PLAIN: u16 = 32768;
+pub const PLAIN: u16 = 32768;
 
 /// How many slots of the index there are for each state, so that few digests share one.
 const SLOTS: usize = 4;
@@ -290,7 +290,7 @@ fn inverse_of(columns: usize) -> usize {
 }
 
 /// The state whose cells begin at this place. What the multiplication gives is tested, since it isn't always exact.
-fn state_at(table: &Table, offset: usize) -> usize
+pub fn state_at(table: &Table, offset: usize) -> usize
     requires columns { 0 < table.now.columns }
     ensures state { result ≡ offset / table.now.columns }
 {
