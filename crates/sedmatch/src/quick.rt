@@ -27,7 +27,7 @@ use crate::scratch::{Scratch, Sets};
 use crate::search::{better, longest_on};
 use crate::sight::{Sight, sight_find, sight_matches, sight_of, sight_span};
 use crate::states::{Ends, ends_at};
-use crate::tables::{Next, PLAIN, Table, first_state, go, state_at};
+use crate::tables::{Next, PLAIN, Table, first_state, follow_to, go, state_at};
 use sedre::{Expr, Nodes, Steps};
 use std::alloc::{AllocError, Global};
 use std::marker::Model;
@@ -179,7 +179,9 @@ fn ends_by(expr: &Nodes, root: usize, table: &Table, cell: u16, seen: u16, befor
 
 /// Follows filled cells from a place on, and notes the last place after it at which a match ends: to the place `stop`,
 /// or to one before it at which no match ends later, or where the byte's cell isn't filled.
-fn follow_best(
+// A function of its own: the passes that need none of it are short loops.
+#[inline(never)]
+fn follow_noting(
     expr: &Nodes,
     root: usize,
     table: &Table,
@@ -242,6 +244,57 @@ fn follow_best(
     passed_at(table, code, stop, best, false, &own, steps)
 }
 
+/// The same where it is known whether a match ends at the first place: mostly none does, and then the cells up to the next
+/// such place are followed faster.
+fn follow_best(
+    expr: &Nodes,
+    root: usize,
+    table: &Table,
+    text: &Bytes,
+    start: usize,
+    state: usize,
+    inner: bool,
+    from: usize,
+    stop: usize,
+    before: Option<usize>,
+    steps: &mut Steps,
+) -> Passed
+    requires root { root + 1 ≡ length expr.now.nodes }
+    requires table { IsSingle expr.now.nodes root table.now }
+    requires state { state < table.now.count }
+    requires after { start ≤ from }
+    requires order { from < stop }
+    requires within { stop ≤ length text.now }
+    requires short { length text.now ≤ 2 ^ 30 }
+    requires at { StateAt expr.now.nodes text.now root (one_start start) from table.now state }
+    requires best { LongestBelow (tree expr.now) text.now start (from + 1) before }
+    requires lies { IfSome before (λ end. (start ≤ end) × (end ≤ stop)) }
+    requires room { steps.old < 2 ^ 118 }
+    ensures state { result.state < table.now.count }
+    ensures after { from ≤ result.place }
+    ensures within { result.place ≤ stop }
+    ensures at { StateAt expr.now.nodes text.now root (one_start start) result.place table.now result.state }
+    ensures best { LongestBelow (tree expr.now) text.now start result.place result.best }
+    ensures more { result.place < stop → LongestBelow (tree expr.now) text.now start (result.place + 1) result.best }
+    ensures over { IsTrue result.over → LongestBelow (tree expr.now) text.now start (stop + 1) result.best }
+    ensures lies { IfSome result.best (λ end. (start ≤ end) × (end ≤ stop)) }
+    ensures grows { steps.old ≤ steps.new }
+    ensures cost { steps.new + 2 * from ≤ steps.old + 2 * result.place + 2 }
+{
+    if inner {
+        return follow_noting(
+            expr, root, table, text, start, state, from, stop, before, steps,
+        );
+    }
+    let to = follow_to(expr, root, table, text, state, from, stop, steps);
+    Passed {
+        state: to.state,
+        place: to.place,
+        best: before,
+        over: false,
+    }
+}
+
 /// The end of the longest match that begins at `start` and ends at `stop` or before, by a table in which no place after
 /// the start is one.
 pub fn longest_to(
@@ -287,8 +340,9 @@ pub fn longest_to(
                 if !ends.goes {
                     return best;
                 }
+                let inner = ends.inner;
                 let to = follow_best(
-                    expr, root, table, text, start, state, place, stop, best, steps,
+                    expr, root, table, text, start, state, inner, place, stop, best, steps,
                 );
                 best = to.best;
                 if to.over {

@@ -1,4 +1,4 @@
-use Rattle.std.proofs.Common.{◌≡◌, ◌+◌, ◌-◌, ◌*◌, ◌≤◌, ◌∙◌, false, length, refl, sym, subst, true≢false, arith, rules}
+use Rattle.std.proofs.Common.{◌≡◌, ◌+◌, ◌*◌, ◌≤◌, ◌∙◌, false, length, refl, sym, subst, true≢false, arith, rules}
 use Rattle.std.specs.Prelude.{eqb}
 use Rattle.std.proofs.lemmas.Bool.{eqb-true, eq-eqb, not-true}
 use Rattle.sedre.specs.Arena.{tree}
@@ -9,8 +9,8 @@ use Rattle.sedmatch.specs.Tables.{NextIs, LeadsFrom, IsFirst}
 use Rattle.sedmatch.specs.Words.{row_of}
 use Rattle.sedmatch.proofs.SearchLemmas.{LongestBelow-none}
 use Rattle.sedmatch.proofs.TableLemmas.{default_same}
-use Rattle.sedmatch.proofs.LongestLemmas.{one_are, one_span, pass_best, closed, none_passed, longest_last}
-use Rattle.sedmatch.proofs.QuickLemmas.{next_map, look_most}
+use Rattle.sedmatch.proofs.LongestLemmas.{one_span, pass_best, closed}
+use Rattle.sedmatch.proofs.QuickLemmas.{next_map}
 use Rattle.sedmatch.proofs.LinearLemmas.{line_step, line_end}
 use Rattle.sedmatch.proofs.quick.longest_to.Goals as goal
 

@@ -2,7 +2,7 @@ use Rattle.std.proofs.Common.{◌≡◌, ◌+◌, ◌-◌, ◌*◌, ◌/◌, ◌
 use Rattle.sedre.specs.Arena.{tree}
 use Rattle.sedmatch.specs.Reach.{one_start, LongestBelow}
 use Rattle.sedmatch.specs.Tables.{StateAt, ends_of}
-use Rattle.sedmatch.proofs.quick.follow_best.Given as goal
+use Rattle.sedmatch.proofs.quick.follow_noting.Given as goal
 
 abbrev pub invariant-loop-place : goal.invariant-loop-place
 invariant-loop-place l = record {
