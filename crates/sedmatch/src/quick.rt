@@ -27,7 +27,7 @@ use crate::scratch::{Scratch, Sets};
 use crate::search::{better, longest_on};
 use crate::sight::{Sight, sight_find, sight_matches, sight_of, sight_span};
 use crate::states::{Ends, ends_at};
-use crate::tables::{Next, PLAIN, Table, first_state, follow_to, go, state_at};
+use crate::tables::{Next, PLAIN, Table, first_state, follow_to, go, state_at, stay_on};
 use sedre::{Expr, Nodes, Steps};
 use std::alloc::{AllocError, Global};
 use std::marker::Model;
@@ -177,6 +177,68 @@ fn ends_by(expr: &Nodes, root: usize, table: &Table, cell: u16, seen: u16, befor
     table.ends[state_at(table, (cell - 1) as usize)]
 }
 
+/// Whether a cell isn't filled, or leads back to the state with this code, so that another loop is faster.
+fn is_left_out(cell: u16, code: usize) -> bool
+    requires code { code ≤ 65536 }
+    ensures filled { result ≡ false → 0 < cell }
+{
+    if cell == 0 {
+        return true;
+    }
+    PLAIN as usize + cell as usize == code + 1
+}
+
+/// Whether a byte led back to the state.
+fn leads_back(next: &Next, state: usize) -> bool {
+    match next {
+        Next::To(to) => *to == state,
+        Next::Full(_) => false,
+    }
+}
+
+/// Goes on from a place as long as a filled cell leads from the state to itself, at which a match ends, and notes the
+/// last place.
+fn stay_best(
+    expr: &Nodes,
+    root: usize,
+    table: &Table,
+    text: &Bytes,
+    start: usize,
+    state: usize,
+    from: usize,
+    stop: usize,
+    steps: &mut Steps,
+) -> Passed
+    requires root { root + 1 ≡ length expr.now.nodes }
+    requires table { IsSingle expr.now.nodes root table.now }
+    requires state { state < table.now.count }
+    requires after { start ≤ from }
+    requires order { from < stop }
+    requires within { stop ≤ length text.now }
+    requires short { length text.now ≤ 2 ^ 30 }
+    requires at { StateAt expr.now.nodes text.now root (one_start start) from table.now state }
+    requires inner { IsTrue (ends_of table.now.ends.items state).inner }
+    requires room { steps.old < 2 ^ 118 }
+    ensures state { result.state < table.now.count }
+    ensures after { from ≤ result.place }
+    ensures within { result.place ≤ stop }
+    ensures at { StateAt expr.now.nodes text.now root (one_start start) result.place table.now result.state }
+    ensures best { LongestBelow (tree expr.now) text.now start result.place result.best }
+    ensures more { result.place < stop → LongestBelow (tree expr.now) text.now start (result.place + 1) result.best }
+    ensures over { IsTrue result.over → LongestBelow (tree expr.now) text.now start (stop + 1) result.best }
+    ensures lies { IfSome result.best (λ end. (start ≤ end) × (end ≤ stop)) }
+    ensures grows { steps.old ≤ steps.new }
+    ensures cost { steps.new + 2 * from ≤ steps.old + 2 * result.place + 2 }
+{
+    let run = stay_on(expr, root, table, text, state, from, stop, steps);
+    Passed {
+        state,
+        place: run,
+        best: Some(run.min(stop - 1)),
+        over: false,
+    }
+}
+
 /// Follows filled cells from a place on, and notes the last place after it at which a match ends: to the place `stop`,
 /// or to one before it at which no match ends later, or where the byte's cell isn't filled.
 // A function of its own: the passes that need none of it are short loops.
@@ -227,7 +289,7 @@ fn follow_noting(
         own.add(1);
         if cell >= PLAIN {
             code = cell as usize;
-        } else if cell == 0 {
+        } else if is_left_out(cell, code) {
             return passed_at(table, code, place, best, false, &own, steps);
         } else {
             ends = ends_by(expr, root, table, cell, seen, ends);
@@ -244,8 +306,8 @@ fn follow_noting(
     passed_at(table, code, stop, best, false, &own, steps)
 }
 
-/// The same where it is known whether a match ends at the first place: mostly none does, and then the cells up to the next
-/// such place are followed faster.
+/// The same where it is known whether a match ends at the first place, and whether the last byte led from its state to
+/// itself: mostly none ends, and then the cells up to the next such place are followed faster, and so is a run at one state.
 fn follow_best(
     expr: &Nodes,
     root: usize,
@@ -254,6 +316,7 @@ fn follow_best(
     start: usize,
     state: usize,
     inner: bool,
+    again: bool,
     from: usize,
     stop: usize,
     before: Option<usize>,
@@ -266,6 +329,7 @@ fn follow_best(
     requires order { from < stop }
     requires within { stop ≤ length text.now }
     requires short { length text.now ≤ 2 ^ 30 }
+    requires inner { IsTrue inner → IsTrue (ends_of table.now.ends.items state).inner }
     requires at { StateAt expr.now.nodes text.now root (one_start start) from table.now state }
     requires best { LongestBelow (tree expr.now) text.now start (from + 1) before }
     requires lies { IfSome before (λ end. (start ≤ end) × (end ≤ stop)) }
@@ -281,6 +345,9 @@ fn follow_best(
     ensures grows { steps.old ≤ steps.new }
     ensures cost { steps.new + 2 * from ≤ steps.old + 2 * result.place + 2 }
 {
+    if inner && again {
+        return stay_best(expr, root, table, text, start, state, from, stop, steps);
+    }
     if inner {
         return follow_noting(
             expr, root, table, text, start, state, from, stop, before, steps,
@@ -323,6 +390,7 @@ pub fn longest_to(
     let begin = start == 0;
     let mut place = start;
     let mut best = None;
+    let mut again = false;
     let mut next = first_state(expr, root, table, begin, sets, steps);
     loop {
         match next {
@@ -342,7 +410,7 @@ pub fn longest_to(
                 }
                 let inner = ends.inner;
                 let to = follow_best(
-                    expr, root, table, text, start, state, inner, place, stop, best, steps,
+                    expr, root, table, text, start, state, inner, again, place, stop, best, steps,
                 );
                 best = to.best;
                 if to.over {
@@ -355,6 +423,7 @@ pub fn longest_to(
                 let byte = text.byte(to.place, steps);
                 let passed = to.place - place;
                 next = go(expr, root, table, to.state, byte, passed, sets, steps);
+                again = leads_back(&next, to.state);
                 place = to.place + 1;
             }
         }

@@ -604,7 +604,7 @@ pub fn stay(
 }
 
 /// The same at a state at which matches end.
-fn stay_on(
+pub fn stay_on(
     expr: &Nodes,
     root: usize,
     table: &Table,

@@ -9,7 +9,7 @@ use Rattle.sedmatch.specs.Words.{row_of}
 use Rattle.sedmatch.proofs.TableLemmas.{default_same, known_plain, known_low, known_offset, cell_inside, offset_state, not_inner}
 use Rattle.sedmatch.proofs.LongestLemmas.{closed, fewer_places, none_here, one_span, one_step, pass_best}
 use Rattle.sedmatch.proofs.quick.follow_noting.Goals as goal
-use Rattle.sedmatch.proofs.quick.follow_noting.Goals.{then-cell-ge-PLAIN, else-cell-ge-PLAIN+else-cell-eq0+then-place-stop+else-not-ends, else-cell-ge-PLAIN+else-cell-eq0+else-place-stop}
+use Rattle.sedmatch.proofs.quick.follow_noting.Goals.{then-cell-ge-PLAIN, else-cell-ge-PLAIN+else-is_left_out+then-place-stop+else-not-ends, else-cell-ge-PLAIN+else-is_left_out+else-place-stop}
 
 pub loop-place-init : goal.loop-place-init
 loop-place-init c =
@@ -263,9 +263,9 @@ loop-place-preserved c =
             lies = subst (λ b. IfSome b (λ end. (start ≤ end) × (end ≤ c.args.stop))) (sym w.best-is) (c.loop-place.invariant.lies);
             seen = λ lt. subst (λ s. ends_of T.ends.items ((s - 1) / T.columns) ≡ c.if-cell-ge-PLAIN.ends) (sym w.seen-is) (c.loop-place.invariant.seen (omega (arith, w.seen-is)) ∙ sym w.ends-is);
           }
-      | else-cell-ge-PLAIN+else-cell-eq0+then-place-stop+else-not-ends w ↦
-          let to = known_low nodes r T.sweeps T.classes.items T.columns T.rows T.ends.items T.count T.cells.items T.index.items T.at_begin T.later c.requires.table.0 at class cell c.loop-place.invariant.there small is (omega (arith, w.if-cell-ge-PLAIN.false)) (omega (arith, w.if-cell-eq0.false)) in
-          let offset = known_offset nodes r T.sweeps T.classes.items T.columns T.rows T.ends.items T.count T.cells.items T.index.items T.at_begin T.later c.requires.table.0 at class cell c.loop-place.invariant.there small is (omega (arith, w.if-cell-ge-PLAIN.false)) (omega (arith, w.if-cell-eq0.false)) in
+      | else-cell-ge-PLAIN+else-is_left_out+then-place-stop+else-not-ends w ↦
+          let to = known_low nodes r T.sweeps T.classes.items T.columns T.rows T.ends.items T.count T.cells.items T.index.items T.at_begin T.later c.requires.table.0 at class cell c.loop-place.invariant.there small is (omega (arith, w.if-cell-ge-PLAIN.false)) (w.is_left_out.ensures.filled w.if-is_left_out.false) in
+          let offset = known_offset nodes r T.sweeps T.classes.items T.columns T.rows T.ends.items T.count T.cells.items T.index.items T.at_begin T.later c.requires.table.0 at class cell c.loop-place.invariant.there small is (omega (arith, w.if-cell-ge-PLAIN.false)) (w.is_left_out.ensures.filled w.if-is_left_out.false) in
           let q = (cell - 1) / T.columns in
           let here : (32768 + (cell - 1) - 32768) / T.columns ≡ q = ap (λ x. x / T.columns) (let v : 32768 + (cell - 1) - 32768 ≡ cell - 1 = omega arith in v) in
           let next : StateAt nodes text r (one_start start) (place + 1) T q = one_step nodes r T text start place at q byte class c.requires.table.1 (omega (arith, c.requires.after, c.loop-place.invariant.after)) c.byte.ensures.byte (omega arith) same to.1 c.loop-place.invariant.at in
@@ -286,9 +286,9 @@ loop-place-preserved c =
             lies = subst (λ b. IfSome b (λ end. (start ≤ end) × (end ≤ c.args.stop))) (sym w.best-is) (w.better-best.ensures.lies start c.args.stop (omega (arith, c.requires.after, c.loop-place.invariant.after)) (omega (arith, w.if-place-stop.true)) c.loop-place.invariant.lies);
             seen = λ lt. subst (λ s. ends_of T.ends.items ((s - 1) / T.columns) ≡ c.if-cell-ge-PLAIN.ends) (sym w.seen-is) (w.ends_by-ends.ensures.ends ∙ sym w.ends-is);
           }
-      | else-cell-ge-PLAIN+else-cell-eq0+else-place-stop w ↦
-          let to = known_low nodes r T.sweeps T.classes.items T.columns T.rows T.ends.items T.count T.cells.items T.index.items T.at_begin T.later c.requires.table.0 at class cell c.loop-place.invariant.there small is (omega (arith, w.if-cell-ge-PLAIN.false)) (omega (arith, w.if-cell-eq0.false)) in
-          let offset = known_offset nodes r T.sweeps T.classes.items T.columns T.rows T.ends.items T.count T.cells.items T.index.items T.at_begin T.later c.requires.table.0 at class cell c.loop-place.invariant.there small is (omega (arith, w.if-cell-ge-PLAIN.false)) (omega (arith, w.if-cell-eq0.false)) in
+      | else-cell-ge-PLAIN+else-is_left_out+else-place-stop w ↦
+          let to = known_low nodes r T.sweeps T.classes.items T.columns T.rows T.ends.items T.count T.cells.items T.index.items T.at_begin T.later c.requires.table.0 at class cell c.loop-place.invariant.there small is (omega (arith, w.if-cell-ge-PLAIN.false)) (w.is_left_out.ensures.filled w.if-is_left_out.false) in
+          let offset = known_offset nodes r T.sweeps T.classes.items T.columns T.rows T.ends.items T.count T.cells.items T.index.items T.at_begin T.later c.requires.table.0 at class cell c.loop-place.invariant.there small is (omega (arith, w.if-cell-ge-PLAIN.false)) (w.is_left_out.ensures.filled w.if-is_left_out.false) in
           let q = (cell - 1) / T.columns in
           let here : (32768 + (cell - 1) - 32768) / T.columns ≡ q = ap (λ x. x / T.columns) (let v : 32768 + (cell - 1) - 32768 ≡ cell - 1 = omega arith in v) in
           let next : StateAt nodes text r (one_start start) (place + 1) T q = one_step nodes r T text start place at q byte class c.requires.table.1 (omega (arith, c.requires.after, c.loop-place.invariant.after)) c.byte.ensures.byte (omega arith) same to.1 c.loop-place.invariant.at in

@@ -1,4 +1,4 @@
-use Rattle.std.proofs.Common.{◌≡◌, ◌+◌, ◌*◌, ◌≤◌, ◌∙◌, false, length, refl, sym, subst, true≢false, arith, rules}
+use Rattle.std.proofs.Common.{◌≡◌, ◌+◌, ◌*◌, ◌≤◌, ◌∙◌, false, length, IsTrue, refl, sym, subst, true≢false, arith, rules}
 use Rattle.std.specs.Prelude.{eqb}
 use Rattle.std.proofs.lemmas.Bool.{eqb-true, eq-eqb, not-true}
 use Rattle.sedre.specs.Arena.{tree}
@@ -90,6 +90,22 @@ follow_best-to-requires-clause-at c =
     let there : NextIs (IsAt nodes w r (one_start start) place) T c.loop-next.sets.entered (To state) =
     subst (λ n. NextIs (IsAt nodes w r (one_start start) place) T c.loop-next.sets.entered n) c.in-To.is c.loop-next.invariant.next in
     there.1
+
+pub follow_best-to-requires-clause-inner : goal.follow_best-to-requires-clause-inner
+follow_best-to-requires-clause-inner c =
+    let nodes = c.args.expr.now.nodes in
+    let w = c.args.text.now in
+    let r = c.args.root in
+    let start = c.args.start in
+    let place = c.loop-next.place in
+    let e = tree c.args.expr.now in
+    let T = c.loop-next.table in
+    let state = c.in-To.state in
+    let there : NextIs (IsAt nodes w r (one_start start) place) T c.loop-next.sets.entered (To state) =
+    subst (λ n. NextIs (IsAt nodes w r (one_start start) place) T c.loop-next.sets.entered n) c.in-To.is c.loop-next.invariant.next in
+    let ends = c.index-ends.result.now in
+    let same = c.index-ends.ensures ∙ default_same T.ends.items state ends (record { inner = false; last = false; goes = false }) (omega (arith, there.0, c.loop-next.invariant.table.ends_there, c.loop-next.invariant.table.rows_there)) in
+    λ h. subst (λ v. IsTrue v.inner) same h
 
 pub follow_best-to-requires-clause-best : goal.follow_best-to-requires-clause-best
 follow_best-to-requires-clause-best c =
