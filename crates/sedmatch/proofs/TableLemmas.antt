@@ -149,6 +149,15 @@ module _ (nodes : List Node) (r : ℕ) (sweeps : Bool) (classes : List ℕ) (col
         subst (λ t. To state class t) (sym same) cell.leads,
       )
 
+  -- where the cells of the state begin to which such a cell leads
+  pub known_offset : (state class v : ℕ) → state < count → class < columns → v ≡ slice_index_or cells (columns * state + class) 0 → v < 32768 → 0 < v → v - 1 ≡ columns * ((v - 1) / columns)
+  known_offset state class v from small is low some =
+      let cell = right.filled state class from small (omega arith) in
+      let code = decode_low (stops sweeps (ends_of ends cell.to)) (columns * cell.to) v (low_code cell.to cell.there) (is ∙ cell.code) low in
+      let offset : v - 1 ≡ columns * cell.to = omega (arith, code) in
+      let same : (v - 1) / columns ≡ cell.to = ap (λ x. x / columns) offset ∙ mul-div_cancel_left cell.to right.some in
+      offset ∙ ap (λ t. columns * t) (sym same)
+
   -- one more cell is filled
   pub fill_cell : (state class to v : ℕ) (after : List ℕ) → class < columns → state < count → to < count → v ≡ code_of (stops sweeps (ends_of ends to)) (columns * to) →
       after ≡ slice_set cells (columns * state + class) v → To state class to → AreStates nodes r sweeps classes columns rows ends count after index at_begin later

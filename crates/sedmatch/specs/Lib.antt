@@ -13,6 +13,7 @@ pub mod Reach
 pub mod Places
 pub mod States
 pub mod Tables
+pub mod Longest
 pub mod Linear
 pub mod Ready
 pub mod Beginnings

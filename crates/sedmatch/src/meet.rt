@@ -60,7 +60,11 @@ fn root_of(most: usize) -> usize
 }
 
 /// Room for texts of at most so many bytes and expressions of at most so many nodes.
-pub fn new_back_pass(alloc: Global, max_text: usize, max_nodes: usize) -> Result<BackPass, AllocError>
+pub fn new_back_pass(
+    alloc: Global,
+    max_text: usize,
+    max_nodes: usize,
+) -> Result<BackPass, AllocError>
     requires text { max_text ≤ 2 ^ 30 }
     requires nodes { max_nodes ≤ 65536 }
     ensures { IfOk result (λ b. HasBackPass max_text max_nodes b) }
@@ -191,7 +195,13 @@ fn keep_block(
 }
 
 /// The pass over the whole text from its beginning: it ends with the rows of the last block.
-fn keep_blocks(nodes: &Nodes, bytes: &Bytes, root: usize, back_pass: &mut BackPass, steps: &mut Steps)
+fn keep_blocks(
+    nodes: &Nodes,
+    bytes: &Bytes,
+    root: usize,
+    back_pass: &mut BackPass,
+    steps: &mut Steps,
+)
     requires root { root + 1 ≡ length nodes.now.nodes }
     requires few { length nodes.now.nodes ≤ 65536 }
     requires short { length bytes.now ≤ 2 ^ 30 }
@@ -210,7 +220,13 @@ fn keep_blocks(nodes: &Nodes, bytes: &Bytes, root: usize, back_pass: &mut BackPa
 }
 
 /// The pass from the text's end over the mirrored expression.
-pub fn keep_back_pass(expr: &Expr, text: &Text, root: usize, back_pass: &mut BackPass, steps: &mut Steps)
+pub fn keep_back_pass(
+    expr: &Expr,
+    text: &Text,
+    root: usize,
+    back_pass: &mut BackPass,
+    steps: &mut Steps,
+)
     requires root { root + 1 ≡ length expr.now.nodes }
     requires few { length expr.now.nodes ≤ 65536 }
     requires short { length text.now ≤ 2 ^ 30 }

@@ -1,9 +1,10 @@
 //! Searches by a table.
-ghost use Rattle.std.specs.Prelude.{IfOk, IfSome, IfNone, true, false, is_some, ◌≡◌, ◌+◌, ◌*◌, ◌^◌, ◌<◌, ◌≤◌, ◌↔◌, length, IsTrue};
+ghost use Rattle.std.specs.Prelude.{IfOk, IfSome, IfNone, true, false, is_some, ◌≡◌, ◌+◌, ◌-◌, ◌*◌, ◌/◌, ◌^◌, ◌<◌, ◌≤◌, ◌↔◌, length, IsTrue};
 ghost use Rattle.sedre.specs.Arena.{tree};
 ghost use Rattle.sedmatch.specs.Fits.{Fits, SameMarks};
 ghost use Rattle.sedmatch.specs.Spans.{SomeFound};
-ghost use Rattle.sedmatch.specs.Tables.{IsSingle, IsSweep};
+ghost use Rattle.sedmatch.specs.Tables.{IsSingle, IsSweep, IsTable, ends_of};
+ghost use Rattle.sedmatch.specs.Longest.{BestTo, HasPassed, StandsAt};
 ghost use Rattle.sedmatch.specs.Places.{InOrder};
 ghost use Rattle.sedmatch.specs.Reach.{Longest, LongestBelow};
 ghost use Rattle.sedmatch.specs.Answer.{IsComputed, MatchAnswer, SpanAnswer};
@@ -12,12 +13,12 @@ ghost use Rattle.sedmatch.specs.Ready.{AreTables, IsKnown, IsPrepared};
 ghost use Rattle.sedmatch.specs.Room.{FitInto};
 ghost use Rattle.sedmatch.specs.Work.{AreFlat};
 ghost use Rattle.sedmatch.specs.Costs.{Pays};
-ghost use Rattle.sedre.specs.Steps.{Takes};
+ghost use Rattle.sedre.specs.Steps.{Takes, TakesAtLeast};
 
 use crate::ahead::Lead;
 use crate::anywhere::{anchored_by, leftmost_by};
 use crate::beginnings::Begins;
-use crate::counted::{Bytes, Text};
+use crate::counted::{Bytes, Tally, Text};
 use crate::groups::report;
 use crate::linear::first_end_in;
 use crate::matcher::{Found, find, find_span};
@@ -27,8 +28,8 @@ use crate::ready::{Known, Tables, find_known, new_tables};
 use crate::scratch::{Scratch, Sets};
 use crate::search::{better, longest_on};
 use crate::sight::{Sight, sight_find, sight_matches, sight_of, sight_span};
-use crate::states::ends_at;
-use crate::tables::{Next, Table, first_state, follow_past, go, stay};
+use crate::states::{Ends, ends_at};
+use crate::tables::{Next, PLAIN, Table, add_looks, first_state, follow_to, go, state_at, stay_on};
 use sedre::{Expr, Nodes, Steps};
 use std::alloc::{AllocError, Global};
 use std::marker::Model;
@@ -110,6 +111,203 @@ fn some_anywhere(
     }
 }
 
+/// What stands for the ends of a state before one is looked at.
+const NO_ENDS: Ends = Ends {
+    inner: false,
+    last: false,
+    goes: false,
+};
+
+/// Where a pass from one start came to by filled cells.
+#[derive(Clone, Copy)]
+pub struct Passed {
+    /// The state.
+    pub state: usize,
+    /// The place.
+    pub place: usize,
+    /// The end of the longest match so far.
+    pub best: Option<usize>,
+    /// Whether no match ends later.
+    pub over: bool,
+}
+
+/// The place at which such a pass stops, in the state with this code.
+fn passed_at(table: &Table, code: usize, place: usize, best: Option<usize>, over: bool) -> Passed
+    requires columns { 0 < table.now.columns }
+    requires code { 32768 ≤ code }
+    ensures state { result.state ≡ (code - 32768) / table.now.columns }
+    ensures place { result.place ≡ place }
+    ensures best { result.best ≡ best }
+    ensures over { result.over ≡ over }
+{
+    Passed {
+        state: state_at(table, code - PLAIN as usize),
+        place,
+        best,
+        over,
+    }
+}
+
+/// What is told of the state to which a cell leads, where another cell and what it leads to were looked at before.
+fn ends_by(expr: &Nodes, root: usize, table: &Table, cell: u16, seen: u16, before: Ends) -> Ends
+    requires table { IsTable expr.now.nodes root table.now }
+    requires cell { 0 < cell }
+    requires there { (cell - 1) / table.now.columns < table.now.count }
+    requires seen { 0 < seen → ends_of table.now.ends.items ((seen - 1) / table.now.columns) ≡ before }
+    ensures ends { ends_of table.now.ends.items ((cell - 1) / table.now.columns) ≡ result }
+{
+    if cell == seen {
+        return before;
+    }
+    table.ends[state_at(table, (cell - 1) as usize)]
+}
+
+/// Whether a cell isn't filled, or leads back to the state with this code, so that another loop is faster.
+fn is_left_out(cell: u16, code: usize) -> bool
+    requires code { code ≤ 65536 }
+    ensures filled { result ≡ false → 0 < cell }
+{
+    if cell == 0 {
+        return true;
+    }
+    PLAIN as usize + cell as usize == code + 1
+}
+
+/// Whether a byte led back to the state.
+fn leads_back(next: &Next, state: usize) -> bool {
+    match next {
+        Next::To(to) => *to == state,
+        Next::Full(_) => false,
+    }
+}
+
+/// Goes on from a place as long as a filled cell leads from the state to itself, at which a match ends, and notes the
+/// last place.
+fn stay_best(
+    expr: &Nodes,
+    root: usize,
+    table: &Table,
+    text: &Bytes,
+    start: usize,
+    state: usize,
+    from: usize,
+    stop: usize,
+    steps: &mut Steps,
+) -> Passed
+    requires root { root + 1 ≡ length expr.now.nodes }
+    requires table { IsSingle expr.now.nodes root table.now }
+    requires at { StandsAt expr.now root table.now text.now start stop from state }
+    requires inner { IsTrue (ends_of table.now.ends.items state).inner }
+    ensures passed { HasPassed expr.now root table.now text.now start stop from result }
+    ensures counts { TakesAtLeast steps.old steps.new (2 * (result.place - from)) }
+    ensures cost { Pays steps.old steps.new (2 * result.place + 2) (2 * from) }
+{
+    let run = stay_on(expr, root, table, text, state, from, stop, steps);
+    Passed {
+        state,
+        place: run,
+        best: Some(run.min(stop - 1)),
+        over: false,
+    }
+}
+
+/// Follows filled cells from a place on, and notes the last place after it at which a match ends: to the place `stop`,
+/// or to one before it at which no match ends later, or where the byte's cell isn't filled.
+// A function of its own: the passes that need none of it are short loops.
+#[inline(never)]
+fn follow_noting(
+    expr: &Nodes,
+    root: usize,
+    table: &Table,
+    text: &Bytes,
+    start: usize,
+    state: usize,
+    from: usize,
+    stop: usize,
+    before: Option<usize>,
+    steps: &mut Steps,
+) -> Passed
+    requires root { root + 1 ≡ length expr.now.nodes }
+    requires table { IsSingle expr.now.nodes root table.now }
+    requires at { StandsAt expr.now root table.now text.now start stop from state }
+    requires best { BestTo (tree expr.now) text.now start stop (from + 1) before }
+    ensures passed { HasPassed expr.now root table.now text.now start stop from result }
+    ensures counts { TakesAtLeast steps.old steps.new (2 * (result.place - from)) }
+    ensures cost { Pays steps.old steps.new (2 * result.place + 2) (2 * from) }
+{
+    let mut bytes = Tally::new();
+    // The code in place of the state: so the number below is taken off by the address alone.
+    let mut code = PLAIN as usize + table.columns * state;
+    let mut best = before;
+    let mut seen = 0;
+    let mut ends = NO_ENDS;
+    for place in from..stop {
+        let class = table.classes[text.tallied(place, &mut bytes) as usize] as usize;
+        let cell = table.cells[code + class - PLAIN as usize];
+        if cell >= PLAIN {
+            code = cell as usize;
+        } else if is_left_out(cell, code) {
+            add_looks(&bytes, steps);
+            return passed_at(table, code, place, best, false);
+        } else {
+            ends = ends_by(expr, root, table, cell, seen, ends);
+            seen = cell;
+            code = PLAIN as usize + (cell - 1) as usize;
+            if place + 1 < stop {
+                best = better(best, place + 1, ends.inner);
+                if !ends.goes {
+                    add_looks(&bytes, steps);
+                    return passed_at(table, code, place + 1, best, true);
+                }
+            }
+        }
+    }
+    add_looks(&bytes, steps);
+    passed_at(table, code, stop, best, false)
+}
+
+/// The same where it is known whether a match ends at the first place, and whether the last byte led from its state to
+/// itself: mostly none ends, and then the cells up to the next such place are followed faster, and so is a run at one state.
+fn follow_best(
+    expr: &Nodes,
+    root: usize,
+    table: &Table,
+    text: &Bytes,
+    start: usize,
+    state: usize,
+    inner: bool,
+    again: bool,
+    from: usize,
+    stop: usize,
+    before: Option<usize>,
+    steps: &mut Steps,
+) -> Passed
+    requires root { root + 1 ≡ length expr.now.nodes }
+    requires table { IsSingle expr.now.nodes root table.now }
+    requires at { StandsAt expr.now root table.now text.now start stop from state }
+    requires inner { IsTrue inner → IsTrue (ends_of table.now.ends.items state).inner }
+    requires best { BestTo (tree expr.now) text.now start stop (from + 1) before }
+    ensures passed { HasPassed expr.now root table.now text.now start stop from result }
+    ensures counts { TakesAtLeast steps.old steps.new (2 * (result.place - from)) }
+    ensures cost { Pays steps.old steps.new (2 * result.place + 2) (2 * from) }
+{
+    if inner && again {
+        return stay_best(expr, root, table, text, start, state, from, stop, steps);
+    }
+    if inner {
+        return follow_noting(
+            expr, root, table, text, start, state, from, stop, before, steps,
+        );
+    }
+    let to = follow_to(expr, root, table, text, state, from, stop, steps);
+    Passed {
+        state: to.state,
+        place: to.place,
+        best: before,
+        over: false,
+    }
+}
+
 /// The end of the longest match that begins at `start` and ends at `stop` or before, by a table in which no place after
 /// the start is one.
 pub fn longest_to(
@@ -136,6 +334,7 @@ pub fn longest_to(
     let begin = start == 0;
     let mut place = start;
     let mut best = None;
+    let mut again = false;
     let mut next = first_state(expr, root, table, begin, sets, steps);
     loop {
         match next {
@@ -154,21 +353,22 @@ pub fn longest_to(
                     return best;
                 }
                 let inner = ends.inner;
-                let run = stay(expr, root, table, text, state, inner, place, stop, steps);
-                if run > place {
-                    best = Some(run - 1);
-                    place = run;
-                } else {
-                    let to = follow_past(expr, root, table, text, state, inner, place, stop, steps);
-                    if to.place >= stop {
-                        let there = ends_at(to.place, text.len(), table.ends[to.state]);
-                        return better(best, to.place, there);
-                    }
-                    let byte = text.byte(to.place, steps);
-                    let passed = to.place - place;
-                    next = go(expr, root, table, to.state, byte, passed, sets, steps);
-                    place = to.place + 1;
+                let to = follow_best(
+                    expr, root, table, text, start, state, inner, again, place, stop, best, steps,
+                );
+                best = to.best;
+                if to.over {
+                    return best;
                 }
+                if to.place >= stop {
+                    let there = ends_at(to.place, text.len(), table.ends[to.state]);
+                    return better(best, to.place, there);
+                }
+                let byte = text.byte(to.place, steps);
+                let passed = to.place - place;
+                next = go(expr, root, table, to.state, byte, passed, sets, steps);
+                again = leads_back(&next, to.state);
+                place = to.place + 1;
             }
         }
     }

@@ -21,7 +21,7 @@ use sedre::{Nodes, Steps};
 use std::alloc::{AllocError, Global};
 
 /// The least code of a state at which a search doesn't stop.
-const PLAIN: u16 = 32768;
+pub const PLAIN: u16 = 32768;
 
 /// How many slots of the index there are for each state, so that few digests share one.
 const SLOTS: usize = 4;
@@ -278,7 +278,7 @@ fn inverse_of(columns: usize) -> usize {
 }
 
 /// The state whose cells begin at this place. What the multiplication gives is tested, since it isn't always exact.
-fn state_at(table: &Table, offset: usize) -> usize
+pub fn state_at(table: &Table, offset: usize) -> usize
     requires columns { 0 < table.now.columns }
     ensures state { result ≡ offset / table.now.columns }
 {
@@ -338,6 +338,8 @@ fn fill_cell(expr: &Nodes, root: usize, table: &mut Table, state: usize, byte: u
 }
 
 /// Finds out what comes after a state and a byte, and fills the cell.
+// Seldom called: apart from it, [`go`] is short enough to stand in the loops.
+#[inline(never)]
 fn fill(
     expr: &Nodes,
     root: usize,
@@ -376,6 +378,7 @@ fn fill(
 }
 
 /// What comes after a state and a byte, after so many bytes that were passed by filled cells.
+#[inline(always)]
 pub fn go(
     expr: &Nodes,
     root: usize,
@@ -404,6 +407,7 @@ pub fn go(
 }
 
 /// Finds out in which state a search begins, and notes it.
+#[inline(never)]
 fn find_first(
     expr: &Nodes,
     root: usize,
@@ -474,7 +478,7 @@ pub struct Stop {
 }
 
 /// Counts a look at each byte of a loop over a table, and one at the cell that it leads to.
-fn add_looks(bytes: &Tally, steps: &mut Steps)
+pub(crate) fn add_looks(bytes: &Tally, steps: &mut Steps)
     ensures cost { Takes steps.old steps.new (2 * bytes.now) }
     ensures counts { Counted steps.old steps.new (2 * bytes.now) }
 {
@@ -578,7 +582,7 @@ pub fn stay(
 }
 
 /// The same at a state at which matches end.
-fn stay_on(
+pub fn stay_on(
     expr: &Nodes,
     root: usize,
     table: &Table,

@@ -1,4 +1,4 @@
-use Rattle.std.proofs.Common.{◌≡◌, ◌+◌, ◌-◌, ◌*◌, ◌≤◌, ◌∙◌, false, length, refl, sym, subst, true≢false, arith, rules}
+use Rattle.std.proofs.Common.{◌≡◌, ◌+◌, ◌*◌, ◌≤◌, ◌∙◌, false, length, IsTrue, refl, sym, subst, true≢false, arith, rules}
 use Rattle.std.specs.Prelude.{eqb}
 use Rattle.std.proofs.lemmas.Bool.{eqb-true, eq-eqb, not-true}
 use Rattle.sedre.specs.Arena.{tree}
@@ -9,8 +9,8 @@ use Rattle.sedmatch.specs.Tables.{NextIs, LeadsFrom, IsFirst}
 use Rattle.sedmatch.specs.Words.{row_of}
 use Rattle.sedmatch.proofs.SearchLemmas.{LongestBelow-none}
 use Rattle.sedmatch.proofs.TableLemmas.{default_same}
-use Rattle.sedmatch.proofs.LongestLemmas.{one_are, one_span, pass_best, closed, none_passed, longest_last}
-use Rattle.sedmatch.proofs.QuickLemmas.{next_map, look_most}
+use Rattle.sedmatch.proofs.LongestLemmas.{one_span, pass_best, closed}
+use Rattle.sedmatch.proofs.QuickLemmas.{next_map}
 use Rattle.sedmatch.proofs.LinearLemmas.{line_step, line_end}
 use Rattle.sedmatch.proofs.quick.longest_to.Goals as goal
 
@@ -77,6 +77,60 @@ returns-then-not-ends-clause-longest c =
     pass_best e w start (place + 1) (c.args.stop + 1) c.better-best.result
     (λ p late less s. closed nodes w r start c.requires.root place ends.goes c.loop-next.invariant.after (not-true ends.goes c.if-not-ends.true) (at.goes (omega arith)) p late s) best
 
+pub follow_best-to-requires-clause-at : goal.follow_best-to-requires-clause-at
+follow_best-to-requires-clause-at c =
+    let nodes = c.args.expr.now.nodes in
+    let w = c.args.text.now in
+    let r = c.args.root in
+    let start = c.args.start in
+    let place = c.loop-next.place in
+    let T = c.loop-next.table in
+    let state = c.in-To.state in
+    let there : NextIs (IsAt nodes w r (one_start start) place) T c.loop-next.sets.entered (To state) =
+    subst (λ n. NextIs (IsAt nodes w r (one_start start) place) T c.loop-next.sets.entered n) c.in-To.is c.loop-next.invariant.next in
+    record {
+      there = there.0;
+      after = c.loop-next.invariant.after;
+      before = omega arith;
+      within = c.requires.order.1;
+      at = there.1;
+    }
+
+pub follow_best-to-requires-clause-inner : goal.follow_best-to-requires-clause-inner
+follow_best-to-requires-clause-inner c =
+    let nodes = c.args.expr.now.nodes in
+    let w = c.args.text.now in
+    let r = c.args.root in
+    let start = c.args.start in
+    let place = c.loop-next.place in
+    let e = tree c.args.expr.now in
+    let T = c.loop-next.table in
+    let state = c.in-To.state in
+    let there : NextIs (IsAt nodes w r (one_start start) place) T c.loop-next.sets.entered (To state) =
+    subst (λ n. NextIs (IsAt nodes w r (one_start start) place) T c.loop-next.sets.entered n) c.in-To.is c.loop-next.invariant.next in
+    let ends = c.index-ends.result.now in
+    let same = c.index-ends.ensures ∙ default_same T.ends.items state ends (record { inner = false; last = false; goes = false }) (omega (arith, there.0, c.loop-next.invariant.table.ends_there, c.loop-next.invariant.table.rows_there)) in
+    λ h. subst (λ v. IsTrue v.inner) same h
+
+pub follow_best-to-requires-clause-best : goal.follow_best-to-requires-clause-best
+follow_best-to-requires-clause-best c =
+    let nodes = c.args.expr.now.nodes in
+    let w = c.args.text.now in
+    let r = c.args.root in
+    let start = c.args.start in
+    let place = c.loop-next.place in
+    let e = tree c.args.expr.now in
+    let T = c.loop-next.table in
+    let state = c.in-To.state in
+    let there : NextIs (IsAt nodes w r (one_start start) place) T c.loop-next.sets.entered (To state) =
+    subst (λ n. NextIs (IsAt nodes w r (one_start start) place) T c.loop-next.sets.entered n) c.in-To.is c.loop-next.invariant.next in
+    let ends = c.index-ends.result.now in
+    let same = c.index-ends.ensures ∙ default_same T.ends.items state ends (record { inner = false; last = false; goes = false }) (omega (arith, there.0, c.loop-next.invariant.table.ends_there, c.loop-next.invariant.table.rows_there)) in
+    let at : IsAt nodes w r (one_start start) place (row_of T.rows state) ends = subst (λ v. IsAt nodes w r (one_start start) place (row_of T.rows state) v) (sym same) there.1 in (
+      c.better-best.ensures.longest e w start (one_span nodes w r start c.requires.root place ends.inner (at.inner (omega arith))) c.loop-next.invariant.longest,
+      c.better-best.ensures.lies start c.args.stop c.loop-next.invariant.after c.loop-next.invariant.within c.loop-next.invariant.lies,
+    )
+
 pub returns-then-to-stop-clause-longest : goal.returns-then-to-stop-clause-longest
 returns-then-to-stop-clause-longest c =
     let nodes = c.args.expr.now.nodes in
@@ -87,26 +141,15 @@ returns-then-to-stop-clause-longest c =
     let e = tree c.args.expr.now in
     let T = c.loop-next.table in
     let state = c.in-To.state in
-    let ends = c.index-ends.result.now in
-    let there : NextIs (IsAt c.args.expr.now.nodes c.args.text.now c.args.root (one_start c.args.start) c.loop-next.place) T c.loop-next.sets.entered (To state) =
-    subst (λ n. NextIs (IsAt c.args.expr.now.nodes c.args.text.now c.args.root (one_start c.args.start) c.loop-next.place) T c.loop-next.sets.entered n) c.in-To.is c.loop-next.invariant.next in
-    let ends_there = c.loop-next.invariant.table.ends_there in
-    let rows_there = c.loop-next.invariant.table.rows_there in
-    let same = c.index-ends.ensures ∙ default_same T.ends.items state ends (record { inner = false; last = false; goes = false }) (omega (arith, there.0, ends_there, rows_there)) in
-    let at : IsAt nodes w r (one_start start) place (row_of T.rows state) ends = subst (λ v. IsAt nodes w r (one_start start) place (row_of T.rows state) v) (sym same) there.1 in
-    let best : LongestBelow e w start (place + 1) c.better-best.result =
-    c.better-best.ensures.longest e w start (one_span nodes w r start c.requires.root place ends.inner (at.inner (omega arith))) c.loop-next.invariant.longest in
-    let to = c.follow_past-to.result in
-    let on = c.follow_past-to.ensures.follows (one_start start) (one_are T w start place c.loop-next.invariant.sweeps c.loop-next.invariant.after) there.1 in
+    let to = c.follow_best-to.result in
     let last = c.index.result.now in
-    let same_last = c.index.ensures ∙ default_same T.ends.items to.state last (record { inner = false; last = false; goes = false }) (omega (arith, c.follow_past-to.ensures.state, ends_there, rows_there)) in
-    let at_last : IsAt nodes w r (one_start start) to.place (row_of T.rows to.state) last = subst (λ v. IsAt nodes w r (one_start start) to.place (row_of T.rows to.state) v) (sym same_last) on.0 in
-    let within : to.place ≤ length w = omega (arith, c.follow_past-to.ensures.within) in
-    let same_place : to.place ≡ c.args.stop = omega (arith, c.follow_past-to.ensures.within) in
+    let same_last = c.index.ensures ∙ default_same T.ends.items to.state last (record { inner = false; last = false; goes = false }) (omega (arith, c.follow_best-to.ensures.passed.state, c.loop-next.invariant.table.ends_there, c.loop-next.invariant.table.rows_there)) in
+    let at_last : IsAt nodes w r (one_start start) to.place (row_of T.rows to.state) last = subst (λ v. IsAt nodes w r (one_start start) to.place (row_of T.rows to.state) v) (sym same_last) c.follow_best-to.ensures.passed.at in
+    let within : to.place ≤ length w = omega (arith, c.follow_best-to.ensures.passed.within) in
+    let same_place : to.place ≡ c.args.stop = omega (arith, c.follow_best-to.ensures.passed.within) in
     let tells = c.ends_at-there.ensures.here nodes w r (one_start start) (row_of T.rows to.state) c.len-then-to-stop.ensures (omega (arith, within, c.len-then-to-stop.ensures)) at_last in
     subst (λ p. LongestBelow e w start (p + 1) c.better-then-to-stop.result) same_place
-    (c.better-then-to-stop.ensures.longest e w start (one_span nodes w r start c.requires.root to.place c.ends_at-there.result tells)
-    (pass_best e w start (place + 1) to.place c.better-best.result (none_passed nodes w r start c.requires.root place to.place on.1 to.place (omega arith) within) best))
+    (c.better-then-to-stop.ensures.longest e w start (one_span nodes w r start c.requires.root to.place c.ends_at-there.result tells) c.follow_best-to.ensures.passed.best)
 
 pub loop-next-preserved : goal.loop-next-preserved
 loop-next-preserved c =
@@ -118,17 +161,7 @@ loop-next-preserved c =
     let e = tree c.args.expr.now in
     let T = c.loop-next.table in
     let state = c.in-To.state in
-    let ends = c.index-ends.result.now in
-    let there : NextIs (IsAt c.args.expr.now.nodes c.args.text.now c.args.root (one_start c.args.start) c.loop-next.place) T c.loop-next.sets.entered (To state) =
-    subst (λ n. NextIs (IsAt c.args.expr.now.nodes c.args.text.now c.args.root (one_start c.args.start) c.loop-next.place) T c.loop-next.sets.entered n) c.in-To.is c.loop-next.invariant.next in
-    let ends_there = c.loop-next.invariant.table.ends_there in
-    let rows_there = c.loop-next.invariant.table.rows_there in
-    let same = c.index-ends.ensures ∙ default_same T.ends.items state ends (record { inner = false; last = false; goes = false }) (omega (arith, there.0, ends_there, rows_there)) in
-    let at : IsAt nodes w r (one_start start) place (row_of T.rows state) ends = subst (λ v. IsAt nodes w r (one_start start) place (row_of T.rows state) v) (sym same) there.1 in
-    let best : LongestBelow e w start (place + 1) c.better-best.result =
-    c.better-best.ensures.longest e w start (one_span nodes w r start c.requires.root place ends.inner (at.inner (omega arith))) c.loop-next.invariant.longest in
-    let to = c.follow_past-to.result in
-    let on = c.follow_past-to.ensures.follows (one_start start) (one_are T w start place c.loop-next.invariant.sweeps c.loop-next.invariant.after) there.1 in
+    let to = c.follow_best-to.result in
     let G = c.go-next.new.table in
     record {
       table = c.go-next.ensures.table;
@@ -138,54 +171,25 @@ loop-next-preserved c =
       within = omega arith;
       next = next_map (LeadsFrom nodes r T to.state c.byte-byte.result) (IsAt nodes w r (one_start start) (to.place + 1)) G c.go-next.new.sets.entered c.go-next.result
           (λ row after leads. leads w (one_start start) to.place c.byte-byte.result c.byte-byte.ensures.byte (omega arith) refl
-          ((λ h. absurd (true≢false (sym h ∙ c.loop-next.invariant.sweeps))), (λ h. absurd (omega (arith, h.0, h.1)))) on.0) c.go-next.ensures.next;
-      longest = pass_best e w start (place + 1) (to.place + 1) c.better-best.result (none_passed nodes w r start c.requires.root place to.place on.1 (to.place + 1) (omega arith) (omega arith)) best;
-      lies = c.better-best.ensures.lies start c.args.stop c.loop-next.invariant.after c.loop-next.invariant.within c.loop-next.invariant.lies;
+          ((λ h. absurd (true≢false (sym h ∙ c.loop-next.invariant.sweeps))), (λ h. absurd (omega (arith, h.0, h.1)))) c.follow_best-to.ensures.passed.at) c.go-next.ensures.next;
+      longest = c.follow_best-to.ensures.passed.more (omega arith);
+      lies = c.follow_best-to.ensures.passed.lies;
       grows = omega arith;
-      cost = line_step (length nodes) (38 * length nodes) start place to.place c.args.steps.now c.loop-next.steps c.go-next.new.steps (omega arith) c.follow_past-to.ensures.after c.loop-next.invariant.cost (omega arith);
+      cost = line_step (length nodes) (38 * length nodes) start place to.place c.args.steps.now c.loop-next.steps c.go-next.new.steps (omega arith) c.follow_best-to.ensures.passed.after c.loop-next.invariant.cost (omega arith);
     }
 
 pub returns-then-to-stop-clause-cost : goal.returns-then-to-stop-clause-cost
 returns-then-to-stop-clause-cost c =
-    let paid = line_end (length c.args.expr.now.nodes) (38 * length c.args.expr.now.nodes) (38 * length c.args.expr.now.nodes) c.args.stop c.args.start c.loop-next.place c.args.steps.now c.loop-next.steps c.follow_past-to.new.steps (omega arith)
-    (omega arith) (omega arith) c.loop-next.invariant.cost (omega arith) in
+    let m = length c.args.expr.now.nodes in
+    let paid = line_end m (38 * m) (38 * m) c.args.stop c.args.start c.loop-next.place c.args.steps.now c.loop-next.steps c.follow_best-to.new.steps (omega arith) (omega arith) (omega arith) c.loop-next.invariant.cost (omega arith) in
+    (omega arith, omega (arith, paid))
+
+pub returns-then-to-clause-cost : goal.returns-then-to-clause-cost
+returns-then-to-clause-cost c =
+    let m = length c.args.expr.now.nodes in
+    let paid = line_end m (38 * m) (38 * m) c.args.stop c.args.start c.loop-next.place c.args.steps.now c.loop-next.steps c.follow_best-to.new.steps (omega arith) (omega arith) (omega arith) c.loop-next.invariant.cost (omega arith) in
     (omega arith, omega (arith, paid))
 
 pub returns-then-to-stop-clause-lies : goal.returns-then-to-stop-clause-lies
 returns-then-to-stop-clause-lies c =
-    let best = c.better-best.ensures.lies c.args.start c.args.stop c.loop-next.invariant.after c.loop-next.invariant.within c.loop-next.invariant.lies in
-    c.better-then-to-stop.ensures.lies c.args.start c.args.stop (omega arith) (omega arith) best
-
-pub loop-next-preserved-then-run-place : goal.loop-next-preserved-then-run-place
-loop-next-preserved-then-run-place c =
-    let nodes = c.args.expr.now.nodes in
-    let w = c.args.text.now in
-    let r = c.args.root in
-    let start = c.args.start in
-    let place = c.loop-next.place in
-    let run = c.stay-run.result in
-    let e = tree c.args.expr.now in
-    let T = c.loop-next.table in
-    let state = c.in-To.state in
-    let ends = c.index-ends.result.now in
-    let there : NextIs (IsAt c.args.expr.now.nodes c.args.text.now c.args.root (one_start c.args.start) c.loop-next.place) T c.loop-next.sets.entered (To state) =
-    subst (λ n. NextIs (IsAt c.args.expr.now.nodes c.args.text.now c.args.root (one_start c.args.start) c.loop-next.place) T c.loop-next.sets.entered n) c.in-To.is c.loop-next.invariant.next in
-    let ends_there = c.loop-next.invariant.table.ends_there in
-    let rows_there = c.loop-next.invariant.table.rows_there in
-    let same = c.index-ends.ensures ∙ default_same T.ends.items state ends (record { inner = false; last = false; goes = false }) (omega (arith, there.0, ends_there, rows_there)) in
-    let on = c.stay-run.ensures.stays (one_start start) (one_are T w start place c.loop-next.invariant.sweeps c.loop-next.invariant.after) there.1 in
-    let before : IsAt nodes w r (one_start start) (run - 1) (row_of T.rows state) ends = subst (λ v. IsAt nodes w r (one_start start) (run - 1) (row_of T.rows state) v) (sym same) (on (run - 1) (omega arith) (omega arith)) in
-    let inner = c.stay-run.ensures.only c.if-run-place.true in
-    record {
-      table = c.loop-next.invariant.table;
-      sweeps = c.loop-next.invariant.sweeps;
-      marks = c.loop-next.invariant.marks;
-      after = omega arith;
-      within = omega arith;
-      next = (there.0, on run c.stay-run.ensures.after (omega arith));
-      longest = longest_last e w start run (omega arith) ((one_span nodes w r start c.requires.root (run - 1) ends.inner (before.inner (omega arith))).0 inner);
-      lies = (omega arith, omega arith);
-      grows = omega arith;
-      cost = line_end (length nodes) (38 * length nodes) (38 * length nodes) run start place c.args.steps.now c.loop-next.steps c.stay-run.new.steps (omega arith) (omega arith) (omega arith) c.loop-next.invariant.cost
-          (omega (arith, c.stay-run.ensures.cost.1, look_most ends.inner));
-    }
+    c.better-then-to-stop.ensures.lies c.args.start c.args.stop (omega arith) (omega arith) c.follow_best-to.ensures.passed.lies
