@@ -11,8 +11,6 @@ mod inputs;
 mod names;
 mod sinks;
 mod standard;
-#[cfg(test)]
-mod tests;
 
 pub use sededit::{Inputs, Joined, Line, Names, Part, Refused, Sinks, command, edit, line, script};
 use std::process::ExitCode;

@@ -23,18 +23,5 @@ pub mod Occurrences
 pub mod Replacements
 pub mod Due
 pub mod ListingLemmas
-pub mod Examples
-pub mod RunExamples
-pub mod OccurrenceExamples
-pub mod ListingExamples
 pub mod ListingLines
 pub mod ListingTokens
-pub mod ComputedRun
-pub mod ComputedEnds
-mod AddressRunExamples
-mod SubstitutionRunExamples
-mod SpaceRunExamples
-mod CaseRunExamples
-mod EndRunExamples
-mod TextRunExamples
-mod DeviceRunExamples

@@ -1,6 +1,5 @@
 pub mod PartLemmas
 pub mod CapsLemmas
-pub mod Examples
 pub mod GroupLemmas
 pub mod MatchingLemmas
 pub mod WorkLemmas
@@ -43,10 +42,3 @@ pub mod LinearLemmas
 pub mod FirstStartLemmas
 pub mod LongestLemmas
 pub mod CutLemmas
-mod MatchExamples
-mod GroupExamples
-mod ComputedSearch
-mod SearchExamples
-mod ReportExamples
-mod NestedStarExamples
-mod StandardExamples

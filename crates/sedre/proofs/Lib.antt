@@ -23,16 +23,4 @@ pub mod MirrorLemmas
 pub mod Holding
 pub mod Numbers
 pub mod Ended
-mod Folding
-pub mod ComputedReading
-mod WrittenExamples
-mod SymbolExamples
-mod ExampleWords
-mod FaultExamples
-mod DelimitedExamples
-mod HostileExamples
-mod ListExamples
-mod ClassExamples
-mod FoldedExamples
-mod MemoryFaultExamples
-mod ManyGroupsExamples
+pub mod Folding

@@ -7,18 +7,9 @@ pub mod Keeping
 pub mod Cuts
 pub mod Exclusive
 mod OneMeaning
-mod OneFault
+pub mod OneFault
 pub mod Labels
 pub mod FileTables
 pub mod Blocks
 pub mod TargetFaults
 pub mod Bounds
-pub mod ComputedScript
-mod AddressFaultExamples
-mod FunctionFaultExamples
-mod SubstitutionFaultExamples
-mod ScriptExamples
-mod TextExamples
-mod ScriptWords
-mod ManyBracesExamples
-mod MemoryFaultExamples

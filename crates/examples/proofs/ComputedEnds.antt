@@ -1,0 +1,200 @@
+-- Ends of runs within limits as a computation, so that examples of them can be computed.
+use Rattle.std.proofs.Common.{◌≡◌, ℕ, zero, suc, ◌≤◌, Bool, false, true, ◌&&◌, List, [], ◌∷◌, length, take, Option, Some, None, refl, sym, subst, ◌∙◌, arith}
+use Rattle.std.specs.Prelude.{◌<◌, eqb, leb, ltb, if◌then◌else◌, slice_get}
+use Rattle.std.proofs.lemmas.Bool.{leb-true, ltb-true, eqb-true}
+use Rattle.sedre.specs.declared.types.Kind.{Kind}
+use Rattle.sedre.specs.declared.types.Kind.TheVariants.{Basic}
+use Rattle.sedscript.specs.Script.{Program}
+use Rattle.examples.proofs.ComputedScript.{Script}
+use Rattle.sedspace.specs.Lines.{lines}
+use Rattle.sedengine.specs.Limits.{Limits}
+use Rattle.sedengine.specs.State.{State, Task, Move, Setting}
+use Rattle.sedengine.specs.Move.{move, after, start, to_sink}
+use Rattle.sedengine.specs.Run.{setting_of}
+use Rattle.sedengine.specs.Ends.{Fits, Within, HasTurn, IsCause, Cause, WholeOrCut, Whole, Cut, named_sink, takes_turn, line_at, reaches, reads}
+use Rattle.sedengine.specs.declared.ends.Ended.{Ended}
+use Rattle.sedengine.specs.declared.ends.Ended.TheVariants.{Done, PatternFull, HoldFull, QueueFull, TurnsSpent, NoPrevious, InputBroken}
+use Rattle.examples.proofs.ComputedRun.{course, course_so, stays, after_first}
+
+pub both : (a b : Bool) → (a && b) ≡ true → (a ≡ true) × (b ≡ true)
+both true b e = (refl, e)
+both false b e = absurd cc
+
+-- whether a state is within the limits
+abbrev pub fits : Limits → State → Bool
+fits l s =
+    leb (length s.pattern) l.space && (leb (length s.hold) l.space && (leb (length s.queue) l.queue && leb s.turns l.turns))
+
+fits_so : (l : Limits) (s : State) → fits l s ≡ true → Fits l s
+fits_so l s e =
+    let one = both _ _ e in
+    let two = both _ _ one.1 in
+    let three = both _ _ two.1 in
+    record {
+      pattern = leb-true _ _ one.0;
+      hold = leb-true _ _ two.0;
+      queue = leb-true _ _ three.0;
+      turns = leb-true _ _ three.1;
+    }
+
+abbrev pub next_fits : (State → Bool) → Option Move → Bool
+next_fits rest None = true
+next_fits rest (Some m) = rest m.next
+
+-- whether each state up to the one after so many moves is
+unfoldable pub all_fit : Limits → Setting → ℕ → State → Bool
+all_fit l g zero s = fits l s
+all_fit l g (suc n) s = fits l s && next_fits (all_fit l g n) (move g s)
+
+module _ (l : Limits) (g : Setting) where
+  later_fit : (n : ℕ) (s : State) (o : Option Move) → move g s ≡ o → fits l s ≡ true → next_fits (all_fit l g n) o ≡ true →
+      ((next : State) → all_fit l g n next ≡ true → (k : ℕ) → k ≤ n → Fits l (after g next k)) → (k : ℕ) → k ≤ suc n → Fits l (after g s k)
+  unfolding after
+  later_fit n s o e f h on zero below = fits_so l s f
+  later_fit n s None e f h on (suc k) below = subst (Fits l) (sym (stays g s (suc k) e)) (fits_so l s f)
+  later_fit n s (Some m) e f h on (suc k) below =
+      subst (Fits l) (sym (after_first g s m k e)) (on m.next h k (omega arith))
+
+  each_fits : (n : ℕ) (s : State) → all_fit l g n s ≡ true → (k : ℕ) → k ≤ n → Fits l (after g s k)
+  unfolding all_fit after
+  each_fits zero s e k below = (let none : k ≡ 0 = omega (arith, below) in rw none (fits_so l s e))
+  each_fits (suc n) s e k below =
+      let two = both _ _ e in later_fit n s (move g s) refl two.0 two.1 (each_fits n) k below
+
+  within_so : (n : ℕ) (s : State) → all_fit l g n s ≡ true → Within l g s n
+  unfolding Within
+  within_so n s e = each_fits n s e
+
+-- whether the first task has a turn left where it takes one
+abbrev pub has_turn : Limits → Setting → State → Bool
+has_turn l g s = if takes_turn g s s.tasks then ltb s.turns l.turns else true
+
+if_so : (a b : Bool) → (if a then b else true) ≡ true → a ≡ true → b ≡ true
+if_so true b e is = e
+if_so false b e is = absurd cc
+
+has_turn_so : (l : Limits) (g : Setting) (s : State) → has_turn l g s ≡ true → HasTurn l g s
+has_turn_so l g s e = λ takes. ltb-true _ _ (if_so (takes_turn g s s.tasks) _ e takes)
+
+-- whether there is a move, and what it leads to is so
+abbrev pub leads : Option Move → (Move → Bool) → Bool
+leads None test = false
+leads (Some m) test = test m
+
+leads_so : (o : Option Move) (limit : ℕ) (size : Move → ℕ) → leads o (λ m. ltb limit (size m)) ≡ true →
+    (m : Move) × (o ≡ Some m) × (limit < size m)
+leads_so None limit size e = absurd cc
+leads_so (Some m) limit size e = (m, refl, ltb-true _ _ e)
+
+abbrev pub no_tasks : List Task → Bool
+no_tasks [] = true
+no_tasks (task ∷ rest) = false
+
+abbrev pub no_move : Option Move → Bool
+no_move None = true
+no_move (Some m) = false
+
+no_tasks_so : (ts : List Task) → no_tasks ts ≡ true → ts ≡ []
+no_tasks_so [] e = refl
+no_tasks_so (t ∷ ts) e = absurd cc
+
+no_move_so : (o : Option Move) → no_move o ≡ true → o ≡ None
+no_move_so None e = refl
+no_move_so (Some m) e = absurd cc
+
+-- whether an end that names no sink has its cause at this state
+abbrev pub is_cause : Limits → Setting → State → Ended → Bool
+is_cause l g s Done = no_tasks s.tasks
+is_cause l g s (PatternFull n) =
+    eqb n (line_at s s.tasks) && (has_turn l g s && leads (move g s) (λ m. ltb l.space (length m.next.pattern)))
+is_cause l g s (HoldFull n) =
+    eqb n s.number && (has_turn l g s && leads (move g s) (λ m. ltb l.space (length m.next.hold)))
+is_cause l g s (QueueFull n) =
+    eqb n s.number && (has_turn l g s && leads (move g s) (λ m. ltb l.queue (length m.next.queue)))
+is_cause l g s TurnsSpent = eqb s.turns l.turns && takes_turn g s s.tasks
+is_cause l g s (NoPrevious n) = eqb n s.number && (has_turn l g s && (reaches s.tasks && no_move (move g s)))
+is_cause l g s InputBroken = reads g s.tasks
+is_cause l g s other = false
+
+-- what is so after the first t moves, where the end is none of a sink
+abbrev IsWhole : Limits → Setting → State → List (ℕ × ℕ) → Ended → ℕ → Type 0
+IsWhole l g s out end t = Whole l g s (λ bytes. bytes ≡ out) end t
+
+cause_so : (l : Limits) (g : Setting) (s : State) (end : Ended) → is_cause l g s end ≡ true → IsCause l g s end
+cause_so l g s Done e = no_tasks_so s.tasks e
+cause_so l g s (PatternFull n) e =
+    let one = both _ _ e in
+    let two = both _ _ one.1 in
+    (eqb-true _ _ one.0, has_turn_so l g s two.0, leads_so (move g s) l.space (λ m. length m.next.pattern) two.1)
+cause_so l g s (HoldFull n) e =
+    let one = both _ _ e in
+    let two = both _ _ one.1 in
+    (eqb-true _ _ one.0, has_turn_so l g s two.0, leads_so (move g s) l.space (λ m. length m.next.hold) two.1)
+cause_so l g s (QueueFull n) e =
+    let one = both _ _ e in
+    let two = both _ _ one.1 in
+    (eqb-true _ _ one.0, has_turn_so l g s two.0, leads_so (move g s) l.queue (λ m. length m.next.queue) two.1)
+cause_so l g s TurnsSpent e = let one = both _ _ e in (eqb-true _ _ one.0, one.1)
+cause_so l g s (NoPrevious n) e =
+    let one = both _ _ e in
+    let two = both _ _ one.1 in
+    let three = both _ _ two.1 in
+    (eqb-true _ _ one.0, has_turn_so l g s two.0, three.0, no_move_so (move g s) three.1)
+cause_so l g s InputBroken e = e
+cause_so l g s other e = absurd cc
+
+-- a run within limits comes to an end, and its sinks have gained these bytes
+pub record Stops (l : Limits) (g : Setting) (s : State) (end : Ended) (out : List (ℕ × ℕ)) : Type 0 where
+  pub moves : ℕ
+  pub cause : Cause l g s (λ bytes. bytes ≡ out) end moves
+
+whole_or_cut : (l : Limits) (g : Setting) (s : State) (end : Ended) (out : List (ℕ × ℕ)) (t : ℕ) (o : Option ℕ) → o ≡ None →
+    IsWhole l g s out end t → WholeOrCut l g s (λ bytes. bytes ≡ out) end t o
+whole_or_cut l g s end out t None e h = h
+whole_or_cut l g s end out t (Some k) e h = absurd cc
+
+cut_there : (l : Limits) (g : Setting) (s : State) (end : Ended) (out : List (ℕ × ℕ)) (t k : ℕ) (o : Option ℕ) → o ≡ Some k →
+    Cut l g s (λ bytes. bytes ≡ out) k t → WholeOrCut l g s (λ bytes. bytes ≡ out) end t o
+cut_there l g s end out t k None e h = absurd cc
+cut_there l g s end out t k (Some j) e h = subst (λ (o : Option ℕ). WholeOrCut l g s (λ bytes. bytes ≡ out) end t o) (sym e) h
+
+pub stops_after : {l : Limits} {g : Setting} {s : State} {end : Ended} {out : List (ℕ × ℕ)} (n : ℕ) →
+    (course g n s).writes ≡ out → is_cause l g (course g n s).last end ≡ true → all_fit l g n s ≡ true →
+    named_sink end ≡ None → Stops l g s end out
+stops_after {l = l} {g = g} {s = s} {end = end} {out = out} n w c f sink = record {
+  moves = n;
+  cause = whole_or_cut l g s end out n (named_sink end) sink (record {
+    within = within_so l g n s f;
+    sinks = (course_so g n s).0 ∙ w;
+    cause = subst (λ (x : State). IsCause l g x end) (sym (course_so g n s).1) (cause_so l g (course g n s).last end c);
+  });
+}
+
+-- The same where a sink breaks or is full: in the move after so many, of whose bytes the next one is for this sink.
+pub stops_within : {l : Limits} {g : Setting} {s : State} {end : Ended} {out : List (ℕ × ℕ)} (n k byte : ℕ) →
+    leb (length (course g n s).writes) (length out) ≡ true →
+    slice_get (course g (suc n) s).writes (length out) ≡ Some (k, byte) →
+    take (length out) (course g (suc n) s).writes ≡ out → all_fit l g (suc n) s ≡ true →
+    named_sink end ≡ Some k → Stops l g s end out
+stops_within {l = l} {g = g} {s = s} {end = end} {out = out} n k byte past due w f sink = record {
+  moves = n;
+  cause = cut_there l g s end out n k (named_sink end) sink (record {
+    within = within_so l g (suc n) s f;
+    b = length out;
+    byte = byte;
+    past = subst (λ (bytes : List (ℕ × ℕ)). length bytes ≤ length out) (sym (course_so g n s).0) (leb-true _ _ past);
+    due = subst (λ (bytes : List (ℕ × ℕ)). slice_get bytes (length out) ≡ Some (k, byte)) (sym (course_so g (suc n) s).0) due;
+    sinks = subst (λ (bytes : List (ℕ × ℕ)). take (length out) bytes ≡ out) (sym (course_so g (suc n) s).0) w;
+  });
+}
+
+-- The script of a text, over the lines of an input, with these files and within these limits, comes to this end when it has
+-- written these bytes, each to its sink.
+abbrev pub StopsBy : Limits → Kind → (Program → Program) → (ℕ → List ℕ) → (text input : List ℕ) → Ended →
+    (out : List (ℕ × ℕ)) → Type 0
+StopsBy l kind asked files text input end out =
+    Script text kind (λ p. Stops l (setting_of (asked p) files) (start p.commands (lines input)) end out)
+
+-- the same, of a script with basic expressions, for the standard output alone
+abbrev pub EndsBy : Limits → (Program → Program) → (ℕ → List ℕ) → (text input : List ℕ) → Ended → (output : List ℕ) → Type 0
+EndsBy l asked files text input end output = StopsBy l Basic asked files text input end (to_sink 0 output)

@@ -1,0 +1,99 @@
+-- Runs as a computation, so that examples of them can be computed: a script from its bytes, and then moves one after the
+-- other.
+use Rattle.std.proofs.Common.{◌≡◌, ℕ, zero, suc, true, List, [], ◌++◌, Option, Some, None, refl, ap, sym, ◌∙◌, append_assoc, append-nil}
+use Rattle.sedre.specs.declared.types.Kind.{Kind}
+use Rattle.sedre.specs.declared.types.Kind.TheVariants.{Basic}
+use Rattle.sedscript.specs.Script.{Program}
+use Rattle.examples.proofs.ComputedScript.{Script}
+use Rattle.sedspace.specs.Lines.{lines}
+use Rattle.sedengine.specs.State.{State, Move, Setting}
+use Rattle.sedengine.specs.Move.{move, after, written, next_or_stay, writes_of, start, to_sink}
+use Rattle.sedengine.specs.Run.{setting_of}
+
+-- what moves write, and the state that they lead to
+pub record Course : Type 0 where
+  pub writes : List (ℕ × ℕ)
+  pub last : State
+
+abbrev pub onwards : State → (State → Course) → Option Move → Course
+onwards s rest None = record { writes = []; last = s }
+onwards s rest (Some m) = record { writes = m.writes ++ (rest m.next).writes; last = (rest m.next).last }
+
+-- so many moves, as far as there are any
+unfoldable pub course : Setting → ℕ → State → Course
+course g zero s = record { writes = []; last = s }
+course g (suc n) s = onwards s (course g n) (move g s)
+
+module _ (g : Setting) where
+  -- a state without a move stays, and writes nothing
+  pub stays : (s : State) (n : ℕ) → move g s ≡ None → after g s n ≡ s
+  unfolding after
+  stays s zero e = refl
+  stays s (suc n) e = rw (stays s n e, e) refl
+
+  stays_still : (s : State) (n : ℕ) → move g s ≡ None → written g s n ≡ []
+  unfolding written
+  stays_still s zero e = refl
+  stays_still s (suc n) e = rw (stays_still s n e, stays s n e, e) refl
+
+  -- the moves after the first one
+  pub after_first : (s : State) (m : Move) (n : ℕ) → move g s ≡ Some m → after g s (suc n) ≡ after g m.next n
+  unfolding after
+  after_first s m zero e = ap (next_or_stay s) e
+  after_first s m (suc n) e = ap (λ x. next_or_stay x (move g x)) (after_first s m n e)
+
+  written_first : (s : State) (m : Move) (n : ℕ) → move g s ≡ Some m → written g s (suc n) ≡ m.writes ++ written g m.next n
+  unfolding written after
+  written_first s m zero e = ap writes_of e ∙ sym (append-nil m.writes)
+  written_first s m (suc n) e =
+      rw (written_first s m n e, after_first s m n e) (append_assoc m.writes (written g m.next n) (writes_of (move g (after g m.next n))))
+
+  abbrev Agrees : ℕ → State → Course → Type 0
+  Agrees n s c = (written g s n ≡ c.writes) × (after g s n ≡ c.last)
+
+  onwards_so : (n : ℕ) (s : State) (o : Option Move) → move g s ≡ o → ((next : State) → Agrees n next (course g n next)) →
+      Agrees (suc n) s (onwards s (course g n) o)
+  onwards_so n s None e on = (stays_still s (suc n) e, stays s (suc n) e)
+  onwards_so n s (Some m) e on =
+      (written_first s m n e ∙ ap (λ w. m.writes ++ w) (on m.next).0, after_first s m n e ∙ (on m.next).1)
+
+  pub course_so : (n : ℕ) (s : State) → Agrees n s (course g n s)
+  unfolding course written after
+  course_so zero s = (refl, refl)
+  course_so (suc n) s = onwards_so n s (move g s) refl (course_so n)
+
+-- a run ends, and wrote these bytes
+pub record Ends (g : Setting) (s : State) (out : List (ℕ × ℕ)) : Type 0 where
+  pub moves : ℕ
+  pub writes : written g s moves ≡ out
+  pub ended : (after g s moves).tasks ≡ []
+
+pub ends_after : {g : Setting} {s : State} {out : List (ℕ × ℕ)} (n : ℕ) → (course g n s).writes ≡ out →
+    (course g n s).last.tasks ≡ [] → Ends g s out
+ends_after {g = g} {s = s} n w e = record {
+  moves = n;
+  writes = (course_so g n s).0 ∙ w;
+  ended = ap (λ (x : State). x.tasks) (course_so g n s).1 ∙ e;
+}
+
+-- The script of a text, over the lines of an input and with these files, writes these bytes, each to its sink, and ends.
+abbrev pub Edits : Kind → (Program → Program) → (ℕ → List ℕ) → List ℕ → List ℕ → List (ℕ × ℕ) → Type 0
+Edits kind asked files text input out =
+    Script text kind (λ p. Ends (setting_of (asked p) files) (start p.commands (lines input)) out)
+
+-- the script as it stands, and with `-n`
+abbrev pub plain : Program → Program
+plain p = p
+
+abbrev pub quiet : Program → Program
+quiet p = record p { quiet = true }
+
+abbrev pub no_files : ℕ → List ℕ
+no_files k = []
+
+-- the same, of a script with basic expressions, for the standard output alone; the second with `-n`
+abbrev pub Writes : (text input output : List ℕ) → Type 0
+Writes text input output = Edits Basic plain no_files text input (to_sink 0 output)
+
+abbrev pub QuietlyWrites : (text input output : List ℕ) → Type 0
+QuietlyWrites text input output = Edits Basic quiet no_files text input (to_sink 0 output)

@@ -1,0 +1,174 @@
+-- Examples of a star in a star: (a*)*b on as many a as one likes finds nothing, and with a b after them it takes all.
+use Rattle.std.proofs.Common.{◌≡◌, ℕ, zero, suc, ◌+◌, ◌-◌, ◌<◌, ◌≤◌, List, [], ◌∷◌, ◌++◌, length, false, true, Some, None, inl, refl, sym, ◌∙◌, subst, arith}
+use Rattle.std.specs.Prelude.{codes, replicate, slice_get, slice_set}
+use Rattle.std.proofs.lemmas.Option.{slice_get_within, get_or_from_slice_get}
+use Rattle.std.proofs.lemmas.List.{length-replicate, get_or-replicate}
+use Rattle.sedre.specs.declared.types.Kind.TheVariants.{Extended}
+use Rattle.sedre.specs.Tree.{Tree, set, seq, group, star}
+use Rattle.sedre.specs.Sets.{set_of, only}
+use Rattle.sedre.specs.Items.{item_at}
+use Rattle.sedre.specs.Grammar.{ReadsAs}
+use Rattle.examples.proofs.ComputedReading.{outcome, rest_of, reads_as}
+use Rattle.sedmatch.specs.Spans.{Spans, IsIn, Copies, no_copy, one_more, Found}
+use Rattle.sedmatch.specs.Caps.{LastCopy, only as only_copy, then, no_groups, IsReport}
+use Rattle.examples.proofs.ComputedSearch.{Finds, FindsNothing, spans_are}
+
+abbrev a : Tree
+a = set (only 97)
+
+abbrev b : Tree
+b = set (only 98)
+
+-- (a*)*b
+abbrev nested : Tree
+nested = seq (star (group 1 (star a true)) true) b
+
+nested_reads : ReadsAs Extended false None (codes "(a*)*b") nested 1
+unfolding outcome rest_of item_at
+nested_reads = reads_as refl
+
+-- Nothing is found where no b stands.
+
+all_alike : (n x i byte : ℕ) → slice_get (replicate n x) i ≡ Some byte → byte ≡ x
+all_alike n x i byte e =
+    let within : i < n = subst (λ v. i < v) (length-replicate n x) (slice_get_within (replicate n x) i byte e) in
+    sym (get_or_from_slice_get (replicate n x) i byte 0 e) ∙ get_or-replicate n i x 0 within
+
+no_b : (n i j : ℕ) → Spans b (replicate n 97) i j → ⊥
+unfolding set_of
+no_b n i j s =
+    let within : false ≡ true = subst (λ v. IsIn v (only 98)) (all_alike n 97 i s.0 s.1) s.2 in
+    absurd cc
+
+nothing_in_many : (n p : ℕ) → FindsNothing Extended (codes "(a*)*b") (replicate n 97) p
+nothing_in_many n p = record {
+  tree = nested;
+  count = 1;
+  reads_so = nested_reads;
+  is_not_found = λ i k from within s. no_b n s.0 k s.2;
+}
+
+-- Copies of an a at places that have one.
+
+copy_of_a : (w : List ℕ) (i j : ℕ) → i + 1 ≡ j → slice_get w i ≡ Some 97 → Spans a w i j
+unfolding set_of
+copy_of_a w i j e there = (97, there, refl, sym e)
+
+copies_of_a : (w : List ℕ) (n i j : ℕ) → i + n ≡ j → ((k : ℕ) → k < j → slice_get w k ≡ Some 97) → Copies (Spans a w) j i
+copies_of_a w zero i j e each = subst (λ v. Copies (Spans a w) v i) (omega (arith, e)) no_copy
+copies_of_a w (suc n) i j e each =
+    one_more i (i + 1) (omega arith) (copy_of_a w i (i + 1) refl (each i (omega arith))) (copies_of_a w n (i + 1) j (omega arith) each)
+
+last_a : (w : List ℕ) (n i j : ℕ) → i + suc n ≡ j → ((k : ℕ) → k < j → slice_get w k ≡ Some 97) → (c : ℕ) × LastCopy (Spans a w) j i c
+last_a w zero i j e each = (i, only_copy i (omega arith) (copy_of_a w i j (omega arith) (each i (omega arith))))
+last_a w (suc n) i j e each =
+    let later = last_a w n (i + 1) j (omega arith) each in (
+      later.0,
+      then i (i + 1) later.0 (omega arith) (omega arith) (copy_of_a w i (i + 1) refl (each i (omega arith)))
+          (copies_of_a w (suc n) (i + 1) j (omega arith) each) (λ l up s on. omega (arith, s.3)) later.1,
+    )
+
+-- A text of a with a b at its end.
+
+abbrev with_b : ℕ → List ℕ
+with_b n = replicate n 97 ++ 98 ∷ []
+
+each_a : (n k : ℕ) → k < n → slice_get (with_b n) k ≡ Some 97
+each_a zero k lt = absurd (omega arith)
+each_a (suc n) zero lt = refl
+each_a (suc n) (suc k) lt = each_a n k (omega arith)
+
+b_at_the_end : (n : ℕ) → slice_get (with_b n) n ≡ Some 98
+b_at_the_end zero = refl
+b_at_the_end (suc n) = b_at_the_end n
+
+with_b-length : (n : ℕ) → length (with_b n) ≡ n + 1
+with_b-length zero = refl
+with_b-length (suc n) = omega (arith, with_b-length n)
+
+ends_within : (n i j : ℕ) → Spans b (with_b n) i j → j ≤ n + 1
+ends_within n i j s =
+    let within = slice_get_within (with_b n) i s.0 s.1 in
+    omega (arith, within, s.3, with_b-length n)
+
+b_spans : (n : ℕ) → Spans b (with_b n) n (n + 1)
+unfolding set_of
+b_spans n = (98, b_at_the_end n, refl, refl)
+
+many_found : (n : ℕ) → 0 < n → Found nested (with_b n) 0 0 (n + 1)
+many_found n some = record {
+  after = omega arith;
+  spans = (n, one_more 0 n some (copies_of_a (with_b n) n 0 n (omega arith) (each_a n)) no_copy, b_spans n);
+  longest = λ k s. ends_within n s.0 k s.2;
+  leftmost = λ h k from before s. absurd (omega (arith, before));
+}
+
+-- where b matches at the end alone, the a before it are all that is left for the group
+up_to_b : (n : ℕ) → 0 < n → IsReport nested (with_b n) 0 (n + 1) (spans_are (0, n + 1) (Some (0, n) ∷ []))
+up_to_b n some =
+    let w = with_b n in
+    let copies : Copies (Spans a w) n 0 = copies_of_a w n 0 n (omega arith) (each_a n) in
+    let last = last_a w (n - 1) 0 n (omega arith) (each_a n) in (
+      slice_set no_groups 1 (Some (0, n)),
+      (
+        n,
+        record {
+          left = one_more 0 n some copies no_copy;
+          right = b_spans n;
+          greatest = λ l s t. omega (arith, t.3);
+        },
+        (
+          slice_set no_groups 1 (Some (0, n)),
+          inl (some, (0, only_copy 0 some copies, (no_groups, inl (some, (last.0, last.1, refl)), refl))),
+          refl,
+        ),
+      ),
+      refl,
+    )
+
+all_of_many : (n : ℕ) → 0 < n → Finds Extended (codes "(a*)*b") (with_b n) 0 (0, n + 1) (Some (0, n) ∷ [])
+all_of_many n some = record {
+  tree = nested;
+  count = 1;
+  reads_so = nested_reads;
+  is_found = many_found n some;
+  reports = up_to_b n some;
+}
+
+-- A b alone is found behind them, however many they are.
+
+b_reads : ReadsAs Extended false None (codes "b") b 0
+unfolding outcome rest_of item_at
+b_reads = reads_as refl
+
+not_before : (n h k : ℕ) → h < n → Spans b (with_b n) h k → ⊥
+unfolding set_of
+not_before n h k before s =
+    let there : s.0 ≡ 97 = sym (get_or_from_slice_get (with_b n) h s.0 0 s.1) ∙ get_or_from_slice_get (with_b n) h 97 0 (each_a n h before) in
+    let within : false ≡ true = subst (λ v. IsIn v (only 98)) there s.2 in
+    absurd cc
+
+b_behind_many : (n : ℕ) → Finds Extended (codes "b") (with_b n) 0 (n, n + 1) []
+b_behind_many n = record {
+  tree = b;
+  count = 0;
+  reads_so = b_reads;
+  is_found = record {
+    after = omega arith;
+    spans = b_spans n;
+    longest = λ k s. ends_within n n k s;
+    leftmost = λ h k from before s. not_before n h k before s;
+  };
+  reports = (no_groups, refl, refl);
+}
+
+-- Forty of them, and a thousand.
+
+nothing_in_forty : FindsNothing Extended (codes "(a*)*b") (replicate 40 97) 0
+nothing_in_forty = nothing_in_many 40 0
+
+all_of_forty : Finds Extended (codes "(a*)*b") (replicate 40 97 ++ 98 ∷ []) 0 (0, 41) (Some (0, 40) ∷ [])
+all_of_forty = all_of_many 40 (omega arith)
+
+b_behind_a_thousand : Finds Extended (codes "b") (replicate 1000 97 ++ 98 ∷ []) 0 (1000, 1001) []
+b_behind_a_thousand = b_behind_many 1000

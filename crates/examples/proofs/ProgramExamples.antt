@@ -1,0 +1,228 @@
+-- Examples of what the program's command lines come to, computed by the definitions: the parts of the script as the words
+-- give them, the files, and what is written or how the run ends (XCU sed, "Options", "Operands").
+use Rattle.std.proofs.Common.{◌≡◌, ◌≢◌, ℕ, List, [], ◌∷◌, Option, Some, None, refl, subst, arith}
+use Rattle.std.specs.Prelude.{codes}
+use Rattle.sedre.specs.declared.types.Kind.{Kind}
+use Rattle.sedre.specs.declared.types.Kind.TheVariants.{Basic}
+use Rattle.sedre.specs.Delimited.{delimiter_at}
+use Rattle.examples.proofs.ComputedScript.{verdict, cutting, walked, Script, is_script}
+use Rattle.sedscript.specs.Script.{Program}
+use Rattle.sedscript.specs.Addresses.{match_at, address_at, second_at, addresses_at}
+use Rattle.sedscript.specs.Bytes.{past}
+use Rattle.sedscript.specs.Functions.{name_from, text_from}
+use Rattle.sedscript.specs.Items.{function_at, item_at}
+use Rattle.sedspace.specs.Lines.{lines}
+use Rattle.sedengine.specs.Ends.{Cause}
+use Rattle.sedengine.specs.Limits.{Limits, limits_of}
+use Rattle.sedengine.specs.Move.{move, to_sink}
+use Rattle.sedengine.specs.Run.{setting_of}
+use Rattle.sedengine.specs.Select.{selects}
+use Rattle.sedengine.specs.declared.ends.Ended.{Ended}
+use Rattle.sedengine.specs.declared.ends.Ended.TheVariants.{Done, NoPrevious, InputBroken, OutputBroken}
+use Rattle.examples.proofs.ComputedEnds.{all_fit, stops_after, stops_within, Stops}
+use Rattle.examples.proofs.ComputedRun.{course, ends_after, plain, quiet, no_files, Edits}
+use Rattle.sededit.specs.CommandLine.{Given, text, file}
+use Rattle.sededit.specs.Editing.{start_over}
+use Rattle.sededit.specs.MemoryFiles.{File, file_of, files_of}
+use Rattle.sededit.specs.Program.{MakesText, StopsEarly, HasFailed, input_of}
+
+-- the files that there are: `a` with one line, `f` without a newline, and the script `s`
+abbrev there : List File
+there =
+    record { name = codes "a"; bytes = codes "x\n" } ∷ record { name = codes "f"; bytes = codes "aa" }
+    ∷ record { name = codes "s"; bytes = codes "#n\np" } ∷ []
+
+-- the input of these operands, with this standard input
+abbrev input : (standard : List ℕ) → (operands : List (List ℕ)) → Option (List ℕ)
+input standard operands = input_of (λ names. Some (files_of there standard names)) operands
+
+-- the script of these parts is this text
+abbrev Text : List Given → List ℕ → Type 0
+Text parts whole = MakesText (λ name. Some (file_of there name)) [] parts whole
+
+two_parts : Text (text (codes "i\\") ∷ text (codes "  X") ∷ []) (codes "i\\\n  X\n")
+two_parts = refl
+
+part_of_a_file : Text (file (codes "s") ∷ []) (codes "#n\np\n")
+part_of_a_file = (codes "#n\np", refl, refl)
+
+part_before_a_file : Text (text (codes "p") ∷ file (codes "s") ∷ []) (codes "p\n#n\np\n")
+part_before_a_file = (codes "#n\np", refl, refl)
+
+-- A file that can't be read gives no script.
+no_file : (whole : List ℕ) → Text (file (codes "nofile") ∷ []) whole → ⊥
+no_file whole made = (let none : Some made.0 ≡ None = made.1 in absurd cc)
+
+standard_input : input (codes "a\n") [] ≡ Some (codes "a\n")
+standard_input = refl
+
+-- The second `-` goes on where the first ended.
+standard_input_twice : input (codes "x\n") (codes "-" ∷ codes "-" ∷ []) ≡ Some (codes "x\n")
+standard_input_twice = refl
+
+file_without_a_newline : input [] (codes "f" ∷ codes "a" ∷ []) ≡ Some (codes "aa\nx\n")
+file_without_a_newline = refl
+
+-- One that can't be opened is as an empty one.
+missed_file : input [] (codes "a" ∷ codes "nofile" ∷ []) ≡ Some (codes "x\n")
+missed_file = refl
+
+-- These parts make a script that over the input of these operands writes these bytes.
+record Answers (kind : Kind) (asked : Program → Program) (files : ℕ → List ℕ) (parts : List Given) (standard : List ℕ)
+    (operands : List (List ℕ)) (output : List ℕ) : Type 0 where
+  whole : List ℕ
+  made : Text parts whole
+  bytes : List ℕ
+  gives : input standard operands ≡ Some bytes
+  runs : Edits kind asked files whole bytes (to_sink 0 output)
+
+-- `sed -e 'i\' -e '  X'`, with a on the standard input
+text_over_two_parts : Answers Basic plain no_files (text (codes "i\\") ∷ text (codes "  X") ∷ []) (codes "a\n") [] (codes "  X\na\n")
+unfolding verdict cutting walked item_at past function_at addresses_at address_at second_at text_from name_from lines course move selects
+text_over_two_parts = record {
+  whole = codes "i\\\n  X\n";
+  made = refl;
+  bytes = codes "a\n";
+  gives = refl;
+  runs = is_script (ends_after 60 refl refl);
+}
+
+-- `sed -f s a`
+script_of_a_file : Answers Basic plain no_files (file (codes "s") ∷ []) [] (codes "a" ∷ []) (codes "x\n")
+unfolding verdict cutting walked item_at past function_at addresses_at address_at second_at text_from name_from lines course move selects
+script_of_a_file = record {
+  whole = codes "#n\np\n";
+  made = (codes "#n\np", refl, refl);
+  bytes = codes "x\n";
+  gives = refl;
+  runs = is_script (ends_after 60 refl refl);
+}
+
+-- `sed -e p -f s a`: `#n` is not in the first line.
+script_before_a_file : Answers Basic plain no_files (text (codes "p") ∷ file (codes "s") ∷ []) [] (codes "a" ∷ []) (codes "x\nx\nx\n")
+unfolding verdict cutting walked item_at past function_at addresses_at address_at second_at text_from name_from lines course move selects
+script_before_a_file = record {
+  whole = codes "p\n#n\np\n";
+  made = (codes "#n\np", refl, refl);
+  bytes = codes "x\n";
+  gives = refl;
+  runs = is_script (ends_after 60 refl refl);
+}
+
+-- `sed p - -`
+standard_input_named_twice : Answers Basic plain no_files (text (codes "p") ∷ []) (codes "x\n") (codes "-" ∷ codes "-" ∷ []) (codes "x\nx\n")
+unfolding verdict cutting walked item_at past function_at addresses_at address_at second_at text_from name_from lines course move selects
+standard_input_named_twice = record {
+  whole = codes "p\n";
+  made = refl;
+  bytes = codes "x\n";
+  gives = refl;
+  runs = is_script (ends_after 60 refl refl);
+}
+
+-- `sed -n '$p' a nofile`
+last_line_before_a_missed_file : Answers Basic quiet no_files (text (codes "$p") ∷ []) [] (codes "a" ∷ codes "nofile" ∷ []) (codes "x\n")
+unfolding verdict cutting walked item_at past function_at addresses_at address_at second_at text_from name_from lines course move selects
+last_line_before_a_missed_file = record {
+  whole = codes "$p\n";
+  made = refl;
+  bytes = codes "x\n";
+  gives = refl;
+  runs = is_script (ends_after 60 refl refl);
+}
+
+-- `sed 1q a nofile`
+quit_before_a_file : Answers Basic plain no_files (text (codes "1q") ∷ []) [] (codes "a" ∷ codes "nofile" ∷ []) (codes "x\n")
+unfolding verdict cutting walked item_at past function_at addresses_at address_at second_at text_from name_from lines course move selects
+quit_before_a_file = record {
+  whole = codes "1q\n";
+  made = refl;
+  bytes = codes "x\n";
+  gives = refl;
+  runs = is_script (ends_after 60 refl refl);
+}
+
+-- `sed p nofile a`
+missed_file_first : Answers Basic plain no_files (text (codes "p") ∷ []) [] (codes "nofile" ∷ codes "a" ∷ []) (codes "x\nx\n")
+unfolding verdict cutting walked item_at past function_at addresses_at address_at second_at text_from name_from lines course move selects
+missed_file_first = record {
+  whole = codes "p\n";
+  made = refl;
+  bytes = codes "x\n";
+  gives = refl;
+  runs = is_script (ends_after 60 refl refl);
+}
+
+-- `sed 'r f' a`, where f is y and a newline
+file_of_the_script : Answers Basic plain (λ k. codes "y\n") (text (codes "r f") ∷ []) [] (codes "a" ∷ []) (codes "x\ny\n")
+unfolding verdict cutting walked item_at past function_at addresses_at address_at second_at text_from name_from lines course move selects
+file_of_the_script = record {
+  whole = codes "r f\n";
+  made = refl;
+  bytes = codes "x\n";
+  gives = refl;
+  runs = is_script (ends_after 60 refl refl);
+}
+
+-- Runs that stop early. The numbers of failures are those of the input and of the sinks, before and after.
+
+abbrev own : Limits
+own = limits_of 1048576 4096 65536 18446744073709551615 16384
+
+-- The script of a text, over this input, stops early at this end, when its sinks have gained these bytes.
+abbrev Stopped : (whole bytes : List ℕ) → (Ended → Type 0) → List ℕ → Type 0
+Stopped whole bytes failed output =
+    Script whole Basic (λ p. StopsEarly own p (Some bytes) (λ k. None) (λ gained. gained ≡ to_sink 0 output) failed)
+
+-- A script's run over this input comes to this end whichever files the script may read.
+record OverAnyFiles (p : Program) (bytes output : List ℕ) (end : Ended) : Type 0 where
+  each : (files : ℕ → List ℕ) → Stops own (setting_of p files) (start_over p bytes) end (to_sink 0 output)
+
+over_any : {p : Program} {bytes output : List ℕ} {end : Ended} →
+    ((files : ℕ → List ℕ) → Stops own (setting_of p files) (start_over p bytes) end (to_sink 0 output)) → OverAnyFiles p bytes output end
+over_any each = record { each = each }
+
+stopped : (whole bytes output : List ℕ) (failed : Ended → Type 0) (end : Ended) → Script whole Basic (λ p. OverAnyFiles p bytes output end) →
+    end ≢ Done → failed end → Stopped whole bytes failed output
+stopped whole bytes output failed end s other has =
+    let p = s.program in
+    record {
+      program = p;
+      meant = s.meant;
+      is = (
+        end,
+        other,
+        has,
+        λ given known files tells.
+            let same : bytes ≡ given = cc in
+            let run = s.is.each files in
+            (run.moves, subst (λ (x : List ℕ). Cause own (setting_of p files) (start_over p x) (λ gained. gained ≡ to_sink 0 output) end run.moves) same run.cause),
+      );
+    }
+
+abbrev none_failed : ℕ → ℕ
+none_failed k = 0
+
+-- The second line cannot be read.
+input_broke_run : Script (codes "p\n") Basic (λ p. OverAnyFiles p (codes "a\nb\n") (codes "a\na\n") InputBroken)
+unfolding verdict cutting walked item_at past function_at addresses_at address_at second_at text_from name_from lines course move selects all_fit
+input_broke_run = is_script (over_any (λ files. stops_after 6 refl refl refl refl))
+
+input_broke : Stopped (codes "p\n") (codes "a\nb\n") (HasFailed 0 1 none_failed none_failed) (codes "a\na\n")
+input_broke = stopped (codes "p\n") (codes "a\nb\n") (codes "a\na\n") (HasFailed 0 1 none_failed none_failed) InputBroken input_broke_run (λ e. absurd cc) (omega arith)
+
+-- The standard output takes three bytes.
+output_broke_run : Script (codes "p\n") Basic (λ p. OverAnyFiles p (codes "ab\n") (codes "ab\n") (OutputBroken 0))
+unfolding verdict cutting walked item_at past function_at addresses_at address_at second_at text_from name_from lines course move selects all_fit
+output_broke_run = is_script (over_any (λ files. stops_within 3 0 97 refl refl refl refl refl))
+
+output_broke : Stopped (codes "p\n") (codes "ab\n") (HasFailed 0 0 none_failed (λ k. 1)) (codes "ab\n")
+output_broke = stopped (codes "p\n") (codes "ab\n") (codes "ab\n") (HasFailed 0 0 none_failed (λ k. 1)) (OutputBroken 0) output_broke_run (λ e. absurd cc) (omega arith)
+
+-- `sed //p nofile a`: no device has failed.
+no_previous_expression_run : Script (codes "//p\n") Basic (λ p. OverAnyFiles p (codes "x\n") (codes "") (NoPrevious 1))
+unfolding verdict cutting walked item_at past function_at addresses_at address_at second_at text_from name_from lines course move selects all_fit match_at delimiter_at
+no_previous_expression_run = is_script (over_any (λ files. stops_after 1 refl refl refl refl))
+
+no_previous_expression : Stopped (codes "//p\n") (codes "x\n") (HasFailed 0 0 none_failed none_failed) (codes "")
+no_previous_expression = stopped (codes "//p\n") (codes "x\n") (codes "") (HasFailed 0 0 none_failed none_failed) (NoPrevious 1) no_previous_expression_run (λ e. absurd cc) tt
