@@ -149,6 +149,7 @@ fn number_among(
     set: &ByteSet,
 ) -> Option<usize>
     ensures number { IfSome result (λ k. slice_get sets.now k ≡ Some set.now) }
+    ensures known { IfSome result (λ k. numbered numbers.now set.now ≡ Some k) }
     ensures found { (k : ℕ) → numbered numbers.now set.now ≡ Some k → slice_get sets.now k ≡ Some set.now →
         result ≡ Some k }
 {
@@ -168,6 +169,8 @@ fn number_of(
     // A set whose number is known isn't added again.
     ensures kept { (k : ℕ) → numbered numbers.old set ≡ Some k → slice_get sets.old.items k ≡ Some set →
         sets.new ≡ sets.old }
+    // And then its number is known.
+    ensures known { IfOk result (λ k. numbered numbers.new set ≡ Some k) }
 {
     if let Some(number) = number_among(sets, numbers, &set) {
         return Ok(number);
@@ -310,23 +313,5 @@ impl Packed {
         ensures { self.new ≡ take count self.old }
     {
         self.entries.truncate(count);
-    }
-}
-
-#[cfg(test)]
-mod tests {
-    use super::*;
-    use std::test::Fail;
-
-    // It stands here since no call of another crate shows how many sets are kept.
-    #[test]
-    fn equal_sets_are_kept_once(rt: HostRuntime) -> Result<(), Fail> {
-        let mut nodes = Packed::new(rt.alloc());
-        for b in [b'a', b'b', b'a', b'b', b'c'] {
-            nodes.push(Node::Set(ByteSet::only(b)))?;
-        }
-        assert_eq!(rt; nodes.len(), 5);
-        assert_eq!(rt; nodes.sets.len(), 3);
-        Ok(())
     }
 }
