@@ -10,7 +10,7 @@ use Rattle.sedscript.specs.declared.types.Reason.{Reason}
 use Rattle.sedscript.specs.declared.types.Reason.TheVariants.{Expression}
 use Rattle.sedscript.specs.declared.types.ScriptFault.{ScriptFault}
 use Rattle.sedscript.specs.declared.substitution.Substitution.{Substitution}
-use Rattle.sedscript.specs.Replacement.{Piece}
+use Rattle.sedscript.specs.declared.substitution.Piece.{Piece}
 
 -- a fault at a place
 abbrev pub fault_at : ℕ → Reason → ScriptFault

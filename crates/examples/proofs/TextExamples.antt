@@ -8,7 +8,7 @@ use Rattle.sedre.specs.Sets.{folded_set, only}
 use Rattle.sedscript.specs.declared.types.Action.TheVariants as action
 use Rattle.sedscript.specs.declared.types.Address.TheVariants as address
 use Rattle.sedscript.specs.ScriptText.{with_part}
-use Rattle.sedscript.specs.Replacement.{literal, whole, group as part}
+use Rattle.sedscript.specs.declared.substitution.Piece.TheVariants.{Literal as literal, Whole as whole, Group as part}
 use Rattle.sedscript.specs.Transliteration.{table_of}
 use Rattle.examples.proofs.ComputedScript.{verdict, cutting, walked, Script, is_script}
 use Rattle.examples.proofs.ScriptWords.{always, at, from_to, byte, substitution}
