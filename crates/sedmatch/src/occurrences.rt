@@ -2,9 +2,10 @@
 ghost use Rattle.std.specs.Prelude.{◌≡◌, ℕ, false, ◌+◌, ◌*◌, ◌^◌, ◌<◌, ◌≤◌, length, nat_lt, if◌then◌else◌, None, Some, IfOk, IfSome, IsTrue};
 ghost use Rattle.sedre.specs.Arena.{Written, tree};
 ghost use Rattle.sedmatch.specs.Matching.{found, report};
-ghost use Rattle.sedmatch.specs.Meet.{FitsBackPass, KeepsBackPass, Served};
+ghost use Rattle.sedmatch.specs.Meet.{HasBackPass, KeepsBackPass, Served};
 ghost use Rattle.sedmatch.specs.Occurrences.{EndsWithin, Keeps, KeepsOn, KeepsRoom, LiesOn, Occurs, RoomFor, Serves, ServesOn};
 ghost use Rattle.sedmatch.specs.Occurrences.{next_span, owed, owed_after, owed_apart, owed_met, owed_together};
+ghost use Rattle.sedmatch.specs.Nodes.{IsRoot};
 ghost use Rattle.sedmatch.specs.Parts.{SpanIn, span_of};
 ghost use Rattle.sedmatch.specs.Spans.{Spans};
 ghost use Rattle.sedmatch.specs.Room.{FitInto};
@@ -88,9 +89,9 @@ fn see_met(
     occurrences: &mut Occurrences,
     steps: &mut Steps,
 )
-    requires root { root + 1 ≡ length expr.now.nodes }
+    requires root { IsRoot expr.now.nodes root }
     requires at { at ≤ length text.now }
-    requires fits { FitsBackPass (length expr.now.nodes) (length text.now) occurrences.old.back_pass }
+    requires room { HasBackPass (length text.now) (length expr.now.nodes) occurrences.old.back_pass }
     requires serves { IsTrue occurrences.old.met → Served expr.now text.now root at occurrences.old.back_pass }
     ensures kept { KeepsBackPass occurrences.old.back_pass occurrences.new.back_pass }
     ensures met { IsTrue occurrences.new.met × (occurrences.new.left ≡ occurrences.old.left) }
