@@ -28,8 +28,8 @@ use std::alloc::{AllocError, Global};
 /// never come to that. All searches in one text together take at most 416 steps for each node and place, whatever the
 /// expression and the text.
 ///
-/// All room is taken in [`Occurrences::new`]: a bit for each byte of the longest text, and twice the root of its length
-/// many rows of a bit for each node.
+/// All room is taken in [`Occurrences::new`]: a bit for each byte of the longest text, twice the root of its length
+/// many rows of a bit for each node, and 24 KiB of marks.
 #[derive(Drop)]
 pub struct Occurrences {
     back_pass: BackPass,
@@ -159,7 +159,6 @@ impl TableMatcher {
         ensures lies { IfSome result (LiesOn (length text.now) last) }
         ensures cost { Takes steps.old steps.new (256 * length self.old.nodes * (length text.now + 1)) }
     {
-        scratch.bounds();
         let at = place_of(last);
         let first = self.find_span(text, at, scratch, steps);
         if last.is_none() || !is_null_at(first, at) {
@@ -219,7 +218,6 @@ impl TableMatcher {
         ensures cost { let m = length self.old.nodes in let n = length text.now in
             Pays steps.old steps.new (owed_together m n at occurrences.old) (owed_after m n result occurrences.new) }
     {
-        scratch.bounds();
         see_met(&self.expr, self.root, text, at, occurrences, steps);
         next_after(
             &self.expr,
@@ -257,7 +255,6 @@ impl TableMatcher {
         ensures cost { let m = length self.old.nodes in let n = length text.now in
             Pays steps.old steps.new (owed m n last occurrences.old) (owed_after m n result occurrences.new) }
     {
-        scratch.bounds();
         if let Some(at) = last {
             if occurrences.left == 0 {
                 return self.next_together(text, at, occurrences, scratch, steps);

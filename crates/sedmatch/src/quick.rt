@@ -527,7 +527,6 @@ impl TableMatcher {
         ensures computed { result ≡ is_some (found (tree self.old) text.now from) }
         ensures cost { Takes steps.old steps.new (64 * length self.old.nodes * (length text.now + 1)) }
     {
-        let sets = &mut scratch.sets;
         if let Some(sight) = &self.sight {
             return sight_matches(sight, text, from, steps);
         }
@@ -538,7 +537,7 @@ impl TableMatcher {
             text,
             from,
             &mut self.tables,
-            sets,
+            &mut scratch.sets,
             steps,
         )
     }
@@ -568,7 +567,6 @@ impl TableMatcher {
         if self.root == 0 && self.sight.is_none() {
             return find_span(&self.expr, text, from, scratch, steps);
         }
-        let sets = &mut scratch.sets;
         if let Some(sight) = &self.sight {
             return sight_span(sight, text, from, steps);
         }
@@ -579,7 +577,7 @@ impl TableMatcher {
             text,
             from,
             &mut self.tables,
-            sets,
+            &mut scratch.sets,
             steps,
         )
     }

@@ -247,7 +247,6 @@ pub fn sight_find(
     ensures linear_without_groups { expr.now.groups ≡ 0 → steps.new ≤ steps.old + 50 * (length text.now + 1) }
     ensures cost_of_none { IfNone result (steps.new ≤ steps.old + 50 * (length text.now + 1)) }
 {
-    let sets = &mut scratch.sets;
     let (start, end) = sight_span(sight, text, from, steps)?;
     let groups = report(
         expr,
@@ -256,7 +255,7 @@ pub fn sight_find(
         start,
         end,
         &mut scratch.plan,
-        sets,
+        &mut scratch.sets,
         &mut scratch.places,
         steps,
     );
