@@ -11,7 +11,6 @@ use Rattle.sedmatch.specs.Search.{starts_to}
 use Rattle.sedmatch.specs.Meet.{RowTells, RowsTell, EdgesTell, MarkTells, HasBackPass, KeepsBackPass, low_of}
 use Rattle.sedmatch.specs.declared.meet.BackPass.{BackPass}
 use Rattle.sedmatch.specs.declared.scratch.Sets.{Sets}
-use Rattle.sedmatch.specs.Fits.{FitsNodes, SameMarks}
 
 -- marks that agree tell the same
 pub same_told : (n : ℕ) (marks other : List Bool) (P : ℕ → Type 0) → AgreeBelow n other marks → Marked marks (Below n) P → Marked other (Below n) P
@@ -63,9 +62,9 @@ module _ (nodes : List Node) (w : List ℕ) (r : ℕ) where
 -- the room that is made
 pub behind_made : (text nodes : ℕ) (begins : List Bool) (edges rows : List (List Bool)) (sets : Sets) (width : ℕ) → length begins ≡ text + 1 →
     length edges ≡ text / width + 1 → ((q : ℕ) → q < text / width + 1 → length (row_of edges q) ≡ nodes) →
-    length rows ≡ width → ((q : ℕ) → q < width → length (row_of rows q) ≡ nodes) → FitsNodes nodes sets → 0 < width → width ≤ 65536 →
+    length rows ≡ width → ((q : ℕ) → q < width → length (row_of rows q) ≡ nodes) → 0 < width → width ≤ 65536 →
     HasBackPass text nodes (record { begins = begins; edges = edges; rows = rows; sets = sets; width = width; block = 0 })
-behind_made text nodes begins edges rows sets width long many each_edge some each_row fits least narrow = record {
+behind_made text nodes begins edges rows sets width long many each_edge some each_row least narrow = record {
   places = omega arith;
   blocks = subst (λ v. text < width * v) (sym many) (lt-mul-div-succ text least);
   some = least;
@@ -73,20 +72,13 @@ behind_made text nodes begins edges rows sets width long many each_edge some eac
   rows_there = omega arith;
   edges_fit = λ q lt. omega (arith, each_edge q (omega arith));
   rows_fit = λ q lt. omega (arith, each_row q (omega arith));
-  fits = fits;
 }
 
 -- as many marks and rows as before are as much room as before
 pub behind_kept : (old new : BackPass) → length new.begins ≡ length old.begins → length new.edges ≡ length old.edges →
     ((q : ℕ) → q < length old.edges → length (row_of new.edges q) ≡ length (row_of old.edges q)) → length new.rows ≡ length old.rows →
-    ((q : ℕ) → q < length old.rows → length (row_of new.rows q) ≡ length (row_of old.rows q)) → SameMarks old.sets new.sets → new.width ≡ old.width → KeepsBackPass old new
-behind_kept old new begins edges each_edge rows each_row marks width text nodes has =
-    let fits0 = has.fits.0 in
-    let fits1 = has.fits.1 in
-    let fits2 = has.fits.2 in
-    let same0 = marks.0 in
-    let same1 = marks.1 in
-    let same2 = marks.2 in
+    ((q : ℕ) → q < length old.rows → length (row_of new.rows q) ≡ length (row_of old.rows q)) → new.width ≡ old.width → KeepsBackPass old new
+behind_kept old new begins edges each_edge rows each_row width text nodes has =
     record {
       places = omega (arith, has.places);
       blocks = subst (λ v. text < v * length new.edges) (sym width) (subst (λ v. text < old.width * v) (sym edges) has.blocks);
@@ -95,7 +87,6 @@ behind_kept old new begins edges each_edge rows each_row marks width text nodes 
       rows_there = omega (arith, has.rows_there);
       edges_fit = λ q lt. omega (arith, each_edge q (omega arith), has.edges_fit q (omega arith));
       rows_fit = λ q lt. omega (arith, each_row q (omega arith), has.rows_fit q (omega arith));
-      fits = (omega arith, omega arith, omega arith);
     }
 
 -- the edge of a block is there
@@ -132,13 +123,13 @@ cost_of k from to width s t cost low =
 pub edges_kept : (b : BackPass) (edges : List (List Bool)) → length edges ≡ length b.edges → ((q : ℕ) → q < length b.edges → length (row_of edges q) ≡ length (row_of b.edges q)) →
     KeepsBackPass b (record { begins = b.begins; edges = edges; rows = b.rows; sets = b.sets; width = b.width; block = b.block })
 edges_kept b edges many each =
-    behind_kept b (record { begins = b.begins; edges = edges; rows = b.rows; sets = b.sets; width = b.width; block = b.block }) refl many each refl (λ q lt. refl) (refl, refl, refl) refl
+    behind_kept b (record { begins = b.begins; edges = edges; rows = b.rows; sets = b.sets; width = b.width; block = b.block }) refl many each refl (λ q lt. refl) refl
 
-pub sets_kept : (b : BackPass) (entered : List Bool) → length entered ≡ length b.sets.entered →
+pub sets_kept : (b : BackPass) (entered : List Bool) →
     KeepsBackPass b (record { begins = b.begins; edges = b.edges; rows = b.rows; sets = record { null = b.sets.null; entered = entered; ended = b.sets.ended }; width = b.width; block = b.block })
-sets_kept b entered same =
+sets_kept b entered =
     behind_kept b (record { begins = b.begins; edges = b.edges; rows = b.rows; sets = record { null = b.sets.null; entered = entered; ended = b.sets.ended }; width = b.width; block = b.block })
-    refl refl (λ q lt. refl) refl (λ q lt. refl) (refl, same, refl) refl
+    refl refl (λ q lt. refl) refl (λ q lt. refl) refl
 
 -- where the block begins
 pub low_is : (b : BackPass) (width block : ℕ) → b.width ≡ width → b.block ≡ block → low_of b ≡ width * block

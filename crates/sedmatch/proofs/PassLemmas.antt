@@ -1,5 +1,5 @@
 -- One step of each pass.
-use Rattle.std.proofs.Common.{◌≡◌, ◌≢◌, ℕ, zero, suc, ◌+◌, ◌<◌, ◌≤◌, ◌⊎◌, ◌↔◌, Bool, true, false, List, length, Option, Some, IsTrue, refl, sym, ap, ◌∙◌, subst, inl, inr, ⊎_elim, arith, length-set}
+use Rattle.std.proofs.Common.{◌≡◌, ◌≢◌, ℕ, zero, suc, ◌+◌, ◌<◌, ◌≤◌, ◌⊎◌, ◌↔◌, Bool, true, false, List, length, Option, Some, IsTrue, refl, sym, ap, ◌∙◌, subst, inl, inr, ⊎_elim, arith}
 use Rattle.std.specs.Prelude.{slice_get, slice_index_or, slice_set, eqb}
 use Rattle.std.proofs.lemmas.Bool.{cases_eq, cases_lt, eqb-true, eq-eqb}
 use Rattle.std.proofs.lemmas.List.{get_or-set_same, get_or-set_other}
@@ -195,15 +195,3 @@ module _ (nodes : List Node) (r : ℕ) (arena : IsArena nodes) where
       marks S long marked c here in
       let at = ap (λ l. slice_index_or l c false) is_after in
       (λ h. next.0 (sym at ∙ h), λ h. at ∙ next.1 h)
-
--- what the parts are told leaves the number of marks
-pub length-enter_parts : (entered : Bool) (null ended : ℕ → Bool) (node : Node) (marks : List Bool) → length (enter_parts entered null ended node marks) ≡ length marks
-length-enter_parts entered null ended Empty marks = refl
-length-enter_parts entered null ended (Set s) marks = refl
-length-enter_parts entered null ended Begin marks = refl
-length-enter_parts entered null ended End marks = refl
-length-enter_parts entered null ended (Seq a b) marks = simp length-set
-length-enter_parts entered null ended (Alt a b) marks = simp length-set
-length-enter_parts entered null ended (Group k a) marks = simp length-set
-length-enter_parts entered null ended (Star a first) marks = simp length-set
-length-enter_parts entered null ended (Opt a first) marks = simp length-set

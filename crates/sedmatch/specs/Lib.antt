@@ -8,6 +8,7 @@ pub mod Room
 pub mod Costs
 pub mod Words
 pub mod Fits
+pub mod Nodes
 pub mod Local
 pub mod Reach
 pub mod Places

@@ -1,24 +1,18 @@
 -- Where a pass forwards and a pass from the text's end meet, and what is kept of the latter. What `RoomFor` and `Serves` say
 -- stands here: `Occurrences::begin` gives it, and callers hand it on from call to call, so that nobody has to read it.
-use Rattle.std.specs.Prelude.{◌≡◌, ◌↔◌, ℕ, ◌+◌, ◌-◌, ◌*◌, ◌^◌, ◌<◌, ◌≤◌, Bool, true, false, List, length, reverse, slice_get, slice_index_or, Option, Some, None, IfSome, IsTrue}
+use Rattle.std.specs.Prelude.{◌≡◌, ◌↔◌, ℕ, ◌+◌, ◌-◌, ◌*◌, ◌<◌, ◌≤◌, Bool, true, false, List, length, reverse, slice_get, slice_index_or, Option, Some, None, IfSome, IsTrue}
 use Rattle.sedre.specs.Tree.{Tree}
-use Rattle.sedre.specs.Arena.{Written, IsArena}
+use Rattle.sedre.specs.Arena.{Written}
 use Rattle.sedre.specs.Mirror.{seen}
 use Rattle.sedre.specs.declared.types.Node.{Node}
 use Rattle.sedre.specs.declared.types.Node.TheVariants.{Set}
 use Rattle.sedmatch.specs.declared.passes.Starts.{Starts}
 use Rattle.sedmatch.specs.declared.meet.BackPass.{BackPass}
-use Rattle.sedmatch.specs.declared.scratch.Sets.{Sets}
-use Rattle.sedmatch.specs.Fits.{Fits, FitsNodes, SameMarks}
 use Rattle.sedmatch.specs.Local.{takes}
 use Rattle.sedmatch.specs.Words.{row_of}
 use Rattle.sedmatch.specs.Reach.{At, IsStart, TellBegun, TellEntered, SomeSpan}
 use Rattle.sedmatch.specs.Search.{starts_to}
 use Rattle.sedmatch.specs.Spans.{Spans}
-
--- this is the root of the arena: its last node
-abbrev pub IsRoot : List Node → ℕ → Type 0
-IsRoot nodes root = IsArena nodes × (root + 1 ≡ length nodes)
 
 -- a node below n that takes the byte that comes is marked in both lists
 abbrev pub MeetsBelow : List Node → ℕ → List Bool → List Bool → Option ℕ → Type 0
@@ -110,7 +104,6 @@ pub record HasBackPass (text nodes : ℕ) (b : BackPass) : Type 0 where
   pub rows_there : b.width ≤ length b.rows
   pub edges_fit : (q : ℕ) → q < length b.edges → nodes ≤ length (row_of b.edges q)
   pub rows_fit : (q : ℕ) → q < length b.rows → nodes ≤ length (row_of b.rows q)
-  pub fits : FitsNodes nodes b.sets
 
 -- there is as much room as before
 abbrev pub KeepsBackPass : BackPass → BackPass → Type 0
@@ -120,10 +113,6 @@ KeepsBackPass old new = (text nodes : ℕ) → HasBackPass text nodes old → Ha
 abbrev pub TurnsTo : ℕ → BackPass → BackPass → Type 0
 TurnsTo block old new = KeepsBackPass old new × (new.width ≡ old.width) × (new.block ≡ block)
 
--- there is room for m nodes and a text of n bytes, and neither is larger than it may be
-abbrev pub FitsBackPass : ℕ → ℕ → BackPass → Type 0
-FitsBackPass m n b = HasBackPass n m b × (m ≤ 65536) × (n ≤ 2 ^ 30)
-
 -- there are rows of marks up to r for the places from one up to another, and a mark for each place of a text of n bytes
 abbrev pub FitsRows : ℕ → ℕ → ℕ → ℕ → List (List Bool) → List Bool → Type 0
 FitsRows n r from to rows begins = (to ≤ from + length rows) × ((q : ℕ) → q < length rows → r + 1 ≤ length (row_of rows q)) × (n < length begins)
@@ -131,14 +120,6 @@ FitsRows n r from to rows begins = (to ≤ from + length rows) × ((q : ℕ) →
 -- there are as many rows as before, each of as many marks, and as many marks beside them
 abbrev pub SameShape : List (List Bool) → List (List Bool) → List Bool → List Bool → Type 0
 SameShape old_rows new_rows old new = (length new_rows ≡ length old_rows) × ((q : ℕ) → q < length old_rows → length (row_of new_rows q) ≡ length (row_of old_rows q)) × (length new ≡ length old)
-
--- there is room for both passes, over an expression of m nodes and a text of n bytes
-abbrev pub FitsPasses : ℕ → ℕ → Sets → BackPass → Type 0
-FitsPasses m n s b = Fits m n s × HasBackPass n m b
-
--- there is as much room for both passes as before
-abbrev pub KeepsPasses : Sets → Sets → BackPass → BackPass → Type 0
-KeepsPasses old_sets new_sets old new = SameMarks old_sets new_sets × KeepsBackPass old new
 
 -- the end of the match, or the start where there is none
 abbrev pub met_to : ℕ → Option ℕ → ℕ

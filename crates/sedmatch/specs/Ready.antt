@@ -1,11 +1,12 @@
 -- Private to the proofs: no contract of a public item cites what stands here.
 -- An expression with what is known of it, and its tables.
-use Rattle.std.specs.Prelude.{◌≡◌, ℕ, ◌+◌, true, length, IsTrue, Option}
+use Rattle.std.specs.Prelude.{ℕ, true, IsTrue, Option}
 use Rattle.sedre.specs.Tree.{Tree}
 use Rattle.sedre.specs.Arena.{IsArena, Written, tree}
 use Rattle.sedre.specs.Mirror.{seen}
 use Rattle.sedmatch.specs.Beginnings.{AllBegin}
 use Rattle.sedmatch.specs.Needed.{IsNeeded}
+use Rattle.sedmatch.specs.Nodes.{IsRoot}
 use Rattle.sedmatch.specs.Rare.{AllRare}
 use Rattle.sedmatch.specs.Sight.{IsSightOf}
 use Rattle.sedmatch.specs.Tables.{IsSingle, IsSweep}
@@ -28,12 +29,12 @@ AreTables e root t =
 
 -- the expression is prepared for searches: the root is its last node, what is known of it is so, and the tables are for it
 abbrev pub IsPrepared : Written → ℕ → Known → Tables → Type 0
-IsPrepared e root k t = (root + 1 ≡ length e.nodes) × IsKnown (tree e) k × AreTables e root t
+IsPrepared e root k t = IsRoot e.nodes root × IsKnown (tree e) k × AreTables e root t
 
 -- what a matcher holds is of its expression
 pub record IsReady (e : Written) (root : ℕ) (known : Known) (sight : Option Sight) (tables : Tables) : Type 0 where
   pub arena : IsArena e.nodes
-  pub whole : root + 1 ≡ length e.nodes
+  pub whole : IsRoot e.nodes root
   pub known_so : IsKnown (tree e) known
   pub flat_so : IsTrue known.flat → AreFlat e.nodes
   pub sight_so : IsSightOf (tree e) sight

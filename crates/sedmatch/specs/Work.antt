@@ -10,12 +10,13 @@ use Rattle.sedmatch.specs.declared.scratch.Task.{Task}
 use Rattle.sedmatch.specs.declared.groups.Split.{Split}
 use Rattle.sedmatch.specs.declared.groups.Split.TheVariants.{Done, One, Two}
 use Rattle.sedmatch.specs.declared.scratch.Task.TheVariants.{Enter, Close}
+use Rattle.sedmatch.specs.Nodes.{IsNode}
 use Rattle.sedmatch.specs.Reach.{At}
 use Rattle.sedmatch.specs.Caps.{Groups, Caps, forget}
 
 -- x is a node of an arena, and what it is
 abbrev pub IsNodeOf : List Node → ℕ → Node → Type 0
-IsNodeOf nodes x node = IsArena nodes × (x < length nodes) × (slice_get nodes x ≡ Some node)
+IsNodeOf nodes x node = IsArena nodes × IsNode nodes x × (slice_get nodes x ≡ Some node)
 
 abbrev pub Does : List Node → List ℕ → Task → Groups → Groups → Type 0
 Does nodes w (Enter x i j) old new = Caps (tree_at nodes x) w i j old new

@@ -1,7 +1,7 @@
 //! The leftmost-longest span by tables: from where a match can begin at all, and what tells of it before any table does.
 ghost use Rattle.std.specs.Prelude.{IfNone, ◌≡◌, ℕ, ◌+◌, ◌*◌, ◌^◌, ◌<◌, ◌≤◌, length};
 ghost use Rattle.sedre.specs.Arena.{tree};
-ghost use Rattle.sedmatch.specs.Fits.{Fits, SameMarks};
+ghost use Rattle.sedmatch.specs.Nodes.{IsRoot};
 ghost use Rattle.sedmatch.specs.Spans.{Spans};
 ghost use Rattle.sedmatch.specs.Tables.{IsSingle};
 ghost use Rattle.sedmatch.specs.Ready.{AreTables, IsPrepared};
@@ -31,13 +31,11 @@ pub fn anchored_by(
     sets: &mut Sets,
     steps: &mut Steps,
 ) -> Option<(usize, usize)>
-    requires root { root + 1 ≡ length expr.now.nodes }
+    requires root { IsRoot expr.now.nodes root }
     requires from { from ≤ length text.now }
     requires begins { (i j : ℕ) → Spans (tree expr.now) text.now i j → i ≡ 0 }
     requires single { IsSingle expr.now.nodes root single.old }
-    requires fits { Fits (length expr.now.nodes) (length text.now) sets.old }
     ensures single { IsSingle expr.now.nodes root single.new }
-    ensures marks { SameMarks sets.old sets.new }
     ensures answer { SpanAnswer (tree expr.now) text.now from result }
     ensures cost { let m = length expr.now.nodes in Takes steps.old steps.new (38 * m + 42 * m * length text.now) }
 {
@@ -63,9 +61,7 @@ pub fn leftmost_by(
 ) -> Option<(usize, usize)>
     requires ready { IsPrepared expr.now root known.now tables.old }
     requires from { from ≤ length text.now }
-    requires fits { Fits (length expr.now.nodes) (length text.now) sets.old }
     ensures tables { AreTables expr.now root tables.new }
-    ensures marks { SameMarks sets.old sets.new }
     ensures answer { SpanAnswer (tree expr.now) text.now from result }
     ensures cost { let m = length expr.now.nodes in let n = length text.now in
         Takes steps.old steps.new (128 * m * (n + 1)) }
@@ -96,9 +92,7 @@ fn anywhere_by(
 ) -> Option<(usize, usize)>
     requires ready { IsPrepared expr.now root known.now tables.old }
     requires from { from ≤ length text.now }
-    requires fits { Fits (length expr.now.nodes) (length text.now) sets.old }
     ensures tables { AreTables expr.now root tables.new }
-    ensures marks { SameMarks sets.old sets.new }
     ensures answer { SpanAnswer (tree expr.now) text.now from result }
     ensures cost { let m = length expr.now.nodes in let n = length text.now in
         Takes steps.old steps.new (123 * m + 127 * m * n) }
@@ -126,12 +120,10 @@ fn span_from(
     sets: &mut Sets,
     steps: &mut Steps,
 ) -> Option<(usize, usize)>
-    requires root { root + 1 ≡ length expr.now.nodes }
+    requires root { IsRoot expr.now.nodes root }
     requires start { start ≤ length text.now }
     requires tables { AreTables expr.now root tables.old }
-    requires fits { Fits (length expr.now.nodes) (length text.now) sets.old }
     ensures tables { AreTables expr.now root tables.new }
-    ensures marks { SameMarks sets.old sets.new }
     ensures answer { SpanAnswer (tree expr.now) text.now start result }
     ensures cost { let m = length expr.now.nodes in let n = length text.now in
         Pays steps.old steps.new (122 * m + 126 * m * n) (126 * m * start) }

@@ -112,7 +112,6 @@ pub fn between_of(
     expr: &Expr,
     steps: &mut Steps,
 ) -> Result<Option<Between>, AllocError>
-    requires few { length expr.now.nodes ≤ 65536 }
     ensures parted { IfOk result (λ r. IfSome r (λ b. AllParted expr.now.nodes (length expr.now.nodes - 1) b)) }
     ensures cost { Takes steps.old steps.new 262152 }
 {
@@ -139,8 +138,7 @@ fn place_after(head: &Finder, text: &Text, start: usize) -> usize
     requires stands { start + length head.now ≤ length text.now }
     ensures { result ≡ start + length head.now }
 {
-    let _count = text.len();
-    start + head.needle().len()
+    text.after(start, head.needle().len())
 }
 
 /// How long the literal is.
@@ -171,7 +169,6 @@ fn last_tail(
     steps: &mut Steps,
 ) -> Option<usize>
     requires literal { length tail.now ≤ 23 }
-    requires short { length text.now ≤ 2 ^ 30 }
     requires from { from ≤ to }
     requires to { to ≤ length text.now }
     ensures last { LastTail tail.now text.now from to result }
@@ -191,7 +188,6 @@ fn first_parted(
     steps: &mut Steps,
 ) -> Option<usize>
     requires literals { IsShort head.now tail.now }
-    requires short { length text.now ≤ 2 ^ 30 }
     requires from { from ≤ length text.now }
     ensures first { FirstParted (record { head = head.now; outside = outside.now; tail = tail.now }) text.now from result }
     ensures cost { Pays steps.old steps.new (24 * (length text.now + 1)) (24 * from) }
@@ -238,7 +234,6 @@ fn parted_start(
 ) -> Option<usize>
     requires literals { IsShort head.now tail.now }
     requires same { ahead.now ≡ tail.now }
-    requires short { length text.now ≤ 2 ^ 30 }
     requires from { from ≤ length text.now }
     ensures first { FirstParted (record { head = head.now; outside = outside.now; tail = tail.now }) text.now from result }
     ensures cost { Pays steps.old steps.new (25 * (length text.now + 1)) (25 * from) }
@@ -259,7 +254,6 @@ fn parted_end(
     steps: &mut Steps,
 ) -> usize
     requires literals { IsShort head.now tail.now }
-    requires short { length text.now ≤ 2 ^ 30 }
     requires can { CanPart (record { head = head.now; outside = outside.now; tail = tail.now }) text.now start }
     ensures end { PartedEnd (record { head = head.now; outside = outside.now; tail = tail.now }) text.now start result }
     ensures cost { Takes steps.old steps.new (25 * (length text.now + 1)) }
@@ -267,7 +261,7 @@ fn parted_end(
     let after = place_after(head, text, start);
     let stop = clear_end(outside, text, after, steps);
     match last_tail(tail, text, after, stop, steps) {
-        Some(last) => last + tail_len(tail),
+        Some(last) => text.after(last, tail_len(tail)),
         None => unreachable!(),
     }
 }
@@ -276,7 +270,6 @@ impl Between {
     /// The first place from `from` on at which a match begins.
     #[inline(never)]
     pub fn start(&self, text: &Text, from: usize, steps: &mut Steps) -> Option<usize>
-        requires short { length text.now ≤ 2 ^ 30 }
         requires from { from ≤ length text.now }
         ensures first { FirstParted self.now text.now from result }
         ensures cost { Pays steps.old steps.new (25 * (length text.now + 1)) (25 * from) }
@@ -295,7 +288,6 @@ impl Between {
     /// Where the longest match ends that begins at `start`.
     #[inline(never)]
     pub fn end(&self, text: &Text, start: usize, steps: &mut Steps) -> usize
-        requires short { length text.now ≤ 2 ^ 30 }
         requires can { CanPart self.now text.now start }
         ensures end { PartedEnd self.now text.now start result }
         ensures cost { Takes steps.old steps.new (25 * (length text.now + 1)) }

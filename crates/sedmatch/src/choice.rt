@@ -10,6 +10,7 @@ ghost use Rattle.sedmatch.specs.Word.{AllWord};
 ghost use Rattle.sedmatch.specs.Choice.{AllChoice, AreHeads, AreShort, BranchesOf, ChoiceAt, ChoiceEnd, FirstChoice, Longer, LongestAt, RareHeads};
 ghost use Rattle.sedmatch.specs.Few.{Gathered, HasFew};
 ghost use Rattle.sedmatch.specs.Openings.{PairAt};
+ghost use Rattle.sedmatch.specs.Nodes.{IsNode};
 ghost use Rattle.sedre.specs.Steps.{Takes, Counted};
 
 use crate::counted::Text;
@@ -131,8 +132,7 @@ fn literal_at(
     most: usize,
     steps: &mut Steps,
 ) -> Result<Option<Alternative>, AllocError>
-    requires inside { index < length expr.now.nodes }
-    requires few { length expr.now.nodes ≤ 65536 }
+    requires inside { IsNode expr.now.nodes index }
     ensures literal { IfOk result (λ r. IfSome r (λ a. AllWord expr.now.nodes index a)) }
     ensures long { IfOk result (λ r. IfSome r (λ a. (0 < length a) × (length a ≤ most))) }
     ensures cost { Takes steps.old steps.new 131074 }
@@ -151,7 +151,6 @@ fn literals_of(
     expr: &Expr,
     steps: &mut Steps,
 ) -> Result<Option<Vec<Alternative>>, AllocError>
-    requires few { length expr.now.nodes ≤ 65536 }
     ensures choice { IfOk result (λ r. IfSome r (λ v. AllChoice expr.now.nodes (length expr.now.nodes - 1) v.items)) }
     ensures short { IfOk result (λ r. IfSome r (λ v. AreShort v.items)) }
     ensures cost { Takes steps.old steps.new 1114144 }
@@ -231,7 +230,6 @@ pub fn choice_of(
     expr: &Expr,
     steps: &mut Steps,
 ) -> Result<Option<Choice>, AllocError>
-    requires few { length expr.now.nodes ≤ 65536 }
     ensures choice { IfOk result (λ r. IfSome r (λ c. AllChoice expr.now.nodes (length expr.now.nodes - 1) c)) }
     ensures cost { Takes steps.old steps.new 1114144 }
 {
@@ -339,7 +337,6 @@ fn rare_choice(
     requires heads { RareHeads (Some few.now) literals.now }
     requires literals { AreShort literals.now }
     requires from { from ≤ length text.now }
-    requires short { length text.now ≤ 2 ^ 30 }
     ensures first { FirstChoice literals.now text.now from result }
     ensures cost { Takes steps.old steps.new (21 * (length text.now + 1)) }
 {
@@ -348,7 +345,7 @@ fn rare_choice(
         if text.longest_choice(literals, at, steps).is_some() {
             return Some(at);
         }
-        place = at + 1;
+        place = text.after(at, 1);
     }
     None
 }
@@ -357,7 +354,6 @@ impl Choice {
     /// The first place from `from` on at which a match begins.
     pub fn start(&self, text: &Text, from: usize, steps: &mut Steps) -> Option<usize>
         requires from { from ≤ length text.now }
-        requires short { length text.now ≤ 2 ^ 30 }
         ensures first { FirstChoice self.now text.now from result }
         ensures cost { Takes steps.old steps.new (22 * (length text.now + 1)) }
     {
@@ -373,13 +369,12 @@ impl Choice {
 
     /// Where the longest match ends that begins at `start`.
     pub fn end(&self, text: &Text, start: usize, steps: &mut Steps) -> usize
-        requires short { length text.now ≤ 2 ^ 30 }
         requires can { ChoiceAt self.now text.now start }
         ensures end { ChoiceEnd self.now text.now start result }
         ensures cost { Takes steps.old steps.new 20 }
     {
         match text.longest_choice(&self.literals, start, steps) {
-            Some(len) => start + len,
+            Some(len) => text.after(start, len),
             None => unreachable!(),
         }
     }

@@ -18,6 +18,7 @@ ghost use Rattle.sedmatch.specs.Words.{marks_of};
 ghost use Rattle.sedmatch.specs.Costs.{Pays};
 ghost use Rattle.sedre.specs.Steps.{Takes, Counted};
 
+mod node_marks;
 mod rows;
 
 use crate::apart::apart_to;
@@ -29,6 +30,7 @@ use crate::rare::Fixed;
 use crate::sight::First;
 use memchr::memchr;
 use memchr::memmem::{Finder, FinderRev};
+pub use node_marks::NodeMarks;
 pub use rows::Rows;
 use sedre::{ByteSet, Steps};
 use std::alloc::{AllocError, Global};
@@ -56,9 +58,20 @@ impl<'a> Text<'a> {
 
     /// How many bytes it has.
     pub fn len(&self) -> usize
-        ensures { result ≡ length self.now }
+        ensures is { result ≡ length self.now }
+        ensures short { result < 2 ^ 63 }
     {
         self.bytes.len()
+    }
+
+    /// The place so many bytes after another, no further than one after the text's end.
+    #[inline(always)]
+    pub(crate) fn after(&self, place: usize, count: usize) -> usize
+        requires { place + count ≤ length self.now + 1 }
+        ensures { result ≡ place + count }
+    {
+        let _most = self.bytes.len();
+        place + count
     }
 
     /// For proofs: it is of bytes.
@@ -239,17 +252,16 @@ impl<'a> Text<'a> {
         requires heads { AreHeads heads.now literals.now }
         requires literals { AreShort literals.now }
         requires from { from ≤ length self.now }
-        requires short { length self.now ≤ 2 ^ 30 }
         ensures first { FirstChoice literals.now self.now from result }
         ensures cost { Takes steps.old steps.new (21 * (length self.now + 1)) }
     {
         match first_choice(heads, literals, self.bytes, from) {
             None => {
-                steps.add((1 + MAX_BYTES) * (self.bytes.len() - from));
+                steps.add_times(self.bytes.len() - from, 1 + MAX_BYTES);
                 None
             }
             Some(place) => {
-                steps.add((1 + MAX_BYTES) * (place - from + 1));
+                steps.add_times(place - from + 1, 1 + MAX_BYTES);
                 Some(place)
             }
         }
@@ -270,17 +282,16 @@ impl<'a> Text<'a> {
         requires openings { OpenLiterals openings.now literals.now (length literals.now) }
         requires literals { AreShort literals.now }
         requires from { from ≤ length self.now }
-        requires short { length self.now ≤ 2 ^ 30 }
         ensures first { FirstChoice literals.now self.now from result }
         ensures cost { Takes steps.old steps.new (22 * (length self.now + 1)) }
     {
         match first_opened(heads, openings, literals, self.bytes, from) {
             None => {
-                steps.add((2 + MAX_BYTES) * (self.bytes.len() - from));
+                steps.add_times(self.bytes.len() - from, 2 + MAX_BYTES);
                 None
             }
             Some(place) => {
-                steps.add((2 + MAX_BYTES) * (place - from + 1));
+                steps.add_times(place - from + 1, 2 + MAX_BYTES);
                 Some(place)
             }
         }
@@ -431,7 +442,8 @@ impl Tally {
 impl<'a> Bytes<'a> {
     /// How many bytes there are.
     pub fn len(&self) -> usize
-        ensures { result ≡ length self.now }
+        ensures is { result ≡ length self.now }
+        ensures short { result < 2 ^ 63 }
     {
         self.bytes.len()
     }

@@ -3,7 +3,7 @@ ghost use Rattle.std.specs.Prelude.{◌≡◌, ℕ, false, true, ◌+◌, ◌-�
 ghost use Rattle.std.specs.Prelude.{slice_index_or, IfSome, IfNone, IsTrue};
 ghost use Rattle.sedre.specs.Arena.{IsArena};
 ghost use Rattle.sedmatch.specs.Spans.{Copies};
-ghost use Rattle.sedmatch.specs.Fits.{Fits, FitsCuts, FitsFew, SameMarks, SameRoom};
+ghost use Rattle.sedmatch.specs.Nodes.{IsNode};
 ghost use Rattle.sedmatch.specs.Places.{InOrder};
 ghost use Rattle.sedmatch.specs.Reach.{At, one_start, OpenFrom};
 ghost use Rattle.sedmatch.specs.Reach.{TellEntered, TellBegun};
@@ -29,11 +29,9 @@ pub fn reaches(
     sets: &mut Sets,
     steps: &mut Steps,
 ) -> bool
-    requires root { root < length expr.now.nodes }
+    requires root { IsNode expr.now.nodes root }
     requires start { start ≤ stop }
     requires stop { stop ≤ length text.now }
-    requires fits { Fits (length expr.now.nodes) (length text.now) sets.old }
-    ensures marks { SameMarks sets.old sets.new }
     ensures spans { IsTrue result ↔ At expr.now.nodes text.now root start stop }
     ensures cost { Takes steps.old steps.new (28 * length expr.now.nodes * (length text.now + 1)) }
 {
@@ -54,17 +52,15 @@ fn reaches_by_pass(
     sets: &mut Sets,
     steps: &mut Steps,
 ) -> bool
-    requires root { root < length expr.now.nodes }
+    requires root { IsNode expr.now.nodes root }
     requires start { start ≤ stop }
     requires stop { stop ≤ length text.now }
-    requires fits { Fits (length expr.now.nodes) (length text.now) sets.old }
-    ensures marks { SameMarks sets.old sets.new }
     ensures spans { IsTrue result ↔ At expr.now.nodes text.now root start stop }
     ensures cost { Takes steps.old steps.new (21 * length expr.now.nodes * (length text.now + 1)) }
 {
     sets.entered.clear(root + 1, steps);
     let mut last = false;
-    for place in start..stop + 1 {
+    for place in start..text.after(stop, 1) {
         let here = advance_from(expr, root, text, start, place, sets, steps);
         last = here.matched;
         if !here.more && place < stop {
@@ -85,12 +81,10 @@ fn advance_if(
     sets: &mut Sets,
     steps: &mut Steps,
 ) -> Here
-    requires root { root < length expr.now.nodes }
+    requires root { IsNode expr.now.nodes root }
     requires order { InOrder start place (length text.now) }
-    requires fits { FitsFew (length expr.now.nodes) sets.old }
     requires entered { IsTrue more → TellEntered expr.now.nodes text.now root (one_start start) place sets.old.entered }
     requires closed { (k : ℕ) → place ≤ k → At expr.now.nodes text.now root start k → IsTrue more }
-    ensures marks { SameMarks sets.old sets.new }
     ensures entered { IsTrue result.more → TellBegun expr.now.nodes text.now root (one_start start) place sets.new.entered }
     ensures spans { IsTrue result.matched ↔ At expr.now.nodes text.now root start place }
     ensures opens { OpenFrom expr.now.nodes text.now root start place result.more }
@@ -117,19 +111,17 @@ fn ends_from(
     ends: &mut Marks,
     steps: &mut Steps,
 )
-    requires root { root < length expr.now.nodes }
+    requires root { IsNode expr.now.nodes root }
     requires start { start ≤ stop }
     requires stop { stop ≤ length text.now }
-    requires fits { Fits (length expr.now.nodes) (length text.now) sets.old }
     requires ends_fit { length text.now < length ends.old }
-    ensures marks { SameMarks sets.old sets.new }
     ensures ends_len { length ends.new ≡ length ends.old }
     ensures ends { (k : ℕ) → start ≤ k → k ≤ stop → IsTrue (slice_index_or ends.new k false) ↔ At expr.now.nodes text.now root start k }
     ensures cost { Takes steps.old steps.new (22 * length expr.now.nodes * (length text.now + 1)) }
 {
     sets.entered.clear(root + 1, steps);
     let mut more = true;
-    for place in start..stop + 1 {
+    for place in start..text.after(stop, 1) {
         let here = advance_if(more, expr, root, text, start, place, sets, steps);
         more = here.more;
         ends.set(place, here.matched, steps);
@@ -148,12 +140,10 @@ fn first_end(
     ends: &Marks,
     steps: &mut Steps,
 ) -> Option<usize>
-    requires root { root < length nodes.now.nodes }
+    requires root { IsNode nodes.now.nodes root }
     requires start { start ≤ stop }
     requires stop { stop ≤ length bytes.now }
-    requires fits { Fits (length nodes.now.nodes) (length bytes.now) sets.old }
     requires ends_fit { length bytes.now < length ends.now }
-    ensures marks { SameMarks sets.old sets.new }
     ensures first { LeastFrom (λ q. At nodes.now.nodes bytes.now root start q × IsTrue (slice_index_or ends.now (length bytes.now - q) false)) start (stop + 1) result }
     ensures cost { Takes steps.old steps.new (22 * length nodes.now.nodes * (length bytes.now + 1)) }
 {
@@ -245,13 +235,11 @@ pub fn last_cut(
     ends: &mut Marks,
     steps: &mut Steps,
 ) -> usize
-    requires left_inside { left < length expr.now.nodes }
-    requires right_inside { right < length expr.now.nodes }
+    requires left_inside { IsNode expr.now.nodes left }
+    requires right_inside { IsNode expr.now.nodes right }
     requires order { InOrder start stop (length text.now) }
-    requires fits { Fits (length expr.now.nodes) (length text.now) sets.old }
     requires ends_fit { length text.now < length ends.old }
     requires spans { (k : ℕ) × At expr.now.nodes text.now left start k × At expr.now.nodes text.now right k stop }
-    ensures marks { SameMarks sets.old sets.new }
     ensures ends_len { length ends.new ≡ length ends.old }
     ensures cut { LastCut (At expr.now.nodes text.now left) (At expr.now.nodes text.now right) start stop result }
     ensures cost { let m = length expr.now.nodes in let n = length text.now in Takes steps.old steps.new (23 * m * (n + 1) * (n + 2)) }
@@ -274,13 +262,11 @@ fn cut_by_passes(
     ends: &mut Marks,
     steps: &mut Steps,
 ) -> usize
-    requires left_inside { left < length expr.now.nodes }
-    requires right_inside { right < length expr.now.nodes }
+    requires left_inside { IsNode expr.now.nodes left }
+    requires right_inside { IsNode expr.now.nodes right }
     requires order { InOrder start stop (length text.now) }
-    requires fits { Fits (length expr.now.nodes) (length text.now) sets.old }
     requires ends_fit { length text.now < length ends.old }
     requires spans { (k : ℕ) × At expr.now.nodes text.now left start k × At expr.now.nodes text.now right k stop }
-    ensures marks { SameMarks sets.old sets.new }
     ensures ends_len { length ends.new ≡ length ends.old }
     ensures cut { LastCut (At expr.now.nodes text.now left) (At expr.now.nodes text.now right) start stop result }
     ensures cost { let m = length expr.now.nodes in let n = length text.now in Takes steps.old steps.new (44 * m * (n + 1)) }
@@ -315,18 +301,16 @@ fn copy_to(
     tail: &Marks,
     steps: &mut Steps,
 ) -> Option<usize>
-    requires root { root < length expr.now.nodes }
+    requires root { IsNode expr.now.nodes root }
     requires start { start ≤ stop }
     requires stop { stop ≤ length text.now }
-    requires fits { Fits (length expr.now.nodes) (length text.now) sets.old }
     requires tail_fits { length text.now < length tail.now }
-    ensures marks { SameMarks sets.old sets.new }
     ensures greatest { GreatestBelow (λ l. (start < l) × At expr.now.nodes text.now root start l × IsTrue (slice_index_or tail.now l false)) (stop + 1) result }
     ensures cost { Takes steps.old steps.new (22 * length expr.now.nodes * (length text.now + 1)) }
 {
     sets.entered.clear(root + 1, steps);
     let mut best = None;
-    for place in start..stop + 1 {
+    for place in start..text.after(stop, 1) {
         let here = advance_from(expr, root, text, start, place, sets, steps);
         if here.matched && start < place && tail.get(place, steps) {
             best = Some(place);
@@ -350,11 +334,9 @@ fn mark_ends(
     ends: &mut Marks,
     steps: &mut Steps,
 )
-    requires root { root < length nodes.now.nodes }
+    requires root { IsNode nodes.now.nodes root }
     requires order { InOrder start stop (length bytes.now) }
-    requires fits { Fits (length nodes.now.nodes) (length bytes.now) sets.old }
     requires ends_fit { length bytes.now < length ends.old }
-    ensures marks { SameMarks sets.old sets.new }
     ensures ends_len { length ends.new ≡ length ends.old }
     ensures ends { (q : ℕ) → start ≤ q → q ≤ stop → IsTrue (slice_index_or ends.new (length bytes.now - q) false) ↔ At nodes.now.nodes bytes.now root start q }
     ensures cost { Takes steps.old steps.new (23 * length nodes.now.nodes * (length bytes.now + 1)) }
@@ -382,11 +364,9 @@ fn starts_to(
     starts: &mut Marks,
     steps: &mut Steps,
 )
-    requires root { root < length expr.now.nodes }
+    requires root { IsNode expr.now.nodes root }
     requires order { InOrder start stop (length text.now) }
-    requires fits { Fits (length expr.now.nodes) (length text.now) sets.old }
     requires starts_fit { length text.now < length starts.old }
-    ensures marks { SameMarks sets.old sets.new }
     ensures starts_len { length starts.new ≡ length starts.old }
     ensures starts { TellStarts expr.now.nodes text.now root start stop starts.new }
     ensures cost { Takes steps.old steps.new (23 * length expr.now.nodes * (length text.now + 1)) }
@@ -424,9 +404,9 @@ pub fn last_copy(
     requires repeats { Repeats expr.now.nodes star root }
     requires start { start < stop }
     requires stop { stop ≤ length text.now }
-    requires fits { FitsCuts (length expr.now.nodes) (length text.now) sets.old places.old }
+    requires places { length text.now < length places.old }
     requires spans { Copies (At expr.now.nodes text.now root) stop start }
-    ensures same { SameRoom sets.old sets.new places.old places.new }
+    ensures same { length places.new ≡ length places.old }
     ensures last { LastCopyIn (At expr.now.nodes text.now root) stop start result }
     ensures cost { let m = length expr.now.nodes in let n = length text.now in
         Takes steps.old steps.new (31 * m * (n + 1) * (n + 1) + 2) }
@@ -485,14 +465,14 @@ fn copy_by_passes(
     steps: &mut Steps,
 ) -> usize
     requires arena { IsArena expr.now.nodes }
-    requires star { star < length expr.now.nodes }
-    requires root { root < length expr.now.nodes }
+    requires star { IsNode expr.now.nodes star }
+    requires root { IsNode expr.now.nodes root }
     requires repeats { Repeats expr.now.nodes star root }
     requires start { start < stop }
     requires stop { stop ≤ length text.now }
-    requires fits { FitsCuts (length expr.now.nodes) (length text.now) sets.old places.old }
+    requires places { length text.now < length places.old }
     requires spans { Copies (At expr.now.nodes text.now root) stop start }
-    ensures same { SameRoom sets.old sets.new places.old places.new }
+    ensures same { length places.new ≡ length places.old }
     ensures last { LastCopyIn (At expr.now.nodes text.now root) stop start result }
     ensures cost { let m = length expr.now.nodes in let n = length text.now in
         Takes steps.old steps.new (23 * m * (n + 1) * (n + 1) + 1) }

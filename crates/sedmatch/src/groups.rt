@@ -7,7 +7,8 @@ ghost use Rattle.sedre.specs.Tree.{size};
 ghost use Rattle.sedre.specs.Arena.{IsArena, tree_at, tree};
 ghost use Rattle.sedmatch.specs.Spans.{Spans};
 ghost use Rattle.sedmatch.specs.Caps.{Caps, forget, IsReport};
-ghost use Rattle.sedmatch.specs.Fits.{AllDone, Fits, FitsCuts, FitsGroups, HasStack, KeepsGroups, KeepsPlan, KeepsStack, SameMarks, SameRoom};
+ghost use Rattle.sedmatch.specs.Fits.{AllDone, FitsWork, HasStack, KeepsGroups, KeepsPlan, KeepsStack};
+ghost use Rattle.sedmatch.specs.Nodes.{IsNode};
 ghost use Rattle.sedmatch.specs.Places.{InOrder};
 ghost use Rattle.sedmatch.specs.Reach.{At};
 ghost use Rattle.sedmatch.specs.Work.{IsNodeOf, IsStep, IsReady, LeavesLess, weights, inners, wholes, node_cost, forget_if};
@@ -125,7 +126,6 @@ fn has_group(expr: &Expr, root: usize, stack: &mut Vec<usize>, steps: &mut Steps
 
 /// Whether no group stands within another.
 pub fn are_flat(alloc: Global, expr: &Expr, steps: &mut Steps) -> Result<bool, AllocError>
-    requires few { length expr.now.nodes ≤ 65536 }
     ensures flat { IfOk result (λ flat. IsTrue flat → AreFlat expr.now.nodes) }
     ensures cost { Takes steps.old steps.new (2 ^ 33) }
 {
@@ -178,10 +178,8 @@ fn has_empty_copy(
     sets: &mut Sets,
     steps: &mut Steps,
 ) -> bool
-    requires part { part < length expr.now.nodes }
+    requires part { IsNode expr.now.nodes part }
     requires place { place ≤ length text.now }
-    requires fits { Fits (length expr.now.nodes) (length text.now) sets.old }
-    ensures marks { SameMarks sets.old sets.new }
     ensures copy { IsTrue result ↔ (IsTrue first × At expr.now.nodes text.now part place place) }
     ensures cost { Takes steps.old steps.new (28 * length expr.now.nodes * (length text.now + 1)) }
 {
@@ -204,12 +202,12 @@ fn split_node(
 ) -> Split
     requires flat { IsTrue flat → AreFlat expr.now.nodes }
     requires order { InOrder start stop (length text.now) }
-    requires fits { FitsCuts (length expr.now.nodes) (length text.now) sets.old places.old }
+    requires places { length text.now < length places.old }
     requires node { IsNodeOf expr.now.nodes x node.now }
     requires spans { At expr.now.nodes text.now x start stop }
     requires stack { HasStack (size (tree_at expr.now.nodes x)) stack.old }
     requires few { size (tree_at expr.now.nodes x) ≤ length expr.now.nodes }
-    ensures same { SameRoom sets.old sets.new places.old places.new }
+    ensures same { length places.new ≡ length places.old }
     ensures stack { KeepsStack stack.old stack.new }
     ensures step { IsStep expr.now.nodes text.now x start stop (forgets_of result) (tasks_of result) }
     ensures cost { let m = length expr.now.nodes in let n = length text.now in
@@ -367,11 +365,11 @@ fn work(
 )
     requires flat { IsTrue flat → AreFlat expr.now.nodes }
     requires sizes { (x : ℕ) → x < length expr.now.nodes → size (tree_at expr.now.nodes x) ≤ length expr.now.nodes }
-    requires fits { FitsCuts (length expr.now.nodes) (length text.now) sets.old places.old }
+    requires places { length text.now < length places.old }
     requires stack { HasStack (length expr.now.nodes) plan.old.stack }
     requires ready { IsReady expr.now.nodes text.now (task.now ∷ reverse plan.old.tasks.items) }
     requires tasks_room { weights expr.now.nodes (task.now ∷ reverse plan.old.tasks.items) < vec_capacity plan.old.tasks }
-    ensures same { SameRoom sets.old sets.new places.old places.new }
+    ensures same { length places.new ≡ length places.old }
     ensures plan { KeepsPlan plan.old plan.new }
     ensures less { LeavesLess expr.now.nodes text.now (task.now ∷ reverse plan.old.tasks.items) groups.old (reverse plan.new.tasks.items) groups.new }
     ensures cost { Pays steps.old steps.new ((46 * length expr.now.nodes * (length text.now + 1) * (length text.now + 1) + 1 + length expr.now.nodes) * inners expr.now.nodes (task.now ∷ reverse plan.old.tasks.items) + 3 * wholes expr.now.nodes (task.now ∷ reverse plan.old.tasks.items)) ((46 * length expr.now.nodes * (length text.now + 1) * (length text.now + 1) + 1 + length expr.now.nodes) * inners expr.now.nodes (reverse plan.new.tasks.items) + 3 * wholes expr.now.nodes (reverse plan.new.tasks.items)) }
@@ -410,8 +408,9 @@ pub fn decide(
     requires spans { At expr.now.nodes text.now root start stop }
     requires flat { IsTrue flat → AreFlat expr.now.nodes }
     requires sizes { (x : ℕ) → x < length expr.now.nodes → size (tree_at expr.now.nodes x) ≤ length expr.now.nodes }
-    requires fits { FitsGroups (length expr.now.nodes) (length text.now) sets.old places.old plan.old }
-    ensures same { SameRoom sets.old sets.new places.old places.new }
+    requires places { length text.now < length places.old }
+    requires plan { FitsWork (length expr.now.nodes) plan.old }
+    ensures same { length places.new ≡ length places.old }
     ensures done { AllDone plan.old plan.new }
     ensures caps { Caps (tree_at expr.now.nodes root) text.now start stop groups.old groups.new }
     ensures cost { let m = length expr.now.nodes in let n = length text.now in
@@ -440,8 +439,9 @@ pub fn report(
     requires start { start ≤ stop }
     requires stop { stop ≤ length text.now }
     requires spans { Spans (tree expr.now) text.now start stop }
-    requires fits { FitsGroups (length expr.now.nodes) (length text.now) sets.old places.old plan.old }
-    ensures done { KeepsGroups sets.old sets.new places.old places.new plan.old plan.new }
+    requires places { length text.now < length places.old }
+    requires plan { FitsWork (length expr.now.nodes) plan.old }
+    ensures done { KeepsGroups places.old places.new plan.old plan.new }
     ensures report { IsReport (tree expr.now) text.now start stop result }
     ensures none_cost { expr.now.groups ≡ 0 → steps.new ≡ steps.old }
     ensures cost { let m = length expr.now.nodes in let n = length text.now in

@@ -3,7 +3,7 @@ ghost use Rattle.std.specs.Prelude.{Some, true, Bool, List, ◌≡◌, ℕ, ◌+
 ghost use Rattle.sedre.specs.Arena.{tree};
 ghost use Rattle.sedre.specs.Mirror.{seen};
 ghost use Rattle.sedre.specs.declared.types.Node.{Node};
-ghost use Rattle.sedmatch.specs.Fits.{Fits, FitsFew, SameMarks};
+ghost use Rattle.sedmatch.specs.Nodes.{IsRoot};
 ghost use Rattle.sedmatch.specs.Places.{InOrder};
 ghost use Rattle.sedmatch.specs.Reach.{SomeSpan};
 ghost use Rattle.sedmatch.specs.Search.{IsRegion, IsRegionTo, LastEnd, IsEarliest, starts_to};
@@ -58,12 +58,10 @@ fn first_end_on(
     sets: &mut Sets,
     steps: &mut Steps,
 ) -> Option<FirstEnd>
-    requires root { root + 1 ≡ length expr.now.nodes }
+    requires root { IsRoot expr.now.nodes root }
     requires order { InOrder start place (length text.now) }
-    requires fits { Fits (length expr.now.nodes) (length text.now) sets.old }
     requires at { IsAt expr.now.nodes text.now root (starts_from start text.now) place sets.old.entered ends }
     requires missed { NoneBefore expr.now.nodes text.now root start place }
-    ensures marks { SameMarks sets.old sets.new }
     ensures first { IsFirstEnd expr.now.nodes text.now root start sets.new.entered result }
     ensures after { place ≤ ended_to (length text.now) result }
     ensures cost { let m = length expr.now.nodes in
@@ -105,12 +103,10 @@ fn first_end(
     sets: &mut Sets,
     steps: &mut Steps,
 ) -> Option<FirstEnd>
-    requires root { root + 1 ≡ length expr.now.nodes }
+    requires root { IsRoot expr.now.nodes root }
     requires from { from ≤ length text.now }
     requires table { IsSweep expr.now.nodes root table.old }
-    requires fits { Fits (length expr.now.nodes) (length text.now) sets.old }
     ensures table { IsSweep expr.now.nodes root table.new }
-    ensures marks { SameMarks sets.old sets.new }
     ensures first { IsFirstEnd expr.now.nodes text.now root from sets.new.entered result }
     ensures cost { let m = length expr.now.nodes in
         Pays steps.old steps.new (40 * m + 42 * m * ended_to (length text.now) result) (42 * m * from) }
@@ -159,12 +155,10 @@ fn bound_on(
     sets: &mut Sets,
     steps: &mut Steps,
 ) -> usize
-    requires root { root + 1 ≡ length expr.now.nodes }
+    requires root { IsRoot expr.now.nodes root }
     requires order { InOrder start last place }
     requires place { place ≤ length text.now }
-    requires fits { Fits (length expr.now.nodes) (length text.now) sets.old }
     requires at { IsAt expr.now.nodes text.now root (starts_to start last) place sets.old.entered ends }
-    ensures marks { SameMarks sets.old sets.new }
     ensures bound { IsBound expr.now.nodes text.now root start last result }
     ensures after { place ≤ result }
     ensures cost { let m = length expr.now.nodes in Pays steps.old steps.new (20 * m * result) (20 * m * place) }
@@ -196,10 +190,8 @@ fn enter(
 ) -> Next
     requires root { root + 1 ≡ length expr.now.nodes }
     requires table { IsTable expr.now.nodes root table.old }
-    requires fits { FitsFew (length expr.now.nodes) sets.old }
     ensures table { IsTable expr.now.nodes root table.new }
     ensures sweeps { table.new.sweeps ≡ table.old.sweeps }
-    ensures marks { SameMarks sets.old sets.new }
     ensures next { (w : List ℕ) (s : Starts) (place : ℕ) → IsAt expr.now.nodes w root s place sets.old.entered ends →
         NextIs (IsAt expr.now.nodes w root s place) table.new sets.new.entered result }
     ensures cost { Takes steps.old steps.new (6 * length expr.now.nodes) }
@@ -223,13 +215,11 @@ fn bound_by(
     sets: &mut Sets,
     steps: &mut Steps,
 ) -> usize
-    requires root { root + 1 ≡ length expr.now.nodes }
+    requires root { IsRoot expr.now.nodes root }
     requires order { InOrder start last (length text.now) }
     requires table { IsSingle expr.now.nodes root table.old }
-    requires fits { Fits (length expr.now.nodes) (length text.now) sets.old }
     requires at { IsAt expr.now.nodes text.now root (starts_to start last) last sets.old.entered ends }
     ensures table { IsSingle expr.now.nodes root table.new }
-    ensures marks { SameMarks sets.old sets.new }
     ensures bound { IsBound expr.now.nodes text.now root start last result }
     ensures cost { let m = length expr.now.nodes in
         Pays steps.old steps.new (6 * m + 42 * m * result) (42 * m * last) }
@@ -303,13 +293,11 @@ fn last_on(
     sets: &mut Sets,
     steps: &mut Steps,
 ) -> Option<usize>
-    requires root { root + 1 ≡ length nodes.now.nodes }
+    requires root { IsRoot nodes.now.nodes root }
     requires order { InOrder first place stop }
     requires stop { stop ≤ length bytes.now }
-    requires fits { Fits (length nodes.now.nodes) (length bytes.now) sets.old }
     requires at { IsAt nodes.now.nodes bytes.now root (starts_from first bytes.now) place sets.old.entered ends }
     requires best { LastEnd (tree nodes.now) bytes.now first place before }
-    ensures marks { SameMarks sets.old sets.new }
     ensures last { LastEnd (tree nodes.now) bytes.now first (stop + 1) result }
     ensures cost { let m = length nodes.now.nodes in Pays steps.old steps.new (20 * m * stop) (20 * m * place) }
 {
@@ -341,13 +329,11 @@ fn last_by(
     sets: &mut Sets,
     steps: &mut Steps,
 ) -> Option<usize>
-    requires root { root + 1 ≡ length nodes.now.nodes }
+    requires root { IsRoot nodes.now.nodes root }
     requires order { first ≤ stop }
     requires inside { stop ≤ length bytes.now }
     requires table { IsSweep nodes.now.nodes root table.old }
-    requires fits { Fits (length nodes.now.nodes) (length bytes.now) sets.old }
     ensures table { IsSweep nodes.now.nodes root table.new }
-    ensures marks { SameMarks sets.old sets.new }
     ensures last { LastEnd (tree nodes.now) bytes.now first (stop + 1) result }
     ensures cost { let m = length nodes.now.nodes in
         Pays steps.old steps.new (38 * m + 42 * m * stop) (42 * m * first) }
@@ -403,12 +389,10 @@ pub fn first_end_in(
     sets: &mut Sets,
     steps: &mut Steps,
 ) -> Option<FirstEnd>
-    requires root { root + 1 ≡ length expr.now.nodes }
+    requires root { IsRoot expr.now.nodes root }
     requires from { from ≤ length text.now }
     requires table { IsSweep expr.now.nodes root table.old }
-    requires fits { Fits (length expr.now.nodes) (length text.now) sets.old }
     ensures table { IsSweep expr.now.nodes root table.new }
-    ensures marks { SameMarks sets.old sets.new }
     ensures first { IsFirstEnd expr.now.nodes text.now root from sets.new.entered result }
     ensures cost { let m = length expr.now.nodes in
         Pays steps.old steps.new (40 * m + 42 * m * ended_to (length text.now) result) (42 * m * from) }
@@ -430,13 +414,11 @@ fn bound_in(
     sets: &mut Sets,
     steps: &mut Steps,
 ) -> usize
-    requires root { root + 1 ≡ length expr.now.nodes }
+    requires root { IsRoot expr.now.nodes root }
     requires order { InOrder start last (length text.now) }
     requires table { IsSingle expr.now.nodes root table.old }
-    requires fits { Fits (length expr.now.nodes) (length text.now) sets.old }
     requires at { IsAt expr.now.nodes text.now root (starts_to start last) last sets.old.entered ends }
     ensures table { IsSingle expr.now.nodes root table.new }
-    ensures marks { SameMarks sets.old sets.new }
     ensures bound { IsBound expr.now.nodes text.now root start last result }
     ensures cost { let m = length expr.now.nodes in
         Pays steps.old steps.new (6 * m + 42 * m * result) (42 * m * last) }
@@ -457,12 +439,10 @@ pub fn region_by(
     sets: &mut Sets,
     steps: &mut Steps,
 ) -> Region
-    requires root { root + 1 ≡ length expr.now.nodes }
+    requires root { IsRoot expr.now.nodes root }
     requires table { IsSingle expr.now.nodes root table.old }
-    requires fits { Fits (length expr.now.nodes) (length text.now) sets.old }
     requires first { IsFirstEnd expr.now.nodes text.now root start sets.old.entered (Some first) }
     ensures table { IsSingle expr.now.nodes root table.new }
-    ensures marks { SameMarks sets.old sets.new }
     ensures region { IsRegionTo (tree expr.now) text.now start first.place result }
     ensures cost { let m = length expr.now.nodes in
         Pays steps.old steps.new (6 * m + 42 * m * result.bound) (42 * m * first.place) }
@@ -491,12 +471,10 @@ fn earliest_by(
     sets: &mut Sets,
     steps: &mut Steps,
 ) -> usize
-    requires root { root + 1 ≡ length expr.now.nodes }
+    requires root { IsRoot expr.now.nodes root }
     requires region { IsRegion (tree expr.now) text.now true region }
     requires table { IsSweep (seen true expr.now).nodes root table.old }
-    requires fits { Fits (length expr.now.nodes) (length text.now) sets.old }
     ensures table { IsSweep (seen true expr.now).nodes root table.new }
-    ensures marks { SameMarks sets.old sets.new }
     ensures earliest { IsEarliest (tree expr.now) text.now region result }
     ensures cost { let m = length expr.now.nodes in
         Pays steps.old steps.new (38 * m + 42 * m * region.bound) (42 * m * region.start) }
@@ -527,13 +505,11 @@ pub fn start_to(
     sets: &mut Sets,
     steps: &mut Steps,
 ) -> usize
-    requires root { root + 1 ≡ length expr.now.nodes }
+    requires root { IsRoot expr.now.nodes root }
     requires order { InOrder from end (length text.now) }
     requires some { SomeSpan expr.now.nodes text.now root (starts_from from text.now) end }
     requires table { IsSingle (seen true expr.now).nodes root table.old }
-    requires fits { Fits (length expr.now.nodes) (length text.now) sets.old }
     ensures table { IsSingle (seen true expr.now).nodes root table.new }
-    ensures marks { SameMarks sets.old sets.new }
     ensures first { IsFirstStart (tree expr.now) text.now from end result }
     ensures none_long { from ≡ end → steps.new ≡ steps.old }
     ensures cost { let m = length expr.now.nodes in Pays steps.old steps.new (38 * m + 42 * m * end) (42 * m * from) }
@@ -569,12 +545,10 @@ pub fn span_by(
     sets: &mut Sets,
     steps: &mut Steps,
 ) -> Option<(usize, usize)>
-    requires root { root + 1 ≡ length expr.now.nodes }
+    requires root { IsRoot expr.now.nodes root }
     requires region { IsRegion (tree expr.now) text.now true region }
     requires tables { AreTables expr.now root tables.old }
-    requires fits { Fits (length expr.now.nodes) (length text.now) sets.old }
     ensures tables { AreTables expr.now root tables.new }
-    ensures marks { SameMarks sets.old sets.new }
     ensures answer { IsThere (tree expr.now) text.now region.start result }
     ensures none_long { region.bound ≡ region.start → steps.new ≡ steps.old }
     ensures cost { let m = length expr.now.nodes in

@@ -116,7 +116,6 @@ pub fn is_match(
     ensures computed { result ≡ is_some (found (tree expr.now) text.now from) }
     ensures cost { Takes steps.old steps.new (64 * length expr.now.nodes * (length text.now + 1)) }
 {
-    let sets = &mut scratch.sets;
     let begins = how_begins(expr, steps);
-    scan(expr, &begins, text, from, false, sets, steps).is_some()
+    scan(expr, &begins, text, from, false, &mut scratch.sets, steps).is_some()
 }

@@ -8,11 +8,11 @@
 //! beginning to its end, so that each block is made twice in all.
 ghost use Rattle.std.specs.Prelude.{◌≡◌, ℕ, [], ◌+◌, ◌-◌, ◌*◌, ◌^◌, ◌<◌, ◌≤◌, ◌↔◌, length, IsTrue, IfSome, IfOk, true, false, slice_index_or, Option, Some, if◌then◌else◌};
 ghost use Rattle.sedre.specs.Arena.{tree};
-ghost use Rattle.sedmatch.specs.Fits.{Fits, SameMarks};
+ghost use Rattle.sedmatch.specs.Nodes.{IsArenaRoot, IsNode, IsRoot};
 ghost use Rattle.sedmatch.specs.Local.{takes_next};
 ghost use Rattle.sedmatch.specs.Words.{row_of};
 ghost use Rattle.sedmatch.specs.Reach.{Longest, TellBegun, TellEntered, one_start};
-ghost use Rattle.sedmatch.specs.Meet.{IsRoot, MeetsBelow, GoesOnFrom, CameTo, PassTells, MarksGrow, BlockTells, HasKept, IsKept, Served, ServedAfter, HasBackPass, FitsBackPass, FitsPasses, FitsRows, SameShape, KeepsBackPass, KeepsPasses, HasPlace, TurnsTo, BlockTakes, low_of, met_to, begin_to, end_to, blocks_cost};
+ghost use Rattle.sedmatch.specs.Meet.{MeetsBelow, GoesOnFrom, CameTo, PassTells, MarksGrow, BlockTells, HasKept, IsKept, Served, ServedAfter, HasBackPass, FitsRows, SameShape, KeepsBackPass, HasPlace, TurnsTo, BlockTakes, low_of, met_to, begin_to, end_to, blocks_cost};
 ghost use Rattle.sedmatch.specs.Occurrences.{next_span, unless_null_at};
 ghost use Rattle.sedmatch.specs.Search.{starts_to};
 ghost use Rattle.sedmatch.specs.Cuts.{LeastFrom};
@@ -20,7 +20,7 @@ ghost use Rattle.sedmatch.specs.Matching.{found};
 ghost use Rattle.sedmatch.specs.Costs.{Pays};
 ghost use Rattle.sedre.specs.Steps.{Takes};
 
-use crate::counted::{Bytes, Marks, Rows, Text};
+use crate::counted::{Bytes, Marks, NodeMarks, Rows, Text};
 use crate::passes::{Starts, advance, takes_byte};
 use crate::scratch::{Sets, new_sets};
 use crate::search::advance_from;
@@ -74,7 +74,7 @@ pub fn new_back_pass(
         begins: Marks::new(alloc, max_text + 1)?,
         edges: Rows::new(alloc, max_text / width + 1, max_nodes)?,
         rows: Rows::new(alloc, width, max_nodes)?,
-        sets: new_sets(alloc, max_nodes)?,
+        sets: new_sets(alloc)?,
         width,
         block: 0,
     })
@@ -83,7 +83,7 @@ pub fn new_back_pass(
 /// The place after the last one of a block, in a text of so many bytes.
 fn block_end(from: usize, width: usize, len: usize) -> usize
     requires inside { from ≤ len }
-    requires short { len ≤ 2 ^ 30 }
+    requires short { len < 2 ^ 63 }
     requires narrow { width ≤ 65536 }
     ensures after { from ≤ result }
     ensures within { result ≤ len + 1 }
@@ -111,12 +111,10 @@ fn pass_places(
     sets: &mut Sets,
     steps: &mut Steps,
 )
-    requires root { root + 1 ≡ length nodes.now.nodes }
+    requires root { IsRoot nodes.now.nodes root }
     requires places { (from ≤ to) × (to ≤ length bytes.now + 1) }
-    requires fits { Fits (length nodes.now.nodes) (length bytes.now) sets.old }
     requires entered { TellEntered nodes.now.nodes bytes.now root (starts_to 0 (length bytes.now)) from sets.old.entered }
     requires there { FitsRows (length bytes.now) root from to rows.old begins.old }
-    ensures marks { SameMarks sets.old sets.new }
     ensures shape { SameShape rows.old rows.new begins.old begins.new }
     ensures tells { PassTells nodes.now.nodes bytes.now root from to rows.new begins.old begins.new }
     ensures entered { TellEntered nodes.now.nodes bytes.now root (starts_to 0 (length bytes.now)) to sets.new.entered }
@@ -142,8 +140,8 @@ fn make_block(
     back_pass: &mut BackPass,
     steps: &mut Steps,
 )
-    requires root { root + 1 ≡ length nodes.now.nodes }
-    requires fits { FitsBackPass (length nodes.now.nodes) (length bytes.now) back_pass.old }
+    requires root { IsRoot nodes.now.nodes root }
+    requires room { HasBackPass (length bytes.now) (length nodes.now.nodes) back_pass.old }
     requires inside { back_pass.old.width * block ≤ length bytes.now }
     requires entered { TellEntered nodes.now.nodes bytes.now root (starts_to 0 (length bytes.now)) (back_pass.old.width * block) back_pass.old.sets.entered }
     ensures turns { TurnsTo block back_pass.old back_pass.new }
@@ -154,8 +152,9 @@ fn make_block(
         TellEntered nodes.now.nodes bytes.now root (starts_to 0 (length bytes.now)) (low_of back_pass.new + back_pass.new.width) back_pass.new.sets.entered }
     ensures cost { BlockTakes (length nodes.now.nodes) (length bytes.now) back_pass.new steps.old steps.new 0 }
 {
+    let len = bytes.len();
     let from = back_pass.width * block;
-    let to = block_end(from, back_pass.width, bytes.len());
+    let to = block_end(from, back_pass.width, len);
     pass_places(
         nodes,
         bytes,
@@ -179,8 +178,8 @@ fn keep_block(
     back_pass: &mut BackPass,
     steps: &mut Steps,
 )
-    requires root { root + 1 ≡ length nodes.now.nodes }
-    requires fits { FitsBackPass (length nodes.now.nodes) (length bytes.now) back_pass.old }
+    requires root { IsRoot nodes.now.nodes root }
+    requires room { HasBackPass (length bytes.now) (length nodes.now.nodes) back_pass.old }
     requires inside { back_pass.old.width * block ≤ length bytes.now }
     requires came { CameTo nodes.now.nodes bytes.now root block back_pass.old }
     ensures turns { TurnsTo block back_pass.old back_pass.new }
@@ -202,10 +201,8 @@ fn keep_blocks(
     back_pass: &mut BackPass,
     steps: &mut Steps,
 )
-    requires root { root + 1 ≡ length nodes.now.nodes }
-    requires few { length nodes.now.nodes ≤ 65536 }
-    requires short { length bytes.now ≤ 2 ^ 30 }
-    requires fits { HasBackPass (length bytes.now) (length nodes.now.nodes) back_pass.old }
+    requires root { IsRoot nodes.now.nodes root }
+    requires room { HasBackPass (length bytes.now) (length nodes.now.nodes) back_pass.old }
     ensures kept { KeepsBackPass back_pass.old back_pass.new }
     ensures all { HasKept nodes.now.nodes bytes.now root back_pass.new }
     ensures last { length bytes.now < low_of back_pass.new + back_pass.new.width }
@@ -227,10 +224,8 @@ pub fn keep_back_pass(
     back_pass: &mut BackPass,
     steps: &mut Steps,
 )
-    requires root { root + 1 ≡ length expr.now.nodes }
-    requires few { length expr.now.nodes ≤ 65536 }
-    requires short { length text.now ≤ 2 ^ 30 }
-    requires fits { HasBackPass (length text.now) (length expr.now.nodes) back_pass.old }
+    requires root { IsRoot expr.now.nodes root }
+    requires room { HasBackPass (length text.now) (length expr.now.nodes) back_pass.old }
     ensures kept { KeepsBackPass back_pass.old back_pass.new }
     ensures all { IsKept expr.now text.now root back_pass.new }
     ensures reaches { length text.now < low_of back_pass.new + back_pass.new.width }
@@ -251,8 +246,8 @@ fn remake(
     back_pass: &mut BackPass,
     steps: &mut Steps,
 )
-    requires root { root + 1 ≡ length nodes.now.nodes }
-    requires fits { FitsBackPass (length nodes.now.nodes) (length bytes.now) back_pass.old }
+    requires root { IsRoot nodes.now.nodes root }
+    requires room { HasBackPass (length bytes.now) (length nodes.now.nodes) back_pass.old }
     requires all { HasKept nodes.now.nodes bytes.now root back_pass.old }
     requires inside { back_pass.old.width * block ≤ length bytes.now }
     ensures turns { TurnsTo block back_pass.old back_pass.new }
@@ -274,11 +269,12 @@ fn bring(
     back_pass: &mut BackPass,
     steps: &mut Steps,
 )
-    requires root { root + 1 ≡ length expr.now.nodes }
-    requires fits { FitsBackPass (length expr.now.nodes) (length text.now) back_pass.old }
+    requires root { IsRoot expr.now.nodes root }
+    requires room { HasBackPass (length text.now) (length expr.now.nodes) back_pass.old }
     requires all { IsKept expr.now text.now root back_pass.old }
     requires inside { place ≤ length text.now }
     requires before { place < low_of back_pass.old + back_pass.old.width }
+    requires short { length text.now < 2 ^ 63 }
     ensures kept { KeepsBackPass back_pass.old back_pass.new }
     ensures all { IsKept expr.now text.now root back_pass.new }
     ensures here { HasPlace place back_pass.new }
@@ -308,15 +304,12 @@ fn takes(node: &Node, byte: Option<u8>) -> bool
 fn meets(
     expr: &Expr,
     root: usize,
-    front: &Marks,
-    back_pass: &Marks,
+    front: &NodeMarks,
+    back_pass: &NodeMarks,
     next: Option<u8>,
     steps: &mut Steps,
 ) -> bool
-    requires root { root < length expr.now.nodes }
-    requires few { length expr.now.nodes ≤ 65536 }
-    requires front_fits { root < length front.now }
-    requires back_fits { root < length back_pass.now }
+    requires root { IsNode expr.now.nodes root }
     ensures meets { IsTrue result ↔ MeetsBelow expr.now.nodes (root + 1) front.now back_pass.now next }
     ensures cost { Takes steps.old steps.new (3 * (root + 1)) }
 {
@@ -342,12 +335,12 @@ fn goes_on(
     sets: &mut Sets,
     steps: &mut Steps,
 ) -> bool
-    requires root { IsRoot expr.now.nodes root }
+    requires root { IsArenaRoot expr.now.nodes root }
     requires place { (start ≤ place) × (place ≤ length text.now) }
-    requires fits { FitsPasses (length expr.now.nodes) (length text.now) sets.old back_pass.old }
+    requires room { HasBackPass (length text.now) (length expr.now.nodes) back_pass.old }
     requires served { Served expr.now text.now root place back_pass.old }
     requires begun { TellBegun expr.now.nodes text.now root (one_start start) place sets.old.entered }
-    ensures kept { KeepsPasses sets.old sets.new back_pass.old back_pass.new }
+    ensures kept { KeepsBackPass back_pass.old back_pass.new }
     ensures entered { sets.new.entered ≡ sets.old.entered }
     ensures served { Served expr.now text.now root place back_pass.new }
     ensures goes { IsTrue result ↔ GoesOnFrom expr.now.nodes text.now root start place }
@@ -375,11 +368,11 @@ fn longest_met(
     sets: &mut Sets,
     steps: &mut Steps,
 ) -> Option<usize>
-    requires root { IsRoot expr.now.nodes root }
+    requires root { IsArenaRoot expr.now.nodes root }
     requires start { start ≤ length text.now }
-    requires fits { FitsPasses (length expr.now.nodes) (length text.now) sets.old back_pass.old }
+    requires room { HasBackPass (length text.now) (length expr.now.nodes) back_pass.old }
     requires served { Served expr.now text.now root start back_pass.old }
-    ensures kept { KeepsPasses sets.old sets.new back_pass.old back_pass.new }
+    ensures kept { KeepsBackPass back_pass.old back_pass.new }
     ensures served { Served expr.now text.now root (met_to start result) back_pass.new }
     ensures longest { Longest (tree expr.now) text.now start result }
     ensures lies { IfSome result (λ end. (start ≤ end) × (end ≤ length text.now)) }
@@ -402,7 +395,6 @@ fn longest_met(
 
 /// The first place from `from` on at which a match begins.
 fn next_begin(text: &Text, begins: &Marks, from: usize, steps: &mut Steps) -> Option<usize>
-    requires short { length text.now ≤ 2 ^ 30 }
     requires from { from ≤ length text.now }
     requires begins { length text.now < length begins.now }
     ensures first { LeastFrom (λ i. IsTrue (slice_index_or begins.now (length text.now - i) false)) from (length text.now + 1) result }
@@ -440,11 +432,11 @@ fn next_met(
     sets: &mut Sets,
     steps: &mut Steps,
 ) -> Option<(usize, usize)>
-    requires root { IsRoot expr.now.nodes root }
+    requires root { IsArenaRoot expr.now.nodes root }
     requires from { from ≤ length text.now }
-    requires fits { FitsPasses (length expr.now.nodes) (length text.now) sets.old back_pass.old }
+    requires room { HasBackPass (length text.now) (length expr.now.nodes) back_pass.old }
     requires served { Served expr.now text.now root from back_pass.old }
-    ensures kept { KeepsPasses sets.old sets.new back_pass.old back_pass.new }
+    ensures kept { KeepsBackPass back_pass.old back_pass.new }
     ensures served { ServedAfter expr.now text.now root result back_pass.new }
     ensures next { result ≡ found (tree expr.now) text.now from }
     ensures lies { IfSome result (λ f. (from ≤ f.0) × (f.0 ≤ f.1) × (f.1 ≤ length text.now)) }
@@ -470,11 +462,11 @@ pub fn next_after(
     sets: &mut Sets,
     steps: &mut Steps,
 ) -> Option<(usize, usize)>
-    requires root { IsRoot expr.now.nodes root }
+    requires root { IsArenaRoot expr.now.nodes root }
     requires at { at ≤ length text.now }
-    requires fits { FitsPasses (length expr.now.nodes) (length text.now) sets.old back_pass.old }
+    requires room { HasBackPass (length text.now) (length expr.now.nodes) back_pass.old }
     requires served { Served expr.now text.now root at back_pass.old }
-    ensures kept { KeepsPasses sets.old sets.new back_pass.old back_pass.new }
+    ensures kept { KeepsBackPass back_pass.old back_pass.new }
     ensures served { IfSome result (λ f. Served expr.now text.now root f.1 back_pass.new) }
     ensures next { result ≡ next_span (found (tree expr.now) text.now) (length text.now) (Some at) }
     ensures lies { IfSome result (λ f. (at ≤ f.0) × (at < f.1) × (f.0 ≤ f.1) × (f.1 ≤ length text.now)) }

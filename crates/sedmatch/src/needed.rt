@@ -5,6 +5,7 @@ ghost use Rattle.std.specs.Prelude.{◌≡◌, ℕ, ◌+◌, ◌*◌, ◌^◌, �
 ghost use Rattle.sedre.specs.Arena.{tree};
 ghost use Rattle.sedre.specs.Tree.{Tree};
 ghost use Rattle.sedmatch.specs.Needed.{IsOfSet, LinksTo, IsLiteral, IsSole, IsUpTo, AllHold, AllEndWith, IsNeeded, Narrowed};
+ghost use Rattle.sedmatch.specs.Nodes.{IsNode};
 ghost use Rattle.sedmatch.specs.Costs.{Pays};
 ghost use Rattle.sedre.specs.Steps.{Takes, Counted};
 
@@ -97,8 +98,7 @@ pub fn literal_from(
     from: usize,
     steps: &mut Steps,
 ) -> Result<Literal, AllocError>
-    requires inside { from < length expr.now.nodes }
-    requires few { length expr.now.nodes ≤ 65536 }
+    requires inside { IsNode expr.now.nodes from }
     ensures literal { IfOk result (λ l. IsLiteral expr.now.nodes from l) }
     ensures up_to { IfOk result (λ l. IsUpTo from l.rest) }
     ensures cost { Takes steps.old steps.new 131074 }
@@ -164,8 +164,7 @@ fn longest_literal(
     from: usize,
     steps: &mut Steps,
 ) -> Result<Vec<u8>, AllocError>
-    requires inside { from < length expr.now.nodes }
-    requires few { length expr.now.nodes ≤ 65536 }
+    requires inside { IsNode expr.now.nodes from }
     ensures holds { IfOk result (λ v. AllHold expr.now.nodes from v.items) }
 {
     let mut best = Vec::new(alloc);
@@ -199,7 +198,6 @@ pub fn find_needed(
     expr: &Expr,
     steps: &mut Steps,
 ) -> Result<Option<Needed>, AllocError>
-    requires few { length expr.now.nodes ≤ 65536 }
     ensures needed { IfOk result (λ n. IsNeeded (tree expr.now) n) }
 {
     let root = expr.root().index();

@@ -2,9 +2,10 @@
 ghost use Rattle.std.specs.Prelude.{◌≡◌, ℕ, false, ◌+◌, ◌*◌, ◌^◌, ◌<◌, ◌≤◌, length, nat_lt, if◌then◌else◌, None, Some, IfOk, IfSome, IsTrue};
 ghost use Rattle.sedre.specs.Arena.{Written, tree};
 ghost use Rattle.sedmatch.specs.Matching.{found, report};
-ghost use Rattle.sedmatch.specs.Meet.{FitsBackPass, KeepsBackPass, Served};
+ghost use Rattle.sedmatch.specs.Meet.{HasBackPass, KeepsBackPass, Served};
 ghost use Rattle.sedmatch.specs.Occurrences.{EndsWithin, Keeps, KeepsOn, KeepsRoom, LiesOn, Occurs, RoomFor, Serves, ServesOn};
 ghost use Rattle.sedmatch.specs.Occurrences.{next_span, owed, owed_after, owed_apart, owed_met, owed_together};
+ghost use Rattle.sedmatch.specs.Nodes.{IsRoot};
 ghost use Rattle.sedmatch.specs.Parts.{SpanIn, span_of};
 ghost use Rattle.sedmatch.specs.Spans.{Spans};
 ghost use Rattle.sedmatch.specs.Room.{FitInto};
@@ -27,8 +28,8 @@ use std::alloc::{AllocError, Global};
 /// never come to that. All searches in one text together take at most 416 steps for each node and place, whatever the
 /// expression and the text.
 ///
-/// All room is taken in [`Occurrences::new`]: a bit for each byte of the longest text, and twice the root of its length
-/// many rows of a bit for each node.
+/// All room is taken in [`Occurrences::new`]: a bit for each byte of the longest text, twice the root of its length
+/// many rows of a bit for each node, and 24 KiB of marks.
 #[derive(Drop)]
 pub struct Occurrences {
     back_pass: BackPass,
@@ -88,9 +89,9 @@ fn see_met(
     occurrences: &mut Occurrences,
     steps: &mut Steps,
 )
-    requires root { root + 1 ≡ length expr.now.nodes }
+    requires root { IsRoot expr.now.nodes root }
     requires at { at ≤ length text.now }
-    requires fits { FitsBackPass (length expr.now.nodes) (length text.now) occurrences.old.back_pass }
+    requires room { HasBackPass (length text.now) (length expr.now.nodes) occurrences.old.back_pass }
     requires serves { IsTrue occurrences.old.met → Served expr.now text.now root at occurrences.old.back_pass }
     ensures kept { KeepsBackPass occurrences.old.back_pass occurrences.new.back_pass }
     ensures met { IsTrue occurrences.new.met × (occurrences.new.left ≡ occurrences.old.left) }
@@ -158,7 +159,6 @@ impl TableMatcher {
         ensures lies { IfSome result (LiesOn (length text.now) last) }
         ensures cost { Takes steps.old steps.new (256 * length self.old.nodes * (length text.now + 1)) }
     {
-        scratch.bounds();
         let at = place_of(last);
         let first = self.find_span(text, at, scratch, steps);
         if last.is_none() || !is_null_at(first, at) {
@@ -218,7 +218,6 @@ impl TableMatcher {
         ensures cost { let m = length self.old.nodes in let n = length text.now in
             Pays steps.old steps.new (owed_together m n at occurrences.old) (owed_after m n result occurrences.new) }
     {
-        scratch.bounds();
         see_met(&self.expr, self.root, text, at, occurrences, steps);
         next_after(
             &self.expr,
@@ -256,7 +255,6 @@ impl TableMatcher {
         ensures cost { let m = length self.old.nodes in let n = length text.now in
             Pays steps.old steps.new (owed m n last occurrences.old) (owed_after m n result occurrences.new) }
     {
-        scratch.bounds();
         if let Some(at) = last {
             if occurrences.left == 0 {
                 return self.next_together(text, at, occurrences, scratch, steps);

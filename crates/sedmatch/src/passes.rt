@@ -5,14 +5,14 @@
 ghost use Rattle.std.specs.Prelude.{◌≡◌, ℕ, false, List, ◌+◌, ◌-◌, ◌*◌, ◌^◌, ◌<◌, ◌≤◌, ◌↔◌, ◌&&◌, ◌||◌};
 ghost use Rattle.std.specs.Prelude.{length, slice_index_or, slice_get, Some, IsTrue};
 ghost use Rattle.sedre.specs.Arena.{IsArena};
-ghost use Rattle.sedmatch.specs.Fits.{FitsFew, SameMarks};
+ghost use Rattle.sedmatch.specs.Nodes.{IsNode};
 ghost use Rattle.sedmatch.specs.Local.{PartsBelow, takes_next, null_of, end_of, enter_parts, takes};
 ghost use Rattle.sedmatch.specs.Reach.{IsStart, SetsFrom, SomeSpan, OpenAt};
 ghost use Rattle.sedmatch.specs.Reach.{TellNull, TellEntered, TellEnded, TellBegun};
 ghost use Rattle.sedmatch.specs.Places.{IsPlace, ComesAfter};
 ghost use Rattle.sedre.specs.Steps.{Takes, TakesAtLeast};
 
-use crate::counted::{Bytes, Marks};
+use crate::counted::{Bytes, NodeMarks};
 use crate::scratch::Sets;
 use sedre::{ByteSet, Node, Nodes, Steps};
 
@@ -53,12 +53,11 @@ fn marks_here(
     end: bool,
     entered: bool,
     byte: Option<u8>,
-    null: &Marks,
-    ended: &Marks,
+    null: &NodeMarks,
+    ended: &NodeMarks,
     steps: &mut Steps,
 ) -> (bool, bool)
-    requires null_inside { PartsBelow (length null.now) node.now }
-    requires ended_inside { PartsBelow (length ended.now) node.now }
+    requires { PartsBelow 65536 node.now }
     ensures null { result.0 ≡ null_of begin end (λ c. slice_index_or null.now c false) node.now }
     ensures ended { result.1 ≡ end_of entered byte (λ c. slice_index_or null.now c false) (λ c. slice_index_or ended.now c false) node.now }
     ensures cost { Takes steps.old steps.new 5 }
@@ -93,14 +92,12 @@ fn mark_parts(
     here: bool,
     more: bool,
     byte: Option<u8>,
-    null: &Marks,
-    ended: &Marks,
-    entered: &mut Marks,
+    null: &NodeMarks,
+    ended: &NodeMarks,
+    entered: &mut NodeMarks,
     steps: &mut Steps,
 ) -> bool
-    requires null_inside { PartsBelow (length null.now) node.now }
-    requires ended_inside { PartsBelow (length ended.now) node.now }
-    requires entered_inside { PartsBelow (length entered.old) node.now }
+    requires { PartsBelow 65536 node.now }
     ensures value { entered.new ≡ enter_parts here (λ c. slice_index_or null.now c false) (λ c. slice_index_or ended.now c false) node.now entered.old }
     ensures opens { result ≡ (more || (here && takes_next byte node.now)) }
     ensures cost { Takes steps.old steps.new 4 }
@@ -143,9 +140,7 @@ pub fn ascend(
     sets: &mut Sets,
     steps: &mut Steps,
 )
-    requires root { root < length expr.now.nodes }
-    requires fits { FitsFew (length expr.now.nodes) sets.old }
-    ensures marks { SameMarks sets.old sets.new }
+    requires root { IsNode expr.now.nodes root }
     ensures kept { sets.new.entered ≡ sets.old.entered }
     ensures null { (w : List ℕ) (place : ℕ) → IsPlace w place begin end →
         TellNull expr.now.nodes w root place sets.new.null }
@@ -187,9 +182,7 @@ pub fn descend(
     steps: &mut Steps,
 ) -> bool
     requires arena { IsArena expr.now.nodes }
-    requires root { root < length expr.now.nodes }
-    requires fits { FitsFew (length expr.now.nodes) sets.old }
-    ensures marks { SameMarks sets.old sets.new }
+    requires root { IsNode expr.now.nodes root }
     ensures kept_null { sets.new.null ≡ sets.old.null }
     ensures kept_ended { sets.new.ended ≡ sets.old.ended }
     ensures entered { (w : List ℕ) (s : Starts) (place : ℕ) →
@@ -226,9 +219,14 @@ pub fn descend(
 }
 
 /// Whether the root ends here, or matches the null string where it begins.
-pub fn ends_here(root: usize, first: bool, null: &Marks, ended: &Marks, steps: &mut Steps) -> bool
-    requires null_inside { root < length null.now }
-    requires ended_inside { root < length ended.now }
+pub fn ends_here(
+    root: usize,
+    first: bool,
+    null: &NodeMarks,
+    ended: &NodeMarks,
+    steps: &mut Steps,
+) -> bool
+    requires { root < 65536 }
     ensures value { result ≡ (slice_index_or ended.now root false || (first && slice_index_or null.now root false)) }
     ensures cost { Takes steps.old steps.new 2 }
 {
@@ -280,11 +278,9 @@ pub fn advance(
     sets: &mut Sets,
     steps: &mut Steps,
 ) -> Here
-    requires root { root < length expr.now.nodes }
+    requires root { IsNode expr.now.nodes root }
     requires place { place ≤ length text.now }
-    requires fits { FitsFew (length expr.now.nodes) sets.old }
     requires entered { TellEntered expr.now.nodes text.now root starts place sets.old.entered }
-    ensures marks { SameMarks sets.old sets.new }
     ensures entered { TellBegun expr.now.nodes text.now root starts place sets.new.entered }
     ensures spans { IsTrue result.matched ↔ SomeSpan expr.now.nodes text.now root starts place }
     ensures opens { OpenAt expr.now.nodes text.now root starts place result.more }

@@ -1,7 +1,7 @@
 //! Searches by a table.
 ghost use Rattle.std.specs.Prelude.{IfOk, IfSome, IfNone, true, false, is_some, ◌≡◌, ◌+◌, ◌-◌, ◌*◌, ◌/◌, ◌^◌, ◌<◌, ◌≤◌, ◌↔◌, length, IsTrue};
 ghost use Rattle.sedre.specs.Arena.{tree};
-ghost use Rattle.sedmatch.specs.Fits.{Fits, SameMarks};
+ghost use Rattle.sedmatch.specs.Nodes.{IsRoot};
 ghost use Rattle.sedmatch.specs.Spans.{SomeFound};
 ghost use Rattle.sedmatch.specs.Tables.{IsSingle, IsSweep, IsTable, ends_of};
 ghost use Rattle.sedmatch.specs.Longest.{BestTo, HasPassed, StandsAt};
@@ -45,13 +45,11 @@ fn some_by(
     sets: &mut Sets,
     steps: &mut Steps,
 ) -> bool
-    requires root { root + 1 ≡ length expr.now.nodes }
+    requires root { IsRoot expr.now.nodes root }
     requires from { from ≤ length text.now }
     requires known { IsKnown (tree expr.now) known.now }
     requires tables { AreTables expr.now root tables.old }
-    requires fits { Fits (length expr.now.nodes) (length text.now) sets.old }
     ensures tables { AreTables expr.now root tables.new }
-    ensures marks { SameMarks sets.old sets.new }
     ensures matches { IsTrue result ↔ SomeFound (tree expr.now) text.now from }
     ensures cost { Takes steps.old steps.new (64 * length expr.now.nodes * (length text.now + 1)) }
 {
@@ -92,13 +90,11 @@ fn some_anywhere(
     sets: &mut Sets,
     steps: &mut Steps,
 ) -> bool
-    requires root { root + 1 ≡ length expr.now.nodes }
+    requires root { IsRoot expr.now.nodes root }
     requires from { from ≤ length text.now }
     requires known { IsKnown (tree expr.now) known.now }
     requires table { IsSweep expr.now.nodes root table.old }
-    requires fits { Fits (length expr.now.nodes) (length text.now) sets.old }
     ensures table { IsSweep expr.now.nodes root table.new }
-    ensures marks { SameMarks sets.old sets.new }
     ensures matches { IsTrue result ↔ SomeFound (tree expr.now) text.now from }
     ensures cost { let m = length expr.now.nodes in Takes steps.old steps.new (41 * m + 43 * m * length text.now) }
 {
@@ -320,12 +316,10 @@ pub fn longest_to(
     sets: &mut Sets,
     steps: &mut Steps,
 ) -> Option<usize>
-    requires root { root + 1 ≡ length expr.now.nodes }
+    requires root { IsRoot expr.now.nodes root }
     requires order { InOrder start stop (length text.now) }
     requires table { IsSingle expr.now.nodes root table.old }
-    requires fits { Fits (length expr.now.nodes) (length text.now) sets.old }
     ensures table { IsSingle expr.now.nodes root table.new }
-    ensures marks { SameMarks sets.old sets.new }
     ensures longest { LongestBelow (tree expr.now) text.now start (stop + 1) result }
     ensures lies { IfSome result (λ end. (start ≤ end) × (end ≤ stop)) }
     ensures cost { let m = length expr.now.nodes in
@@ -384,12 +378,10 @@ pub fn longest_in(
     sets: &mut Sets,
     steps: &mut Steps,
 ) -> Option<usize>
-    requires root { root + 1 ≡ length expr.now.nodes }
+    requires root { IsRoot expr.now.nodes root }
     requires start { start ≤ length text.now }
     requires table { IsSingle expr.now.nodes root table.old }
-    requires fits { Fits (length expr.now.nodes) (length text.now) sets.old }
     ensures table { IsSingle expr.now.nodes root table.new }
-    ensures marks { SameMarks sets.old sets.new }
     ensures longest { Longest (tree expr.now) text.now start result }
     ensures lies { IfSome result (λ end. (start ≤ end) × (end ≤ length text.now)) }
     ensures cost { let m = length expr.now.nodes in
@@ -535,7 +527,6 @@ impl TableMatcher {
         ensures computed { result ≡ is_some (found (tree self.old) text.now from) }
         ensures cost { Takes steps.old steps.new (64 * length self.old.nodes * (length text.now + 1)) }
     {
-        let sets = &mut scratch.sets;
         if let Some(sight) = &self.sight {
             return sight_matches(sight, text, from, steps);
         }
@@ -546,7 +537,7 @@ impl TableMatcher {
             text,
             from,
             &mut self.tables,
-            sets,
+            &mut scratch.sets,
             steps,
         )
     }
@@ -576,7 +567,6 @@ impl TableMatcher {
         if self.root == 0 && self.sight.is_none() {
             return find_span(&self.expr, text, from, scratch, steps);
         }
-        let sets = &mut scratch.sets;
         if let Some(sight) = &self.sight {
             return sight_span(sight, text, from, steps);
         }
@@ -587,7 +577,7 @@ impl TableMatcher {
             text,
             from,
             &mut self.tables,
-            sets,
+            &mut scratch.sets,
             steps,
         )
     }

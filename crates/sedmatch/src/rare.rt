@@ -9,6 +9,7 @@ ghost use Rattle.sedmatch.specs.Few.{HasFew};
 ghost use Rattle.sedmatch.specs.Spans.{IsIn};
 ghost use Rattle.sedmatch.specs.Beginnings.{AllBegin};
 ghost use Rattle.sedmatch.specs.Search.{Sought, sought_to};
+ghost use Rattle.sedmatch.specs.Nodes.{IsNode};
 ghost use Rattle.sedmatch.specs.Costs.{Pays};
 ghost use Rattle.sedre.specs.Steps.{Takes};
 
@@ -153,7 +154,6 @@ impl Rare {
     /// The first place from `from` on at which a match can begin as far as these bytes tell, one by one.
     fn find_near(&self, text: &Text, from: usize, steps: &mut Steps) -> Option<usize>
         requires from { from ≤ length text.now }
-        requires short { length text.now ≤ 2 ^ 30 }
         ensures first { FirstRare self.now text.now from result }
         ensures cost { Takes steps.old steps.new (2 * looked_at (length text.now) from result) }
     {
@@ -162,7 +162,7 @@ impl Rare {
             if self.holds(text, start, steps) {
                 return Some(start);
             }
-            place = start + 1;
+            place = text.after(start, 1);
         }
         None
     }
@@ -170,7 +170,6 @@ impl Rare {
     /// The same, vectors first.
     fn find(&self, text: &Text, from: usize, steps: &mut Steps) -> Option<usize>
         requires from { from ≤ length text.now }
-        requires short { length text.now ≤ 2 ^ 30 }
         ensures first { FirstRare self.now text.now from result }
         ensures lies { IfSome result (λ k. k < length text.now) }
         ensures cost { Takes steps.old steps.new (2 * looked_at (length text.now) from result) }
@@ -243,8 +242,7 @@ fn with_set(rare: Option<Rare>, offset: usize, set: &ByteSet) -> Option<Rare>
 
 /// The rarest bytes that stand after the beginning of every span of a node, as long as it is a concatenation of sets.
 fn rare_from(expr: &Expr, from: usize, steps: &mut Steps) -> Option<Rare>
-    requires inside { from < length expr.now.nodes }
-    requires few { length expr.now.nodes ≤ 65536 }
+    requires inside { IsNode expr.now.nodes from }
     ensures rare { AllRare (tree_at expr.now.nodes from) result }
     ensures cost { Takes steps.old steps.new 131074 }
 {
@@ -341,7 +339,6 @@ fn with_held(rare: Option<Rare>, held: Option<Fixed>) -> Option<Rare>
 
 /// The rarest bytes that stand after the beginning of every match, where they are few.
 pub fn rare_of(expr: &Expr, begins: &Begins, steps: &mut Steps) -> Option<Rare>
-    requires few { length expr.now.nodes ≤ 65536 }
     requires begins { AllBegin (tree expr.now) begins.now }
     ensures rare { AllRare (tree expr.now) result }
     ensures cost { Takes steps.old steps.new 131083 }
@@ -372,7 +369,6 @@ fn rare_place(
     from: usize,
     steps: &mut Steps,
 ) -> Option<(usize, Lead)>
-    requires short { length text.now ≤ 2 ^ 30 }
     requires from { from ≤ length text.now }
     requires rare { AllRare (tree expr.now) (Some rare.now) }
     ensures sought { Sought (tree expr.now) text.now from result }
@@ -407,7 +403,6 @@ pub fn first_place(
     from: usize,
     steps: &mut Steps,
 ) -> Option<(usize, Lead)>
-    requires short { length text.now ≤ 2 ^ 30 }
     requires some { 0 < length expr.now.nodes }
     requires from { from ≤ length text.now }
     requires begins { AllBegin (tree expr.now) begins.now }

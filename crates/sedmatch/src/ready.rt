@@ -48,7 +48,6 @@ pub fn find_known(
     seen: bool,
     steps: &mut Steps,
 ) -> Result<Known, AllocError>
-    requires nodes { length expr.now.nodes ≤ 65536 }
     ensures known { IfOk result (λ k. IsKnown (tree expr.now) k) }
     ensures flat { IfOk result (λ k. IsTrue k.flat → AreFlat expr.now.nodes) }
 {
@@ -81,7 +80,6 @@ fn new_table_of(
     classes: &Classes,
     states: usize,
 ) -> Result<Table, AllocError>
-    requires nodes { length expr.now.nodes ≤ 65536 }
     requires classes { IsCut classes.now }
     requires few { states ≤ 64 }
     ensures table { IfOk result (λ t. IsTable expr.now.nodes root t) }
@@ -100,7 +98,6 @@ fn mirror_table_of(
     classes: &Classes,
     states: usize,
 ) -> Result<Table, AllocError>
-    requires nodes { length expr.now.nodes ≤ 65536 }
     requires classes { IsCut classes.now }
     requires few { states ≤ 64 }
     ensures table { IfOk result (λ t. IsTable (seen true expr.now).nodes root t) }
@@ -112,7 +109,6 @@ fn mirror_table_of(
 
 /// The classes of bytes for an expression.
 fn classes_of(alloc: Global, expr: &Expr) -> Result<Classes, AllocError>
-    requires nodes { length expr.now.nodes ≤ 65536 }
     ensures { IfOk result IsCut }
 {
     let nodes = Nodes::of(expr);
@@ -126,7 +122,6 @@ pub fn new_tables(
     root: usize,
     states: usize,
 ) -> Result<Tables, AllocError>
-    requires nodes { length expr.now.nodes ≤ 65536 }
     requires few { states ≤ 64 }
     ensures { IfOk result (λ t. AreTables expr.now root t) }
 {

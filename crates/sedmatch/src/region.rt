@@ -4,7 +4,6 @@
 //! last place at which a match of the mirrored one ends is the first at which a match begins.
 ghost use Rattle.std.specs.Prelude.{◌≡◌, true, ◌+◌, ◌-◌, ◌*◌, ◌^◌, ◌<◌, ◌≤◌, length};
 ghost use Rattle.sedre.specs.Arena.{tree};
-ghost use Rattle.sedmatch.specs.Fits.{Fits, SameMarks};
 ghost use Rattle.sedmatch.specs.Search.{IsRegion, LastEnd, IsEarliest};
 ghost use Rattle.sedmatch.specs.Costs.{Pays};
 
@@ -35,8 +34,6 @@ fn last_end(
 ) -> Option<usize>
     requires order { first ≤ stop }
     requires inside { stop ≤ length bytes.now + 1 }
-    requires fits { Fits (length nodes.now.nodes) (length bytes.now) sets.old }
-    ensures marks { SameMarks sets.old sets.new }
     ensures last { LastEnd (tree nodes.now) bytes.now first stop result }
     ensures cost { let m = length nodes.now.nodes in Pays steps.old steps.new (m + 20 * m * stop) (20 * m * first) }
 {
@@ -65,8 +62,6 @@ pub fn earliest(
     steps: &mut Steps,
 ) -> usize
     requires region { IsRegion (tree expr.now) text.now true region }
-    requires fits { Fits (length expr.now.nodes) (length text.now) sets.old }
-    ensures marks { SameMarks sets.old sets.new }
     ensures earliest { IsEarliest (tree expr.now) text.now region result }
     ensures cost { let m = length expr.now.nodes in
         Pays steps.old steps.new (m + 20 * m * (region.bound + 1)) (20 * m * region.start) }

@@ -1,8 +1,8 @@
 //! The room that a search works in, made once: marks and numbers alone.
 ghost use Rattle.std.specs.Prelude.{◌≡◌, ℕ, ◌*◌, ◌+◌, ◌^◌, ◌<◌, ◌≤◌, IfOk, [], vec_len, vec_capacity, length};
-ghost use Rattle.sedmatch.specs.Fits.{FitsNodes, FitsWork};
+ghost use Rattle.sedmatch.specs.Fits.{FitsWork};
 
-use crate::counted::Marks;
+use crate::counted::{Marks, NodeMarks};
 use std::alloc::{AllocError, Global};
 use std::marker::Model;
 
@@ -10,11 +10,11 @@ use std::marker::Model;
 #[derive(Drop)]
 pub struct Sets {
     /// The node matches the null string here.
-    pub null: Marks,
+    pub null: NodeMarks,
     /// The node begins here, in a match from one of the pass's starts.
-    pub entered: Marks,
+    pub entered: NodeMarks,
     /// The node, once entered, ends here after at least one byte.
-    pub ended: Marks,
+    pub ended: NodeMarks,
 }
 
 /// One thing that is still to do while the groups of a match are decided.
@@ -55,7 +55,7 @@ impl Model for Scratch {
 
     ghost view = { λ s. record { text = s.max_text; nodes = s.max_nodes } };
 
-    ghost invariant = { λ s. HasRoom s.max_text s.max_nodes s.sets s.places s.plan };
+    ghost invariant = { λ s. HasRoom s.max_text s.max_nodes s.places s.plan };
 }
 
 impl Scratch {
@@ -67,7 +67,7 @@ impl Scratch {
         requires nodes { max_nodes ≤ 65536 }
         ensures { IfOk result (λ s. (s.text ≡ max_text) × (s.nodes ≡ max_nodes)) }
     {
-        let sets = new_sets(alloc, max_nodes)?;
+        let sets = new_sets(alloc)?;
         let places = Marks::new(alloc, max_text + 1)?;
         let plan = new_plan(alloc, max_nodes)?;
         Ok(Scratch {
@@ -88,14 +88,12 @@ impl Scratch {
     }
 }
 
-/// Marks for so many nodes.
-pub fn new_sets(alloc: Global, nodes: usize) -> Result<Sets, AllocError>
-    ensures { IfOk result (λ s. FitsNodes nodes s) }
-{
+/// Marks for the nodes of an expression, none of them set.
+pub fn new_sets(alloc: Global) -> Result<Sets, AllocError> {
     Ok(Sets {
-        null: Marks::new(alloc, nodes)?,
-        entered: Marks::new(alloc, nodes)?,
-        ended: Marks::new(alloc, nodes)?,
+        null: NodeMarks::new(alloc)?,
+        entered: NodeMarks::new(alloc)?,
+        ended: NodeMarks::new(alloc)?,
     })
 }
 

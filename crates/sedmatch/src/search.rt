@@ -2,7 +2,7 @@
 ghost use Rattle.std.specs.Prelude.{◌≡◌, ℕ, List, ◌+◌, ◌-◌, ◌*◌, ◌^◌, ◌<◌, ◌≤◌, ◌↔◌, ◌&&◌, ◌||◌};
 ghost use Rattle.std.specs.Prelude.{length, IfSome, IfNone, IsTrue, true};
 ghost use Rattle.sedre.specs.Arena.{tree};
-ghost use Rattle.sedmatch.specs.Fits.{Fits, FitsFew, SameMarks};
+ghost use Rattle.sedmatch.specs.Nodes.{IsNode, IsRoot};
 ghost use Rattle.sedmatch.specs.Places.{InOrder};
 ghost use Rattle.sedre.specs.Tree.{Tree};
 ghost use Rattle.sedmatch.specs.Spans.{Spans, Found as IsFound};
@@ -38,11 +38,9 @@ fn advance_forwards(
     sets: &mut Sets,
     steps: &mut Steps,
 ) -> Here
-    requires root { root < length expr.now.nodes }
+    requires root { IsNode expr.now.nodes root }
     requires place { place ≤ length text.now }
-    requires fits { FitsFew (length expr.now.nodes) sets.old }
     requires entered { TellEntered expr.now.nodes text.now root starts place sets.old.entered }
-    ensures marks { SameMarks sets.old sets.new }
     ensures entered { TellBegun expr.now.nodes text.now root starts place sets.new.entered }
     ensures spans { IsTrue result.matched ↔ SomeSpan expr.now.nodes text.now root starts place }
     ensures opens { OpenAt expr.now.nodes text.now root starts place result.more }
@@ -63,11 +61,9 @@ pub fn advance_seen(
     sets: &mut Sets,
     steps: &mut Steps,
 ) -> Here
-    requires root { root < length nodes.now.nodes }
+    requires root { IsNode nodes.now.nodes root }
     requires order { InOrder start place (length bytes.now) }
-    requires fits { FitsFew (length nodes.now.nodes) sets.old }
     requires entered { TellEntered nodes.now.nodes bytes.now root (one_start start) place sets.old.entered }
-    ensures marks { SameMarks sets.old sets.new }
     ensures entered { TellBegun nodes.now.nodes bytes.now root (one_start start) place sets.new.entered }
     ensures spans { IsTrue result.matched ↔ At nodes.now.nodes bytes.now root start place }
     ensures opens { OpenFrom nodes.now.nodes bytes.now root start place result.more }
@@ -90,11 +86,9 @@ pub fn advance_from(
     sets: &mut Sets,
     steps: &mut Steps,
 ) -> Here
-    requires root { root < length expr.now.nodes }
+    requires root { IsNode expr.now.nodes root }
     requires order { InOrder start place (length text.now) }
-    requires fits { FitsFew (length expr.now.nodes) sets.old }
     requires entered { TellEntered expr.now.nodes text.now root (one_start start) place sets.old.entered }
-    ensures marks { SameMarks sets.old sets.new }
     ensures entered { TellBegun expr.now.nodes text.now root (one_start start) place sets.new.entered }
     ensures spans { IsTrue result.matched ↔ At expr.now.nodes text.now root start place }
     ensures opens { OpenFrom expr.now.nodes text.now root start place result.more }
@@ -116,8 +110,6 @@ fn longest_at(
     steps: &mut Steps,
 ) -> Option<usize>
     requires start { start ≤ length text.now }
-    requires fits { Fits (length expr.now.nodes) (length text.now) sets.old }
-    ensures marks { SameMarks sets.old sets.new }
     ensures longest { Longest (tree expr.now) text.now start result }
     ensures lies { IfSome result (λ end. (start ≤ end) × (end ≤ length text.now)) }
     ensures cost { Takes steps.old steps.new (length expr.now.nodes + 20 * length expr.now.nodes * (length text.now + 1)) }
@@ -148,8 +140,6 @@ fn longest_from(
 ) -> Option<usize>
     requires start { start ≤ length text.now }
     requires leads { LeadsTo (length text.now) (Spans (tree expr.now) text.now start) lead }
-    requires fits { Fits (length expr.now.nodes) (length text.now) sets.old }
-    ensures marks { SameMarks sets.old sets.new }
     ensures longest { Longest (tree expr.now) text.now start result }
     ensures lies { IfSome result (λ end. (start ≤ end) × (end ≤ length text.now)) }
     ensures cost { Takes steps.old steps.new (8 * length expr.now.nodes + 21 * length expr.now.nodes * (length text.now + 1)) }
@@ -186,13 +176,11 @@ fn region_to(
     sets: &mut Sets,
     steps: &mut Steps,
 ) -> Region
-    requires root { root + 1 ≡ length expr.now.nodes }
+    requires root { IsRoot expr.now.nodes root }
     requires order { InOrder start last (length text.now) }
-    requires fits { Fits (length expr.now.nodes) (length text.now) sets.old }
     requires begun { TellBegun expr.now.nodes text.now root (starts_to start (length text.now)) last sets.old.entered }
     requires spans { SomeSpan expr.now.nodes text.now root (starts_to start (length text.now)) last }
     requires opens { IsTrue whole → OpenAt expr.now.nodes text.now root (starts_to start (length text.now)) last goes_on }
-    ensures marks { SameMarks sets.old sets.new }
     ensures region { IsRegionFrom (tree expr.now) text.now whole start result }
     ensures cost { let m = length expr.now.nodes in
         Pays steps.old steps.new (20 * m * (result.bound + 1)) (20 * m * (last + 1)) }
@@ -205,7 +193,8 @@ fn region_to(
         };
     }
     let starts = Starts { first: start, last };
-    for place in last + 1..text.len() + 1 {
+    let len = text.len();
+    for place in last + 1..len + 1 {
         let here = advance_forwards(expr, root, text, starts, place, sets, steps);
         if !here.more {
             return Region {
@@ -218,7 +207,7 @@ fn region_to(
     Region {
         start,
         last,
-        bound: text.len(),
+        bound: len,
     }
 }
 
@@ -234,8 +223,6 @@ fn sweep(
     steps: &mut Steps,
 ) -> Swept
     requires start { start ≤ length text.now }
-    requires fits { Fits (length expr.now.nodes) (length text.now) sets.old }
-    ensures marks { SameMarks sets.old sets.new }
     ensures swept { IsSwept (tree expr.now) text.now whole start result }
     ensures cost { let m = length expr.now.nodes in
         Pays steps.old steps.new (m + 20 * m * (swept_to result + 1)) (20 * m * start) }
@@ -284,13 +271,11 @@ pub fn longest_on(
     sets: &mut Sets,
     steps: &mut Steps,
 ) -> Option<usize>
-    requires root { root + 1 ≡ length expr.now.nodes }
+    requires root { IsRoot expr.now.nodes root }
     requires order { InOrder start place stop }
     requires stop { stop ≤ length text.now }
-    requires fits { Fits (length expr.now.nodes) (length text.now) sets.old }
     requires at { IsAt expr.now.nodes text.now root (one_start start) place sets.old.entered ends }
     requires best { IsBest (tree expr.now) text.now start place stop before }
-    ensures marks { SameMarks sets.old sets.new }
     ensures longest { LongestBelow (tree expr.now) text.now start (stop + 1) result }
     ensures lies { IfSome result (λ end. (start ≤ end) × (end ≤ stop)) }
     ensures cost { Pays steps.old steps.new (20 * length expr.now.nodes * stop) (20 * length expr.now.nodes * place) }
@@ -319,8 +304,6 @@ fn sweep_from(
 ) -> Swept
     requires start { start ≤ length text.now }
     requires leads { LeadsTo (length text.now) (Spans (tree expr.now) text.now start) lead }
-    requires fits { Fits (length expr.now.nodes) (length text.now) sets.old }
-    ensures marks { SameMarks sets.old sets.new }
     ensures swept { IsSwept (tree expr.now) text.now whole start result }
     ensures cost { let m = length expr.now.nodes in
         Pays steps.old steps.new (m + 20 * m * (swept_to result + 1)) (20 * m * start) }
@@ -380,8 +363,6 @@ pub fn scan(
     requires some { 0 < length expr.now.nodes }
     requires from { from ≤ length text.now }
     requires begins { AllBegin (tree expr.now) begins.now }
-    requires fits { Fits (length expr.now.nodes) (length text.now) sets.old }
-    ensures marks { SameMarks sets.old sets.new }
     ensures scanned { Scanned (tree expr.now) text.now whole from result }
     ensures cost { let m = length expr.now.nodes in let n = length text.now in
         Pays steps.old steps.new (29 * m * (n + 1)) (29 * m * from) }
@@ -411,8 +392,6 @@ fn span_in(
     steps: &mut Steps,
 ) -> Option<(usize, usize)>
     requires region { IsRegion (tree expr.now) text.now true region }
-    requires fits { Fits (length expr.now.nodes) (length text.now) sets.old }
-    ensures marks { SameMarks sets.old sets.new }
     ensures found { IfSome result (λ f. IsFound (tree expr.now) text.now region.start f.0 f.1) }
     ensures some { IfNone result ⊥ }
     ensures lies { IfSome result (λ f. (f.0 ≤ f.1) × (f.1 ≤ length text.now)) }
@@ -440,8 +419,6 @@ pub fn leftmost(
     steps: &mut Steps,
 ) -> Option<(usize, usize)>
     requires from { from ≤ length text.now }
-    requires fits { Fits (length expr.now.nodes) (length text.now) sets.old }
-    ensures marks { SameMarks sets.old sets.new }
     ensures answer { SpanAnswer (tree expr.now) text.now from result }
     ensures some { 0 < length expr.now.nodes }
     ensures cost { let m = length expr.now.nodes in let n = length text.now in

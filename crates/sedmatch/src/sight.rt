@@ -121,7 +121,6 @@ fn run_sight(expr: &Expr, steps: &mut Steps) -> Option<Sight>
 
 /// How the matches of the expression look, if they are seen at the first look.
 pub fn sight_of(alloc: Global, expr: &Expr, steps: &mut Steps) -> Result<Option<Sight>, AllocError>
-    requires few { length expr.now.nodes ≤ 65536 }
     ensures sight { IfOk result (IsSightOf (tree expr.now)) }
     ensures cost { Takes steps.old steps.new 1572913 }
 {
@@ -161,7 +160,6 @@ pub fn find_first(first: &First, text: &Text, from: usize, steps: &mut Steps) ->
 #[inline(always)]
 pub fn sight_start(sight: &Sight, text: &Text, from: usize, steps: &mut Steps) -> Option<usize>
     requires from { from ≤ length text.now }
-    requires short { length text.now ≤ 2 ^ 30 }
     ensures start { FirstStart sight.now text.now from result }
     ensures cost { Takes steps.old steps.new (25 * (length text.now + 1)) }
 {
@@ -180,7 +178,6 @@ pub fn sight_start(sight: &Sight, text: &Text, from: usize, steps: &mut Steps) -
 /// Whether any match begins at `from` or later.
 pub fn sight_matches(sight: &Sight, text: &Text, from: usize, steps: &mut Steps) -> bool
     requires from { from ≤ length text.now }
-    requires short { length text.now ≤ 2 ^ 30 }
     ensures matches { (e : Tree) → IsSight e sight.now → IsTrue result ↔ SomeFound e text.now from }
     ensures cost { Takes steps.old steps.new (50 * (length text.now + 1)) }
 {
@@ -193,18 +190,17 @@ pub fn sight_matches(sight: &Sight, text: &Text, from: usize, steps: &mut Steps)
 fn sight_end(sight: &Sight, text: &Text, start: usize, steps: &mut Steps) -> usize
     requires start { start ≤ length text.now }
     requires can { CanStart sight.now text.now start }
-    requires short { length text.now ≤ 2 ^ 30 }
     ensures end { EndsAt sight.now text.now start result }
     ensures cost { Takes steps.old steps.new (25 * (length text.now + 1)) }
 {
     match sight {
-        Sight::One(_) => start + 1,
-        Sight::Led(_, members) => text.run_end(members, start + 1, steps),
+        Sight::One(_) => text.after(start, 1),
+        Sight::Led(_, members) => text.run_end(members, text.after(start, 1), steps),
         Sight::Run(members) => text.run_end(members, start, steps),
         Sight::Trail(members, last) => trail_end(members, last, text, start, steps),
-        Sight::Times(_, count) => start + *count,
+        Sight::Times(_, count) => text.after(start, *count),
         Sight::Between(between) => between.end(text, start, steps),
-        Sight::Word(word) => word.end(start),
+        Sight::Word(word) => word.end(text, start),
         Sight::Choice(choice) => choice.end(text, start, steps),
     }
 }
@@ -218,7 +214,6 @@ pub fn sight_span(
     steps: &mut Steps,
 ) -> Option<(usize, usize)>
     requires from { from ≤ length text.now }
-    requires short { length text.now ≤ 2 ^ 30 }
     ensures found { (e : Tree) → IsSight e sight.now → IfSome result (λ f. IsFound e text.now from f.0 f.1) }
     ensures none { (e : Tree) → IsSight e sight.now → IfNone result (NotFound e text.now from) }
     ensures lies { IfSome result (λ f. (f.0 ≤ f.1) × (f.1 ≤ length text.now)) }
@@ -252,7 +247,6 @@ pub fn sight_find(
     ensures linear_without_groups { expr.now.groups ≡ 0 → steps.new ≤ steps.old + 50 * (length text.now + 1) }
     ensures cost_of_none { IfNone result (steps.new ≤ steps.old + 50 * (length text.now + 1)) }
 {
-    let sets = &mut scratch.sets;
     let (start, end) = sight_span(sight, text, from, steps)?;
     let groups = report(
         expr,
@@ -261,7 +255,7 @@ pub fn sight_find(
         start,
         end,
         &mut scratch.plan,
-        sets,
+        &mut scratch.sets,
         &mut scratch.places,
         steps,
     );

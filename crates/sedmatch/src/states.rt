@@ -2,7 +2,7 @@
 //!
 //! What a step tells holds of every text and place that agree with what it was given, so that it can be kept.
 ghost use Rattle.std.specs.Prelude.{slice_get, Some, ◌≡◌, ℕ, Bool, false, List, ◌+◌, ◌*◌, ◌^◌, ◌<◌, ◌≤◌, ◌↔◌, length, slice_index_or, IsTrue};
-ghost use Rattle.sedmatch.specs.Fits.{FitsFew, SameMarks};
+ghost use Rattle.sedmatch.specs.Nodes.{IsNode};
 ghost use Rattle.sedmatch.specs.Reach.{IsStart, SomeSpan, TellEntered};
 ghost use Rattle.sedre.specs.declared.types.Node.{Node};
 ghost use Rattle.sedmatch.specs.Places.{ComesAfter};
@@ -12,7 +12,7 @@ ghost use Rattle.sedre.specs.declared.types.Node.TheVariants.{Set as ASet};
 ghost use Rattle.sedmatch.specs.Places.{takes_any};
 ghost use Rattle.sedre.specs.Steps.{Takes, TakesAtLeast};
 
-use crate::counted::Marks;
+use crate::counted::NodeMarks;
 use crate::passes::{ascend, descend, ends_here};
 use crate::scratch::Sets;
 use sedre::{Node, Nodes, Steps};
@@ -44,10 +44,8 @@ fn is_set(node: &Node) -> bool
 }
 
 /// Whether a set is marked.
-fn any_set(expr: &Nodes, root: usize, marks: &Marks, steps: &mut Steps) -> bool
-    requires root { root < length expr.now.nodes }
-    requires few { length expr.now.nodes ≤ 65536 }
-    requires there { length expr.now.nodes ≤ length marks.now }
+fn any_set(expr: &Nodes, root: usize, marks: &NodeMarks, steps: &mut Steps) -> bool
+    requires root { IsNode expr.now.nodes root }
     ensures sets { (c : ℕ) (set : List Bool) → c < root + 1 → slice_get expr.now.nodes c ≡ Some (ASet set) →
         IsTrue (slice_index_or marks.now c false) → IsTrue result }
     ensures cost { Takes steps.old steps.new (2 * (root + 1)) }
@@ -72,9 +70,7 @@ pub fn step(
     sets: &mut Sets,
     steps: &mut Steps,
 ) -> Ends
-    requires root { root < length expr.now.nodes }
-    requires fits { FitsFew (length expr.now.nodes) sets.old }
-    ensures marks { SameMarks sets.old sets.new }
+    requires root { IsNode expr.now.nodes root }
     ensures state { (w : List ℕ) (s : Starts) (place : ℕ) →
         (IsTrue begin ↔ (place ≡ 0)) → (IsTrue first ↔ IsStart s place) →
         ComesAfter expr.now.nodes w place sets.old.entered byte →

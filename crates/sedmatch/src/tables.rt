@@ -6,7 +6,6 @@
 //! A full table is emptied, and the search goes on. Where few bytes were passed by its cells since the last time,
 //! that search goes on by marks in its place: so a table that doesn't help costs little.
 ghost use Rattle.std.specs.Prelude.{◌≡◌, ℕ, true, false, ◌+◌, ◌-◌, ◌*◌, ◌/◌, ◌^◌, ◌<◌, ◌≤◌, ◌↔◌, length, slice_index_or, Some, IsTrue, IfOk, IfSome, IfNone, vec_len};
-ghost use Rattle.sedmatch.specs.Fits.{FitsFew, SameMarks};
 ghost use Rattle.sedmatch.specs.Places.{InOrder};
 ghost use Rattle.sedmatch.specs.Words.{row_of};
 ghost use Rattle.sedmatch.specs.Tables.{IsTable, NextIs, stops, code_of, ends_of, LeadsFrom, IsFirst, HasState, Grows, Follows, Stays, look_cost, IsCut};
@@ -14,7 +13,7 @@ ghost use Rattle.sedmatch.specs.Costs.{Pays};
 ghost use Rattle.sedre.specs.Steps.{Takes, Counted, TakesAtLeast};
 
 use crate::classes::{Classes, are_classes};
-use crate::counted::{Bytes, Marks, Rows, Tally};
+use crate::counted::{Bytes, NodeMarks, Rows, Tally};
 use crate::scratch::Sets;
 use crate::states::{Ends, step};
 use sedre::{Nodes, Steps};
@@ -93,9 +92,8 @@ fn code_of(stops: bool, offset: usize) -> u16
 }
 
 /// Where a state with these marks would be noted.
-fn slot_of(expr: &Nodes, table: &Table, row: &Marks, steps: &mut Steps) -> usize
+fn slot_of(expr: &Nodes, table: &Table, row: &NodeMarks, steps: &mut Steps) -> usize
     requires index { 0 < vec_len table.now.index }
-    requires row { length expr.now.nodes ≤ length row.now }
     ensures inside { result < vec_len table.now.index }
     ensures cost { Takes steps.old steps.new (length expr.now.nodes) }
     ensures counts { Counted steps.old steps.new (length expr.now.nodes) }
@@ -109,13 +107,12 @@ fn find_state(
     root: usize,
     table: &Table,
     slot: usize,
-    row: &Marks,
+    row: &NodeMarks,
     ends: Ends,
     steps: &mut Steps,
 ) -> Option<usize>
     requires table { IsTable expr.now.nodes root table.now }
     requires slot { slot < vec_len table.now.index }
-    requires row { length expr.now.nodes ≤ length row.now }
     ensures has { HasState (length expr.now.nodes) table.now row.now ends result }
     ensures cost { Takes steps.old steps.new (length expr.now.nodes + 1) }
 {
@@ -153,13 +150,12 @@ fn add_state(
     root: usize,
     table: &mut Table,
     slot: usize,
-    row: &Marks,
+    row: &NodeMarks,
     ends: Ends,
     steps: &mut Steps,
 ) -> Option<usize>
     requires table { IsTable expr.now.nodes root table.old }
     requires slot { slot < vec_len table.old.index }
-    requires row { length expr.now.nodes ≤ length row.now }
     ensures table { IsTable expr.now.nodes root table.new }
     ensures kept { Grows table.old table.new }
     ensures has { HasState (length expr.now.nodes) table.new row.now ends result }
@@ -185,13 +181,12 @@ fn state_of(
     root: usize,
     table: &mut Table,
     slot: usize,
-    row: &Marks,
+    row: &NodeMarks,
     ends: Ends,
     steps: &mut Steps,
 ) -> Option<usize>
     requires table { IsTable expr.now.nodes root table.old }
     requires slot { slot < vec_len table.old.index }
-    requires row { length expr.now.nodes ≤ length row.now }
     ensures table { IsTable expr.now.nodes root table.new }
     ensures kept { Grows table.old table.new }
     ensures has { HasState (length expr.now.nodes) table.new row.now ends result }
@@ -224,13 +219,12 @@ fn renew(
     root: usize,
     table: &mut Table,
     slot: usize,
-    row: &Marks,
+    row: &NodeMarks,
     ends: Ends,
     steps: &mut Steps,
 ) -> Option<usize>
     requires table { IsTable expr.now.nodes root table.old }
     requires slot { slot < vec_len table.old.index }
-    requires row { length expr.now.nodes ≤ length row.now }
     ensures table { IsTable expr.now.nodes root table.new }
     ensures sweeps { table.new.sweeps ≡ table.old.sweeps }
     ensures has { HasState (length expr.now.nodes) table.new row.now ends result }
@@ -250,12 +244,11 @@ pub fn settle(
     expr: &Nodes,
     root: usize,
     table: &mut Table,
-    row: &Marks,
+    row: &NodeMarks,
     ends: Ends,
     steps: &mut Steps,
 ) -> Option<usize>
     requires table { IsTable expr.now.nodes root table.old }
-    requires row { length expr.now.nodes ≤ length row.now }
     ensures table { IsTable expr.now.nodes root table.new }
     ensures sweeps { table.new.sweeps ≡ table.old.sweeps }
     ensures has { HasState (length expr.now.nodes) table.new row.now ends result }
@@ -352,10 +345,8 @@ fn fill(
     requires root { root < length expr.now.nodes }
     requires table { IsTable expr.now.nodes root table.old }
     requires state { state < table.old.count }
-    requires fits { FitsFew (length expr.now.nodes) sets.old }
     ensures table { IsTable expr.now.nodes root table.new }
     ensures sweeps { table.new.sweeps ≡ table.old.sweeps }
-    ensures marks { SameMarks sets.old sets.new }
     ensures next { NextIs (LeadsFrom expr.now.nodes root table.old state byte) table.new sets.new.entered result }
     ensures cost { Takes steps.old steps.new (32 * length expr.now.nodes + 6) }
 {
@@ -392,10 +383,8 @@ pub fn go(
     requires root { root < length expr.now.nodes }
     requires table { IsTable expr.now.nodes root table.old }
     requires state { state < table.old.count }
-    requires fits { FitsFew (length expr.now.nodes) sets.old }
     ensures table { IsTable expr.now.nodes root table.new }
     ensures sweeps { table.new.sweeps ≡ table.old.sweeps }
-    ensures marks { SameMarks sets.old sets.new }
     ensures next { NextIs (LeadsFrom expr.now.nodes root table.old state byte) table.new sets.new.entered result }
     ensures cost { Takes steps.old steps.new (32 * length expr.now.nodes + 7) }
 {
@@ -418,10 +407,8 @@ fn find_first(
 ) -> Next
     requires root { root < length expr.now.nodes }
     requires table { IsTable expr.now.nodes root table.old }
-    requires fits { FitsFew (length expr.now.nodes) sets.old }
     ensures table { IsTable expr.now.nodes root table.new }
     ensures sweeps { table.new.sweeps ≡ table.old.sweeps }
-    ensures marks { SameMarks sets.old sets.new }
     ensures next { NextIs (IsFirst expr.now.nodes root begin) table.new sets.new.entered result }
     ensures cost { Takes steps.old steps.new (32 * length expr.now.nodes + 6) }
 {
@@ -451,10 +438,8 @@ pub fn first_state(
 ) -> Next
     requires root { root < length expr.now.nodes }
     requires table { IsTable expr.now.nodes root table.old }
-    requires fits { FitsFew (length expr.now.nodes) sets.old }
     ensures table { IsTable expr.now.nodes root table.new }
     ensures sweeps { table.new.sweeps ≡ table.old.sweeps }
-    ensures marks { SameMarks sets.old sets.new }
     ensures next { NextIs (IsFirst expr.now.nodes root begin) table.new sets.new.entered result }
     ensures cost { Takes steps.old steps.new (32 * length expr.now.nodes + 6) }
 {
@@ -679,7 +664,6 @@ pub fn new_table(
     classes: &Classes,
     states: usize,
 ) -> Result<Table, AllocError>
-    requires nodes { length expr.now.nodes ≤ 65536 }
     requires classes { IsCut classes.now }
     requires few { states ≤ 64 }
     ensures table { IfOk result (λ t. IsTable expr.now.nodes root t) }

@@ -69,7 +69,6 @@ pub fn times_of(
     expr: &Expr,
     steps: &mut Steps,
 ) -> Result<Option<(ByteSet, usize)>, AllocError>
-    requires few { length expr.now.nodes ≤ 65536 }
     ensures times { IfOk result (λ r. IfSome r (λ t. AllTimes expr.now.nodes (length expr.now.nodes - 1) t.0 t.1)) }
     ensures cost { Takes steps.old steps.new 65537 }
 {

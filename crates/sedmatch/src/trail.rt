@@ -43,7 +43,6 @@ pub fn trail_end(
 ) -> usize
     requires start { start ≤ length text.now }
     requires can { CanStart (Trail members.now last.now) text.now start }
-    requires short { length text.now ≤ 2 ^ 30 }
     ensures end { EndsAt (Trail members.now last.now) text.now start result }
     ensures cost { Takes steps.old steps.new (2 * (length text.now + 1)) }
 {

@@ -37,7 +37,6 @@ fn new_word(alloc: Global, bytes: &[u8]) -> Result<Word, AllocError>
 
 /// The literal that the matches are, where it has two bytes or more. A single byte is sought faster as one.
 pub fn word_of(alloc: Global, expr: &Expr, steps: &mut Steps) -> Result<Option<Word>, AllocError>
-    requires few { length expr.now.nodes ≤ 65536 }
     ensures word { IfOk result (λ r. IfSome r (λ w. AllWord expr.now.nodes (length expr.now.nodes - 1) w)) }
     ensures cost { Takes steps.old steps.new 131074 }
 {
@@ -61,10 +60,10 @@ impl Word {
     }
 
     /// Where the match ends that begins at `start`.
-    pub fn end(&self, start: usize) -> usize
-        requires short { start + length self.now ≤ 2 ^ 30 }
+    pub fn end(&self, text: &Text, start: usize) -> usize
+        requires { start + length self.now ≤ length text.now }
         ensures { result ≡ start + length self.now }
     {
-        start + self.finder.needle().len()
+        text.after(start, self.finder.needle().len())
     }
 }

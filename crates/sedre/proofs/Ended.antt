@@ -64,9 +64,10 @@ small_tree limit s t p st e h = omega (arith, h, st.limit_is, ap (λ (q : Part).
 pub shallow_tree : (limit : ℕ) (s : Stack) (t : Tree) (p : Part) → Stored limit s (t ∷ []) → p ≡ get_or s.parts.items 0 p → p.depth ≤ 600 → depth t ≤ 600
 shallow_tree limit s t p st e h = omega (arith, h, ap (λ (q : Part). q.depth) (one_part limit s t p st e))
 
-pub finished_expr : (limit : ℕ) (s : Stack) (t : Tree) (p : Part) (groups opened : ℕ) → Stored limit s (t ∷ []) → p ≡ get_or s.parts.items 0 p → p.end < s.limit → opened ≡ groups → Numbered groups t → IsExpr s.nodes opened
-finished_expr limit s t p groups opened st e h eg g =
-    subst (λ (n : ℕ). IsExpr s.nodes n) (sym eg) (whole_expr t groups s.nodes (one_tree limit s t st (small_tree limit s t p st e h)) g)
+pub finished_expr : (limit : ℕ) (s : Stack) (t : Tree) (p : Part) (groups opened : ℕ) → Stored limit s (t ∷ []) → p ≡ get_or s.parts.items 0 p → p.end < s.limit → opened ≡ groups → Numbered groups t → limit ≤ 65537 → IsExpr s.nodes opened
+finished_expr limit s t p groups opened st e h eg g most =
+    let small : size t < limit = small_tree limit s t p st e h in
+    subst (λ (n : ℕ). IsExpr s.nodes n) (sym eg) (whole_expr t groups s.nodes (one_tree limit s t st small) g (omega (arith, small, most)))
 
 pub finished : (limit : ℕ) (s : State) (k : Stack) (p : Part) (e : Written) (opened : ℕ) → Stored limit k (whole s.top ∷ []) → p ≡ get_or k.parts.items 0 p → p.end < k.limit → p.depth ≤ 600 → opened ≡ s.opened →
     e ≡ record { nodes = k.nodes; groups = opened } → IsFinished s limit e

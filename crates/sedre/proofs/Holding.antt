@@ -178,8 +178,8 @@ whole_tree t ns e =
     let held : Holds ns 0 t = holds_of t ns [] [] 0 (e ∙ sym (append-nil (postorder 0 t))) refl in
     ap (tree_at ns) (let i : length ns - 1 ≡ 0 + size t - 1 = omega (arith, ap length e, length-postorder 0 t) in i) ∙ root_is ns arena t 0 held
 
-pub whole_expr : (t : Tree) (groups : ℕ) (ns : List Node) → ns ≡ postorder 0 t → Numbered groups t → IsExpr ns groups
-whole_expr t groups ns e g =
+pub whole_expr : (t : Tree) (groups : ℕ) (ns : List Node) → ns ≡ postorder 0 t → Numbered groups t → size t ≤ 65536 → IsExpr ns groups
+whole_expr t groups ns e g small =
     let arena : IsArena ns = subst IsArena (sym e) (arena_of t) in
     let held : Holds ns 0 t = holds_of t ns [] [] 0 (e ∙ sym (append-nil (postorder 0 t))) refl in
     let count : length ns ≡ size t = ap length e ∙ length-postorder 0 t in
@@ -188,4 +188,5 @@ whole_expr t groups ns e g =
       sizes = λ x h. omega (arith, sizes_fit ns arena t 0 x held (omega arith) (omega (arith, h, count)));
       numbers = λ x k a f. number_at groups ns x (node.Group k a) (subst (AllNumbered groups) (sym e) (numbered_nodes groups 0 t g)) f;
       whole = ap size (whole_tree t ns e) ∙ sym count;
+      few = omega (arith, count, small);
     }

@@ -1,5 +1,5 @@
 -- A mirrored expression is an expression, and its trees are the mirrored trees.
-use Rattle.std.proofs.Common.{◌≡◌, ℕ, zero, suc, ◌+◌, ◌-◌, ◌<◌, List, length, map, Bool, true, false, Option, Some, None, refl, sym, ap, ◌∙◌, subst, inl, inr, ⊎_elim, arith}
+use Rattle.std.proofs.Common.{◌≡◌, ℕ, zero, suc, ◌+◌, ◌-◌, ◌<◌, ◌≤◌, List, length, map, Bool, true, false, Option, Some, None, refl, sym, ap, ◌∙◌, subst, inl, inr, ⊎_elim, arith}
 use Rattle.std.specs.Prelude.{slice_get, option_map}
 use Rattle.std.proofs.lemmas.Option.{slice_get-map}
 use Rattle.std.proofs.lemmas.List.{length-map}
@@ -151,12 +151,17 @@ IsExpr-mirror nodes groups expr = record {
       expr.numbers x k a (old.1 ∙ ap (λ (n : Node). Some n) (group_from old.0 k a old.2));
   whole =
       rw length-map (ap size (tree_at-mirror nodes (length nodes - 1)) ∙ size-mirror (tree_at nodes (length nodes - 1)) ∙ expr.whole);
+  few = rw length-map expr.few;
 }
 
 -- the same of an expression that is mirrored or not
 pub seen-arena : (back : Bool) (e : Written) → IsArena e.nodes → IsArena (seen back e).nodes
 seen-arena true e arena = IsArena-mirror e.nodes arena
 seen-arena false e arena = arena
+
+pub seen-few : (back : Bool) (e : Written) → length e.nodes ≤ 65536 → length (seen back e).nodes ≤ 65536
+seen-few true e few = rw length-map few
+seen-few false e few = few
 
 pub seen-length : (back : Bool) (e : Written) → length (seen back e).nodes ≡ length e.nodes
 seen-length true e = length-map e.nodes mirror_node

@@ -87,3 +87,4 @@ pub record IsExpr (nodes : List Node) (groups : ℕ) : Type 0 where
   pub sizes : SizesFit nodes
   pub numbers : GroupsWithin nodes groups
   pub whole : size (tree_at nodes (length nodes - 1)) ≡ length nodes
+  pub few : length nodes ≤ 65536

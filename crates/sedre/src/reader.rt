@@ -20,7 +20,7 @@ use std::alloc::Global;
 /// Makes one expression of all that was read, where it is within the limits.
 fn finish(mut builder: Builder, len: usize) -> Result<Expr, ExprFault>
     requires { (limit : ℕ) × (s : State) × Represents limit builder s × (s.below ≡ []) ×
-        Numbered s.opened (whole s.top) }
+        Numbered s.opened (whole s.top) × (limit ≤ 65537) }
     ensures ok { IfOk result (λ e. (limit : ℕ) (s : State) → Represents limit builder s → s.below ≡ [] →
         IsFinished s limit e) }
     ensures err { IfErr result (λ f. (limit : ℕ) (s : State) → Represents limit builder s → s.below ≡ [] →

@@ -1,5 +1,5 @@
 //! The nodes of an expression, looked at from its beginning or from its end.
-ghost use Rattle.std.specs.Prelude.{◌≡◌, ◌<◌, ◌+◌, ◌^◌, Bool, true, false, Some, length, slice_get};
+ghost use Rattle.std.specs.Prelude.{◌≡◌, ◌<◌, ◌≤◌, ◌+◌, ◌^◌, Bool, true, false, Some, length, slice_get};
 ghost use Rattle.sedre.specs.Arena.{Written, IsArena};
 ghost use Rattle.sedre.specs.Mirror.{node_seen, seen};
 ghost use Rattle.sedre.specs.Steps.{Takes, Counted};
@@ -51,6 +51,7 @@ impl<'a> Nodes<'a> {
     pub fn nodes(&self) -> usize
         ensures value { result ≡ length self.now.nodes }
         ensures arena { IsArena self.now.nodes }
+        ensures few { length self.now.nodes ≤ 65536 }
     {
         self.expr.nodes()
     }
@@ -59,6 +60,7 @@ impl<'a> Nodes<'a> {
     pub fn root(&self) -> NodeId
         ensures last { result.index + 1 ≡ length self.now.nodes }
         ensures arena { IsArena self.now.nodes }
+        ensures few { length self.now.nodes ≤ 65536 }
     {
         self.expr.root()
     }
@@ -78,6 +80,7 @@ impl<'a> Nodes<'a> {
         ensures cost { Takes steps.old steps.new 1 }
         ensures counts { Counted steps.old steps.new 1 }
         ensures arena { IsArena self.now.nodes }
+        ensures few { length self.now.nodes ≤ 65536 }
     {
         steps.add(1);
         self.expr.seen(id, self.mirrored)

@@ -1,5 +1,5 @@
 //! The count of looks at nodes, and of what the matcher counts besides.
-ghost use Rattle.std.specs.Prelude.{◌≡◌};
+ghost use Rattle.std.specs.Prelude.{◌≡◌, ◌*◌};
 ghost use Rattle.sedre.specs.Steps.{Takes, Counted};
 
 use std::marker::Model;
@@ -39,5 +39,13 @@ impl Steps {
         ensures counts { Counted self.old self.new n }
     {
         self.count = self.count.saturating_add(n as u128);
+    }
+
+    /// Counts so many times `each` steps more, of which there may be more than a `usize` holds.
+    pub fn add_times(&mut self, times: usize, each: usize)
+        ensures cost { Takes self.old self.new (times * each) }
+        ensures counts { Counted self.old self.new (times * each) }
+    {
+        self.count = self.count.saturating_add(times as u128 * each as u128);
     }
 }

@@ -1,5 +1,5 @@
 //! Expressions as callers see them: nodes, each after its parts.
-ghost use Rattle.std.specs.Prelude.{◌≡◌, ◌<◌, ◌+◌, ◌^◌, Some, IfOk, length, slice_get};
+ghost use Rattle.std.specs.Prelude.{◌≡◌, ◌<◌, ◌≤◌, ◌+◌, ◌^◌, Some, IfOk, length, slice_get};
 ghost use Rattle.std.specs.Prelude.{option_map};
 ghost use Rattle.sedre.specs.Arena.{Written, IsArena, IsExpr};
 ghost use Rattle.sedre.specs.Mirror.{node_seen};
@@ -52,6 +52,7 @@ impl Expr {
     pub fn nodes(&self) -> usize
         ensures value { result ≡ length self.now.nodes }
         ensures arena { IsArena self.now.nodes }
+        ensures few { length self.now.nodes ≤ 65536 }
     {
         self.nodes.len()
     }
@@ -68,6 +69,7 @@ impl Expr {
     pub fn root(&self) -> NodeId
         ensures last { result.index + 1 ≡ length self.now.nodes }
         ensures arena { IsArena self.now.nodes }
+        ensures few { length self.now.nodes ≤ 65536 }
     {
         NodeId {
             index: self.nodes.len() - 1,
@@ -89,6 +91,7 @@ impl Expr {
         ensures cost { Takes steps.old steps.new 1 }
         ensures counts { Counted steps.old steps.new 1 }
         ensures arena { IsArena self.now.nodes }
+        ensures few { length self.now.nodes ≤ 65536 }
     {
         steps.add(1);
         self.nodes.get(id.index)
@@ -99,6 +102,7 @@ impl Expr {
         requires { id.index < length self.now.nodes }
         ensures node { option_map (node_seen mirrored) (slice_get self.now.nodes id.index) ≡ Some result }
         ensures arena { IsArena self.now.nodes }
+        ensures few { length self.now.nodes ≤ 65536 }
     {
         self.nodes.get_seen(id.index, mirrored)
     }

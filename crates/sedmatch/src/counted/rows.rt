@@ -3,7 +3,7 @@ ghost use Rattle.std.specs.Prelude.{◌≡◌, ◌≢◌, ℕ, Bool, List, [], �
 ghost use Rattle.sedmatch.specs.Words.{AgreeBelow, rows_of, row_of};
 ghost use Rattle.sedre.specs.Steps.{Takes, Counted};
 
-use super::{Marks, zero_words};
+use super::{Marks, NodeMarks, zero_words};
 use sedre::Steps;
 use std::alloc::{AllocError, Global};
 use std::marker::Model;
@@ -51,7 +51,51 @@ impl Rows {
 
     /// Copies the first `count` marks of a row, a word at a time; those after them may change too.
     /// Counts a look for each of the `count`.
-    pub fn load(&self, row: usize, marks: &mut Marks, count: usize, steps: &mut Steps)
+    #[inline(always)]
+    pub fn load(&self, row: usize, marks: &mut NodeMarks, count: usize, steps: &mut Steps)
+        requires row { row < length self.now }
+        requires inside { count ≤ length (row_of self.now row) }
+        requires there { count ≤ 65536 }
+        ensures same { AgreeBelow count marks.new (row_of self.now row) }
+        ensures cost { Takes steps.old steps.new count }
+        ensures counts { Counted steps.old steps.new count }
+    {
+        self.load_marks(row, &mut marks.marks, count, steps);
+    }
+
+    /// Makes the first `count` marks of a row these, a word at a time; those after them may change too.
+    /// Counts a look for each of the `count`.
+    #[inline(always)]
+    pub fn store(&mut self, row: usize, marks: &NodeMarks, count: usize, steps: &mut Steps)
+        requires row { row < length self.old }
+        requires inside { count ≤ length (row_of self.old row) }
+        requires there { count ≤ 65536 }
+        ensures len { length self.new ≡ length self.old }
+        ensures lens { (q : ℕ) → q < length self.old → length (row_of self.new q) ≡ length (row_of self.old q) }
+        ensures same { AgreeBelow count (row_of self.new row) marks.now }
+        ensures other { (q : ℕ) → q < length self.old → q ≢ row → row_of self.new q ≡ row_of self.old q }
+        ensures cost { Takes steps.old steps.new count }
+        ensures counts { Counted steps.old steps.new count }
+    {
+        self.store_marks(row, &marks.marks, count, steps);
+    }
+
+    /// Whether the first `count` marks of a row are these, and the rest of their last word too.
+    /// Counts a look for each of the `count`.
+    #[inline(always)]
+    pub fn same(&self, row: usize, marks: &NodeMarks, count: usize, steps: &mut Steps) -> bool
+        requires row { row < length self.now }
+        requires inside { count ≤ length (row_of self.now row) }
+        requires there { count ≤ 65536 }
+        ensures same { IsTrue result → AgreeBelow count (row_of self.now row) marks.now }
+        ensures cost { Takes steps.old steps.new count }
+        ensures counts { Counted steps.old steps.new count }
+    {
+        self.same_marks(row, &marks.marks, count, steps)
+    }
+
+    /// The same as [`Rows::load`] for any marks.
+    fn load_marks(&self, row: usize, marks: &mut Marks, count: usize, steps: &mut Steps)
         requires row { row < length self.now }
         requires inside { count ≤ length (row_of self.now row) }
         requires there { count ≤ length marks.old }
@@ -70,9 +114,8 @@ impl Rows {
         );
     }
 
-    /// Makes the first `count` marks of a row these, a word at a time; those after them may change too.
-    /// Counts a look for each of the `count`.
-    pub fn store(&mut self, row: usize, marks: &Marks, count: usize, steps: &mut Steps)
+    /// The same as [`Rows::store`] for any marks.
+    fn store_marks(&mut self, row: usize, marks: &Marks, count: usize, steps: &mut Steps)
         requires row { row < length self.old }
         requires inside { count ≤ length (row_of self.old row) }
         requires there { count ≤ length marks.now }
@@ -93,9 +136,8 @@ impl Rows {
         );
     }
 
-    /// Whether the first `count` marks of a row are these, and the rest of their last word too.
-    /// Counts a look for each of the `count`.
-    pub fn same(&self, row: usize, marks: &Marks, count: usize, steps: &mut Steps) -> bool
+    /// The same as [`Rows::same`] for any marks.
+    fn same_marks(&self, row: usize, marks: &Marks, count: usize, steps: &mut Steps) -> bool
         requires row { row < length self.now }
         requires inside { count ≤ length (row_of self.now row) }
         requires there { count ≤ length marks.now }

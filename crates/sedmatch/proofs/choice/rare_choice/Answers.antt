@@ -8,8 +8,8 @@ returns-then-is_some-clause-first c =
     missed_none c.args.few.now c.args.literals.now c.args.text.now c.args.from c.loop-at.place c.requires.heads c.loop-at.invariant.missed c.in-Some.at c.longest_choice.result
     c.loop-at.invariant.after c.in-Some.ensures.first c.longest_choice.ensures.longest (sym c.is_some.ensures ∙ c.if-is_some.true)
 
-pub overflow_add-place : goal.overflow_add-place
-overflow_add-place c =
+pub after-place-requires : goal.after-place-requires
+after-place-requires c =
     let inside = slice_get_within c.args.text.now c.in-Some.at c.in-Some.ensures.first.1.0 c.in-Some.ensures.first.1.1 in
     omega (arith, inside)
 
@@ -29,8 +29,8 @@ loop-at-preserved c =
       within = omega (arith, inside);
       grows = omega arith;
       cost = omega (arith, past, so.cost, c.in-Some.ensures.cost.1, c.longest_choice.ensures.cost.1);
-      missed = missed_on c.args.few.now c.args.literals.now c.args.text.now c.args.from c.loop-at.place c.requires.heads c.loop-at.invariant.missed c.in-Some.at c.longest_choice.result
-          c.in-Some.ensures.first c.longest_choice.ensures.longest (sym c.is_some.ensures ∙ c.if-is_some.false);
+      missed = rw c.after-place.ensures (missed_on c.args.few.now c.args.literals.now c.args.text.now c.args.from c.loop-at.place c.requires.heads c.loop-at.invariant.missed c.in-Some.at c.longest_choice.result
+          c.in-Some.ensures.first c.longest_choice.ensures.longest (sym c.is_some.ensures ∙ c.if-is_some.false));
     }
 
 pub returns-clause-first : goal.returns-clause-first

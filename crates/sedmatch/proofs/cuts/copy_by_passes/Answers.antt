@@ -19,7 +19,6 @@ copies-preserved c =
     let before : c.in-Some.end < c.args.stop = omega arith in
     let up = next.after in
     record {
-      marks = (omega arith, omega arith, omega arith);
       after = omega arith;
       before = before;
       grows = omega arith;

@@ -1,5 +1,4 @@
 use Rattle.std.proofs.Common.{ℕ, ◌+◌, ◌-◌, ◌*◌, ◌<◌, ◌≤◌, length}
-use Rattle.sedmatch.specs.Fits.{SameMarks}
 use Rattle.sedmatch.specs.Spans.{Copies}
 use Rattle.sedmatch.specs.Reach.{At}
 use Rattle.sedmatch.specs.Caps.{LastCopy}
@@ -7,7 +6,6 @@ use Rattle.sedmatch.proofs.cuts.copy_by_passes.Given as goal
 
 abbrev pub invariant-copies : goal.invariant-copies
 invariant-copies l = record {
-  marks : SameMarks l.initial.sets l.sets;
   after : l.start ≤ l.copy;
   before : l.copy < l.stop;
   grows : l.initial.steps ≤ l.steps;

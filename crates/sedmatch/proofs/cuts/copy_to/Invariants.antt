@@ -1,13 +1,11 @@
 use Rattle.std.proofs.Common.{◌+◌, ◌*◌, ◌<◌, ◌≤◌, IsTrue, length, false}
 use Rattle.std.specs.Prelude.{slice_index_or}
-use Rattle.sedmatch.specs.Fits.{SameMarks}
 use Rattle.sedmatch.specs.Reach.{Marked, Below, one_start, Entered, At}
 use Rattle.sedmatch.specs.Cuts.{GreatestBelow}
 use Rattle.sedmatch.proofs.cuts.copy_to.Given as goal
 
 abbrev pub invariant-loop-place : goal.invariant-loop-place
 invariant-loop-place l = record {
-  marks : SameMarks l.initial.sets l.sets;
   grows : l.initial.steps ≤ l.steps;
   cost : l.steps ≤ l.initial.steps + 21 * length l.expr.nodes * l.place;
   entered : Marked l.sets.entered (Below (l.root + 1)) (λ c. Entered l.expr.nodes l.text l.root (one_start l.start) c l.place);

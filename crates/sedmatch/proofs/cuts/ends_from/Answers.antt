@@ -5,7 +5,6 @@ use Rattle.sedmatch.proofs.cuts.ends_from.Goals as goal
 
 pub loop-place-init : goal.loop-place-init
 loop-place-init c = record {
-  marks = (refl, refl, refl);
   ends_len = refl;
   grows = omega arith;
   cost = omega arith;

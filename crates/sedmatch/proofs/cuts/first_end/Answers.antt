@@ -5,7 +5,6 @@ use Rattle.sedmatch.proofs.cuts.first_end.Goals as goal
 
 pub loop-place-init : goal.loop-place-init
 loop-place-init c = record {
-  marks = (refl, refl, refl);
   grows = omega arith;
   cost = omega arith;
   entered = none_entered c.args.nodes.now.nodes c.args.bytes.now c.args.root (one_start c.args.start) c.clear.new.self c.args.start refl (λ n below. c.clear.ensures.clear n below);

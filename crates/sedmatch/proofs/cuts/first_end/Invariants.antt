@@ -1,12 +1,10 @@
 use Rattle.std.proofs.Common.{ℕ, ◌+◌, ◌-◌, ◌*◌, ◌<◌, ◌≤◌, false, IsTrue, length}
 use Rattle.std.specs.Prelude.{slice_index_or}
-use Rattle.sedmatch.specs.Fits.{SameMarks}
 use Rattle.sedmatch.specs.Reach.{Marked, Below, one_start, Entered, At}
 use Rattle.sedmatch.proofs.cuts.first_end.Given as goal
 
 abbrev pub invariant-loop-place : goal.invariant-loop-place
 invariant-loop-place l = record {
-  marks : SameMarks l.initial.sets l.sets;
   grows : l.initial.steps ≤ l.steps;
   cost : l.steps ≤ l.initial.steps + 21 * length l.nodes.nodes * l.place;
   entered : Marked l.sets.entered (Below (l.root + 1)) (λ c. Entered l.nodes.nodes l.bytes l.root (one_start l.start) c l.place);

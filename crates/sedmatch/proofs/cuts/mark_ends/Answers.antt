@@ -6,7 +6,6 @@ use Rattle.sedmatch.proofs.cuts.mark_ends.Goals as goal
 
 pub loop-place-init : goal.loop-place-init
 loop-place-init c = record {
-  marks = (refl, refl, refl);
   ends_len = omega arith;
   grows = omega arith;
   cost = omega arith;

@@ -1,11 +1,9 @@
 use Rattle.std.proofs.Common.{◌≡◌, ℕ, ◌+◌, ◌*◌, ◌≤◌, ◌↔◌, IsTrue, length}
-use Rattle.sedmatch.specs.Fits.{SameMarks}
 use Rattle.sedmatch.specs.Reach.{Marked, Below, one_start, Entered, At}
 use Rattle.sedmatch.proofs.cuts.reaches_by_pass.Given as goal
 
 abbrev pub invariant-loop-place : goal.invariant-loop-place
 invariant-loop-place l = record {
-  marks : SameMarks l.initial.sets l.sets;
   grows : l.initial.steps ≤ l.steps;
   cost : l.steps ≤ l.initial.steps + 20 * length l.expr.nodes * l.place;
   entered : Marked l.sets.entered (Below (l.root + 1)) (λ c. Entered l.expr.nodes l.text l.root (one_start l.start) c l.place);

@@ -29,7 +29,7 @@ returns-then-has_group-clause-cost c =
     let before : c.in-Group.inner.index < c.loop-x.x = c.look.ensures.arena.below c.loop-x.x c.in-Group.inner.index (Group c.in-Group.field-0 c.in-Group.inner) is refl in
     let fits = c.groups.ensures.expr.sizes c.in-Group.inner.index (omega (arith, before)) in
     let looked : c.has_group.new.steps ≤ c.look.new.steps + size (tree_at c.args.expr.now.nodes c.in-Group.inner.index) = rw c.index.ensures at c.has_group.ensures.cost.1 in
-    (omega arith, flat_cost m (c.loop-x.x + 1) c.args.steps.now c.has_group.new.steps c.requires.few (omega arith) (omega (arith, before, fits, looked, c.loop-x.invariant.cost)))
+    (omega arith, flat_cost m (c.loop-x.x + 1) c.args.steps.now c.has_group.new.steps c.nodes-count.ensures.few (omega arith) (omega (arith, before, fits, looked, c.loop-x.invariant.cost)))
 
 pub loop-x-preserved : goal.loop-x-preserved
 loop-x-preserved c = elim c.match-look.branch [
@@ -58,7 +58,7 @@ loop-x-preserved c = elim c.match-look.branch [
 
 pub returns-clause-cost : goal.returns-clause-cost
 returns-clause-cost c =
-    (omega arith, flat_cost (length c.args.expr.now.nodes) c.loop-x.x c.args.steps.now c.loop-x.steps c.requires.few (omega arith) c.loop-x.invariant.cost)
+    (omega arith, flat_cost (length c.args.expr.now.nodes) c.loop-x.x c.args.steps.now c.loop-x.steps c.nodes-count.ensures.few (omega arith) c.loop-x.invariant.cost)
 
 pub returns-clause-flat : goal.returns-clause-flat
 returns-clause-flat c = λ _ x k a is. c.loop-x.invariant.flat x k a (let lt = slice_get_within c.args.expr.now.nodes x (Group k a) is in omega (arith, lt)) is

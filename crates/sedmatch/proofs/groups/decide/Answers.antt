@@ -14,14 +14,13 @@ loop-task-init c =
     let w = c.args.text.now in
     let first : Task = Enter c.args.root c.args.start c.args.stop in
     let begun : reverse c.put_task.new.tasks.items ≡ first ∷ [] =
-    ap reverse (c.put_task.ensures.items ∙ ap (λ (xs : List Task). xs ++ (first ∷ [])) c.requires.fits.2.0) in
+    ap reverse (c.put_task.ensures.items ∙ ap (λ (xs : List Task). xs ++ (first ∷ [])) c.requires.plan.0) in
     let weight : weights nodes (reverse c.put_task.new.tasks.items) ≡ weights nodes (first ∷ []) = ap (weights nodes) begun in
     let small = c.requires.sizes c.args.root c.requires.root in
     let low : weights nodes (reverse c.put_task.new.tasks.items) ≤ 2 * length nodes = omega (arith, weight, small) in
     record {
-      marks = (refl, refl, refl);
       places = refl;
-      stack_empty = c.requires.fits.2.1;
+      stack_empty = c.requires.plan.1;
       stack_room = omega arith;
       tasks_room = omega arith;
       ready = subst (λ ts. IsReady nodes w ts) (sym begun) (c.requires.root, c.requires.order.0, c.requires.order.1, c.requires.spans, tt);
@@ -42,7 +41,6 @@ loop-task-preserved c =
     let popped : reverse c.loop-task.plan.tasks.items ≡ c.in-Some.task ∷ reverse old = ap reverse c.in-Some.ensures.items ∙ reverse-append old (c.in-Some.task ∷ []) in
     let less : weights nodes (reverse c.work.new.plan.tasks.items) + 1 ≤ weights nodes (reverse c.loop-task.plan.tasks.items) = omega (arith, c.work.ensures.less.2, ap (weights nodes) popped) in
     record {
-      marks = (omega arith, omega arith, omega arith);
       places = omega arith;
       stack_empty = c.work.ensures.plan.0;
       stack_room = omega arith;

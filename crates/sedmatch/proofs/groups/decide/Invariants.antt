@@ -1,13 +1,11 @@
 use Rattle.std.proofs.Common.{◌≡◌, ◌+◌, ◌*◌, ◌≤◌, [], length, reverse, vec_capacity}
 use Rattle.sedre.specs.Arena.{tree_at}
 use Rattle.sedmatch.specs.Caps.{Caps, Groups}
-use Rattle.sedmatch.specs.Fits.{SameMarks}
 use Rattle.sedmatch.specs.Work.{Run, IsReady, weights, inners, wholes}
 use Rattle.sedmatch.proofs.groups.decide.Given as goal
 
 abbrev pub invariant-loop-task : goal.invariant-loop-task
 invariant-loop-task l = record {
-  marks : SameMarks l.initial.sets l.sets;
   places : length l.places ≡ length l.initial.places;
   stack_empty : l.plan.stack.items ≡ [];
   stack_room : vec_capacity l.initial.plan.stack ≤ vec_capacity l.plan.stack;

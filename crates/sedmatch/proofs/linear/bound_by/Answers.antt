@@ -14,7 +14,6 @@ pub loop-next-init : goal.loop-next-init
 loop-next-init c = record {
   table = c.enter-next.ensures.table;
   sweeps = c.enter-next.ensures.sweeps ∙ c.requires.table.1;
-  marks = c.enter-next.ensures.marks;
   after = omega arith;
   within = c.requires.order.1;
   next = c.enter-next.ensures.next c.args.text.now (starts_to c.args.start c.args.last) c.args.last c.requires.at;
@@ -29,7 +28,7 @@ returns-in-Full-clause-cost c =
     (omega arith, omega (arith, paid))
 
 pub returns-then-place-len-clause-bound : goal.returns-then-place-len-clause-bound
-returns-then-place-len-clause-bound c = bound_end c.args.expr.now.nodes c.args.text.now c.args.root c.args.start c.args.last c.requires.root c.loop-next.place (omega arith) c.loop-next.invariant.after
+returns-then-place-len-clause-bound c = bound_end c.args.expr.now.nodes c.args.text.now c.args.root c.args.start c.args.last c.requires.root.0 c.loop-next.place (omega arith) c.loop-next.invariant.after
 
 pub returns-then-not-here-clause-bound : goal.returns-then-not-here-clause-bound
 returns-then-not-here-clause-bound c =
@@ -48,10 +47,10 @@ returns-then-not-here-clause-bound c =
     let ends = c.index-here.result.now in
     let same = c.index-here.ensures ∙ default_same T.ends.items state ends (record { inner = false; last = false; goes = false }) (omega (arith, there.0, ends_there, rows_there)) in
     let at : IsAt nodes w r s place (row_of T.rows state) ends = subst (λ v. IsAt nodes w r s place (row_of T.rows state) v) (sym same) there.1 in
-    bound_closed nodes w r c.args.start c.args.last c.requires.root place ends.goes c.loop-next.invariant.after c.loop-next.invariant.within (not-true ends.goes c.if-not-here.true) (at.goes (omega arith))
+    bound_closed nodes w r c.args.start c.args.last c.requires.root.0 place ends.goes c.loop-next.invariant.after c.loop-next.invariant.within (not-true ends.goes c.if-not-here.true) (at.goes (omega arith))
 
 pub returns-then-stop-len-clause-bound : goal.returns-then-stop-len-clause-bound
-returns-then-stop-len-clause-bound c = bound_end c.args.expr.now.nodes c.args.text.now c.args.root c.args.start c.args.last c.requires.root c.follow_past-stop.result.place (omega arith) (omega arith)
+returns-then-stop-len-clause-bound c = bound_end c.args.expr.now.nodes c.args.text.now c.args.root c.args.start c.args.last c.requires.root.0 c.follow_past-stop.result.place (omega arith) (omega arith)
 
 pub returns-then-stop-len-clause-cost : goal.returns-then-stop-len-clause-cost
 returns-then-stop-len-clause-cost c =
@@ -79,7 +78,6 @@ loop-next-preserved c =
     record {
       table = c.go-next.ensures.table;
       sweeps = c.go-next.ensures.sweeps ∙ c.loop-next.invariant.sweeps;
-      marks = (omega arith, omega arith, omega arith);
       after = omega arith;
       within = omega arith;
       next = next_map (LeadsFrom nodes r T stop.state c.byte-byte.result) (IsAt nodes w r s (stop.place + 1)) G c.go-next.new.sets.entered c.go-next.result
@@ -102,7 +100,6 @@ loop-next-preserved-then-run-place c =
     record {
       table = c.loop-next.invariant.table;
       sweeps = c.loop-next.invariant.sweeps;
-      marks = c.loop-next.invariant.marks;
       after = omega arith;
       within = omega arith;
       next = (there.0, on run c.stay-run.ensures.after (omega arith));

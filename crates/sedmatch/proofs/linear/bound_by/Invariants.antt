@@ -1,5 +1,4 @@
 use Rattle.std.proofs.Common.{◌≡◌, ◌+◌, ◌-◌, ◌*◌, ◌≤◌, false, length}
-use Rattle.sedmatch.specs.Fits.{SameMarks}
 use Rattle.sedmatch.specs.States.{IsAt}
 use Rattle.sedmatch.specs.Search.{starts_to}
 use Rattle.sedmatch.specs.Tables.{IsTable, NextIs}
@@ -9,7 +8,6 @@ abbrev pub invariant-loop-next : goal.invariant-loop-next
 invariant-loop-next l = record {
   table : IsTable l.expr.nodes l.root l.table;
   sweeps : l.table.sweeps ≡ false;
-  marks : SameMarks l.fn.sets l.sets;
   after : l.last ≤ l.place;
   within : l.place ≤ length l.text;
   next : NextIs (IsAt l.expr.nodes l.text l.root (starts_to l.start l.last) l.place) l.table l.sets.entered l.next;

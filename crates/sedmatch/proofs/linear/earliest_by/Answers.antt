@@ -22,14 +22,14 @@ pub returns-in-None-clause-earliest : goal.returns-in-None-clause-earliest
 returns-in-None-clause-earliest c =
     absurd (earliest_none (tree c.args.expr.now) c.args.text.now c.args.region c.requires.region
     (last_mirrored c.args.expr.now c.mirrored-nodes.result c.args.text.now c.backwards-bytes.result c.len-len.result c.args.region.bound c.args.region.start None
-    c.mirrored-nodes.ensures c.backwards-bytes.ensures c.len-len.ensures c.in-None.ensures.last))
+    c.mirrored-nodes.ensures c.backwards-bytes.ensures c.len-len.ensures.is c.in-None.ensures.last))
 
 pub returns-in-Some-clause-earliest : goal.returns-in-Some-clause-earliest
 returns-in-Some-clause-earliest c =
-    subst (λ n. IsEarliest (tree c.args.expr.now) c.args.text.now c.args.region (n - c.in-Some.place)) (sym c.len-len.ensures)
+    subst (λ n. IsEarliest (tree c.args.expr.now) c.args.text.now c.args.region (n - c.in-Some.place)) (sym c.len-len.ensures.is)
     (earliest_some (tree c.args.expr.now) c.args.text.now c.args.region c.requires.region c.in-Some.place
     (last_mirrored c.args.expr.now c.mirrored-nodes.result c.args.text.now c.backwards-bytes.result c.len-len.result c.args.region.bound c.args.region.start (Some c.in-Some.place)
-    c.mirrored-nodes.ensures c.backwards-bytes.ensures c.len-len.ensures c.in-Some.ensures.last))
+    c.mirrored-nodes.ensures c.backwards-bytes.ensures c.len-len.ensures.is c.in-Some.ensures.last))
 
 pub returns-in-None-clause-cost : goal.returns-in-None-clause-cost
 returns-in-None-clause-cost c =

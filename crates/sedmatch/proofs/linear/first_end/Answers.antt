@@ -20,12 +20,11 @@ loop-next-init c =
     record {
       table = c.first_state-next.ensures.table;
       sweeps = c.first_state-next.ensures.sweeps ∙ c.requires.table.1;
-      marks = c.first_state-next.ensures.marks;
       after = omega arith;
       within = c.requires.from;
       next = next_map (IsFirst nodes c.args.root (eqb from 0)) (IsAt nodes w c.args.root (starts_from from w) from) c.first_state-next.new.table c.first_state-next.new.sets.entered c.first_state-next.result
           (λ row ends first. first w (starts_from from w) (eqb-true from 0, eq-eqb from 0) c.requires.from) c.first_state-next.ensures.next;
-      missed = missed_init nodes w c.args.root from (length w) c.requires.root refl;
+      missed = missed_init nodes w c.args.root from (length w) c.requires.root.0 refl;
       grows = omega arith;
       cost = omega arith;
     }
@@ -53,7 +52,7 @@ returns-then-place-len-clause-first c =
     let rows_there = c.loop-next.invariant.table.rows_there in
     let same = c.index-ends.ensures ∙ default_same T.ends.items state ends (record { inner = false; last = false; goes = false }) (omega (arith, there.0, ends_there, rows_there)) in
     let at : IsAt nodes w r (starts_from from w) place (row_of T.rows state) ends = subst (λ v. IsAt nodes w r (starts_from from w) place (row_of T.rows state) v) (sym same) there.1 in
-    c.at_last.ensures.first nodes w r from c.loop-next.sets.entered c.requires.root (omega arith) c.loop-next.invariant.after (at.last (omega arith)) c.loop-next.invariant.missed
+    c.at_last.ensures.first nodes w r from c.loop-next.sets.entered c.requires.root.0 (omega arith) c.loop-next.invariant.after (at.last (omega arith)) c.loop-next.invariant.missed
 
 pub returns-then-place-len-clause-cost : goal.returns-then-place-len-clause-cost
 returns-then-place-len-clause-cost c =
@@ -111,14 +110,14 @@ returns-then-stop-len-clause-first c =
     let rows_there = c.loop-next.invariant.table.rows_there in
     let same = c.index-ends.ensures ∙ default_same T.ends.items state ends (record { inner = false; last = false; goes = false }) (omega (arith, there.0, ends_there, rows_there)) in
     let at : IsAt nodes w r (starts_from from w) place (row_of T.rows state) ends = subst (λ v. IsAt nodes w r (starts_from from w) place (row_of T.rows state) v) (sym same) there.1 in
-    let passed = pass_one nodes w r from c.requires.root place ends.inner (omega arith) c.if-ends.false (at.inner (omega arith)) c.loop-next.invariant.missed in
+    let passed = pass_one nodes w r from c.requires.root.0 place ends.inner (omega arith) c.if-ends.false (at.inner (omega arith)) c.loop-next.invariant.missed in
     let stop = c.follow-stop.result in
     let on = c.follow-stop.ensures.follows (starts_from from w) (starts_are T w from place c.loop-next.invariant.sweeps c.loop-next.invariant.after) there.1 in
     let last = c.index.result.now in
     let same_last = c.index.ensures ∙ default_same T.ends.items stop.state last (record { inner = false; last = false; goes = false }) (omega (arith, c.follow-stop.ensures.state, ends_there, rows_there)) in
     let at_last : IsAt nodes w r (starts_from from w) stop.place (row_of T.rows stop.state) last = subst (λ v. IsAt nodes w r (starts_from from w) stop.place (row_of T.rows stop.state) v) (sym same_last) on.0 in
-    c.at_last-then-stop-len.ensures.first nodes w r from c.loop-next.sets.entered c.requires.root (omega arith) (omega arith) (at_last.last (omega arith))
-    (pass_rest nodes w r from c.requires.root place stop.place c.follow-stop.ensures.within passed on.1)
+    c.at_last-then-stop-len.ensures.first nodes w r from c.loop-next.sets.entered c.requires.root.0 (omega arith) (omega arith) (at_last.last (omega arith))
+    (pass_rest nodes w r from c.requires.root.0 place stop.place c.follow-stop.ensures.within passed on.1)
 
 pub returns-then-stop-len-clause-cost : goal.returns-then-stop-len-clause-cost
 returns-then-stop-len-clause-cost c =
@@ -145,20 +144,19 @@ loop-next-preserved c =
     let rows_there = c.loop-next.invariant.table.rows_there in
     let same = c.index-ends.ensures ∙ default_same T.ends.items state ends (record { inner = false; last = false; goes = false }) (omega (arith, there.0, ends_there, rows_there)) in
     let at : IsAt nodes w r (starts_from from w) place (row_of T.rows state) ends = subst (λ v. IsAt nodes w r (starts_from from w) place (row_of T.rows state) v) (sym same) there.1 in
-    let passed = pass_one nodes w r from c.requires.root place ends.inner (omega arith) c.if-ends.false (at.inner (omega arith)) c.loop-next.invariant.missed in
+    let passed = pass_one nodes w r from c.requires.root.0 place ends.inner (omega arith) c.if-ends.false (at.inner (omega arith)) c.loop-next.invariant.missed in
     let stop = c.follow-stop.result in
     let on = c.follow-stop.ensures.follows (starts_from from w) (starts_are T w from place c.loop-next.invariant.sweeps c.loop-next.invariant.after) there.1 in
     let G = c.go-next.new.table in
     record {
       table = c.go-next.ensures.table;
       sweeps = c.go-next.ensures.sweeps ∙ c.loop-next.invariant.sweeps;
-      marks = (omega arith, omega arith, omega arith);
       after = omega arith;
       within = omega arith;
       next = next_map (LeadsFrom nodes r T stop.state c.byte-byte.result) (IsAt nodes w r (starts_from from w) (stop.place + 1)) G c.go-next.new.sets.entered c.go-next.result
           (λ row after leads. leads w (starts_from from w) stop.place c.byte-byte.result c.byte-byte.ensures.byte (omega arith) refl
           ((λ h. (omega arith, omega arith)), (λ h. c.loop-next.invariant.sweeps)) on.0) c.go-next.ensures.next;
-      missed = pass_more nodes w r from c.requires.root place stop.place (omega arith) passed on.1;
+      missed = pass_more nodes w r from c.requires.root.0 place stop.place (omega arith) passed on.1;
       grows = omega arith;
       cost = line_step m (38 * m) from place stop.place c.args.steps.now c.loop-next.steps c.go-next.new.steps (omega arith) c.follow-stop.ensures.after c.loop-next.invariant.cost (omega arith);
     }

@@ -1,5 +1,4 @@
 use Rattle.std.proofs.Common.{◌+◌, ◌-◌, ◌*◌, ◌≤◌, IsTrue, length}
-use Rattle.sedmatch.specs.Fits.{SameMarks}
 use Rattle.sedmatch.specs.States.{IsAt}
 use Rattle.sedmatch.specs.Linear.{NoneBefore}
 use Rattle.sedmatch.specs.Tables.{IsTable, NextIs, starts_from}
@@ -9,7 +8,6 @@ abbrev pub invariant-loop-next : goal.invariant-loop-next
 invariant-loop-next l = record {
   table : IsTable l.expr.nodes l.root l.table;
   sweeps : IsTrue l.table.sweeps;
-  marks : SameMarks l.fn.sets l.sets;
   after : l.from ≤ l.place;
   within : l.place ≤ length l.text;
   next : NextIs (IsAt l.expr.nodes l.text l.root (starts_from l.from l.text) l.place) l.table l.sets.entered l.next;

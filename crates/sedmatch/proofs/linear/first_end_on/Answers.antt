@@ -1,4 +1,4 @@
-use Rattle.std.proofs.Common.{◌≡◌, ℕ, ◌+◌, ◌*◌, length, IsTrue, ◌↔◌, refl, sym, ap, subst, arith}
+use Rattle.std.proofs.Common.{◌≡◌, ℕ, ◌+◌, ◌*◌, length, IsTrue, ◌↔◌, sym, ap, subst, arith}
 use Rattle.sedmatch.specs.declared.passes.Starts.{Starts}
 use Rattle.sedmatch.specs.Reach.{TellBegun, SomeSpan, OpenAt}
 use Rattle.sedmatch.specs.Tables.{starts_from}
@@ -9,7 +9,7 @@ use Rattle.sedmatch.proofs.linear.first_end_on.Goals as goal
 
 pub returns-then-place-len-clause-first : goal.returns-then-place-len-clause-first
 returns-then-place-len-clause-first c =
-    c.at_last.ensures.first c.args.expr.now.nodes c.args.text.now c.args.root c.args.start c.args.sets.now.entered c.requires.root (omega arith) c.requires.order.0 (c.requires.at.last (omega arith)) c.requires.missed
+    c.at_last.ensures.first c.args.expr.now.nodes c.args.text.now c.args.root c.args.start c.args.sets.now.entered c.requires.root.0 (omega arith) c.requires.order.0 (c.requires.at.last (omega arith)) c.requires.missed
 
 pub returns-then-place-len-clause-after : goal.returns-then-place-len-clause-after
 returns-then-place-len-clause-after c =
@@ -31,13 +31,12 @@ loop-at-init c =
     let w = c.args.text.now in
     let starts : ℕ → Starts = λ n. record { first = c.args.start; last = n } in
     let begun : TellBegun nodes w c.args.root (starts c.len-2.result) c.args.place c.args.sets.now.entered =
-    subst (λ n. TellBegun nodes w c.args.root (starts n) c.args.place c.args.sets.now.entered) (sym c.len-2.ensures) (c.requires.at.begun (omega arith)) in
+    subst (λ n. TellBegun nodes w c.args.root (starts n) c.args.place c.args.sets.now.entered) (sym c.len-2.ensures.is) (c.requires.at.begun (omega arith)) in
     record {
-      marks = (refl, refl, refl);
       grows = omega arith;
       cost = omega arith;
       entered = next_entered nodes w c.args.root (starts c.len-2.result) c.args.sets.now.entered c.args.place begun;
-      missed = pass_one nodes w c.args.root c.args.start c.requires.root c.args.place c.args.ends.inner (omega arith) c.if-ends.false (c.requires.at.inner (omega arith)) c.requires.missed;
+      missed = pass_one nodes w c.args.root c.args.start c.requires.root.0 c.args.place c.args.ends.inner (omega arith) c.if-ends.false (c.requires.at.inner (omega arith)) c.requires.missed;
     }
 
 pub loop-at-preserved : goal.loop-at-preserved
@@ -45,13 +44,12 @@ loop-at-preserved c =
     let nodes = c.args.expr.now.nodes in
     let w = c.args.text.now in
     let starts : ℕ → Starts = λ n. record { first = c.args.start; last = n } in
-    let spans = subst (λ n. IsTrue c.advance-here.result.matched ↔ SomeSpan nodes w c.args.root (starts n) c.loop-at.at) c.len-2.ensures c.advance-here.ensures.spans in
+    let spans = subst (λ n. IsTrue c.advance-here.result.matched ↔ SomeSpan nodes w c.args.root (starts n) c.loop-at.at) c.len-2.ensures.is c.advance-here.ensures.spans in
     record {
-      marks = (omega arith, omega arith, omega arith);
       grows = omega arith;
       cost = omega arith;
       entered = next_entered nodes w c.args.root (starts c.len-2.result) c.advance-here.new.sets.entered c.loop-at.at c.advance-here.ensures.entered;
-      missed = pass_one nodes w c.args.root c.args.start c.requires.root c.loop-at.at c.advance-here.result.matched (omega arith) c.if-here.false spans c.loop-at.invariant.missed;
+      missed = pass_one nodes w c.args.root c.args.start c.requires.root.0 c.loop-at.at c.advance-here.result.matched (omega arith) c.if-here.false spans c.loop-at.invariant.missed;
     }
 
 pub returns-then-here-clause-first : goal.returns-then-here-clause-first
@@ -61,13 +59,13 @@ returns-then-here-clause-first c =
     let w = c.args.text.now in
     let r = c.args.root in
     let at = c.loop-at.at in
-    let some : SomeSpan nodes w r (starts_from c.args.start w) at = subst (λ n. SomeSpan nodes w r (starts n) at) c.len-2.ensures (c.advance-here.ensures.spans.0 c.if-here.true) in (
+    let some : SomeSpan nodes w r (starts_from c.args.start w) at = subst (λ n. SomeSpan nodes w r (starts n) at) c.len-2.ensures.is (c.advance-here.ensures.spans.0 c.if-here.true) in (
       omega arith,
       omega arith,
       some,
       (λ lt. told_at nodes w r (starts_from c.args.start w) at c.advance-here.new.sets.entered c.advance-here.result.more
-          (subst (λ n. TellBegun nodes w r (starts n) at c.advance-here.new.sets.entered) c.len-2.ensures c.advance-here.ensures.entered) some
-          (subst (λ n. OpenAt nodes w r (starts n) at c.advance-here.result.more) c.len-2.ensures c.advance-here.ensures.opens)),
+          (subst (λ n. TellBegun nodes w r (starts n) at c.advance-here.new.sets.entered) c.len-2.ensures.is c.advance-here.ensures.entered) some
+          (subst (λ n. OpenAt nodes w r (starts n) at c.advance-here.result.more) c.len-2.ensures.is c.advance-here.ensures.opens)),
       c.loop-at.invariant.missed,
     )
 

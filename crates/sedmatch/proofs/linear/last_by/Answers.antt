@@ -21,7 +21,6 @@ loop-next-init c =
     record {
       table = c.first_state-next.ensures.table;
       sweeps = c.first_state-next.ensures.sweeps ∙ c.requires.table.1;
-      marks = c.first_state-next.ensures.marks;
       after = omega arith;
       within = c.requires.order;
       next = next_map (IsFirst nodes c.args.root (eqb first 0)) (IsAt nodes w c.args.root (starts_from first w) first) c.first_state-next.new.table c.first_state-next.new.sets.entered c.first_state-next.result
@@ -56,7 +55,7 @@ later-best-requires-clause-tells c =
     let ends = c.index-ends.result.now in
     let same = c.index-ends.ensures ∙ default_same T.ends.items state ends (record { inner = false; last = false; goes = false }) (omega (arith, there.0, ends_there, rows_there)) in
     let at : IsAt nodes w r s place (row_of T.rows state) ends = subst (λ v. IsAt nodes w r s place (row_of T.rows state) v) (sym same) there.1 in
-    c.ends_at-here.ensures.here nodes w r s (row_of T.rows state) c.len.ensures (omega arith) at
+    c.ends_at-here.ensures.here nodes w r s (row_of T.rows state) c.len.ensures.is (omega arith) at
 
 pub returns-then-place-stop-clause-last : goal.returns-then-place-stop-clause-last
 returns-then-place-stop-clause-last c =
@@ -84,7 +83,7 @@ later-requires-clause-tells c =
     let ends = c.index.result.now in
     let same = c.index.ensures ∙ default_same T.ends.items to.state ends (record { inner = false; last = false; goes = false }) (omega (arith, c.follow_past-to.ensures.state, ends_there, rows_there)) in
     let at : IsAt nodes w r s to.place (row_of T.rows to.state) ends = subst (λ v. IsAt nodes w r s to.place (row_of T.rows to.state) v) (sym same) on.0 in
-    c.ends_at-there.ensures.here nodes w r s (row_of T.rows to.state) c.len-then-to-stop.ensures (omega arith) at
+    c.ends_at-there.ensures.here nodes w r s (row_of T.rows to.state) c.len-then-to-stop.ensures.is (omega arith) at
 
 pub later-requires-clause-last : goal.later-requires-clause-last
 later-requires-clause-last c =
@@ -104,7 +103,7 @@ later-requires-clause-last c =
     let rows_there = c.loop-next.invariant.table.rows_there in
     let to = c.follow_past-to.result in
     let on = c.follow_past-to.ensures.follows s (starts_are T w first place c.loop-next.invariant.sweeps c.loop-next.invariant.after) there.1 in
-    last_passed nodes w r c.requires.root first place to.place to.place (omega arith) (omega arith, omega arith) c.later-best.result on.1 c.later-best.ensures.last
+    last_passed nodes w r c.requires.root.0 first place to.place to.place (omega arith) (omega arith, omega arith) c.later-best.result on.1 c.later-best.ensures.last
 
 pub returns-then-to-stop-clause-last : goal.returns-then-to-stop-clause-last
 returns-then-to-stop-clause-last c =
@@ -139,13 +138,12 @@ loop-next-preserved c =
     record {
       table = c.go-next.ensures.table;
       sweeps = c.go-next.ensures.sweeps ∙ c.loop-next.invariant.sweeps;
-      marks = (omega arith, omega arith, omega arith);
       after = omega arith;
       within = omega arith;
       next = next_map (LeadsFrom nodes r T to.state c.byte-byte.result) (IsAt nodes w r s (to.place + 1)) G c.go-next.new.sets.entered c.go-next.result
           (λ row after leads. leads w s to.place c.byte-byte.result c.byte-byte.ensures.byte (omega arith) refl
           ((λ h. (omega arith, omega arith)), (λ h. c.loop-next.invariant.sweeps)) on.0) c.go-next.ensures.next;
-      last = last_passed nodes w r c.requires.root first place to.place (to.place + 1) (omega arith) (omega arith, omega arith) c.later-best.result on.1 c.later-best.ensures.last;
+      last = last_passed nodes w r c.requires.root.0 first place to.place (to.place + 1) (omega arith) (omega arith, omega arith) c.later-best.result on.1 c.later-best.ensures.last;
       grows = omega arith;
       cost = line_step m (38 * m) first place to.place c.args.steps.now c.loop-next.steps c.go-next.new.steps (omega arith) c.follow_past-to.ensures.after c.loop-next.invariant.cost (omega arith);
     }
@@ -176,12 +174,11 @@ loop-next-preserved-then-run-place c =
     record {
       table = c.loop-next.invariant.table;
       sweeps = c.loop-next.invariant.sweeps;
-      marks = c.loop-next.invariant.marks;
       after = omega arith;
       within = omega arith;
       next = (there.0, on run c.stay-run.ensures.after (omega arith));
       last = subst (λ n. LastEnd e w first n (Some (run - 1))) up
-          (LastEnd-hit nodes w r c.requires.root first (length w) (run - 1) refl (omega arith) ((before.inner (omega arith)).0 inner));
+          (LastEnd-hit nodes w r c.requires.root.0 first (length w) (run - 1) refl (omega arith) ((before.inner (omega arith)).0 inner));
       grows = omega arith;
       cost = line_end m (38 * m) (38 * m) run first place c.args.steps.now c.loop-next.steps c.stay-run.new.steps (omega arith) (omega arith) (omega arith) c.loop-next.invariant.cost
           (omega (arith, c.stay-run.ensures.cost.1, look_most ends.inner));

@@ -1,6 +1,5 @@
 use Rattle.std.proofs.Common.{◌+◌, ◌-◌, ◌*◌, ◌≤◌, IsTrue, length}
 use Rattle.sedre.specs.Arena.{tree}
-use Rattle.sedmatch.specs.Fits.{SameMarks}
 use Rattle.sedmatch.specs.States.{IsAt}
 use Rattle.sedmatch.specs.Search.{LastEnd}
 use Rattle.sedmatch.specs.Tables.{IsTable, NextIs, starts_from}
@@ -10,7 +9,6 @@ abbrev pub invariant-loop-next : goal.invariant-loop-next
 invariant-loop-next l = record {
   table : IsTable l.nodes.nodes l.root l.table;
   sweeps : IsTrue l.table.sweeps;
-  marks : SameMarks l.fn.sets l.sets;
   after : l.first ≤ l.place;
   within : l.place ≤ l.stop;
   next : NextIs (IsAt l.nodes.nodes l.bytes l.root (starts_from l.first l.bytes) l.place) l.table l.sets.entered l.next;

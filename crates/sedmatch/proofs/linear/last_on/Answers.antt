@@ -1,4 +1,4 @@
-use Rattle.std.proofs.Common.{◌≡◌, ℕ, ◌+◌, ◌*◌, length, IsTrue, ◌↔◌, refl, sym, ap, subst, arith}
+use Rattle.std.proofs.Common.{◌≡◌, ℕ, ◌+◌, ◌*◌, length, IsTrue, ◌↔◌, sym, ap, subst, arith}
 use Rattle.sedre.specs.Arena.{tree}
 use Rattle.sedmatch.specs.declared.passes.Starts.{Starts}
 use Rattle.sedmatch.specs.Reach.{TellBegun, SomeSpan}
@@ -9,7 +9,7 @@ use Rattle.sedmatch.proofs.linear.last_on.Goals as goal
 
 pub later-best-requires-clause-tells : goal.later-best-requires-clause-tells
 later-best-requires-clause-tells c =
-    c.ends_at-here.ensures.here c.args.nodes.now.nodes c.args.bytes.now c.args.root (starts_from c.args.first c.args.bytes.now) c.args.sets.now.entered c.len.ensures (omega arith) c.requires.at
+    c.ends_at-here.ensures.here c.args.nodes.now.nodes c.args.bytes.now c.args.root (starts_from c.args.first c.args.bytes.now) c.args.sets.now.entered c.len.ensures.is (omega arith) c.requires.at
 
 pub returns-then-place-stop-clause-last : goal.returns-then-place-stop-clause-last
 returns-then-place-stop-clause-last c =
@@ -22,9 +22,8 @@ loop-at-init c =
     let w = c.args.bytes.now in
     let starts : ℕ → Starts = λ n. record { first = c.args.first; last = n } in
     let begun : TellBegun nodes w c.args.root (starts c.len-2.result) c.args.place c.args.sets.now.entered =
-    subst (λ n. TellBegun nodes w c.args.root (starts n) c.args.place c.args.sets.now.entered) (sym c.len-2.ensures) (c.requires.at.begun (omega arith)) in
+    subst (λ n. TellBegun nodes w c.args.root (starts n) c.args.place c.args.sets.now.entered) (sym c.len-2.ensures.is) (c.requires.at.begun (omega arith)) in
     record {
-      marks = (refl, refl, refl);
       grows = omega arith;
       cost = omega arith;
       entered = next_entered nodes w c.args.root (starts c.len-2.result) c.args.sets.now.entered c.args.place begun;
@@ -34,7 +33,7 @@ loop-at-init c =
 pub later-best-requires-in-loop-at-clause-tells : goal.later-best-requires-in-loop-at-clause-tells
 later-best-requires-in-loop-at-clause-tells c =
     let starts : ℕ → Starts = λ n. record { first = c.args.first; last = n } in
-    subst (λ n. IsTrue c.advance-here.result.matched ↔ SomeSpan c.args.nodes.now.nodes c.args.bytes.now c.args.root (starts n) c.loop-at.at) c.len-2.ensures c.advance-here.ensures.spans
+    subst (λ n. IsTrue c.advance-here.result.matched ↔ SomeSpan c.args.nodes.now.nodes c.args.bytes.now c.args.root (starts n) c.loop-at.at) c.len-2.ensures.is c.advance-here.ensures.spans
 
 pub loop-at-preserved : goal.loop-at-preserved
 loop-at-preserved c =
@@ -42,7 +41,6 @@ loop-at-preserved c =
     let w = c.args.bytes.now in
     let starts : ℕ → Starts = λ n. record { first = c.args.first; last = n } in
     record {
-      marks = (omega arith, omega arith, omega arith);
       grows = omega arith;
       cost = omega arith;
       entered = next_entered nodes w c.args.root (starts c.len-2.result) c.advance-here.new.sets.entered c.loop-at.at c.advance-here.ensures.entered;

@@ -1,13 +1,11 @@
 use Rattle.std.proofs.Common.{◌+◌, ◌*◌, ◌≤◌, length}
 use Rattle.sedre.specs.Arena.{tree}
-use Rattle.sedmatch.specs.Fits.{SameMarks}
 use Rattle.sedmatch.specs.Reach.{TellEntered}
 use Rattle.sedmatch.specs.Search.{LastEnd}
 use Rattle.sedmatch.proofs.linear.last_on.Given as goal
 
 abbrev pub invariant-loop-at : goal.invariant-loop-at
 invariant-loop-at l = record {
-  marks : SameMarks l.initial.sets l.sets;
   grows : l.initial.steps ≤ l.steps;
   cost : l.steps + 20 * length l.nodes.nodes * (l.place + 1) ≤ l.initial.steps + 20 * length l.nodes.nodes * l.at;
   entered : TellEntered l.nodes.nodes l.bytes l.root l.starts l.at l.sets.entered;

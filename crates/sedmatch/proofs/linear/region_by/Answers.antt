@@ -10,8 +10,8 @@ returns-then-last-len-clause-region c =
     let last = c.args.first.place in (
       refl,
       refl,
-      region_closed nodes w c.args.root c.requires.root true c.args.start last (length w) last refl (omega arith) c.requires.first.1 c.requires.first.2
-          (λ i k is_whole lo hi at. closed_end nodes w c.args.root c.requires.root last last i k (omega arith) (omega arith) hi at),
+      region_closed nodes w c.args.root c.requires.root.0 true c.args.start last (length w) last refl (omega arith) c.requires.first.1 c.requires.first.2
+          (λ i k is_whole lo hi at. closed_end nodes w c.args.root c.requires.root.0 last last i k (omega arith) (omega arith) hi at),
     )
 
 pub bound_in-bound-requires-clause-at : goal.bound_in-bound-requires-clause-at
@@ -23,6 +23,6 @@ returns-clause-region c =
     let b = c.bound_in-bound.ensures.bound in (
       refl,
       refl,
-      region_closed c.args.expr.now.nodes c.args.text.now c.args.root c.requires.root true c.args.start c.args.first.place (length c.args.text.now) c.bound_in-bound.result refl b.0 b.1 c.requires.first.2
+      region_closed c.args.expr.now.nodes c.args.text.now c.args.root c.requires.root.0 true c.args.start c.args.first.place (length c.args.text.now) c.bound_in-bound.result refl b.0 b.1 c.requires.first.2
           (λ i k is_whole lo hi at. b.2 i k lo hi at),
     )

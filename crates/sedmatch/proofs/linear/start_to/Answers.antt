@@ -9,7 +9,7 @@ use Rattle.sedmatch.proofs.linear.start_to.Goals as goal
 
 pub returns-then-from-end-clause-first : goal.returns-then-from-end-clause-first
 returns-then-from-end-clause-first c =
-    start_alone c.args.expr.now.nodes c.args.text.now c.args.root c.args.from c.args.end c.requires.root c.if-from-end.true c.requires.some
+    start_alone c.args.expr.now.nodes c.args.text.now c.args.root c.args.from c.args.end c.requires.root.0 c.if-from-end.true c.requires.some
 
 pub longest_to-requires-clause-table : goal.longest_to-requires-clause-table
 longest_to-requires-clause-table c =
@@ -25,16 +25,16 @@ returns-in-Some-clause-table c =
 
 pub returns-in-None-clause-first : goal.returns-in-None-clause-first
 returns-in-None-clause-first c =
-    absurd (start_none c.args.expr.now.nodes c.args.text.now c.args.root c.args.from c.args.end c.requires.root c.requires.some
+    absurd (start_none c.args.expr.now.nodes c.args.text.now c.args.root c.args.from c.args.end c.requires.root.0 c.requires.some
     (below_mirrored c.args.expr.now c.mirrored-nodes.result c.args.text.now c.backwards-bytes.result c.len-len.result c.args.end c.args.from None
-    c.mirrored-nodes.ensures c.backwards-bytes.ensures c.len-len.ensures c.in-None.ensures.longest) c.requires.order.1)
+    c.mirrored-nodes.ensures c.backwards-bytes.ensures c.len-len.ensures.is c.in-None.ensures.longest) c.requires.order.1)
 
 pub returns-in-Some-clause-first : goal.returns-in-Some-clause-first
 returns-in-Some-clause-first c =
-    subst (λ n. IsFirstStart (tree c.args.expr.now) c.args.text.now c.args.from c.args.end (n - c.in-Some.place)) (sym c.len-len.ensures)
-    (start_some c.args.expr.now.nodes c.args.text.now c.args.root c.args.from c.args.end c.requires.root c.requires.order.0 c.requires.order.1 c.in-Some.place (omega (arith, c.in-Some.ensures.lies.1, c.len-len.ensures, c.requires.order.0, c.requires.order.1))
+    subst (λ n. IsFirstStart (tree c.args.expr.now) c.args.text.now c.args.from c.args.end (n - c.in-Some.place)) (sym c.len-len.ensures.is)
+    (start_some c.args.expr.now.nodes c.args.text.now c.args.root c.args.from c.args.end c.requires.root.0 c.requires.order.0 c.requires.order.1 c.in-Some.place (omega (arith, c.in-Some.ensures.lies.1, c.len-len.ensures.is, c.requires.order.0, c.requires.order.1))
     (below_mirrored c.args.expr.now c.mirrored-nodes.result c.args.text.now c.backwards-bytes.result c.len-len.result c.args.end c.args.from (Some c.in-Some.place)
-    c.mirrored-nodes.ensures c.backwards-bytes.ensures c.len-len.ensures c.in-Some.ensures.longest))
+    c.mirrored-nodes.ensures c.backwards-bytes.ensures c.len-len.ensures.is c.in-Some.ensures.longest))
 
 pub returns-in-None-clause-cost : goal.returns-in-None-clause-cost
 returns-in-None-clause-cost c =

@@ -13,6 +13,6 @@ returns-clause-cost c =
     let cost : c.remake.new.steps ≤ c.args.steps.now + m + 22 * m * old.width =
     subst (λ v. c.remake.new.steps ≤ c.args.steps.now + v + 22 * v * old.width) (mirrored_nodes c.args.expr.now c.mirrored-nodes.result c.mirrored-nodes.ensures)
     (subst (λ v. c.remake.new.steps ≤ c.args.steps.now + length c.mirrored-nodes.result.nodes + 22 * length c.mirrored-nodes.result.nodes * v) c.remake.ensures.turns.1 (omega arith)) in
-    let paid = bring_cost m old.width new.block old.block c.args.place c.remake.new.steps c.args.steps.now c.requires.fits.0.some c.if-back_pass-place.false c.remake.ensures.turns.2 cost in
+    let paid = bring_cost m old.width new.block old.block c.args.place c.remake.new.steps c.args.steps.now c.requires.room.some c.if-back_pass-place.false c.remake.ensures.turns.2 cost in
     let paid = subst (λ v. c.remake.new.steps + 24 * m * v ≤ c.args.steps.now + blocks_cost m old) (sym low) paid in
     (omega arith, omega (arith, paid))

@@ -27,4 +27,4 @@ returns-clause-goes c =
     let told : TellBegun (seen true e).nodes (reverse w) root (starts_to 0 (length (reverse w))) q c.load.new.marks =
     same_told (root + 1) (row_of back_pass.rows (q - low_of back_pass)) c.load.new.marks (λ x. Enters (seen true e).nodes (reverse w) root (starts_to 0 (length (reverse w))) x q) c.load.ensures.same row.1 in
     goes_met e w root c.args.start c.args.place q c.byte-next.result c.args.sets.now.entered c.load.new.marks c.meets.result
-    c.requires.root.0 (omega (arith, c.requires.root.1)) c.requires.place.0 sum c.byte-next.ensures.byte c.requires.begun told c.meets.ensures.meets
+    c.requires.root.0 (omega (arith, c.requires.root.1.0)) c.requires.place.0 sum c.byte-next.ensures.byte c.requires.begun told c.meets.ensures.meets

@@ -22,8 +22,8 @@ returns-clause-came c =
     let block = c.args.block in
     let old = c.args.back_pass.now in
     let new = c.make_block.new.back_pass in
-    let there : block < length old.edges = edge_there (length w) (length nodes) block old c.requires.fits.0 c.requires.inside in
-    let wide : root + 1 ≤ length (row_of c.store.new.self block) = omega (arith, c.store.ensures.lens block there, c.requires.fits.0.edges_fit block there) in
+    let there : block < length old.edges = edge_there (length w) (length nodes) block old c.requires.room c.requires.inside in
+    let wide : root + 1 ≤ length (row_of c.store.new.self block) = omega (arith, c.store.ensures.lens block there, c.requires.room.edges_fit block there) in
     let edges : EdgesTell nodes w root new.width (block + 1) new.edges =
     subst (λ v. EdgesTell nodes w root v (block + 1) new.edges) (sym c.make_block.ensures.turns.1)
     (subst (λ v. EdgesTell nodes w root old.width (block + 1) v) (sym c.make_block.ensures.edges)

@@ -9,8 +9,7 @@ use Rattle.sedmatch.proofs.meet.longest_met.Goals as goal
 
 pub loop-place-init : goal.loop-place-init
 loop-place-init c = record {
-  marks = (refl, refl, refl);
-  has = c.requires.fits.1;
+  has = c.requires.room;
   kept = λ t n h. h;
   all = c.requires.served.0;
   reaches = c.requires.served.1;
@@ -23,10 +22,7 @@ loop-place-init c = record {
 }
 
 pub returns-then-not-goes_on-clause-kept : goal.returns-then-not-goes_on-clause-kept
-returns-then-not-goes_on-clause-kept c = (
-  (omega arith, omega arith, omega arith),
-  λ text nodes has. c.goes_on.ensures.kept.1 text nodes (c.loop-place.invariant.kept text nodes has),
-)
+returns-then-not-goes_on-clause-kept c text nodes has = c.goes_on.ensures.kept text nodes (c.loop-place.invariant.kept text nodes has)
 
 pub returns-then-not-goes_on-clause-longest : goal.returns-then-not-goes_on-clause-longest
 returns-then-not-goes_on-clause-longest c =
@@ -36,11 +32,11 @@ returns-then-not-goes_on-clause-longest c =
     let start = c.args.start in
     let best : LongestBelow (tree c.args.expr.now) w start (place + 1) c.if-here.best = (elim c.if-here.branch [
       | then-here b ↦ subst (LongestBelow (tree c.args.expr.now) w start (place + 1)) (sym b.best-is)
-          (best_hit nodes w c.args.root start place c.advance_from-here.result.matched c.requires.root.1 c.advance_from-here.ensures.spans b.if-here.true)
+          (best_hit nodes w c.args.root start place c.advance_from-here.result.matched c.requires.root.1.0 c.advance_from-here.ensures.spans b.if-here.true)
       | else-here b ↦ subst (LongestBelow (tree c.args.expr.now) w start (place + 1)) (sym b.best-is)
-          (best_miss nodes w c.args.root start place c.advance_from-here.result.matched c.loop-place.best c.requires.root.1 c.advance_from-here.ensures.spans b.if-here.false c.loop-place.invariant.longest)
+          (best_miss nodes w c.args.root start place c.advance_from-here.result.matched c.loop-place.best c.requires.root.1.0 c.advance_from-here.ensures.spans b.if-here.false c.loop-place.invariant.longest)
     ]) in
-    best_all nodes w c.args.root start place c.if-here.best c.requires.root.1 (λ h. true≢false (sym (c.goes_on.ensures.goes.1 h) ∙ c.if-not-goes_on.true)) best
+    best_all nodes w c.args.root start place c.if-here.best c.requires.root.1.0 (λ h. true≢false (sym (c.goes_on.ensures.goes.1 h) ∙ c.if-not-goes_on.true)) best
 
 pub returns-then-not-goes_on-clause-served : goal.returns-then-not-goes_on-clause-served
 returns-then-not-goes_on-clause-served c =
@@ -83,9 +79,8 @@ loop-place-preserved c =
     let start = c.args.start in
     let inv = c.loop-place.invariant in
     record {
-      marks = (omega arith, omega arith, omega arith);
-      has = c.goes_on.ensures.kept.1 (length w) (length nodes) inv.has;
-      kept = λ t n h. c.goes_on.ensures.kept.1 t n (inv.kept t n h);
+      has = c.goes_on.ensures.kept (length w) (length nodes) inv.has;
+      kept = λ t n h. c.goes_on.ensures.kept t n (inv.kept t n h);
       all = c.goes_on.ensures.served.0;
       reaches = omega (arith, c.goes_on.ensures.served.1);
       grows = omega arith;
@@ -94,9 +89,9 @@ loop-place-preserved c =
           (next_entered nodes w root (one_start start) c.advance_from-here.new.sets.entered place c.advance_from-here.ensures.entered);
       longest = elim c.if-here.branch [
         | then-here b ↦ subst (LongestBelow (tree c.args.expr.now) w start (place + 1)) (sym b.best-is)
-            (best_hit nodes w c.args.root start place c.advance_from-here.result.matched c.requires.root.1 c.advance_from-here.ensures.spans b.if-here.true)
+            (best_hit nodes w c.args.root start place c.advance_from-here.result.matched c.requires.root.1.0 c.advance_from-here.ensures.spans b.if-here.true)
         | else-here b ↦ subst (LongestBelow (tree c.args.expr.now) w start (place + 1)) (sym b.best-is)
-            (best_miss nodes w c.args.root start place c.advance_from-here.result.matched c.loop-place.best c.requires.root.1 c.advance_from-here.ensures.spans b.if-here.false inv.longest)
+            (best_miss nodes w c.args.root start place c.advance_from-here.result.matched c.loop-place.best c.requires.root.1.0 c.advance_from-here.ensures.spans b.if-here.false inv.longest)
       ];
       lies = elim c.if-here.branch [
         | then-here b ↦ subst (λ v. IfSome v (λ end. (start ≤ end) × (end ≤ length w))) (sym b.best-is) (omega arith, omega arith)

@@ -1,13 +1,11 @@
 use Rattle.std.proofs.Common.{◌≡◌, ℕ, ◌+◌, ◌*◌, ◌≤◌, IfSome, length}
 use Rattle.sedre.specs.Arena.{tree}
-use Rattle.sedmatch.specs.Fits.{SameMarks}
 use Rattle.sedmatch.specs.Reach.{Marked, Below, one_start, Entered, LongestBelow}
 use Rattle.sedmatch.specs.Meet.{GoesOnFrom, HasBackPass, KeepsBackPass, IsKept, Reaches, blocks_cost}
 use Rattle.sedmatch.proofs.meet.longest_met.Given as goal
 
 abbrev pub invariant-loop-place : goal.invariant-loop-place
 invariant-loop-place l = record {
-  marks : SameMarks l.initial.sets l.sets;
   has : HasBackPass (length l.text) (length l.expr.nodes) l.back_pass;
   kept : KeepsBackPass l.initial.back_pass l.back_pass;
   all : IsKept l.expr l.text l.root l.back_pass;

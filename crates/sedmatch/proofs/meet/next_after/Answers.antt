@@ -7,11 +7,8 @@ pub returns-then-not-is_null_at-clause-lies : goal.returns-then-not-is_null_at-c
 returns-then-not-is_null_at-clause-lies c =
     lies_behind c.args.at (length c.args.text.now) c.next_met-first.result c.next_met-first.ensures.lies (c.is_null_at.ensures.after c.if-not-is_null_at.true)
 
-pub next_met-requires-clause-fits : goal.next_met-requires-clause-fits
-next_met-requires-clause-fits c = (
-  ((omega arith, omega arith, omega arith), c.requires.fits.0.1, c.requires.fits.0.2),
-  c.next_met-first.ensures.kept.1 (length c.args.text.now) (length c.args.expr.now.nodes) c.requires.fits.1,
-)
+pub next_met-requires-clause-room : goal.next_met-requires-clause-room
+next_met-requires-clause-room c = c.next_met-first.ensures.kept (length c.args.text.now) (length c.args.expr.now.nodes) c.requires.room
 
 pub next_met-requires-clause-served : goal.next_met-requires-clause-served
 next_met-requires-clause-served c =
@@ -19,10 +16,7 @@ next_met-requires-clause-served c =
     (c.next_met-first.ensures.served.0, omega (arith, here))
 
 pub returns-clause-kept : goal.returns-clause-kept
-returns-clause-kept c = (
-  (omega arith, omega arith, omega arith),
-  λ text nodes has. c.next_met.ensures.kept.1 text nodes (c.next_met-first.ensures.kept.1 text nodes has),
-)
+returns-clause-kept c text nodes has = c.next_met.ensures.kept text nodes (c.next_met-first.ensures.kept text nodes has)
 
 pub returns-clause-cost : goal.returns-clause-cost
 returns-clause-cost c =

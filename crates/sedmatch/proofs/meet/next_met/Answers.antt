@@ -9,7 +9,7 @@ pub returns-in_default-clause-next : goal.returns-in_default-clause-next
 returns-in_default-clause-next c =
     let e = c.args.expr.now in
     let w = c.args.text.now in
-    let starts : KeptStarts (tree e) w c.args.back_pass.now.begins = starts_kept e w c.args.root c.args.back_pass.now.begins c.requires.root.0 c.requires.root.1 c.requires.served.0.begins in
+    let starts : KeptStarts (tree e) w c.args.back_pass.now.begins = starts_kept e w c.args.root c.args.back_pass.now.begins c.requires.root.0 c.requires.root.1.0 c.requires.served.0.begins in
     sym ((not_found-iff (tree e) w c.args.from c.requires.from).1 (none_begins (tree e) w c.args.from c.args.back_pass.now.begins starts c.in_default.ensures.first))
 
 pub returns-in_default-clause-cost : goal.returns-in_default-clause-cost
@@ -25,7 +25,7 @@ pub unreachable-requires : goal.unreachable-requires
 unreachable-requires c =
     let e = c.args.expr.now in
     let w = c.args.text.now in
-    let starts : KeptStarts (tree e) w c.args.back_pass.now.begins = starts_kept e w c.args.root c.args.back_pass.now.begins c.requires.root.0 c.requires.root.1 c.requires.served.0.begins in
+    let starts : KeptStarts (tree e) w c.args.back_pass.now.begins = starts_kept e w c.args.root c.args.back_pass.now.begins c.requires.root.0 c.requires.root.1.0 c.requires.served.0.begins in
     let first = c.in-Some.ensures.first in
     let low = first.1 in
     let some = (starts c.in-Some.start (omega arith)).0 first.2 in
@@ -35,7 +35,7 @@ pub returns-clause-next : goal.returns-clause-next
 returns-clause-next c =
     let e = c.args.expr.now in
     let w = c.args.text.now in
-    let starts : KeptStarts (tree e) w c.args.back_pass.now.begins = starts_kept e w c.args.root c.args.back_pass.now.begins c.requires.root.0 c.requires.root.1 c.requires.served.0.begins in
+    let starts : KeptStarts (tree e) w c.args.back_pass.now.begins = starts_kept e w c.args.root c.args.back_pass.now.begins c.requires.root.0 c.requires.root.1.0 c.requires.served.0.begins in
     sym ((found-iff (tree e) w c.args.from c.in-Some.start c.in-Some-longest_met.end c.requires.from).1
     (first_begins (tree e) w c.args.from c.in-Some.start c.in-Some-longest_met.end c.args.back_pass.now.begins starts c.in-Some.ensures.first c.in-Some-longest_met.ensures.longest))
 

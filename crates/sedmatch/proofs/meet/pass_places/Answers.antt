@@ -20,12 +20,11 @@ loop-place-preserved c =
     omega (arith, c.store.ensures.lens (place - from) there, inv.rows_lens (place - from) (omega arith), c.requires.there.1 (place - from) (omega arith)) in
     let inside : place < length c.loop-place.begins = omega (arith, inv.begins_len, c.requires.there.2, c.requires.places.1) in
     let told : TellBegun nodes w root (starts_to 0 (length w)) place c.advance-here.new.sets.entered =
-    subst (λ v. TellBegun nodes w root (starts_to 0 v) place c.advance-here.new.sets.entered) c.len.ensures c.advance-here.ensures.entered in
+    subst (λ v. TellBegun nodes w root (starts_to 0 v) place c.advance-here.new.sets.entered) c.len.ensures.is c.advance-here.ensures.entered in
     let tells : IsTrue c.advance-here.result.matched ↔ SomeSpan nodes w root (starts_to 0 (length w)) place =
-    subst (λ v. IsTrue c.advance-here.result.matched ↔ SomeSpan nodes w root (starts_to 0 v) place) c.len.ensures c.advance-here.ensures.spans in
+    subst (λ v. IsTrue c.advance-here.result.matched ↔ SomeSpan nodes w root (starts_to 0 v) place) c.len.ensures.is c.advance-here.ensures.spans in
     let kept : length c.set.new.self ≡ length c.loop-place.begins = rw c.set.ensures.marks (simp length-set) in
     record {
-      marks = (omega arith, omega arith, omega arith);
       rows_len = omega (arith, c.store.ensures.len, inv.rows_len);
       rows_lens = λ q lt. c.store.ensures.lens q (omega (arith, inv.rows_len)) ∙ inv.rows_lens q lt;
       begins_len = omega (arith, kept, inv.begins_len);

@@ -1,5 +1,4 @@
 use Rattle.std.proofs.Common.{ℕ, ◌≡◌, ◌+◌, ◌*◌, ◌<◌, ◌≤◌, length}
-use Rattle.sedmatch.specs.Fits.{SameMarks}
 use Rattle.sedmatch.specs.Words.{row_of}
 use Rattle.sedmatch.specs.Reach.{TellEntered}
 use Rattle.sedmatch.specs.Search.{starts_to}
@@ -8,7 +7,6 @@ use Rattle.sedmatch.proofs.meet.pass_places.Given as goal
 
 abbrev pub invariant-loop-place : goal.invariant-loop-place
 invariant-loop-place l = record {
-  marks : SameMarks l.initial.sets l.sets;
   rows_len : length l.rows ≡ length l.initial.rows;
   rows_lens : (q : ℕ) → q < length l.initial.rows → length (row_of l.rows q) ≡ length (row_of l.initial.rows q);
   begins_len : length l.begins ≡ length l.initial.begins;

@@ -5,7 +5,7 @@ use Rattle.sedmatch.proofs.meet.remake.Goals as goal
 
 pub returns-clause-turns : goal.returns-clause-turns
 returns-clause-turns c = (
-  λ text nodes has. c.make_block.ensures.turns.0 text nodes (sets_kept c.args.back_pass.now c.load.new.marks c.load.ensures.len text nodes has),
+  λ text nodes has. c.make_block.ensures.turns.0 text nodes (sets_kept c.args.back_pass.now c.load.new.marks text nodes has),
   c.make_block.ensures.turns.1,
   c.make_block.ensures.turns.2,
 )

@@ -17,7 +17,7 @@ returns-clause-entered c =
     let nodes = c.args.expr.now.nodes in
     let w = c.args.text.now in
     let place = c.args.place in
-    let there = is_place w place c.len.result (eqb place 0) (eqb place c.len.result) c.len.ensures refl refl in
+    let there = is_place w place c.len.result (eqb place 0) (eqb place c.len.result) c.len.ensures.is refl refl in
     let comes = comes_after nodes w place c.args.sets.now.entered c.byte_before-byte.result c.byte_before-byte.ensures.byte in
     let nulls = c.ascend.ensures.null w place there in
     let ends = c.ascend.ensures.ended w c.args.starts place there comes c.requires.entered in
@@ -29,7 +29,7 @@ returns-clause-spans c =
     let nodes = c.args.expr.now.nodes in
     let w = c.args.text.now in
     let place = c.args.place in
-    let there = is_place w place c.len.result (eqb place 0) (eqb place c.len.result) c.len.ensures refl refl in
+    let there = is_place w place c.len.result (eqb place 0) (eqb place c.len.result) c.len.ensures.is refl refl in
     let comes = comes_after nodes w place c.args.sets.now.entered c.byte_before-byte.result c.byte_before-byte.ensures.byte in
     let nulls = c.ascend.ensures.null w place there in
     let ends = c.ascend.ensures.ended w c.args.starts place there comes c.requires.entered in
@@ -42,10 +42,10 @@ returns-clause-opens c =
     let nodes = c.args.expr.now.nodes in
     let w = c.args.text.now in
     let place = c.args.place in
-    let there = is_place w place c.len.result (eqb place 0) (eqb place c.len.result) c.len.ensures refl refl in
+    let there = is_place w place c.len.result (eqb place 0) (eqb place c.len.result) c.len.ensures.is refl refl in
     let comes = comes_after nodes w place c.args.sets.now.entered c.byte_before-byte.result c.byte_before-byte.ensures.byte in
     let nulls = c.ascend.ensures.null w place there in
     let ends = c.ascend.ensures.ended w c.args.starts place there comes c.requires.entered in
-    open_from_sets nodes w c.args.root c.args.starts c.ascend.ensures.arena c.requires.root place c.byte_after-next.result c.descend-more.result c.byte_after-next.ensures.byte
+    open_from_sets nodes w c.args.root c.args.starts c.ascend.ensures.arena c.requires.root.0 place c.byte_after-next.result c.descend-more.result c.byte_after-next.ensures.byte
     (c.descend-more.ensures.opens w c.args.starts place nulls ends c.has-first.ensures
     (subst (λ l. Marked l (Below (c.args.root + 1)) (λ n. Entered nodes w c.args.root c.args.starts n place)) (sym c.ascend.ensures.kept) c.requires.entered))

@@ -1,24 +1,17 @@
-use Rattle.std.proofs.Common.{◌≡◌, ◌*◌, ◌+◌, refl, length, Some, ap, ◌∙◌, arith}
+use Rattle.std.proofs.Common.{◌≡◌, ◌*◌, ◌+◌, refl, Some, ap, ◌∙◌, arith}
 use Rattle.std.specs.Prelude.{slice_get, slice_index_or, false}
 use Rattle.sedmatch.specs.Local.{end_of}
-use Rattle.std.proofs.Common.{length-set}
 use Rattle.sedmatch.proofs.StepLemmas.{least_none, least_four}
 use Rattle.sedmatch.proofs.PassLemmas.{parts_below, ascend_null, ascend_ended}
 use Rattle.sedmatch.proofs.passes.ascend.Goals as goal
 
-pub marks_here-here-requires-clause-null_inside : goal.marks_here-here-requires-clause-null_inside
-marks_here-here-requires-clause-null_inside c =
-    let is : slice_get c.args.expr.now.nodes c.loop-x.x ≡ Some c.look-node.result = cc in
-    parts_below _ c.look-node.ensures.arena _ _ is _ (omega arith)
-
-pub marks_here-here-requires-clause-ended_inside : goal.marks_here-here-requires-clause-ended_inside
-marks_here-here-requires-clause-ended_inside c =
+pub marks_here-here-requires : goal.marks_here-here-requires
+marks_here-here-requires c =
     let is : slice_get c.args.expr.now.nodes c.loop-x.x ≡ Some c.look-node.result = cc in
     parts_below _ c.look-node.ensures.arena _ _ is _ (omega arith)
 
 pub loop-x-init : goal.loop-x-init
 loop-x-init c = record {
-  marks = (omega arith, omega arith, omega arith);
   kept = refl;
   grows = omega arith;
   counts = least_none c.args.steps.now;
@@ -34,14 +27,11 @@ loop-x-preserved c =
     let x = c.loop-x.x in
     let arena = c.look-node.ensures.arena in
     let is : slice_get nodes x ≡ Some c.look-node.result = cc in
-    let null_len : length c.set.new.self ≡ length c.loop-x.sets.null = rw c.set.ensures.marks (simp length-set) in
-    let ended_len : length c.set-in-loop-x.new.self ≡ length c.loop-x.sets.ended = rw c.set-in-loop-x.ensures.marks (simp length-set) in
     let mark : c.get-before.result ≡ slice_index_or c.args.sets.now.entered x false =
     c.get-before.ensures.mark ∙ ap (λ l. slice_index_or l x false) c.loop-x.invariant.kept in
     let value : c.marks_here-here.result.1 ≡ end_of (slice_index_or c.args.sets.now.entered x false) c.args.byte (λ n. slice_index_or c.loop-x.sets.null n false) (λ n. slice_index_or c.loop-x.sets.ended n false) c.look-node.result =
     rw (← mark) c.marks_here-here.ensures.ended in
     record {
-      marks = (omega arith, omega arith, omega arith);
       kept = c.loop-x.invariant.kept;
       grows = omega arith;
       counts = least_four c.args.steps.now c.loop-x.steps c.get-before.new.steps c.look-node.new.steps c.marks_here-here.new.steps c.set.new.steps c.set-in-loop-x.new.steps (4 * x) (4 * (x + 1))

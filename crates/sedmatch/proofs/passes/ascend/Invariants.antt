@@ -1,7 +1,6 @@
 use Rattle.std.proofs.Common.{◌≡◌, ℕ, List, ◌+◌, ◌*◌, ◌<◌, ◌≤◌}
 use Rattle.sedre.specs.Arena.{IsArena}
 use Rattle.sedre.specs.Steps.{TakesAtLeast}
-use Rattle.sedmatch.specs.Fits.{SameMarks}
 use Rattle.sedmatch.specs.Reach.{Marked, Below, At, Ends, Entered}
 use Rattle.sedmatch.specs.Places.{IsPlace, ComesAfter}
 use Rattle.sedmatch.specs.declared.passes.Starts.{Starts}
@@ -9,7 +8,6 @@ use Rattle.sedmatch.proofs.passes.ascend.Given as goal
 
 abbrev pub invariant-loop-x : goal.invariant-loop-x
 invariant-loop-x l = record {
-  marks : SameMarks l.initial.sets l.sets;
   kept : l.sets.entered ≡ l.initial.sets.entered;
   grows : l.initial.steps ≤ l.steps;
   counts : TakesAtLeast l.initial.steps l.steps (4 * l.x);

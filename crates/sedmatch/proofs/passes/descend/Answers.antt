@@ -1,38 +1,25 @@
-use Rattle.std.proofs.Common.{◌≡◌, ◌+◌, ◌-◌, ◌≤◌, length, Some, refl, sym, subst, ap, ◌∙◌, arith, length-set}
+use Rattle.std.proofs.Common.{◌≡◌, ◌+◌, ◌-◌, ◌≤◌, Some, refl, sym, subst, ◌∙◌, arith}
 use Rattle.std.specs.Prelude.{slice_get, slice_index_or, false}
 use Rattle.sedmatch.specs.Reach.{SetsFrom}
 use Rattle.sedmatch.specs.Local.{enter_parts}
-use Rattle.sedmatch.proofs.PassLemmas.{parts_below, descend_root, descend_step, Told, Told-all, Told-self, length-enter_parts}
+use Rattle.sedmatch.proofs.PassLemmas.{parts_below, descend_root, descend_step, Told, Told-all, Told-self}
 use Rattle.sedmatch.proofs.OpenLemmas.{sets_above, sets_step}
 use Rattle.sedmatch.proofs.passes.descend.Goals as goal
 
 pub loop-x-init : goal.loop-x-init
 loop-x-init c =
-    let set_len : length c.set.new.self ≡ length c.args.sets.now.entered = rw c.set.ensures.marks (simp length-set) in
     record {
-      marks = (refl, refl, refl);
       kept_null = refl;
       kept_ended = refl;
       grows = omega arith;
       cost = omega arith;
       entered = λ w s place nulls ends begins before. descend_root c.args.expr.now.nodes c.args.root c.requires.arena w s place (c.args.root + 1) c.args.sets.now.entered c.set.new.self
           c.args.first (omega arith) (omega arith) c.set.ensures.marks begins before;
-      opens = λ w s place nulls ends begins before. sets_above c.args.expr.now.nodes w c.args.root s c.requires.arena c.requires.root place (c.args.root + 1) c.args.next (omega arith);
+      opens = λ w s place nulls ends begins before. sets_above c.args.expr.now.nodes w c.args.root s c.requires.arena c.requires.root.0 place (c.args.root + 1) c.args.next (omega arith);
     }
 
-pub mark_parts-more-requires-clause-null_inside : goal.mark_parts-more-requires-clause-null_inside
-mark_parts-more-requires-clause-null_inside c =
-    let is : slice_get c.args.expr.now.nodes (c.loop-x.x - 1) ≡ Some c.look-node.result = cc in
-    parts_below _ c.requires.arena _ _ is _ (omega arith)
-
-pub mark_parts-more-requires-clause-ended_inside : goal.mark_parts-more-requires-clause-ended_inside
-mark_parts-more-requires-clause-ended_inside c =
-    let is : slice_get c.args.expr.now.nodes (c.loop-x.x - 1) ≡ Some c.look-node.result = cc in
-    parts_below _ c.requires.arena _ _ is _ (omega arith)
-
-pub mark_parts-more-requires-clause-entered_inside : goal.mark_parts-more-requires-clause-entered_inside
-mark_parts-more-requires-clause-entered_inside c =
-    let set_len : length c.set.new.self ≡ length c.args.sets.now.entered = rw c.set.ensures.marks (simp length-set) in
+pub mark_parts-more-requires : goal.mark_parts-more-requires
+mark_parts-more-requires c =
     let is : slice_get c.args.expr.now.nodes (c.loop-x.x - 1) ≡ Some c.look-node.result = cc in
     parts_below _ c.requires.arena _ _ is _ (omega arith)
 
@@ -44,23 +31,19 @@ loop-x-preserved c =
     let x = c.loop-x.x - 1 in
     let node = c.look-node.result in
     let is : slice_get nodes x ≡ Some node = cc in
-    let set_len : length c.set.new.self ≡ length c.args.sets.now.entered = rw c.set.ensures.marks (simp length-set) in
     let value : c.mark_parts-more.new.entered ≡ enter_parts (slice_index_or c.loop-x.sets.entered x false) (λ n. slice_index_or null n false) (λ n. slice_index_or ended n false) node c.loop-x.sets.entered =
     rw (← c.get-here.ensures.mark, ← c.loop-x.invariant.kept_null, ← c.loop-x.invariant.kept_ended) c.mark_parts-more.ensures.value in
-    let kept : length c.mark_parts-more.new.entered ≡ length c.loop-x.sets.entered =
-    ap length c.mark_parts-more.ensures.value ∙ length-enter_parts _ _ _ node c.loop-x.sets.entered in
     let above : c.loop-x.x ≡ x + 1 = omega arith in
     record {
-      marks = (omega arith, omega arith, omega arith);
       kept_null = c.loop-x.invariant.kept_null;
       kept_ended = c.loop-x.invariant.kept_ended;
       grows = omega arith;
       cost = omega arith;
-      entered = λ w s place nulls ends begins before. descend_step nodes c.args.root c.requires.arena w s place x c.loop-x.x node above (omega arith) c.requires.root is
+      entered = λ w s place nulls ends begins before. descend_step nodes c.args.root c.requires.arena w s place x c.loop-x.x node above (omega arith) c.requires.root.0 is
           null ended c.loop-x.sets.entered c.mark_parts-more.new.entered (omega arith) value nulls ends (c.loop-x.invariant.entered w s place nulls ends begins before);
       opens = λ w s place nulls ends begins before.
           let le : x ≤ c.args.root = omega arith in
-          let told : Told nodes c.args.root c.loop-x.x x = subst (λ n. Told nodes c.args.root n x) (sym above) (Told-self nodes c.args.root c.requires.arena c.requires.root x le) in
+          let told : Told nodes c.args.root c.loop-x.x x = subst (λ n. Told nodes c.args.root n x) (sym above) (Told-self nodes c.args.root c.requires.arena c.requires.root.0 x le) in
           let mark = c.loop-x.invariant.entered w s place nulls ends begins before x (le, told) in
           sets_step nodes w c.args.root s place x c.loop-x.x c.args.next node above is c.loop-x.more c.mark_parts-more.result c.get-here.result c.mark_parts-more.ensures.opens
           (λ h. mark.0 (sym c.get-here.ensures.mark ∙ h), λ h. c.get-here.ensures.mark ∙ mark.1 h)
@@ -71,7 +54,7 @@ pub returns-clause-entered : goal.returns-clause-entered
 returns-clause-entered c w s place nulls ends begins before n below =
     let zero : c.loop-x.x ≡ 0 = omega arith in
     let le : n ≤ c.args.root = omega arith in
-    let told : Told c.args.expr.now.nodes c.args.root c.loop-x.x n = rw zero (Told-all c.args.expr.now.nodes c.args.root c.requires.arena c.requires.root n le) in
+    let told : Told c.args.expr.now.nodes c.args.root c.loop-x.x n = rw zero (Told-all c.args.expr.now.nodes c.args.root c.requires.arena c.requires.root.0 n le) in
     c.loop-x.invariant.entered w s place nulls ends begins before n (le, told)
 
 pub returns-clause-opens : goal.returns-clause-opens

@@ -1,5 +1,4 @@
 use Rattle.std.proofs.Common.{◌≡◌, ℕ, ◌+◌, ◌*◌, ◌≤◌, ◌↔◌, List, IsTrue}
-use Rattle.sedmatch.specs.Fits.{SameMarks}
 use Rattle.sedmatch.specs.Reach.{Marked, Below, At, IsStart, Ends, Enters, Entered, SetsFrom}
 use Rattle.sedmatch.specs.declared.passes.Starts.{Starts}
 use Rattle.sedmatch.proofs.PassLemmas.{Told}
@@ -7,7 +6,6 @@ use Rattle.sedmatch.proofs.passes.descend.Given as goal
 
 abbrev pub invariant-loop-x : goal.invariant-loop-x
 invariant-loop-x l = record {
-  marks : SameMarks l.initial.sets l.sets;
   kept_null : l.sets.null ≡ l.fn.sets.null;
   kept_ended : l.sets.ended ≡ l.fn.sets.ended;
   grows : l.initial.steps ≤ l.steps;

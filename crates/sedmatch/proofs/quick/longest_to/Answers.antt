@@ -22,7 +22,6 @@ loop-next-init c =
     record {
       table = c.first_state-next.ensures.table;
       sweeps = c.first_state-next.ensures.sweeps ∙ c.requires.table.1;
-      marks = c.first_state-next.ensures.marks;
       after = omega arith;
       within = c.requires.order.0;
       next = next_map (IsFirst nodes c.args.root (eqb start 0)) (IsAt nodes w c.args.root (one_start start) start) c.first_state-next.new.table c.first_state-next.new.sets.entered c.first_state-next.result
@@ -51,9 +50,9 @@ returns-then-place-stop-clause-longest c =
     let same = c.index-ends.ensures ∙ default_same T.ends.items state ends (record { inner = false; last = false; goes = false }) (omega (arith, there.0, ends_there, rows_there)) in
     let at : IsAt nodes w r (one_start start) place (row_of T.rows state) ends = subst (λ v. IsAt nodes w r (one_start start) place (row_of T.rows state) v) (sym same) there.1 in
     let same_place : place ≡ c.args.stop = omega arith in
-    let tells = c.ends_at.ensures.here nodes w r (one_start start) (row_of T.rows state) c.len.ensures (omega arith) at in
+    let tells = c.ends_at.ensures.here nodes w r (one_start start) (row_of T.rows state) c.len.ensures.is (omega arith) at in
     subst (λ p. LongestBelow e w start (p + 1) c.better.result) same_place
-    (c.better.ensures.longest e w start (one_span nodes w r start c.requires.root place c.ends_at.result tells) c.loop-next.invariant.longest)
+    (c.better.ensures.longest e w start (one_span nodes w r start c.requires.root.0 place c.ends_at.result tells) c.loop-next.invariant.longest)
 
 pub returns-then-not-ends-clause-longest : goal.returns-then-not-ends-clause-longest
 returns-then-not-ends-clause-longest c =
@@ -73,9 +72,9 @@ returns-then-not-ends-clause-longest c =
     let same = c.index-ends.ensures ∙ default_same T.ends.items state ends (record { inner = false; last = false; goes = false }) (omega (arith, there.0, ends_there, rows_there)) in
     let at : IsAt nodes w r (one_start start) place (row_of T.rows state) ends = subst (λ v. IsAt nodes w r (one_start start) place (row_of T.rows state) v) (sym same) there.1 in
     let best : LongestBelow e w start (place + 1) c.better-best.result =
-    c.better-best.ensures.longest e w start (one_span nodes w r start c.requires.root place ends.inner (at.inner (omega arith))) c.loop-next.invariant.longest in
+    c.better-best.ensures.longest e w start (one_span nodes w r start c.requires.root.0 place ends.inner (at.inner (omega arith))) c.loop-next.invariant.longest in
     pass_best e w start (place + 1) (c.args.stop + 1) c.better-best.result
-    (λ p late less s. closed nodes w r start c.requires.root place ends.goes c.loop-next.invariant.after (not-true ends.goes c.if-not-ends.true) (at.goes (omega arith)) p late s) best
+    (λ p late less s. closed nodes w r start c.requires.root.0 place ends.goes c.loop-next.invariant.after (not-true ends.goes c.if-not-ends.true) (at.goes (omega arith)) p late s) best
 
 pub follow_best-to-requires-clause-at : goal.follow_best-to-requires-clause-at
 follow_best-to-requires-clause-at c =
@@ -127,7 +126,7 @@ follow_best-to-requires-clause-best c =
     let ends = c.index-ends.result.now in
     let same = c.index-ends.ensures ∙ default_same T.ends.items state ends (record { inner = false; last = false; goes = false }) (omega (arith, there.0, c.loop-next.invariant.table.ends_there, c.loop-next.invariant.table.rows_there)) in
     let at : IsAt nodes w r (one_start start) place (row_of T.rows state) ends = subst (λ v. IsAt nodes w r (one_start start) place (row_of T.rows state) v) (sym same) there.1 in (
-      c.better-best.ensures.longest e w start (one_span nodes w r start c.requires.root place ends.inner (at.inner (omega arith))) c.loop-next.invariant.longest,
+      c.better-best.ensures.longest e w start (one_span nodes w r start c.requires.root.0 place ends.inner (at.inner (omega arith))) c.loop-next.invariant.longest,
       c.better-best.ensures.lies start c.args.stop c.loop-next.invariant.after c.loop-next.invariant.within c.loop-next.invariant.lies,
     )
 
@@ -147,9 +146,9 @@ returns-then-to-stop-clause-longest c =
     let at_last : IsAt nodes w r (one_start start) to.place (row_of T.rows to.state) last = subst (λ v. IsAt nodes w r (one_start start) to.place (row_of T.rows to.state) v) (sym same_last) c.follow_best-to.ensures.passed.at in
     let within : to.place ≤ length w = omega (arith, c.follow_best-to.ensures.passed.within) in
     let same_place : to.place ≡ c.args.stop = omega (arith, c.follow_best-to.ensures.passed.within) in
-    let tells = c.ends_at-there.ensures.here nodes w r (one_start start) (row_of T.rows to.state) c.len-then-to-stop.ensures (omega (arith, within, c.len-then-to-stop.ensures)) at_last in
+    let tells = c.ends_at-there.ensures.here nodes w r (one_start start) (row_of T.rows to.state) c.len-then-to-stop.ensures.is (omega (arith, within, c.len-then-to-stop.ensures.is)) at_last in
     subst (λ p. LongestBelow e w start (p + 1) c.better-then-to-stop.result) same_place
-    (c.better-then-to-stop.ensures.longest e w start (one_span nodes w r start c.requires.root to.place c.ends_at-there.result tells) c.follow_best-to.ensures.passed.best)
+    (c.better-then-to-stop.ensures.longest e w start (one_span nodes w r start c.requires.root.0 to.place c.ends_at-there.result tells) c.follow_best-to.ensures.passed.best)
 
 pub loop-next-preserved : goal.loop-next-preserved
 loop-next-preserved c =
@@ -166,7 +165,6 @@ loop-next-preserved c =
     record {
       table = c.go-next.ensures.table;
       sweeps = c.go-next.ensures.sweeps ∙ c.loop-next.invariant.sweeps;
-      marks = (omega arith, omega arith, omega arith);
       after = omega arith;
       within = omega arith;
       next = next_map (LeadsFrom nodes r T to.state c.byte-byte.result) (IsAt nodes w r (one_start start) (to.place + 1)) G c.go-next.new.sets.entered c.go-next.result

@@ -1,6 +1,5 @@
 use Rattle.std.proofs.Common.{◌≡◌, ◌+◌, ◌-◌, ◌*◌, ◌≤◌, false, IfSome, length}
 use Rattle.sedre.specs.Arena.{tree}
-use Rattle.sedmatch.specs.Fits.{SameMarks}
 use Rattle.sedmatch.specs.Reach.{one_start, LongestBelow}
 use Rattle.sedmatch.specs.States.{IsAt}
 use Rattle.sedmatch.specs.Tables.{IsTable, NextIs}
@@ -10,7 +9,6 @@ abbrev pub invariant-loop-next : goal.invariant-loop-next
 invariant-loop-next l = record {
   table : IsTable l.expr.nodes l.root l.table;
   sweeps : l.table.sweeps ≡ false;
-  marks : SameMarks l.fn.sets l.sets;
   after : l.start ≤ l.place;
   within : l.place ≤ l.stop;
   next : NextIs (IsAt l.expr.nodes l.text l.root (one_start l.start) l.place) l.table l.sets.entered l.next;

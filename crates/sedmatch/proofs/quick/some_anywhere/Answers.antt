@@ -16,7 +16,7 @@ returns-in_default-clause-matches c =
     let first = c.first_end_in.result in
     some_before (tree c.args.expr.now) c.args.text.now c.args.from c.in-Some.start sought.2 c.is_some.result sought.0
     (subst (λ b. IsTrue b ↔ SomeFound (tree c.args.expr.now) c.args.text.now c.in-Some.start) (sym c.is_some.ensures)
-    (first_tells c.args.expr.now.nodes c.args.text.now c.args.root c.in-Some.start c.requires.root c.first_end_in.new.sets.entered first c.first_end_in.ensures.first))
+    (first_tells c.args.expr.now.nodes c.args.text.now c.args.root c.in-Some.start c.requires.root.0 c.first_end_in.new.sets.entered first c.first_end_in.ensures.first))
 
 pub returns-in_default-clause-cost : goal.returns-in_default-clause-cost
 returns-in_default-clause-cost c =

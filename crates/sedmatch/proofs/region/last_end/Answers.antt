@@ -8,7 +8,6 @@ use Rattle.sedmatch.proofs.region.last_end.Goals.{then-here, else-here}
 
 pub loop-place-init : goal.loop-place-init
 loop-place-init c = record {
-  marks = (refl, refl, refl);
   grows = omega arith;
   cost = omega arith;
   entered = none_entered c.args.nodes.now.nodes c.args.bytes.now c.index-root.result (starts_to c.args.first c.len.result) c.clear.new.self c.args.first refl (λ n below. c.clear.ensures.clear n (omega arith));
@@ -22,15 +21,14 @@ loop-place-preserved c =
     let root = c.index-root.result in
     let place = c.loop-place.place in
     record {
-      marks = (omega arith, omega arith, omega arith);
       grows = omega arith;
       cost = omega arith;
       entered = next_entered nodes w root (starts_to c.args.first c.len.result) c.advance-here.new.sets.entered place c.advance-here.ensures.entered;
       last = elim c.if-here.branch [
         | then-here b ↦ subst (λ v. LastEnd (tree c.args.nodes.now) w c.args.first (place + 1) v) (sym b.best-is)
-            (LastEnd-hit nodes w root (omega arith) c.args.first c.len.result place c.len.ensures (omega arith) (c.advance-here.ensures.spans.0 b.if-here.true))
+            (LastEnd-hit nodes w root (omega arith) c.args.first c.len.result place c.len.ensures.is (omega arith) (c.advance-here.ensures.spans.0 b.if-here.true))
         | else-here b ↦ subst (λ v. LastEnd (tree c.args.nodes.now) w c.args.first (place + 1) v) (sym b.best-is)
-            (LastEnd-miss nodes w root (omega arith) c.args.first c.len.result place c.len.ensures (omega arith) c.advance-here.result.matched b.if-here.false c.advance-here.ensures.spans
+            (LastEnd-miss nodes w root (omega arith) c.args.first c.len.result place c.len.ensures.is (omega arith) c.advance-here.result.matched b.if-here.false c.advance-here.ensures.spans
             c.loop-place.best c.loop-place.invariant.last)
       ];
     }

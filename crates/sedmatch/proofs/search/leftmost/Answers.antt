@@ -2,7 +2,7 @@ use Rattle.std.proofs.Common.{◌+◌, None, length, arith}
 use Rattle.sedre.specs.Arena.{tree}
 use Rattle.sedmatch.specs.Search.{NoneIn}
 use Rattle.sedmatch.specs.Reach.{Longest}
-use Rattle.sedmatch.proofs.CostLemmas.{whole_cost}
+use Rattle.sedmatch.proofs.CostLemmas.{whole_cost, square_cost}
 use Rattle.sedmatch.proofs.NarrowLemmas.{answer_later, there_answer}
 use Rattle.sedmatch.proofs.SweepLemmas.{none_at, none_join}
 use Rattle.sedmatch.proofs.search.leftmost.Goals as goal
@@ -26,3 +26,12 @@ returns-clause-cost c =
     c.next_place.new.steps c.longest_from.new.steps c.scan.new.steps c.span_in.new.steps c.in-Some-scan.ensures.scanned.0
     c.how_begins-begins.ensures.cost.1 c.in-Some.ensures.cost.1 (omega arith) c.scan.ensures.cost.1 (omega (arith, c.span_in.ensures.cost.1)) in
     (omega arith, cost)
+
+pub returns-clause-short_cost : goal.returns-clause-short_cost
+returns-clause-short_cost c =
+    let m = length c.args.expr.now.nodes in
+    let n = length c.args.text.now in
+    square_cost m n c.args.steps.now c.span_in.new.steps (omega arith)
+    (whole_cost m n c.args.from c.in-Some.start c.in-Some-scan.region.start c.args.steps.now c.how_begins-begins.new.steps
+    c.next_place.new.steps c.longest_from.new.steps c.scan.new.steps c.span_in.new.steps c.in-Some-scan.ensures.scanned.0
+    c.how_begins-begins.ensures.cost.1 c.in-Some.ensures.cost.1 (omega arith) c.scan.ensures.cost.1 (omega (arith, c.span_in.ensures.cost.1)))

@@ -6,7 +6,6 @@ use Rattle.sedmatch.proofs.search.longest_at.Goals as goal
 
 pub loop-place-init : goal.loop-place-init
 loop-place-init c = record {
-  marks = (refl, refl, refl);
   grows = omega arith;
   cost = omega arith;
   entered = none_entered c.args.expr.now.nodes c.args.text.now c.index-root.result (one_start c.args.start) c.clear.new.self c.args.start refl (λ n below. c.clear.ensures.clear n (omega arith));

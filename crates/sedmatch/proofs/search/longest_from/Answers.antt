@@ -22,7 +22,6 @@ returns-in-To-look_far c =
     let e = tree c.args.expr.now in
     let w = c.args.text.now in
     let far : EndsFar (length w) (Spans e w c.args.start) (FarTo c.in-To-look_far.end) = c.in-To-look_far.ensures.far in record {
-      marks = (refl, refl, refl);
       longest = (far.1, far.2);
       lies = (Spans-forward e w c.args.start c.in-To-look_far.end far.1, far.0);
       cost =

@@ -1,4 +1,4 @@
-use Rattle.std.proofs.Common.{◌≡◌, ◌+◌, ◌*◌, length, refl, ap, subst, arith}
+use Rattle.std.proofs.Common.{◌≡◌, ◌+◌, ◌*◌, length, ap, subst, arith}
 use Rattle.sedre.specs.Arena.{tree}
 use Rattle.sedmatch.specs.Reach.{one_start, LongestBelow}
 use Rattle.sedmatch.proofs.SearchLemmas.{next_entered}
@@ -11,8 +11,8 @@ returns-then-place-stop-clause-longest c =
     let nodes = c.args.expr.now.nodes in
     let w = c.args.text.now in
     let same : c.args.place ≡ c.args.stop = omega arith in
-    let tells = one_span nodes w c.args.root c.args.start c.requires.root c.args.place c.ends_at-here.result
-    (c.ends_at-here.ensures.here nodes w c.args.root (one_start c.args.start) c.args.sets.now.entered c.len.ensures (omega arith) c.requires.at) in
+    let tells = one_span nodes w c.args.root c.args.start c.requires.root.0 c.args.place c.ends_at-here.result
+    (c.ends_at-here.ensures.here nodes w c.args.root (one_start c.args.start) c.args.sets.now.entered c.len.ensures.is (omega arith) c.requires.at) in
     subst (λ p. LongestBelow e w c.args.start (p + 1) c.better-best.result) same (c.better-best.ensures.longest e w c.args.start tells c.requires.best.0)
 
 pub returns-then-place-stop-clause-lies : goal.returns-then-place-stop-clause-lies
@@ -23,10 +23,9 @@ loop-at-init c =
     let e = tree c.args.expr.now in
     let nodes = c.args.expr.now.nodes in
     let w = c.args.text.now in
-    let tells = one_span nodes w c.args.root c.args.start c.requires.root c.args.place c.ends_at-here.result
-    (c.ends_at-here.ensures.here nodes w c.args.root (one_start c.args.start) c.args.sets.now.entered c.len.ensures (omega arith) c.requires.at) in
+    let tells = one_span nodes w c.args.root c.args.start c.requires.root.0 c.args.place c.ends_at-here.result
+    (c.ends_at-here.ensures.here nodes w c.args.root (one_start c.args.start) c.args.sets.now.entered c.len.ensures.is (omega arith) c.requires.at) in
     record {
-      marks = (refl, refl, refl);
       grows = omega arith;
       cost = omega arith;
       entered = next_entered nodes w c.args.root (one_start c.args.start) c.args.sets.now.entered c.args.place (c.requires.at.begun (omega arith));
@@ -40,11 +39,10 @@ loop-at-preserved c =
     let nodes = c.args.expr.now.nodes in
     let w = c.args.text.now in
     record {
-      marks = (omega arith, omega arith, omega arith);
       grows = omega arith;
       cost = omega arith;
       entered = next_entered nodes w c.args.root (one_start c.args.start) c.advance_seen-here.new.sets.entered c.loop-at.at c.advance_seen-here.ensures.entered;
-      longest = c.better-best-in-loop-at.ensures.longest e w c.args.start (at_whole nodes w c.args.root c.args.start c.requires.root c.loop-at.at c.advance_seen-here.result.matched c.advance_seen-here.ensures.spans) c.loop-at.invariant.longest;
+      longest = c.better-best-in-loop-at.ensures.longest e w c.args.start (at_whole nodes w c.args.root c.args.start c.requires.root.0 c.loop-at.at c.advance_seen-here.result.matched c.advance_seen-here.ensures.spans) c.loop-at.invariant.longest;
       lies = c.better-best-in-loop-at.ensures.lies c.args.start c.args.stop (omega arith) (omega arith) c.loop-at.invariant.lies;
     }
 

@@ -1,12 +1,10 @@
 use Rattle.std.proofs.Common.{◌+◌, ◌*◌, ◌≤◌, IfSome, length}
 use Rattle.sedre.specs.Arena.{tree}
-use Rattle.sedmatch.specs.Fits.{SameMarks}
 use Rattle.sedmatch.specs.Reach.{TellEntered, one_start, LongestBelow}
 use Rattle.sedmatch.proofs.search.longest_on.Given as goal
 
 abbrev pub invariant-loop-at : goal.invariant-loop-at
 invariant-loop-at l = record {
-  marks : SameMarks l.initial.sets l.sets;
   grows : l.initial.steps ≤ l.steps;
   cost : l.steps + 20 * length l.expr.nodes * (l.place + 1) ≤ l.initial.steps + 20 * length l.expr.nodes * l.at;
   entered : TellEntered l.expr.nodes l.text l.root (one_start l.start) l.at l.sets.entered;

@@ -32,7 +32,6 @@ loop-start-preserved c =
     let missed = none_join e w c.args.from c.loop-start.at (c.in-Miss.stop + 1) c.loop-start.invariant.missed
     (none_join e w c.loop-start.at c.in-Some.start (c.in-Miss.stop + 1) next.2 swept.2) in
     record {
-      marks = (omega arith, omega arith, omega arith);
       grows = omega arith;
       after = omega (arith, next.0, swept.0);
       within = omega arith;

@@ -8,20 +8,18 @@ use Rattle.sedmatch.proofs.search.sweep.Goals as goal
 
 pub loop-place-init : goal.loop-place-init
 loop-place-init c = record {
-  marks = (refl, refl, refl);
   grows = omega arith;
   cost = omega arith;
   entered = none_entered c.args.expr.now.nodes c.args.text.now c.index-root.result (record { first = c.args.start; last = c.len.result }) c.clear.new.self c.args.start refl (λ n below. c.clear.ensures.clear n (omega arith));
-  missed = missed_init c.args.expr.now.nodes c.args.text.now c.index-root.result c.args.start c.len.result (omega arith) c.len.ensures;
+  missed = missed_init c.args.expr.now.nodes c.args.text.now c.index-root.result c.args.start c.len.result (omega arith) c.len.ensures.is;
 }
 
 pub loop-place-preserved : goal.loop-place-preserved
 loop-place-preserved c = record {
-  marks = (omega arith, omega arith, omega arith);
   grows = omega arith;
   cost = omega arith;
   entered = next_entered c.args.expr.now.nodes c.args.text.now c.index-root.result (record { first = c.args.start; last = c.len.result }) c.advance_forwards-here.new.sets.entered c.loop-place.place c.advance_forwards-here.ensures.entered;
-  missed = missed_step c.args.expr.now.nodes c.args.text.now c.index-root.result c.args.start c.len.result (omega arith) c.len.ensures
+  missed = missed_step c.args.expr.now.nodes c.args.text.now c.index-root.result c.args.start c.len.result (omega arith) c.len.ensures.is
       c.loop-place.place (omega arith) c.advance_forwards-here.result.matched c.if-here.false c.advance_forwards-here.ensures.spans c.loop-place.invariant.missed;
 }
 
@@ -31,9 +29,9 @@ returns-then-not-here-clause-swept c =
     let w = c.args.text.now in (
       omega arith,
       omega arith,
-      missed_closed nodes w c.index-root.result c.args.start c.len.result (omega arith) c.len.ensures
+      missed_closed nodes w c.index-root.result c.args.start c.len.result (omega arith) c.len.ensures.is
           c.loop-place.place (omega arith) c.advance_forwards-here.result.more (not-true c.advance_forwards-here.result.more c.if-not-here.true) c.advance_forwards-here.ensures.opens
-          (missed_step nodes w c.index-root.result c.args.start c.len.result (omega arith) c.len.ensures
+          (missed_step nodes w c.index-root.result c.args.start c.len.result (omega arith) c.len.ensures.is
           c.loop-place.place (omega arith) c.advance_forwards-here.result.matched c.if-here.false c.advance_forwards-here.ensures.spans c.loop-place.invariant.missed),
     )
 
@@ -42,7 +40,7 @@ returns-clause-swept c =
     let place : c.loop-place.place ≡ c.len.result + 1 = omega arith in
     let same : c.len.result ≡ c.len-2.result = omega arith in
     let none : NoneIn (tree c.args.expr.now) c.args.text.now c.args.start (c.len.result + 1) =
-    missed_end c.args.expr.now.nodes c.args.text.now c.index-root.result c.args.start c.len.result (omega arith) c.len.ensures
+    missed_end c.args.expr.now.nodes c.args.text.now c.index-root.result c.args.start c.len.result (omega arith) c.len.ensures.is
     (λ i k from before. c.loop-place.invariant.missed i k from (omega arith)) in (
       omega arith,
       omega arith,

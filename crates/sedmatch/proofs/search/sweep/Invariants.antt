@@ -1,11 +1,9 @@
 use Rattle.std.proofs.Common.{ℕ, ◌+◌, ◌*◌, ◌<◌, ◌≤◌, length}
-use Rattle.sedmatch.specs.Fits.{SameMarks}
 use Rattle.sedmatch.specs.Reach.{Marked, Below, At, Entered}
 use Rattle.sedmatch.proofs.search.sweep.Given as goal
 
 abbrev pub invariant-loop-place : goal.invariant-loop-place
 invariant-loop-place l = record {
-  marks : SameMarks l.initial.sets l.sets;
   grows : l.initial.steps ≤ l.steps;
   cost : l.steps + 20 * length l.expr.nodes * l.start ≤ l.initial.steps + 20 * length l.expr.nodes * l.place;
   entered : Marked l.sets.entered (Below (l.root + 1)) (λ c. Entered l.expr.nodes l.text l.root l.starts c l.place);

@@ -1,4 +1,4 @@
-use Rattle.std.proofs.Common.{◌+◌, sym, subst, arith}
+use Rattle.std.proofs.Common.{sym, subst, arith}
 use Rattle.sedmatch.specs.Sight.{CanStart, EndsAt}
 use Rattle.sedmatch.proofs.SightLemmas.{end_one, end_run, end_led, end_times, end_word}
 use Rattle.sedmatch.proofs.sight.sight_end.Goals as goal
@@ -7,7 +7,7 @@ pub returns-in-Led-clause-end : goal.returns-in-Led-clause-end
 returns-in-Led-clause-end c =
     let can = subst (λ s. CanStart s c.args.text.now c.args.start) c.in-Led.is c.requires.can in
     subst (λ s. EndsAt s c.args.text.now c.args.start c.run_end.result) (sym c.in-Led.is)
-    (end_led c.in-Led.field-0 c.in-Led.members c.args.text.now c.args.start c.run_end.result can c.run_end.ensures.run)
+    (end_led c.in-Led.field-0 c.in-Led.members c.args.text.now c.args.start c.run_end.result can (rw c.after-in-Led.ensures at c.run_end.ensures.run))
 
 pub returns-in-Run-clause-end : goal.returns-in-Run-clause-end
 returns-in-Run-clause-end c =
@@ -17,11 +17,11 @@ returns-in-Run-clause-end c =
 pub returns-in-One-clause-end : goal.returns-in-One-clause-end
 returns-in-One-clause-end c =
     let can = subst (λ s. CanStart s c.args.text.now c.args.start) c.in-One.is c.requires.can in
-    subst (λ s. EndsAt s c.args.text.now c.args.start (c.args.start + 1)) (sym c.in-One.is)
-    (end_one c.in-One.field-0 c.args.text.now c.args.start can)
+    subst (λ s. EndsAt s c.args.text.now c.args.start c.after.result) (sym c.in-One.is)
+    (rw c.after.ensures (end_one c.in-One.field-0 c.args.text.now c.args.start can))
 
-pub overflow_add-result-in-Times : goal.overflow_add-result-in-Times
-overflow_add-result-in-Times c =
+pub after-requires-in-Times : goal.after-requires-in-Times
+after-requires-in-Times c =
     let can = subst (λ s. CanStart s c.args.text.now c.args.start) c.in-Times.is c.requires.can in
     let end = end_times c.in-Times.field-0 c.in-Times.count c.args.text.now c.args.start c.requires.start can in
     omega (arith, end.1)
@@ -29,8 +29,8 @@ overflow_add-result-in-Times c =
 pub returns-in-Times-clause-end : goal.returns-in-Times-clause-end
 returns-in-Times-clause-end c =
     let can = subst (λ s. CanStart s c.args.text.now c.args.start) c.in-Times.is c.requires.can in
-    subst (λ s. EndsAt s c.args.text.now c.args.start (c.args.start + c.in-Times.count)) (sym c.in-Times.is)
-    (end_times c.in-Times.field-0 c.in-Times.count c.args.text.now c.args.start c.requires.start can)
+    subst (λ s. EndsAt s c.args.text.now c.args.start c.after-in-Times.result) (sym c.in-Times.is)
+    (rw c.after-in-Times.ensures (end_times c.in-Times.field-0 c.in-Times.count c.args.text.now c.args.start c.requires.start can))
 
 pub returns-in-Between-clause-end : goal.returns-in-Between-clause-end
 returns-in-Between-clause-end c =
@@ -57,7 +57,7 @@ returns-in-Trail-clause-end c =
 
 pub end-requires-in-Choice : goal.end-requires-in-Choice
 end-requires-in-Choice c =
-    record { can = subst (λ s. CanStart s c.args.text.now c.args.start) c.in-Choice.is c.requires.can; short = omega arith }
+    record { can = subst (λ s. CanStart s c.args.text.now c.args.start) c.in-Choice.is c.requires.can }
 
 pub returns-in-Choice-clause-end : goal.returns-in-Choice-clause-end
 returns-in-Choice-clause-end c =

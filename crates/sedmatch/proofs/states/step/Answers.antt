@@ -33,7 +33,7 @@ returns-clause-state c w s place begins firsts comes enters =
     λ lt. c.descend.ensures.entered w s place (c.ascend-2.ensures.null w place (inside lt)) (ends lt) firsts (subst (λ l. TellEntered nodes w r s place l) kept3 enters) in
     record {
       begun = begun;
-      goes = λ lt. open_from_sets nodes w r s arena c.requires.root place (slice_get w place) c.any_set-goes.result refl
+      goes = λ lt. open_from_sets nodes w r s arena c.requires.root.0 place (slice_get w place) c.any_set-goes.result refl
           (open_sets nodes w r s place c.descend.new.sets.entered (slice_get w place) c.any_set-goes.result (begun lt) c.any_set-goes.ensures.sets arena);
       inner = λ lt. root_spans nodes w r s arena place c.ascend-2.new.sets.null c.ascend-2.new.sets.ended c.args.first c.ends_here-inner.result c.ends_here-inner.ensures.value firsts
           (c.ascend-2.ensures.null w place (inside lt)) (ends lt);

@@ -57,7 +57,7 @@ pub finish-requires : goal.finish-requires
 finish-requires c =
     let s : State = c.items.invariant.state.0 in
     let none : s.below ≡ [] = no_length s.below (omega (arith, represents_count (c.args.max_nodes + 1) c.items.builder s c.items.invariant.state.1)) in
-    (c.args.max_nodes + 1, s, c.items.invariant.state.1, none, reads_numbered c.args.kind c.args.folded c.args.delimiter c.args.text.now (reading_whole c.args.kind c.args.folded c.args.delimiter c.args.text.now c.items.invariant.state.2 (sym c.item_at.ensures.item ∙ c.in-Ends.is) none))
+    (c.args.max_nodes + 1, s, c.items.invariant.state.1, none, reads_numbered c.args.kind c.args.folded c.args.delimiter c.args.text.now (reading_whole c.args.kind c.args.folded c.args.delimiter c.args.text.now c.items.invariant.state.2 (sym c.item_at.ensures.item ∙ c.in-Ends.is) none), omega arith)
 
 pub returns-in-Ends-clause-reads : goal.returns-in-Ends-clause-reads
 returns-in-Ends-clause-reads c =

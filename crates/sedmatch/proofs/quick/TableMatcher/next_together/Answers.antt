@@ -5,16 +5,14 @@ use Rattle.sedmatch.specs.Occurrences.{owed_after, owed_together}
 use Rattle.sedmatch.proofs.OccurrenceLemmas.{search_paid, after_is_met}
 use Rattle.sedmatch.proofs.quick.TableMatcher.next_together.Goals as goal
 
-pub next_after-requires-clause-fits : goal.next_after-requires-clause-fits
-next_after-requires-clause-fits c = (
-  search rules,
-  subst (λ v. HasBackPass (length c.args.text.now) (length v.nodes) c.see_met.new.occurrences.back_pass) (sym c.self.view_is)
-      (c.see_met.ensures.kept (length c.args.text.now) (length c.args.self.now.nodes) c.requires.room_fits),
-)
+pub next_after-requires-clause-room : goal.next_after-requires-clause-room
+next_after-requires-clause-room c =
+    subst (λ v. HasBackPass (length c.args.text.now) (length v.nodes) c.see_met.new.occurrences.back_pass) (sym c.self.view_is)
+    (c.see_met.ensures.kept (length c.args.text.now) (length c.args.self.now.nodes) c.requires.room_fits)
 
 pub returns-clause-keeps : goal.returns-clause-keeps
 returns-clause-keeps c = (
-  (λ text nodes has. c.next_after.ensures.kept.1 text nodes (c.see_met.ensures.kept text nodes has)),
+  (λ text nodes has. c.next_after.ensures.kept text nodes (c.see_met.ensures.kept text nodes has)),
   search rules,
   search rules,
 )

@@ -7,8 +7,8 @@ returns-then-holds-clause-first c =
     rare_some c.args.self.now c.args.text.now c.args.from c.loop-start.place c.loop-start.invariant.missed
     c.in-Some.start c.loop-start.invariant.after c.in-Some.ensures.first (c.holds.ensures.holds.0 c.if-holds.true)
 
-pub overflow_add-place : goal.overflow_add-place
-overflow_add-place c =
+pub after-place-requires : goal.after-place-requires
+after-place-requires c =
     let inside = fixed_inside c.args.self.now.sought c.args.text.now c.in-Some.start c.in-Some.ensures.first.1 in
     omega (arith, inside)
 
@@ -21,8 +21,8 @@ loop-start-preserved c =
       after = omega (arith, first.0);
       within = omega (arith, inside);
       cost = omega (arith, first.0, c.in-Some.ensures.cost.1);
-      missed = rare_lacks c.args.self.now c.args.text.now c.args.from c.loop-start.place c.loop-start.invariant.missed
-          c.in-Some.start first (λ held. true≢false (sym (c.holds.ensures.holds.1 held) ∙ c.if-holds.false));
+      missed = rw c.after-place.ensures (rare_lacks c.args.self.now c.args.text.now c.args.from c.loop-start.place c.loop-start.invariant.missed
+          c.in-Some.start first (λ held. true≢false (sym (c.holds.ensures.holds.1 held) ∙ c.if-holds.false)));
     }
 
 pub returns-clause-first : goal.returns-clause-first

@@ -1,7 +1,7 @@
 use Rattle.std.proofs.Common.{◌≡◌, ◌+◌, ◌*◌, ◌≤◌, ◌∙◌, false, length, ap, ⊎_elim, arith}
 use Rattle.std.specs.Prelude.{slice_index_or}
 use Rattle.sedmatch.proofs.WordLemmas.{length-marks_of, length-rows_of, length-row, rows_of-get, rows_seen, row_seen, marks_seen, words_there, row_agrees, row_kept, row_apart}
-use Rattle.sedmatch.proofs.counted.rows.Rows.store.Goals as goal
+use Rattle.sedmatch.proofs.counted.rows.Rows.store_marks.Goals as goal
 
 pub overflow_mul-self-inside : goal.overflow_mul-self-inside
 overflow_mul-self-inside c =

@@ -1,0 +1,84 @@
+//! Marks for the nodes of an expression.
+ghost use Rattle.std.specs.Prelude.{◌≡◌, ℕ, Bool, false, List, ◌+◌, ◌^◌, ◌<◌, ◌≤◌, length, slice_index_or, slice_set, IfOk};
+ghost use Rattle.sedre.specs.Steps.{Takes, Counted};
+
+use super::Marks;
+use sedre::Steps;
+use std::alloc::{AllocError, Global};
+use std::marker::Model;
+
+/// How many nodes an expression has at most.
+const MAX_NODES: usize = 65536;
+
+/// Marks for the nodes of an expression: there are always enough for all that one may have.
+#[derive(Drop)]
+pub struct NodeMarks {
+    pub(super) marks: Marks,
+}
+
+impl Model for NodeMarks {
+    ghost use Rattle.std.specs.Prelude.{◌≡◌, Bool, List, length};
+
+    ghost Value = { List Bool };
+
+    ghost view = { λ n. n.marks };
+
+    ghost invariant = { λ n. length n.marks ≡ 65536 };
+}
+
+impl NodeMarks {
+    /// None of the marks set. Fails only where a request for memory was refused.
+    pub fn new(alloc: Global) -> Result<NodeMarks, AllocError> {
+        Ok(NodeMarks {
+            marks: Marks::new(alloc, MAX_NODES)?,
+        })
+    }
+
+    /// Whether the mark is set. Counts one look.
+    #[inline(always)]
+    pub fn get(&self, i: usize, steps: &mut Steps) -> bool
+        requires inside { i < 65536 }
+        ensures mark { result ≡ slice_index_or self.now i false }
+        ensures room { length self.now ≡ 65536 }
+        ensures cost { Takes steps.old steps.new 1 }
+        ensures counts { Counted steps.old steps.new 1 }
+    {
+        self.marks.get(i, steps)
+    }
+
+    /// Sets the mark, or takes it away. Counts one look.
+    #[inline(always)]
+    pub fn set(&mut self, i: usize, mark: bool, steps: &mut Steps)
+        requires inside { i < 65536 }
+        ensures marks { self.new ≡ slice_set self.old i mark }
+        ensures room { length self.old ≡ 65536 }
+        ensures cost { Takes steps.old steps.new 1 }
+        ensures counts { Counted steps.old steps.new 1 }
+    {
+        self.marks.set(i, mark, steps);
+    }
+
+    /// Takes the first `count` marks away, a word at a time; those after them may go too.
+    /// Counts a look for each of the `count`.
+    #[inline(always)]
+    pub fn clear(&mut self, count: usize, steps: &mut Steps)
+        requires inside { count ≤ 65536 }
+        ensures room { length self.new ≡ 65536 }
+        ensures clear { (c : ℕ) → c < count → slice_index_or self.new c false ≡ false }
+        ensures cost { Takes steps.old steps.new count }
+        ensures counts { Counted steps.old steps.new count }
+    {
+        self.marks.clear(count, steps);
+    }
+
+    /// A number made of the first `count` marks and the rest of their last word.
+    /// Counts a look for each of the `count`.
+    #[inline(always)]
+    pub fn digest(&self, count: usize, steps: &mut Steps) -> u64
+        requires inside { count ≤ 65536 }
+        ensures cost { Takes steps.old steps.new count }
+        ensures counts { Counted steps.old steps.new count }
+    {
+        self.marks.digest(count, steps)
+    }
+}
