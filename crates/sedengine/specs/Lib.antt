@@ -13,6 +13,7 @@ pub mod Listing
 pub mod ListingParts
 pub mod Meters
 pub mod Move
+pub mod Parts
 pub mod Queueing
 pub mod Run
 pub mod Select

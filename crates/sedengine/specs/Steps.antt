@@ -4,13 +4,14 @@ use Rattle.std.specs.Prelude.{◌≡◌, ℕ, true, ◌+◌, ◌*◌, ◌-◌, �
 use Rattle.sedspace.specs.Stream.{Stream, left, lines_left, TakesAtMost}
 use Rattle.sedscript.specs.declared.types.Command.{Command}
 use Rattle.sedscript.specs.declared.types.Action.{Action}
-use Rattle.sedscript.specs.declared.types.Action.TheVariants.{NextLine, AppendNext}
+use Rattle.sedscript.specs.declared.types.Action.TheVariants.{Append, AppendHold, AppendNext, Block, Branch, CopyHold, Exchange, Hold, HoldMore, NextLine, Quit, ReadFile, Test, Transliterate}
 use Rattle.sedengine.specs.Limits.{Limits}
 use Rattle.sedengine.specs.State.{Task, do_at, State, Move, Setting}
-use Rattle.sedengine.specs.Move.{move, after, written}
+use Rattle.sedengine.specs.Meters.{Sent, Tally}
+use Rattle.sedengine.specs.Move.{acts, move, after, written}
 use Rattle.sedengine.specs.Ends.{Fits, HasTurn, Within, Cause, named_sink, reaches, reads}
 use Rattle.sedengine.specs.Held.{HoldsAt, SameLengths}
-use Rattle.sedengine.specs.Run.{Run, InOneCycle, at_lines, size_of}
+use Rattle.sedengine.specs.Run.{Run, InOneCycle, at_lines, setting, size_of}
 use Rattle.sedengine.specs.declared.ends.Ended.{Ended}
 use Rattle.sedengine.specs.declared.ends.Ended.TheVariants.{PatternFull, InputBroken}
 
@@ -61,6 +62,32 @@ abbrev pub takes_line : Action → Bool
 takes_line NextLine = true
 takes_line AppendNext = true
 takes_line other = false
+
+-- whether a command works on the hold space
+abbrev pub uses_hold : Action → Bool
+uses_hold CopyHold = true
+uses_hold AppendHold = true
+uses_hold Hold = true
+uses_hold HoldMore = true
+uses_hold Exchange = true
+uses_hold other = false
+
+-- whether a command writes nothing and takes no line
+abbrev pub is_quiet : Action → Bool
+is_quiet (Append k) = true
+is_quiet (ReadFile k) = true
+is_quiet (Block k) = true
+is_quiet (Branch k) = true
+is_quiet Quit = true
+is_quiet (Test k) = true
+is_quiet (Transliterate k) = true
+is_quiet other = uses_hold other
+
+-- What a call answers that does what such a command does where it applies, from the engine e on.
+abbrev pub ActsQuietly : Run → Run → Action → Result Unit Ended → Type 0
+ActsQuietly e e' action r = (files : ℕ → List ℕ) (ls : List (List ℕ)) (tells : Bool) (sinks : Tally) →
+    Performs e.limits (setting e files) (acts (setting e files) (at_lines e ls) tells action)
+    (at_lines e ls) (at_lines e' ls) (Sent sinks sinks) r
 
 -- Lines were taken, and no more bytes than theirs are gone.
 pub record TakesLines {R : Type 0} (remaining : R → Option (List ℕ)) (old new : Stream R)

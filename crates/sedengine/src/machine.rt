@@ -1,5 +1,5 @@
 //! The machine that makes the moves of a run: its parts, and the calls that run it.
-ghost use Rattle.std.specs.Prelude.{◌≡◌, ◌<◌, ◌≤◌, [], None, Some, Ok, Err, IfOk, IfSome, IsNone, false, length, replicate, ℕ, Option, List};
+ghost use Rattle.std.specs.Prelude.{◌≡◌, ◌<◌, ◌≤◌, [], None, Some, Ok, Err, IfOk, IfSome, IsNone, length, ℕ, Option, List};
 ghost use Rattle.std.specs.Option.{ForSome};
 ghost use Rattle.std.specs.Io.KnownBytes.{Keeps};
 ghost use Rattle.sedspace.specs.Failures.{Rose};
@@ -9,7 +9,7 @@ ghost use Rattle.sedengine.specs.Devices.{FailedSource, SameLines};
 ghost use Rattle.sedengine.specs.Calls.{Delivers};
 ghost use Rattle.sedengine.specs.Meters.{Sent};
 ghost use Rattle.sedengine.specs.Held.{total_of, bound_of};
-ghost use Rattle.sedengine.specs.Inside.{FillsHold};
+ghost use Rattle.sedengine.specs.Parts.{AreParts};
 ghost use Rattle.sedengine.specs.Run.{outcome, Cycles, Ending, SameRun, TellsFiles, at_lines, end_of, setting};
 
 mod addresses;
@@ -18,16 +18,16 @@ mod deleting;
 mod holding;
 mod moves;
 mod next;
+mod parts;
 mod queueing;
 mod substituting;
 mod tasks;
 
 use crate::ends::{Ended, Held, Progress};
 use crate::limits::Limits;
-use crate::matchers::{matchers_of, room_to_search, room_to_seek};
 use crate::meter::Sinks;
-use crate::needs::{build_room, hold_room};
 use crate::place::Place;
+use parts::Parts;
 use sedmatch::{Occurrences, Scratch, TableMatcher};
 use sedscript::Script;
 use sedspace::{ByteSource, Lines, Queue, Space, Texts};
@@ -71,47 +71,6 @@ impl Model for Machine {
     ghost invariant = { IsRun };
 }
 
-// The states of so many ranges, none of which is active.
-fn idle_ranges(alloc: Global, count: usize) -> Result<Vec<bool>, AllocError>
-    ensures { IfOk result (λ ranges. ranges.items ≡ replicate count false) }
-{
-    vec![in alloc; false; count]
-}
-
-// The spaces and the queue of an engine, as they are made. They are made in a call of their own: what is let go where a
-// request is refused grows with each request, and so does the proof.
-#[derive(Drop)]
-struct Store {
-    pattern: Space,
-    hold: Space,
-    build: Space,
-    queue: Queue,
-}
-
-impl Store {
-    // Empty ones, whose room is reserved here: as much as the script needs.
-    fn new(alloc: Global, script: &Script, limits: &Limits) -> Result<Store, AllocError>
-        ensures pattern { IfOk result (λ s. s.pattern ≡ record { bytes = []; limit = limits.now.space }) }
-        ensures hold { IfOk result (λ s. s.hold.bytes ≡ []) }
-        ensures holds { IfOk result (λ s. FillsHold script.now → s.hold.limit ≡ limits.now.space) }
-        ensures build { IfOk result (λ s. 0 < length script.now.substitutions → s.build.limit ≡ limits.now.space) }
-        ensures within { IfOk result (λ s. s.build.limit ≤ limits.now.space) }
-        ensures copies { IfOk result (λ s. 0 < length script.now.rfiles → s.build.limit ≡ limits.now.space) }
-        ensures queue { IfOk result (λ s. s.queue ≡ record { items = []; limit = limits.now.queue }) }
-    {
-        let pattern = Space::new(alloc, limits.space())?;
-        let hold = Space::new(alloc, hold_room(script, limits))?;
-        let build = Space::new(alloc, build_room(script, limits))?;
-        let queue = Queue::new(alloc, limits.queue())?;
-        Ok(Store {
-            pattern,
-            hold,
-            build,
-            queue,
-        })
-    }
-}
-
 impl Machine {
     /// A machine that stands at the start of a run, with the spaces and all else that its run takes.
     pub(crate) fn open(alloc: Global, script: Script, limits: Limits) -> Result<Machine, AllocError>
@@ -124,26 +83,42 @@ impl Machine {
           ended = None;
         }) }
     {
-        let ranges = idle_ranges(alloc, script.len())?;
-        let matchers = matchers_of(alloc, &script, limits.nodes())?;
-        let scratch = room_to_search(alloc, &script, &matchers, &limits)?;
-        let seeking = room_to_seek(alloc, &script, &matchers, &limits)?;
-        let Store {
-            pattern,
-            hold,
-            build,
-            queue,
-        } = Store::new(alloc, &script, &limits)?;
-        Ok(Machine {
+        match Parts::new(alloc, &script, &limits) {
+            Ok(parts) => Ok(Machine::of(script, limits, parts)),
+            Err(refused) => {
+                drop(script);
+                Err(refused)
+            }
+        }
+    }
+
+    /// The same machine of parts that were made for it.
+    fn of(script: Script, limits: Limits, parts: Parts) -> Machine
+        requires nodes { script.max_nodes ≤ limits.nodes }
+        requires parts { AreParts script limits parts }
+        ensures { result ≡ record {
+          script = script;
+          limits = limits;
+          state = start script.commands [];
+          sent = [];
+          ended = None;
+        } }
+    {
+        let Parts {
+            ranges,
+            store,
+            seekers,
+        } = parts;
+        Machine {
             script,
             limits,
-            pattern,
-            hold,
-            build,
-            queue,
-            scratch,
-            seeking,
-            matchers,
+            pattern: store.pattern,
+            hold: store.hold,
+            build: store.build,
+            queue: store.queue,
+            scratch: seekers.scratch,
+            seeking: seekers.seeking,
+            matchers: seekers.matchers,
             ranges,
             used: None,
             replaced: false,
@@ -151,7 +126,7 @@ impl Machine {
             turns: 0,
             place: Place::Begin,
             ended: None,
-        })
+        }
     }
 
     /// Runs one cycle, as `Engine::cycle` does.

@@ -10,9 +10,9 @@ ghost use Rattle.sedengine.specs.Listing.{listed};
 ghost use Rattle.sedengine.specs.Move.{acts, first_line, passes, line_to, tells_at, text_of, to_sink};
 ghost use Rattle.sedengine.specs.Ends.{reaches, is_next};
 ghost use Rattle.sedengine.specs.Meters.{Sent, Tally};
-ghost use Rattle.sedengine.specs.Calls.{Puts, Reads, Delivers};
+ghost use Rattle.sedengine.specs.Calls.{NoSinkFailed, Puts, Reads, Delivers};
 ghost use Rattle.sedengine.specs.Run.{TellsFiles, at_lines, setting};
-ghost use Rattle.sedengine.specs.Steps.{HasAction, KeepsRun, Performs, PerformsSteps, Steps, takes_line, weight};
+ghost use Rattle.sedengine.specs.Steps.{ActsQuietly, HasAction, KeepsRun, Performs, PerformsSteps, Steps, is_quiet, takes_line, weight};
 
 use super::Machine;
 use crate::ends::Ended;
@@ -135,29 +135,7 @@ impl Machine {
         // The engine is open from here on, so its state is known to be within the limits.
         let _ = &self.turns;
         match action {
-            Action::Append(_) => self.act_queue(k),
-            Action::ReadFile(_) => self.act_queue(k),
-            Action::AppendNext | Action::NextLine => unreachable!(),
-            Action::Block(_) => Ok(()),
-            Action::Branch(target) => {
-                self.act_branch(target);
-                Ok(())
-            }
             Action::Change(text) => self.act_change(text, tells, outputs, texts),
-            Action::CopyHold => {
-                self.act_copy_hold();
-                Ok(())
-            }
-            Action::AppendHold => self.act_append_hold(),
-            Action::Hold => {
-                self.act_hold();
-                Ok(())
-            }
-            Action::HoldMore => self.act_hold_more(),
-            Action::Exchange => {
-                self.act_exchange();
-                Ok(())
-            }
             Action::Delete => self.act_delete(outputs, texts),
             Action::DeleteFirst => self.act_delete_first(outputs, texts),
             Action::Insert(text) => self.act_insert(text, outputs),
@@ -165,11 +143,38 @@ impl Machine {
             Action::List => self.act_list(outputs),
             Action::Print => self.act_write(0, outputs),
             Action::PrintFirst => self.act_print_first(outputs),
+            Action::Substitute(k) => self.act_substitute(k, outputs),
+            Action::WriteFile(sink) => self.act_write(sink, outputs),
+            _ => self.act_quietly(k, action),
+        }
+    }
+
+    /// The same for a command that writes nothing.
+    fn act_quietly(&mut self, k: usize, action: Action) -> Result<(), Ended>
+        requires at { reaches self.old.state.tasks ≡ true }
+        requires within { ActionWithin (sizes_of self.old.script) action }
+        requires action { HasAction (slice_get self.old.script.commands k) action }
+        requires quiet { is_quiet action ≡ true }
+        ensures acts { ActsQuietly self.old self.new action result }
+        ensures output { NoSinkFailed result }
+        ensures input { result ≡ Err Ended.InputBroken → ⊥ }
+        ensures falls { weight self.new ≤ weight self.old + 8 }
+        ensures same { KeepsRun self.old self.new }
+    {
+        // The engine is open from here on, so its state is known to be within the limits.
+        let _ = &self.turns;
+        match action {
+            Action::Append(_) => self.act_queue(k),
+            Action::ReadFile(_) => self.act_queue(k),
+            Action::Block(_) => Ok(()),
+            Action::Branch(target) => {
+                self.act_branch(target);
+                Ok(())
+            }
             Action::Quit => {
                 self.act_quit();
                 Ok(())
             }
-            Action::Substitute(k) => self.act_substitute(k, outputs),
             Action::Test(target) => {
                 self.act_test(target);
                 Ok(())
@@ -178,7 +183,7 @@ impl Machine {
                 self.act_transliterate(k);
                 Ok(())
             }
-            Action::WriteFile(sink) => self.act_write(sink, outputs),
+            _ => self.act_on_hold(action),
         }
     }
 

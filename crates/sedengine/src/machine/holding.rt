@@ -1,14 +1,49 @@
 //! The commands `g`, `G`, `h`, `H` and `x`: the hold space (XCU sed, "Editing Commands in sed").
-ghost use Rattle.std.specs.Prelude.{◌≡◌, ◌∷◌, ◌++◌, true};
+ghost use Rattle.std.specs.Prelude.{◌≡◌, ◌≤◌, ◌+◌, ◌∷◌, ◌++◌, Err, true};
 ghost use Rattle.sedengine.specs.Move.{newline};
 ghost use Rattle.sedengine.specs.Ends.{reaches};
 ghost use Rattle.sedengine.specs.Holding.{BecomesOrFull};
-ghost use Rattle.sedengine.specs.Inside.{FillsHold};
+ghost use Rattle.sedengine.specs.Inside.{FillsHold, holds};
+ghost use Rattle.sedengine.specs.Calls.{NoSinkFailed};
+ghost use Rattle.sedengine.specs.Steps.{ActsQuietly, KeepsRun, uses_hold, weight};
 
 use super::Machine;
 use crate::ends::Ended;
+use sedscript::Action;
 
 impl Machine {
+    /// Does what a command on the hold space does.
+    pub(super) fn act_on_hold(&mut self, action: Action) -> Result<(), Ended>
+        requires at { reaches self.old.state.tasks ≡ true }
+        requires uses { uses_hold action ≡ true }
+        requires fills { holds action ≡ true → FillsHold self.old.script }
+        ensures acts { ActsQuietly self.old self.new action result }
+        ensures output { NoSinkFailed result }
+        ensures input { result ≡ Err Ended.InputBroken → ⊥ }
+        ensures falls { weight self.new ≤ weight self.old + 8 }
+        ensures same { KeepsRun self.old self.new }
+    {
+        // The engine is open from here on, so its state is known to be within the limits.
+        let _ = &self.turns;
+        match action {
+            Action::CopyHold => {
+                self.act_copy_hold();
+                Ok(())
+            }
+            Action::AppendHold => self.act_append_hold(),
+            Action::Hold => {
+                self.act_hold();
+                Ok(())
+            }
+            Action::HoldMore => self.act_hold_more(),
+            Action::Exchange => {
+                self.act_exchange();
+                Ok(())
+            }
+            _ => unreachable!(),
+        }
+    }
+
     /// The command `g`: the pattern space becomes what the hold space is.
     pub(super) fn act_copy_hold(&mut self)
         requires { reaches self.old.state.tasks ≡ true }

@@ -1,0 +1,96 @@
+//! The parts of a machine as they are made, each in a call of its own: what is let go where a request is refused grows with
+//! each request, and so does the proof.
+ghost use Rattle.std.specs.Prelude.{◌≡◌, ◌≤◌, IfOk, false, replicate};
+ghost use Rattle.sedengine.specs.Parts.{AreParts, AreSeekers, IsStore};
+
+use crate::limits::Limits;
+use crate::matchers::{matchers_of, room_to_search, room_to_seek};
+use crate::needs::{build_room, hold_room};
+use sedmatch::{Occurrences, Scratch, TableMatcher};
+use sedscript::Script;
+use sedspace::{Queue, Space};
+use std::alloc::{AllocError, Global};
+
+/// All that a machine holds beside its script.
+#[derive(Drop)]
+pub(super) struct Parts {
+    pub(super) ranges: Vec<bool>,
+    pub(super) store: Store,
+    pub(super) seekers: Seekers,
+}
+
+impl Parts {
+    /// The parts at the start of a run of this script.
+    pub(super) fn new(alloc: Global, script: &Script, limits: &Limits) -> Result<Parts, AllocError>
+        requires { script.now.max_nodes ≤ limits.now.nodes }
+        ensures { IfOk result (AreParts script.now limits.now) }
+    {
+        let ranges = idle_ranges(alloc, script.len())?;
+        let store = Store::new(alloc, script, limits)?;
+        let seekers = Seekers::new(alloc, script, limits)?;
+        Ok(Parts {
+            ranges,
+            store,
+            seekers,
+        })
+    }
+}
+
+/// The states of so many ranges, none of which is active.
+fn idle_ranges(alloc: Global, count: usize) -> Result<Vec<bool>, AllocError>
+    ensures { IfOk result (λ ranges. ranges.items ≡ replicate count false) }
+{
+    vec![in alloc; false; count]
+}
+
+/// The spaces and the queue of an engine.
+#[derive(Drop)]
+pub(super) struct Store {
+    pub(super) pattern: Space,
+    pub(super) hold: Space,
+    pub(super) build: Space,
+    pub(super) queue: Queue,
+}
+
+impl Store {
+    /// Empty ones, whose room is reserved here: as much as the script needs.
+    fn new(alloc: Global, script: &Script, limits: &Limits) -> Result<Store, AllocError>
+        ensures { IfOk result (IsStore script.now limits.now) }
+    {
+        let pattern = Space::new(alloc, limits.space())?;
+        let hold = Space::new(alloc, hold_room(script, limits))?;
+        let build = Space::new(alloc, build_room(script, limits))?;
+        let queue = Queue::new(alloc, limits.queue())?;
+        Ok(Store {
+            pattern,
+            hold,
+            build,
+            queue,
+        })
+    }
+}
+
+/// What seeks the expressions of the script, with the room for it.
+#[derive(Drop)]
+pub(super) struct Seekers {
+    pub(super) matchers: Vec<TableMatcher>,
+    pub(super) scratch: Scratch,
+    pub(super) seeking: Occurrences,
+}
+
+impl Seekers {
+    /// For each expression of the script a matcher, which has found out nothing yet.
+    fn new(alloc: Global, script: &Script, limits: &Limits) -> Result<Seekers, AllocError>
+        requires { script.now.max_nodes ≤ limits.now.nodes }
+        ensures { IfOk result (AreSeekers script.now limits.now) }
+    {
+        let matchers = matchers_of(alloc, script, limits.nodes())?;
+        let scratch = room_to_search(alloc, script, &matchers, limits)?;
+        let seeking = room_to_seek(alloc, script, &matchers, limits)?;
+        Ok(Seekers {
+            matchers,
+            scratch,
+            seeking,
+        })
+    }
+}
