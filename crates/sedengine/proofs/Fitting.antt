@@ -79,7 +79,6 @@ room_within text more nodes most o short few h = record {
   rows_there = h.rows_there;
   edges_fit = λ q inside. let wide = h.edges_fit q inside in omega arith;
   rows_fit = λ q inside. let wide = h.rows_fit q inside in omega arith;
-  fits = (let f = h.fits.0 in omega arith, let f = h.fits.1 in omega arith, let f = h.fits.2 in omega arith);
 }
 
 pub room_if : (text nodes : ℕ) (last : Option ℕ) (o : Occurrences) → RoomFor text nodes o → IfSome last (λ (q : ℕ). RoomFor text nodes o)
