@@ -1,5 +1,6 @@
 mod AddressFaultExamples
 mod AddressRunExamples
+mod BackslashLemmas
 mod CaseRunExamples
 mod ClassExamples
 mod ComputedEnds
@@ -18,6 +19,7 @@ mod FunctionFaultExamples
 mod GroupExamples
 mod HostileExamples
 mod JoinedExamples
+mod LabelEnds
 mod ListExamples
 mod ListingExamples
 mod ManyBracesExamples
@@ -36,9 +38,13 @@ mod ScriptWords
 mod SearchExamples
 mod SpaceRunExamples
 mod StandardExamples
+mod StringEnds
+mod StringReading
 mod SubstitutionFaultExamples
 mod SubstitutionRunExamples
 mod SymbolExamples
+mod TextEnds
 mod TextExamples
+mod TextReading
 mod TextRunExamples
 mod WrittenExamples

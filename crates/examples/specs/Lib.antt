@@ -1,0 +1,4 @@
+pub mod Backslashes
+pub mod Labels
+pub mod Texts
+pub mod Strings

@@ -1,0 +1,69 @@
+//! Laws of the definitions, in the subject's own words. The calls do nothing.
+
+ghost use Rattle.std.specs.Prelude.{◌≡◌, ◌≤◌, ◌<◌, ◌⊎◌, ℕ, Bool, false, List, ◌++◌, Some, All, length, drop, slice_get};
+ghost use Rattle.sedscript.specs.declared.bytes.Sort.TheVariants.{Name};
+ghost use Rattle.sedscript.specs.Bytes.{past};
+ghost use Rattle.sedscript.specs.Functions.{text_from};
+ghost use Rattle.sedscript.specs.Script.{unescaped_from};
+ghost use Rattle.sedscript.specs.Strings.{string_end};
+ghost use Rattle.sedscript.specs.Transliteration.{table_of, chars_from, bytes_of};
+ghost use Rattle.examples.specs.Backslashes.{IsUnescaped, NoneUnescaped};
+ghost use Rattle.examples.specs.Labels.{EndsLabel};
+ghost use Rattle.examples.specs.Texts.{backslashed};
+ghost use Rattle.examples.specs.Strings.{NoneTwice, written};
+
+/// A text of `a`, `i` or `c` ends at the first newline with an even number of backslashes directly before it, or at the
+/// end of the script.
+pub fn text_ends()
+    ensures { (script : List ℕ) (from begin end : ℕ) → text_from script from ≡ Some (begin, end) →
+        (begin ≤ end) × (end ≤ length script) × NoneUnescaped 10 script begin end
+        × ((end ≡ length script) ⊎ IsUnescaped 10 script begin end) }
+{}
+
+/// A label holds no newline, semicolon, blank or closing brace, and one of these stands after it, or the script ends
+/// there.
+pub fn label_ends()
+    ensures { (script : List ℕ) (from : ℕ) →
+        (from ≤ past Name script from) × (from ≤ length script → past Name script from ≤ length script)
+        × ((at b : ℕ) → from ≤ at → at < past Name script from → slice_get script at ≡ Some b → EndsLabel b → ⊥)
+        × ((b : ℕ) → slice_get script (past Name script from) ≡ Some b → EndsLabel b) }
+{}
+
+/// A string between delimiters ends at the first delimiter with an even number of backslashes directly before it.
+pub fn string_ends()
+    ensures { (script : List ℕ) (breaks : Bool) (delimiter from to : ℕ) →
+        string_end breaks delimiter false from (drop from script) ≡ Some to →
+        (from ≤ to) × IsUnescaped delimiter script from to × NoneUnescaped delimiter script from to }
+{}
+
+/// In a text, bytes each with a backslash before it stand for these bytes, whatever follows them.
+pub fn escaped_bytes()
+    ensures { (bytes rest : List ℕ) →
+        unescaped_from false (backslashed bytes ++ rest) ≡ bytes ++ unescaped_from false rest }
+{}
+
+/// In a text, bytes that are no backslashes stand for themselves, whatever follows them.
+pub fn plain_bytes()
+    ensures { (bytes rest : List ℕ) → All (λ b. b ≡ 92 → ⊥) bytes →
+        unescaped_from false (bytes ++ rest) ≡ bytes ++ unescaped_from false rest }
+{}
+
+/// Where no byte stands twice in the first string of a `y`, its table gives, for the byte at a place of the first string,
+/// the byte at that place of the second.
+pub fn table_gives()
+    ensures { (string1 string2 : List ℕ) (place s t : ℕ) → NoneTwice string1 → s < 256 →
+        slice_get string1 place ≡ Some s → slice_get string2 place ≡ Some t →
+        slice_get (table_of string1 string2) s ≡ Some t }
+{}
+
+/// The table of a `y` gives, for a byte that isn't in the first string, that byte.
+pub fn table_keeps()
+    ensures { (string1 string2 : List ℕ) (b : ℕ) → b < 256 →
+        ((place : ℕ) → slice_get string1 place ≡ Some b → ⊥) → slice_get (table_of string1 string2) b ≡ Some b }
+{}
+
+/// A string of a `y` that is written out is read as its bytes, unless its delimiter is an `n`.
+pub fn string_read()
+    ensures { (delimiter : ℕ) (bytes : List ℕ) (at : ℕ) → (delimiter ≡ 110 → ⊥) →
+        bytes_of (chars_from delimiter false at (written delimiter bytes)) ≡ bytes }
+{}
