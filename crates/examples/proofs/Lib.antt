@@ -14,6 +14,7 @@ mod EndRunExamples
 mod ExampleWords
 mod ExpressionMemoryFaultExamples
 mod FaultExamples
+mod FlagReading
 mod FoldedExamples
 mod FunctionFaultExamples
 mod GroupExamples
@@ -21,6 +22,7 @@ mod HostileExamples
 mod JoinedExamples
 mod LabelEnds
 mod ListExamples
+mod ListReading
 mod ListingExamples
 mod ManyBracesExamples
 mod ManyGroupsExamples
@@ -29,6 +31,7 @@ mod MatchingExamples
 mod MoveExamples
 mod NestedStarExamples
 mod OccurrenceExamples
+mod PieceReading
 mod ProgramExamples
 mod ReportExamples
 mod RunExamples

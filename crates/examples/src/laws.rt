@@ -1,9 +1,15 @@
 //! Laws of the definitions, in the subject's own words. The calls do nothing.
 
-ghost use Rattle.std.specs.Prelude.{◌≡◌, ◌≤◌, ◌<◌, ◌⊎◌, ℕ, Bool, false, List, ◌++◌, Some, All, length, drop, slice_get};
+ghost use Rattle.std.specs.Prelude.{◌≡◌, ◌≤◌, ◌<◌, ◌⊎◌, ℕ, ◌+◌, Bool, false, not, List, ◌∷◌, ◌++◌, Some, None, Ok, All, length, drop, slice_get};
+ghost use Rattle.sedre.specs.Sets.{set_of};
+ghost use Rattle.sedre.specs.Brackets.{list_at};
 ghost use Rattle.sedscript.specs.declared.bytes.Sort.TheVariants.{Name};
-ghost use Rattle.sedscript.specs.Bytes.{past};
+ghost use Rattle.sedscript.specs.declared.items.Flags.{Flags};
+ghost use Rattle.sedscript.specs.Bytes.{past, bytes_between};
+ghost use Rattle.sedscript.specs.Flags.{flags_from, no_flags};
 ghost use Rattle.sedscript.specs.Functions.{text_from};
+ghost use Rattle.sedscript.specs.declared.substitution.Piece.{Piece};
+ghost use Rattle.sedscript.specs.Replacement.{pieces_of};
 ghost use Rattle.sedscript.specs.Script.{unescaped_from};
 ghost use Rattle.sedscript.specs.Strings.{string_end};
 ghost use Rattle.sedscript.specs.Transliteration.{table_of, chars_from, bytes_of};
@@ -11,6 +17,9 @@ ghost use Rattle.examples.specs.Backslashes.{IsUnescaped, NoneUnescaped};
 ghost use Rattle.examples.specs.Labels.{EndsLabel};
 ghost use Rattle.examples.specs.Texts.{backslashed};
 ghost use Rattle.examples.specs.Strings.{NoneTwice, written};
+ghost use Rattle.examples.specs.Among.{stands_among};
+ghost use Rattle.examples.specs.Lists.{ArePlain};
+ghost use Rattle.examples.specs.Replacements.{written_pieces, GroupsFit};
 
 /// A text of `a`, `i` or `c` ends at the first newline with an even number of backslashes directly before it, or at the
 /// end of the script.
@@ -66,4 +75,34 @@ pub fn table_keeps()
 pub fn string_read()
     ensures { (delimiter : ℕ) (bytes : List ℕ) (at : ℕ) → (delimiter ≡ 110 → ⊥) →
         bytes_of (chars_from delimiter false at (written delimiter bytes)) ≡ bytes }
+{}
+
+/// A replacement that is written out is read as its pieces, unless its delimiter is a digit.
+pub fn replacement_read()
+    ensures { (delimiter : ℕ) (pieces : List Piece) → (48 ≤ delimiter → delimiter ≤ 57 → ⊥) → GroupsFit pieces →
+        pieces_of delimiter (written_pieces delimiter pieces) ≡ pieces }
+{}
+
+/// Where flags of `s` are read without a file, `g` is among them exactly where a `g` stands among the bytes that were
+/// read, and so for `p` and `I`.
+pub fn flags_read()
+    ensures { (script : List ℕ) (empty : Bool) (flags : Flags) (from to : ℕ) →
+        flags_from script empty no_flags 0 from (drop from script) ≡ Ok (flags, to) → flags.file ≡ None →
+        (flags.global ≡ stands_among 103 (bytes_between script from to))
+        × (flags.print ≡ stands_among 112 (bytes_between script from to))
+        × (flags.folded ≡ stands_among 73 (bytes_between script from to)) }
+{}
+
+/// A list of one or more bytes, none of them `[`, `]`, `-` or `^`, matches exactly these bytes and ends after its `]`.
+pub fn list_matches()
+    ensures { (before bytes after : List ℕ) → 0 < length bytes → ArePlain bytes →
+        list_at false None (before ++ 91 ∷ (bytes ++ 93 ∷ after)) (length before)
+        ≡ Ok (set_of (λ c. stands_among c bytes), length before + length bytes + 2) }
+{}
+
+/// With a `^` before these bytes, it matches exactly the others.
+pub fn others_match()
+    ensures { (before bytes after : List ℕ) → 0 < length bytes → ArePlain bytes →
+        list_at false None (before ++ 91 ∷ 94 ∷ (bytes ++ 93 ∷ after)) (length before)
+        ≡ Ok (set_of (λ c. not (stands_among c bytes)), length before + length bytes + 3) }
 {}
