@@ -50,4 +50,5 @@ mod TextEnds
 mod TextExamples
 mod TextReading
 mod TextRunExamples
+mod WrittenEnds
 mod WrittenExamples

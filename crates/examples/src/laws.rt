@@ -1,6 +1,6 @@
 //! Laws of the definitions, in the subject's own words. The calls do nothing.
 
-ghost use Rattle.std.specs.Prelude.{◌≡◌, ◌≤◌, ◌<◌, ◌⊎◌, ℕ, ◌+◌, Bool, false, not, List, ◌∷◌, ◌++◌, Some, None, Ok, All, length, drop, slice_get};
+ghost use Rattle.std.specs.Prelude.{◌≡◌, ◌≤◌, ◌<◌, ◌⊎◌, ℕ, ◌+◌, Bool, true, false, not, List, ◌∷◌, ◌++◌, Some, None, Ok, All, length, drop, slice_get};
 ghost use Rattle.sedre.specs.Sets.{set_of};
 ghost use Rattle.sedre.specs.Brackets.{list_at};
 ghost use Rattle.sedscript.specs.declared.bytes.Sort.TheVariants.{Name};
@@ -77,10 +77,27 @@ pub fn string_read()
         bytes_of (chars_from delimiter false at (written delimiter bytes)) ≡ bytes }
 {}
 
+/// A string of a `y` that is written out ends where the delimiter after it stands, unless that is a backslash or a
+/// newline.
+pub fn string_whole()
+    ensures { (delimiter : ℕ) (bytes after : List ℕ) (at : ℕ) → (delimiter ≡ 92 → ⊥) → (delimiter ≡ 10 → ⊥) →
+        string_end false delimiter false at (written delimiter bytes ++ delimiter ∷ after)
+        ≡ Some (at + length (written delimiter bytes)) }
+{}
+
 /// A replacement that is written out is read as its pieces, unless its delimiter is a digit.
 pub fn replacement_read()
     ensures { (delimiter : ℕ) (pieces : List Piece) → (48 ≤ delimiter → delimiter ≤ 57 → ⊥) → GroupsFit pieces →
         pieces_of delimiter (written_pieces delimiter pieces) ≡ pieces }
+{}
+
+/// A replacement that is written out ends where the delimiter after it stands, unless that is a backslash, a newline or
+/// an `&`.
+pub fn replacement_whole()
+    ensures { (delimiter : ℕ) (pieces : List Piece) (after : List ℕ) (at : ℕ) →
+        (delimiter ≡ 92 → ⊥) → (delimiter ≡ 10 → ⊥) → (delimiter ≡ 38 → ⊥) → GroupsFit pieces →
+        string_end true delimiter false at (written_pieces delimiter pieces ++ delimiter ∷ after)
+        ≡ Some (at + length (written_pieces delimiter pieces)) }
 {}
 
 /// Where flags of `s` are read without a file, `g` is among them exactly where a `g` stands among the bytes that were
