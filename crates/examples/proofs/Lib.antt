@@ -52,3 +52,4 @@ mod TextReading
 mod TextRunExamples
 mod WrittenEnds
 mod WrittenExamples
+mod WrittenFaults

@@ -16,7 +16,7 @@ escaped_read : (d b : ℕ) (p : Piece) (rest : List ℕ) (ps : List Piece) → e
 escaped_read d b p rest ps e h = rw e (rw (no_escape (b == 92)) (ap (λ (x : List Piece). p ∷ x) h))
 
 -- a byte that is written behind a backslash
-special : (d b : ℕ) → (b == d || b == 92 || b == 38 || b == 10) ≡ true → (48 ≤ d → d ≤ 57 → ⊥) → escaped_piece d b ≡ Some (literal b)
+pub special : (d b : ℕ) → (b == d || b == 92 || b == 38 || b == 10) ≡ true → (48 ≤ d → d ≤ 57 → ⊥) → escaped_piece d b ≡ Some (literal b)
 special d b h other = by_delimiter (b == d) refl h
   where
     by_rest : (b ≡ 92) ⊎ ((b ≡ 38) ⊎ (b ≡ 10)) → (if b == 48 then Some whole else if is_digit b then Some (group (b - 48)) else if b == 110 then Some (literal 10) else if b == 116 then Some (literal 9) else if is_letter b then None else Some (literal b)) ≡ Some (literal b)
@@ -49,7 +49,7 @@ literal_read : (t : Bool) (d b : ℕ) (rest : List ℕ) (ps : List Piece) → (b
 literal_read true d b rest ps h other e = escaped_read d b (literal b) rest ps (special d b h other) e
 literal_read false d b rest ps h other e = plain d b rest ps h e
 
-group_escape : (d k : ℕ) → 1 ≤ k → k ≤ 9 → (48 ≤ d → d ≤ 57 → ⊥) → escaped_piece d (48 + k) ≡ Some (group k)
+pub group_escape : (d k : ℕ) → 1 ≤ k → k ≤ 9 → (48 ≤ d → d ≤ 57 → ⊥) → escaped_piece d (48 + k) ≡ Some (group k)
 group_escape d k low high other =
     let back : 48 + k - 48 ≡ k = omega arith in
     rw (ne_eqb (48 + k) d (λ e. other (omega (arith, e)) (omega (arith, e, high))))

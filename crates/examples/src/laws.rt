@@ -9,10 +9,10 @@ ghost use Rattle.sedscript.specs.Bytes.{past, bytes_between};
 ghost use Rattle.sedscript.specs.Flags.{flags_from, no_flags};
 ghost use Rattle.sedscript.specs.Functions.{text_from};
 ghost use Rattle.sedscript.specs.declared.substitution.Piece.{Piece};
-ghost use Rattle.sedscript.specs.Replacement.{pieces_of};
+ghost use Rattle.sedscript.specs.Replacement.{pieces_of, replacement_fault, GroupsWithin};
 ghost use Rattle.sedscript.specs.Script.{unescaped_from};
 ghost use Rattle.sedscript.specs.Strings.{string_end};
-ghost use Rattle.sedscript.specs.Transliteration.{table_of, chars_from, bytes_of};
+ghost use Rattle.sedscript.specs.Transliteration.{table_of, chars_from, bytes_of, string_fault};
 ghost use Rattle.examples.specs.Backslashes.{IsUnescaped, NoneUnescaped};
 ghost use Rattle.examples.specs.Labels.{EndsLabel};
 ghost use Rattle.examples.specs.Texts.{backslashed};
@@ -85,6 +85,12 @@ pub fn string_whole()
         ≡ Some (at + length (written delimiter bytes)) }
 {}
 
+/// A string of a `y` that is written out has no fault.
+pub fn string_faultless()
+    ensures { (delimiter : ℕ) (bytes : List ℕ) (at : ℕ) →
+        string_fault delimiter false at (written delimiter bytes) ≡ None }
+{}
+
 /// A replacement that is written out is read as its pieces, unless its delimiter is a digit.
 pub fn replacement_read()
     ensures { (delimiter : ℕ) (pieces : List Piece) → (48 ≤ delimiter → delimiter ≤ 57 → ⊥) → GroupsFit pieces →
@@ -98,6 +104,13 @@ pub fn replacement_whole()
         (delimiter ≡ 92 → ⊥) → (delimiter ≡ 10 → ⊥) → (delimiter ≡ 38 → ⊥) → GroupsFit pieces →
         string_end true delimiter false at (written_pieces delimiter pieces ++ delimiter ∷ after)
         ≡ Some (at + length (written_pieces delimiter pieces)) }
+{}
+
+/// A replacement that is written out has no fault where the expression has its groups, unless its delimiter is a digit.
+pub fn replacement_faultless()
+    ensures { (delimiter groups : ℕ) (pieces : List Piece) (at : ℕ) → (48 ≤ delimiter → delimiter ≤ 57 → ⊥) →
+        GroupsFit pieces → GroupsWithin groups pieces →
+        replacement_fault delimiter (Some groups) false at (written_pieces delimiter pieces) ≡ None }
 {}
 
 /// Where flags of `s` are read without a file, `g` is among them exactly where a `g` stands among the bytes that were
