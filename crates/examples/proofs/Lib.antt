@@ -1,5 +1,6 @@
 mod AddressFaultExamples
 mod AddressRunExamples
+mod BackslashLemmas
 mod CaseRunExamples
 mod ClassExamples
 mod ComputedEnds
@@ -13,12 +14,15 @@ mod EndRunExamples
 mod ExampleWords
 mod ExpressionMemoryFaultExamples
 mod FaultExamples
+mod FlagReading
 mod FoldedExamples
 mod FunctionFaultExamples
 mod GroupExamples
 mod HostileExamples
 mod JoinedExamples
+mod LabelEnds
 mod ListExamples
+mod ListReading
 mod ListingExamples
 mod ManyBracesExamples
 mod ManyGroupsExamples
@@ -27,6 +31,7 @@ mod MatchingExamples
 mod MoveExamples
 mod NestedStarExamples
 mod OccurrenceExamples
+mod PieceReading
 mod ProgramExamples
 mod ReportExamples
 mod RunExamples
@@ -36,9 +41,15 @@ mod ScriptWords
 mod SearchExamples
 mod SpaceRunExamples
 mod StandardExamples
+mod StringEnds
+mod StringReading
 mod SubstitutionFaultExamples
 mod SubstitutionRunExamples
 mod SymbolExamples
+mod TextEnds
 mod TextExamples
+mod TextReading
 mod TextRunExamples
+mod WrittenEnds
 mod WrittenExamples
+mod WrittenFaults

@@ -1,0 +1,85 @@
+-- Where a byte stands that no backslash escapes.
+use Rattle.std.proofs.Common.{◌≡◌, ℕ, zero, suc, ◌+◌, ◌-◌, ◌<◌, ◌≤◌, ◌==◌, ◌%◌, ◌⊎◌, inl, inr, Bool, true, if◌then◌else◌, List, [], ◌∷◌, length, take, drop, Option, Some, slice_get, refl, sym, ap, ◌∙◌, arith}
+use Rattle.examples.specs.Backslashes.{backslashes, IsUnescaped, NoneUnescaped}
+
+-- how many backslashes stand before a byte, after another one
+abbrev pub next : ℕ → ℕ → ℕ
+next n b = if b == 92 then suc n else 0
+
+-- the byte stands at a place of a list, with an even number of backslashes before it, where so many stand before the list
+pub record Free (byte n : ℕ) (bs : List ℕ) (k : ℕ) : Type 0 where
+  pub stands : slice_get bs k ≡ Some byte
+  pub even : backslashes n (take k bs) % 2 ≡ 0
+
+-- a place of a list up to which no such byte stands: one does there, or, if that may be, the list ends
+pub record Reaches (may_end : Bool) (byte n : ℕ) (bs : List ℕ) (at to : ℕ) : Type 0 where
+  pub k : ℕ
+  pub place : to ≡ at + k
+  pub within : k ≤ length bs
+  pub last : ((may_end ≡ true) × (k ≡ length bs)) ⊎ Free byte n bs k
+  pub none : (j : ℕ) → j < k → Free byte n bs j → ⊥
+
+pub reaches_end : (byte n at to : ℕ) → to ≡ at → Reaches true byte n [] at to
+reaches_end byte n at to e = record { k = 0; place = omega (arith, e); within = omega arith; last = inl (refl, refl); none = λ j h f. omega (arith, h) }
+
+pub reaches_here : (may_end : Bool) (byte n at to b : ℕ) (bs : List ℕ) → to ≡ at → b ≡ byte → n % 2 ≡ 0 → Reaches may_end byte n (b ∷ bs) at to
+reaches_here may_end byte n at to b bs e is even = record {
+  k = 0;
+  place = omega (arith, e);
+  within = omega arith;
+  last = inr (record { stands = ap (λ (x : ℕ). Some x) is; even = even });
+  none = λ j h f. omega (arith, h);
+}
+
+pub reaches_later : (may_end : Bool) (byte n at to b : ℕ) (bs : List ℕ) → (b ≡ byte → n % 2 ≡ 0 → ⊥) → Reaches may_end byte (next n b) bs (suc at) to → Reaches may_end byte n (b ∷ bs) at to
+reaches_later may_end byte n at to b bs other r = record {
+  k = suc r.k;
+  place = omega (arith, r.place);
+  within = omega (arith, r.within);
+  last = by_last r.last;
+  none = before;
+}
+  where
+    by_last : ((may_end ≡ true) × (r.k ≡ length bs)) ⊎ Free byte (next n b) bs r.k → ((may_end ≡ true) × (suc r.k ≡ suc (length bs))) ⊎ Free byte n (b ∷ bs) (suc r.k)
+    by_last (inl e) = inl (e.0, ap suc e.1)
+    by_last (inr f) = inr (record { stands = f.stands; even = f.even })
+
+    before : (j : ℕ) → j < suc r.k → Free byte n (b ∷ bs) j → ⊥
+    before zero h f = let e : ◌≡◌ {A = Option ℕ} (Some b) (Some byte) = f.stands in other (cc) f.even
+    before (suc j) h f = r.none j (omega (arith, h)) (record { stands = f.stands; even = f.even })
+
+-- ---- of a text
+
+pub get_drop : (xs : List ℕ) (n k : ℕ) → slice_get (drop n xs) k ≡ slice_get xs (n + k)
+get_drop xs zero k = let e : 0 + k ≡ k = omega arith in ap (slice_get xs) (sym e)
+get_drop [] (suc n) k = let e : suc n + k ≡ suc (n + k) = omega arith in sym (ap (slice_get {X = ℕ} []) e)
+get_drop (x ∷ xs) (suc n) k = let e : suc n + k ≡ suc (n + k) = omega arith in get_drop xs n k ∙ sym (ap (slice_get (x ∷ xs)) e)
+
+free_between : (byte : ℕ) (text : List ℕ) (from at k : ℕ) → at ≡ from + k → IsUnescaped byte text from at → Free byte 0 (drop from text) k
+free_between byte text from at k e u = record {
+  stands = get_drop text from k ∙ (ap (slice_get text) (sym e) ∙ u.stands);
+  even = let d : at - from ≡ k = omega (arith, e) in sym (ap (λ (m : ℕ). backslashes 0 (take m (drop from text)) % 2) d) ∙ u.even;
+}
+
+between_free : (byte : ℕ) (text : List ℕ) (from at k : ℕ) → at ≡ from + k → Free byte 0 (drop from text) k → IsUnescaped byte text from at
+between_free byte text from at k e f = record {
+  stands = ap (slice_get text) e ∙ (sym (get_drop text from k) ∙ f.stands);
+  even = let d : at - from ≡ k = omega (arith, e) in ap (λ (m : ℕ). backslashes 0 (take m (drop from text)) % 2) d ∙ f.even;
+}
+
+pub none_before : (may_end : Bool) (byte : ℕ) (text : List ℕ) (from to : ℕ) → Reaches may_end byte 0 (drop from text) from to → NoneUnescaped byte text from to
+none_before may_end byte text from to r = λ at low high u.
+    r.none (at - from) (omega (arith, low, high, r.place)) (free_between byte text from at (at - from) (omega (arith, low)) u)
+
+pub stands_last : (may_end : Bool) (byte : ℕ) (text : List ℕ) (from to : ℕ) → Reaches may_end byte 0 (drop from text) from to → ((may_end ≡ true) × (length (drop from text) + from ≡ to)) ⊎ IsUnescaped byte text from to
+stands_last may_end byte text from to r = by_last r.last
+  where
+    by_last : ((may_end ≡ true) × (r.k ≡ length (drop from text))) ⊎ Free byte 0 (drop from text) r.k → ((may_end ≡ true) × (length (drop from text) + from ≡ to)) ⊎ IsUnescaped byte text from to
+    by_last (inl e) = inl (e.0, omega (arith, e.1, r.place))
+    by_last (inr f) = inr (between_free byte text from to r.k r.place f)
+
+pub odd_more : (n : ℕ) → n % 2 ≡ 0 → suc n % 2 ≡ 1
+odd_more n h = omega arith
+
+pub even_more : (n : ℕ) → n % 2 ≡ 1 → suc n % 2 ≡ 0
+even_more n h = omega arith

@@ -1,0 +1,5 @@
+use Rattle.examples.proofs.FlagReading.{flags_told as law}
+use Rattle.examples.proofs.laws.flags_read.Goals as goal
+
+pub returns : goal.returns
+returns c = law

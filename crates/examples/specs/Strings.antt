@@ -1,0 +1,18 @@
+-- The strings of `y` as they are written (XCU sed, "Editing Commands in sed": `y`).
+use Rattle.std.specs.Prelude.{◌≡◌, ℕ, List, [], ◌∷◌, ◌++◌, Some, slice_get, if◌then◌else◌, ◌==◌, ◌||◌}
+
+-- no byte stands at two places
+abbrev pub NoneTwice : List ℕ → Type 0
+NoneTwice bytes = (i j b : ℕ) → slice_get bytes i ≡ Some b → slice_get bytes j ≡ Some b → i ≡ j
+
+-- a byte in a string between these delimiters: `\n` for a newline, a backslash before the delimiter and a backslash
+abbrev pub written_byte : ℕ → ℕ → List ℕ
+written_byte delimiter b =
+    if b == 10 then 92 ∷ 110 ∷ []
+    else if b == delimiter || b == 92 then 92 ∷ b ∷ []
+    else b ∷ []
+
+-- bytes in a string between these delimiters
+abbrev pub written : ℕ → List ℕ → List ℕ
+written delimiter [] = []
+written delimiter (b ∷ bs) = written_byte delimiter b ++ written delimiter bs

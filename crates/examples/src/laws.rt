@@ -1,0 +1,138 @@
+//! Laws of the definitions, in the subject's own words. The calls do nothing.
+
+ghost use Rattle.std.specs.Prelude.{◌≡◌, ◌≤◌, ◌<◌, ◌⊎◌, ℕ, ◌+◌, Bool, true, false, not, List, ◌∷◌, ◌++◌, Some, None, Ok, All, length, drop, slice_get};
+ghost use Rattle.sedre.specs.Sets.{set_of};
+ghost use Rattle.sedre.specs.Brackets.{list_at};
+ghost use Rattle.sedscript.specs.declared.bytes.Sort.TheVariants.{Name};
+ghost use Rattle.sedscript.specs.declared.items.Flags.{Flags};
+ghost use Rattle.sedscript.specs.Bytes.{past, bytes_between};
+ghost use Rattle.sedscript.specs.Flags.{flags_from, no_flags};
+ghost use Rattle.sedscript.specs.Functions.{text_from};
+ghost use Rattle.sedscript.specs.declared.substitution.Piece.{Piece};
+ghost use Rattle.sedscript.specs.Replacement.{pieces_of, replacement_fault, GroupsWithin};
+ghost use Rattle.sedscript.specs.Script.{unescaped_from};
+ghost use Rattle.sedscript.specs.Strings.{string_end};
+ghost use Rattle.sedscript.specs.Transliteration.{table_of, chars_from, bytes_of, string_fault};
+ghost use Rattle.examples.specs.Backslashes.{IsUnescaped, NoneUnescaped};
+ghost use Rattle.examples.specs.Labels.{EndsLabel};
+ghost use Rattle.examples.specs.Texts.{backslashed};
+ghost use Rattle.examples.specs.Strings.{NoneTwice, written};
+ghost use Rattle.examples.specs.Among.{stands_among};
+ghost use Rattle.examples.specs.Lists.{ArePlain};
+ghost use Rattle.examples.specs.Replacements.{written_pieces, GroupsFit};
+
+/// A text of `a`, `i` or `c` ends at the first newline with an even number of backslashes directly before it, or at the
+/// end of the script.
+pub fn text_ends()
+    ensures { (script : List ℕ) (from begin end : ℕ) → text_from script from ≡ Some (begin, end) →
+        (begin ≤ end) × (end ≤ length script) × NoneUnescaped 10 script begin end
+        × ((end ≡ length script) ⊎ IsUnescaped 10 script begin end) }
+{}
+
+/// A label holds no newline, semicolon, blank or closing brace, and one of these stands after it, or the script ends
+/// there.
+pub fn label_ends()
+    ensures { (script : List ℕ) (from : ℕ) →
+        (from ≤ past Name script from) × (from ≤ length script → past Name script from ≤ length script)
+        × ((at b : ℕ) → from ≤ at → at < past Name script from → slice_get script at ≡ Some b → EndsLabel b → ⊥)
+        × ((b : ℕ) → slice_get script (past Name script from) ≡ Some b → EndsLabel b) }
+{}
+
+/// A string between delimiters ends at the first delimiter with an even number of backslashes directly before it.
+pub fn string_ends()
+    ensures { (script : List ℕ) (breaks : Bool) (delimiter from to : ℕ) →
+        string_end breaks delimiter false from (drop from script) ≡ Some to →
+        (from ≤ to) × IsUnescaped delimiter script from to × NoneUnescaped delimiter script from to }
+{}
+
+/// In a text, bytes each with a backslash before it stand for these bytes, whatever follows them.
+pub fn escaped_bytes()
+    ensures { (bytes rest : List ℕ) →
+        unescaped_from false (backslashed bytes ++ rest) ≡ bytes ++ unescaped_from false rest }
+{}
+
+/// In a text, bytes that are no backslashes stand for themselves, whatever follows them.
+pub fn plain_bytes()
+    ensures { (bytes rest : List ℕ) → All (λ b. b ≡ 92 → ⊥) bytes →
+        unescaped_from false (bytes ++ rest) ≡ bytes ++ unescaped_from false rest }
+{}
+
+/// Where no byte stands twice in the first string of a `y`, its table gives, for the byte at a place of the first string,
+/// the byte at that place of the second.
+pub fn table_gives()
+    ensures { (string1 string2 : List ℕ) (place s t : ℕ) → NoneTwice string1 → s < 256 →
+        slice_get string1 place ≡ Some s → slice_get string2 place ≡ Some t →
+        slice_get (table_of string1 string2) s ≡ Some t }
+{}
+
+/// The table of a `y` gives, for a byte that isn't in the first string, that byte.
+pub fn table_keeps()
+    ensures { (string1 string2 : List ℕ) (b : ℕ) → b < 256 →
+        ((place : ℕ) → slice_get string1 place ≡ Some b → ⊥) → slice_get (table_of string1 string2) b ≡ Some b }
+{}
+
+/// A string of a `y` that is written out is read as its bytes, unless its delimiter is an `n`.
+pub fn string_read()
+    ensures { (delimiter : ℕ) (bytes : List ℕ) (at : ℕ) → (delimiter ≡ 110 → ⊥) →
+        bytes_of (chars_from delimiter false at (written delimiter bytes)) ≡ bytes }
+{}
+
+/// A string of a `y` that is written out ends where the delimiter after it stands, unless that is a backslash or a
+/// newline.
+pub fn string_whole()
+    ensures { (delimiter : ℕ) (bytes after : List ℕ) (at : ℕ) → (delimiter ≡ 92 → ⊥) → (delimiter ≡ 10 → ⊥) →
+        string_end false delimiter false at (written delimiter bytes ++ delimiter ∷ after)
+        ≡ Some (at + length (written delimiter bytes)) }
+{}
+
+/// A string of a `y` that is written out has no fault.
+pub fn string_faultless()
+    ensures { (delimiter : ℕ) (bytes : List ℕ) (at : ℕ) →
+        string_fault delimiter false at (written delimiter bytes) ≡ None }
+{}
+
+/// A replacement that is written out is read as its pieces, unless its delimiter is a digit.
+pub fn replacement_read()
+    ensures { (delimiter : ℕ) (pieces : List Piece) → (48 ≤ delimiter → delimiter ≤ 57 → ⊥) → GroupsFit pieces →
+        pieces_of delimiter (written_pieces delimiter pieces) ≡ pieces }
+{}
+
+/// A replacement that is written out ends where the delimiter after it stands, unless that is a backslash, a newline or
+/// an `&`.
+pub fn replacement_whole()
+    ensures { (delimiter : ℕ) (pieces : List Piece) (after : List ℕ) (at : ℕ) →
+        (delimiter ≡ 92 → ⊥) → (delimiter ≡ 10 → ⊥) → (delimiter ≡ 38 → ⊥) → GroupsFit pieces →
+        string_end true delimiter false at (written_pieces delimiter pieces ++ delimiter ∷ after)
+        ≡ Some (at + length (written_pieces delimiter pieces)) }
+{}
+
+/// A replacement that is written out has no fault where the expression has its groups, unless its delimiter is a digit.
+pub fn replacement_faultless()
+    ensures { (delimiter groups : ℕ) (pieces : List Piece) (at : ℕ) → (48 ≤ delimiter → delimiter ≤ 57 → ⊥) →
+        GroupsFit pieces → GroupsWithin groups pieces →
+        replacement_fault delimiter (Some groups) false at (written_pieces delimiter pieces) ≡ None }
+{}
+
+/// Where flags of `s` are read without a file, `g` is among them exactly where a `g` stands among the bytes that were
+/// read, and so for `p` and `I`.
+pub fn flags_read()
+    ensures { (script : List ℕ) (empty : Bool) (flags : Flags) (from to : ℕ) →
+        flags_from script empty no_flags 0 from (drop from script) ≡ Ok (flags, to) → flags.file ≡ None →
+        (flags.global ≡ stands_among 103 (bytes_between script from to))
+        × (flags.print ≡ stands_among 112 (bytes_between script from to))
+        × (flags.folded ≡ stands_among 73 (bytes_between script from to)) }
+{}
+
+/// A list of one or more bytes, none of them `[`, `]`, `-` or `^`, matches exactly these bytes and ends after its `]`.
+pub fn list_matches()
+    ensures { (before bytes after : List ℕ) → 0 < length bytes → ArePlain bytes →
+        list_at false None (before ++ 91 ∷ (bytes ++ 93 ∷ after)) (length before)
+        ≡ Ok (set_of (λ c. stands_among c bytes), length before + length bytes + 2) }
+{}
+
+/// With a `^` before these bytes, it matches exactly the others.
+pub fn others_match()
+    ensures { (before bytes after : List ℕ) → 0 < length bytes → ArePlain bytes →
+        list_at false None (before ++ 91 ∷ 94 ∷ (bytes ++ 93 ∷ after)) (length before)
+        ≡ Ok (set_of (λ c. not (stands_among c bytes)), length before + length bytes + 3) }
+{}
