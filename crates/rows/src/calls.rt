@@ -16,6 +16,7 @@
 
 ghost use Rattle.std.specs.Prelude.{◌≡◌, ◌+◌, ◌<◌, [], length, IfSome};
 
+use crate::files::put_copy;
 use crate::job::limits_of;
 use crate::options::{Options, name_and_value};
 use crate::report::{NO_MEMORY, Report};
@@ -111,17 +112,37 @@ fn run_words(
     pieces: Pieces,
     report: &mut Report,
 ) {
-    let Some(mut devices) = devices_of(alloc, row, pieces) else {
-        return report.tell(NO_MEMORY);
-    };
-    let status = call(alloc, words, limits, &mut devices);
+    match devices_of(alloc, row, pieces) {
+        Some(mut devices) => run_over(alloc, row, words, limits, &mut devices, report),
+        None => report.tell(NO_MEMORY),
+    }
+}
+
+/// Calls the program with these words over these devices.
+fn run_over(
+    alloc: Global,
+    row: &Row,
+    words: &[String],
+    limits: Limits,
+    devices: &mut Devices,
+    report: &mut Report,
+)
+    requires created { devices.old.sinks.created ≡ 0 }
+    requires named { devices.old.names.named ≡ [] }
+{
+    let status = call(alloc, words, limits, devices);
     report.compare_numbers("the status", usize::from(status), row.number(3));
-    compare_output(&devices.sinks, row, report);
-    compare_files(&devices.sinks, row.options(4), report);
-    compare_errors(devices.errors.as_slice(), row.options(4), report);
+    compare_written(devices, row, report);
     if status == 1 && devices.inputs.calls() > 0 {
         report.tell("an input is read");
     }
+}
+
+/// Whether what was written is what the row says.
+fn compare_written(devices: &Devices, row: &Row, report: &mut Report) {
+    compare_output(&devices.sinks, row, report);
+    compare_files(&devices.sinks, row.options(4), report);
+    compare_errors(devices.errors.as_slice(), row.options(4), report);
 }
 
 /// Calls the program.
@@ -148,9 +169,15 @@ fn words_of(alloc: Global, written: &[u8]) -> Option<Vec<String>> {
         return Some(words);
     }
     for word in text.split(' ') {
-        words.push(word_of(alloc, word)?).ok()?;
+        put_word(alloc, word, &mut words)?;
     }
     Some(words)
+}
+
+/// Adds a word as it is meant. None for want of memory.
+fn put_word(alloc: Global, written: &str, words: &mut Vec<String>) -> Option<()> {
+    let word = word_of(alloc, written)?;
+    words.push(word).ok()
 }
 
 /// A word as it is meant.
@@ -207,8 +234,19 @@ fn files_of(alloc: Global, options: Options<'_>) -> Option<Vec<MemoryFile>> {
 /// The file that `NAME=TEXT` says.
 fn file_in(alloc: Global, written: &[u8]) -> Option<MemoryFile> {
     let (name, text) = name_and_value(written);
-    let name = String::from_str(alloc, str::from_utf8(name).ok()?).ok()?;
-    Some(MemoryFile::new(name, text.to_vec(alloc).ok()?))
+    let name = text_of(alloc, name)?;
+    match text.to_vec(alloc) {
+        Ok(text) => Some(MemoryFile::new(name, text)),
+        Err(_) => None,
+    }
+}
+
+/// Bytes as a text.
+fn text_of(alloc: Global, bytes: &[u8]) -> Option<String> {
+    match str::from_utf8(bytes) {
+        Ok(text) => String::from_str(alloc, text).ok(),
+        Err(_) => None,
+    }
 }
 
 /// The names of the options `w:NAME=TEXT`.
@@ -217,7 +255,7 @@ fn names_of(alloc: Global, options: Options<'_>) -> Option<Vec<Vec<u8>>> {
     for option in options.written {
         if let Some(file) = option.as_slice().strip_prefix(b"w:") {
             let (name, _) = name_and_value(file);
-            names.push(name.to_vec(alloc).ok()?).ok()?;
+            put_copy(alloc, name, &mut names)?;
         }
     }
     Some(names)

@@ -33,20 +33,9 @@ const MOST_CALLS: usize = 1000;
 pub(crate) fn run(alloc: Global, row: &Row, report: &mut Report) {
     check_script(alloc, row, report);
     run_device(alloc, row, None, report);
-    for sink in 0..sinks_of(row) {
+    for sink in 0..row.options(3).sinks() {
         run_device(alloc, row, Some(sink), report);
     }
-}
-
-/// How many sinks the row has: the standard output, and one for each file that is written.
-fn sinks_of(row: &Row) -> usize {
-    let mut count = 1usize;
-    for option in row.options(3).written {
-        if option.starts_with(b"w:") {
-            count = count.saturating_add(1);
-        }
-    }
-    count
 }
 
 /// Has each call of a device fail in turn, of this sink or else of the input, until a run meets no failure.
@@ -80,16 +69,22 @@ fn run_call(
 fn failing_row(alloc: Global, row: &Row, sink: Option<usize>, call: usize) -> Option<Row> {
     let row = row.with(alloc, b"read=1")?;
     match sink {
-        Some(sink) => {
-            let refuses = format!(in alloc; "refuses={sink}").ok()?;
-            let write = format!(in alloc; "write={call}").ok()?;
-            row.with(alloc, refuses.as_bytes())?
-                .with(alloc, write.as_bytes())
-        }
-        None => {
-            let fails = format!(in alloc; "fails={call}").ok()?;
-            row.with(alloc, fails.as_bytes())
-        }
+        Some(sink) => refusing_row(alloc, &row, sink, call),
+        None => with_number(alloc, &row, "fails", call),
+    }
+}
+
+/// The row with the options by which this write to a sink fails. None for want of memory.
+fn refusing_row(alloc: Global, row: &Row, sink: usize, write: usize) -> Option<Row> {
+    let row = with_number(alloc, row, "refuses", sink)?;
+    with_number(alloc, &row, "write", write)
+}
+
+/// The row with a name set to a number besides. None for want of memory.
+fn with_number(alloc: Global, row: &Row, name: &str, number: usize) -> Option<Row> {
+    match format!(in alloc; "{name}={number}") {
+        Ok(option) => row.with(alloc, option.as_bytes()),
+        Err(_) => None,
     }
 }
 

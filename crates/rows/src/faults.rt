@@ -27,21 +27,35 @@ pub(crate) fn put_script_fault(sheet: &mut Sheet, fault: &ScriptFault) {
 
 /// How a run ended, as `F1 line 2` or `F7 sink 0`.
 pub(crate) fn put_end(sheet: &mut Sheet, end: Ended) {
-    match end {
-        Ended::Done => sheet.put(b"F0"),
-        Ended::PatternFull(number) => put_place(sheet, "F1 line ", number),
-        Ended::HoldFull(number) => put_place(sheet, "F2 line ", number),
-        Ended::QueueFull(number) => put_place(sheet, "F3 line ", number),
-        Ended::TurnsSpent => sheet.put(b"F4"),
-        Ended::NoPrevious(number) => put_place(sheet, "F5 line ", number),
-        Ended::InputBroken => sheet.put(b"F6"),
-        Ended::OutputBroken(sink) => put_place(sheet, "F7 sink ", sink as u64),
-        Ended::OutputFull(sink) => put_place(sheet, "F8 sink ", sink as u64),
+    sheet.put_text(cause_of(end));
+    if let Some(place) = place_of(end) {
+        sheet.put_number(u128::from(place));
     }
 }
 
-/// A cause and its place.
-fn put_place(sheet: &mut Sheet, cause: &str, number: u64) {
-    sheet.put_text(cause);
-    sheet.put_number(u128::from(number));
+/// The cause of an end, and what its place is a number of.
+fn cause_of(end: Ended) -> &'static str {
+    match end {
+        Ended::Done => "F0",
+        Ended::PatternFull(_) => "F1 line ",
+        Ended::HoldFull(_) => "F2 line ",
+        Ended::QueueFull(_) => "F3 line ",
+        Ended::TurnsSpent => "F4",
+        Ended::NoPrevious(_) => "F5 line ",
+        Ended::InputBroken => "F6",
+        Ended::OutputBroken(_) => "F7 sink ",
+        Ended::OutputFull(_) => "F8 sink ",
+    }
+}
+
+/// The place of an end, where its cause has one.
+fn place_of(end: Ended) -> Option<u64> {
+    match end {
+        Ended::PatternFull(line)
+        | Ended::HoldFull(line)
+        | Ended::QueueFull(line)
+        | Ended::NoPrevious(line) => Some(line),
+        Ended::OutputBroken(sink) | Ended::OutputFull(sink) => Some(sink as u64),
+        Ended::Done | Ended::TurnsSpent | Ended::InputBroken => None,
+    }
 }

@@ -49,10 +49,15 @@ pub(crate) fn texts_of(
 ) -> Option<MemoryTexts> {
     let mut texts = Vec::new(alloc);
     for name in names {
-        let text = text_in(options, name.as_slice()).to_vec(alloc).ok()?;
-        texts.push(text).ok()?;
+        put_copy(alloc, text_in(options, name.as_slice()), &mut texts)?;
     }
     Some(MemoryTexts::new(texts))
+}
+
+/// Adds a copy of the bytes. None for want of memory.
+pub(crate) fn put_copy(alloc: Global, bytes: &[u8], copies: &mut Vec<Vec<u8>>) -> Option<()> {
+    let copy = bytes.to_vec(alloc).ok()?;
+    copies.push(copy).ok()
 }
 
 /// The text that the options give for a file that is read.
@@ -82,10 +87,12 @@ pub(crate) fn check_read(names: &[Vec<u8>], options: &[Vec<u8>], report: &mut Re
 
 /// The names after this one.
 fn behind<'a>(names: &'a [Vec<u8>], wanted: &[u8]) -> Option<&'a [Vec<u8>]> {
-    match names.iter().position(|name| name.as_slice() == wanted) {
-        Some(k) if k < names.len() => Some(&names[k + 1..]),
-        _ => None,
+    for k in 0..names.len() {
+        if names[k].as_slice() == wanted {
+            return Some(&names[k + 1..]);
+        }
     }
+    None
 }
 
 /// Sees that the options `w:NAME=TEXT` name all files that the script writes, each once, in its order.

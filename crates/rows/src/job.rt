@@ -121,12 +121,7 @@ pub(crate) fn outputs_of(
 
 /// The sinks: the standard output, and one for each file that is written.
 fn new_outputs(alloc: Global, options: Options<'_>) -> Option<MemoryOutputs> {
-    let mut count = 1usize;
-    for option in options.written {
-        if option.starts_with(b"w:") {
-            count = count.saturating_add(1);
-        }
-    }
+    let count = options.sinks();
     match options.number(b"room") {
         Some(room) => MemoryOutputs::with_room(alloc, count, room).ok(),
         None => MemoryOutputs::new(alloc, count).ok(),

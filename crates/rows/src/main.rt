@@ -42,6 +42,12 @@ struct Count {
     failed: usize,
 }
 
+/// The rows of the table in a file.
+fn table_in(rt: &HostRuntime, name: &str) -> Result<Vec<Row>> {
+    let text = fs::read_to_string(rt, name).context("the table can't be read")?;
+    rows_of(rt.alloc(), text.as_str())
+}
+
 /// Runs a row of a table, and names it where it fails. Says whether it holds.
 fn run_row(rt: &HostRuntime, subject: Subject, name: &str, row: &Row) -> Result<bool> {
     let line = row.line;
@@ -59,19 +65,36 @@ fn run_row(rt: &HostRuntime, subject: Subject, name: &str, row: &Row) -> Result<
     Ok(false)
 }
 
-/// Runs the rows of a table, and names those that fail.
-fn run_table(rt: &HostRuntime, subject: Subject, name: &str) -> Result<Count> {
-    let text = fs::read_to_string(rt, name).context("the table can't be read")?;
-    let table = rows_of(rt.alloc(), text.as_str())?;
+/// Runs rows of a table, and names those that fail. Says how many these are.
+fn run_rows(rt: &HostRuntime, subject: Subject, name: &str, table: &[Row]) -> Result<usize> {
     let mut failed = 0usize;
-    for row in &table {
+    for row in table {
         if !run_row(rt, subject, name, row)? {
             failed = failed.saturating_add(1);
         }
     }
-    let rows = table.len();
+    Ok(failed)
+}
+
+/// Runs the rows of a table, and writes how many there are and how many fail.
+fn run_table(rt: &HostRuntime, subject: Subject, name: &str) -> Result<Count> {
+    let table = table_in(rt, name)?;
+    let failed = run_rows(rt, subject, name, table.as_slice())?;
+    put_count(
+        rt,
+        name,
+        Count {
+            rows: table.len(),
+            failed,
+        },
+    )
+}
+
+/// Writes how many rows a table has and how many failed. Gives the same.
+fn put_count(rt: &HostRuntime, name: &str, count: Count) -> Result<Count> {
+    let Count { rows, failed } = count;
     println!(rt; "{name}: {rows} rows, {failed} failed")?;
-    Ok(Count { rows, failed })
+    Ok(count)
 }
 
 /// Runs the table that a row of the file `tables` names.
@@ -81,17 +104,22 @@ fn run_named(rt: &HostRuntime, row: &Row) -> Result<Count> {
     run_table(rt, subject, name).context(format_args!("{name}"))
 }
 
-/// Runs the tables that the file `tables` names.
-fn run_tables(rt: &HostRuntime) -> Result<Count> {
-    let text = fs::read_to_string(rt, "tables").context("tables")?;
+/// Runs the tables that these rows name.
+fn run_all(rt: &HostRuntime, tables: &[Row]) -> Result<Count> {
     let mut rows = 0usize;
     let mut failed = 0usize;
-    for row in &rows_of(rt.alloc(), text.as_str())? {
+    for row in tables {
         let count = run_named(rt, row)?;
         rows = rows.saturating_add(count.rows);
         failed = failed.saturating_add(count.failed);
     }
     Ok(Count { rows, failed })
+}
+
+/// Runs the tables that the file `tables` names.
+fn run_tables(rt: &HostRuntime) -> Result<Count> {
+    let tables = table_in(rt, "tables").context("tables")?;
+    run_all(rt, tables.as_slice())
 }
 
 fn main(rt: HostRuntime) -> Result<()> {

@@ -54,6 +54,17 @@ impl<'a> Options<'a> {
         }
     }
 
+    /// `w:NAME=TEXT`: how many sinks there are, the standard output and one for each file that is written.
+    pub(crate) fn sinks(self) -> usize {
+        let mut count = 1usize;
+        for option in self.written {
+            if option.starts_with(b"w:") {
+                count = count.saturating_add(1);
+            }
+        }
+        count
+    }
+
     /// `delimiter=/`: the delimiter.
     pub(crate) fn delimiter(self) -> Option<u8> {
         match self.value(b"delimiter") {
@@ -65,8 +76,10 @@ impl<'a> Options<'a> {
 
 /// The name of an option, and what follows its `=`.
 pub(crate) fn name_and_value(option: &[u8]) -> (&[u8], &[u8]) {
-    match option.iter().position(|b| *b == b'=') {
-        Some(k) if k < option.len() => (&option[..k], &option[k + 1..]),
-        _ => (option, b""),
+    for k in 0..option.len() {
+        if option[k] == b'=' {
+            return (&option[..k], &option[k + 1..]);
+        }
     }
+    (option, b"")
 }

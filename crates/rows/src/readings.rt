@@ -201,10 +201,12 @@ fn put_part(sheet: &mut Sheet, part: &Part) {
 /// A `y` and the bytes that its table changes.
 fn put_table(sheet: &mut Sheet, table: &[u8]) {
     sheet.put_byte(b'y');
-    for (source, target) in (0..=255u8).zip(table) {
+    let mut source = 0u8;
+    for target in table {
         if source != *target {
             sheet.put(&[b' ', source, *target]);
         }
+        source = source.wrapping_add(1);
     }
 }
 

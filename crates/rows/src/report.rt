@@ -109,7 +109,7 @@ fn show(bytes: &[u8], sheet: &mut Sheet) {
     if bytes.is_empty() {
         sheet.put(b"%e");
     }
-    for b in bytes.iter().take(MOST_SHOWN) {
+    for b in &bytes[..bytes.len().min(MOST_SHOWN)] {
         show_byte(*b, sheet);
     }
     if bytes.len() > MOST_SHOWN {

@@ -55,12 +55,10 @@ const SUBJECTS: [(&str, Subject); 11] = [
 impl Subject {
     /// The subject of a name.
     pub(crate) fn named(wanted: &[u8]) -> Result<Subject> {
-        for (name, subject) in SUBJECTS {
-            if name.as_bytes() == wanted {
-                return Ok(subject);
-            }
+        match subject_named(wanted) {
+            Some(subject) => Ok(subject),
+            None => bail!("no rows are of this kind"),
         }
-        bail!("no rows are of this kind")
     }
 
     /// What such a row looks like.
@@ -96,4 +94,14 @@ impl Subject {
             Subject::Calls => calls::run(alloc, row, report),
         }
     }
+}
+
+/// The subject of a name, where there is one.
+fn subject_named(wanted: &[u8]) -> Option<Subject> {
+    for named in &SUBJECTS {
+        if named.0.as_bytes() == wanted {
+            return Some(named.1);
+        }
+    }
+    None
 }

@@ -5,6 +5,7 @@
 //! A row begins with the fields that its subject asks for; options follow, as `-n` or `space=3`.
 
 use crate::decoder::decoded;
+use crate::files::put_copy;
 use crate::options::Options;
 use crate::shape::{Shape, number_in};
 use anyhow::{Context, Result};
@@ -29,9 +30,9 @@ impl Row {
     pub(crate) fn with(&self, alloc: Global, option: &[u8]) -> Option<Row> {
         let mut fields = Vec::new(alloc);
         for field in &self.fields {
-            fields.push(field.to_vec(alloc).ok()?).ok()?;
+            put_copy(alloc, field.as_slice(), &mut fields)?;
         }
-        fields.push(option.to_vec(alloc).ok()?).ok()?;
+        put_copy(alloc, option, &mut fields)?;
         Some(Row {
             line: self.line,
             fields,
