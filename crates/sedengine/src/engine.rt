@@ -3,9 +3,9 @@ ghost use Rattle.std.specs.Prelude.{◌≡◌, ◌<◌, ◌≤◌, ◌+◌, [], 
 ghost use Rattle.std.specs.Option.{ForSome};
 ghost use Rattle.std.specs.Io.KnownBytes.{Keeps};
 ghost use Rattle.sedspace.specs.Failures.{Rose};
-ghost use Rattle.sedspace.specs.Stream.{lines_left};
+ghost use Rattle.sedspace.specs.Stream.{lines_left, ReadsOn};
 ghost use Rattle.sedengine.specs.Move.{start};
-ghost use Rattle.sedengine.specs.Devices.{FailedSink, FailedSource, SameLines, SameSinks};
+ghost use Rattle.sedengine.specs.Devices.{FailedSink, FailedSource, SameSinks};
 ghost use Rattle.sedengine.specs.Held.{total_of, bound_of};
 ghost use Rattle.sedengine.specs.Run.{outcome, Cycles, Ending, SameRun, Sends, TellsFiles, at_lines, end_of, setting};
 
@@ -95,7 +95,7 @@ impl Engine {
         ensures again { IfSome self.old.ended (λ end. (result ≡ Progress.Ended end) × (self.new ≡ self.old)
             × (lines.new ≡ lines.old) × (outputs.new ≡ outputs.old) × (texts.new ≡ texts.old)) }
         ensures same_run { SameRun self.old self.new }
-        ensures same_devices { SameLines R.reference lines.old lines.new
+        ensures same_devices { ReadsOn R.reference lines.old lines.new
             × SameSinks O.count O.names outputs.old outputs.new }
         ensures same_texts { (k : ℕ) → Keeps (T.text texts.old k) (T.text texts.new k) }
     {
@@ -104,8 +104,8 @@ impl Engine {
             meter: &mut self.meter,
         };
         let progress = self.machine.cycle(lines, &mut sinks, texts);
-        // No sink has gained more than the limit.
-        let _ = self.meter.limit();
+        // No sink has gained more than the limit, and no more is ahead than `look`.
+        let _ = (self.meter.limit(), lines.ahead_len());
         progress
     }
 
@@ -137,7 +137,7 @@ impl Engine {
         ensures again { IfSome self.old.ended (λ end. (result ≡ end) × (self.new ≡ self.old)
             × (lines.new ≡ lines.old) × (outputs.new ≡ outputs.old) × (texts.new ≡ texts.old)) }
         ensures same_run { SameRun self.old self.new }
-        ensures same_devices { SameLines R.reference lines.old lines.new
+        ensures same_devices { ReadsOn R.reference lines.old lines.new
             × SameSinks O.count O.names outputs.old outputs.new }
         ensures same_texts { (k : ℕ) → Keeps (T.text texts.old k) (T.text texts.new k) }
     {
@@ -146,8 +146,8 @@ impl Engine {
             meter: &mut self.meter,
         };
         let end = self.machine.run(lines, &mut sinks, texts);
-        // No sink has gained more than the limit.
-        let _ = self.meter.limit();
+        // No sink has gained more than the limit, and no more is ahead than `look`.
+        let _ = (self.meter.limit(), lines.ahead_len());
         end
     }
 

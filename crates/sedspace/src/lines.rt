@@ -155,6 +155,14 @@ impl<R: ByteSource> Lines<R> {
         &self.from
     }
 
+    /// How many bytes have been read ahead and not given yet: never more than `look`.
+    pub fn ahead_len(&self) -> usize
+        ensures value { result ≡ length self.now.ahead }
+        ensures bound { length self.now.ahead ≤ self.now.look }
+    {
+        self.ahead().len()
+    }
+
     /// Appends the next line to the space, without its newline, and answers whether there was one. The source is read
     /// only while no whole line has been read ahead and its end hasn't been seen.
     ///
