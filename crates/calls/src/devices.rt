@@ -60,12 +60,12 @@ fn a_failure_is_answered_again(rt: HostRuntime) -> Result<(), Fail> {
 #[test]
 fn a_long_line_is_answered_again(rt: HostRuntime) -> Result<(), Fail> {
     let alloc = rt.alloc();
-    for look in [1, 2, 7, 64] {
+    for (look, ahead) in [(1, 1), (2, 2), (7, 3), (64, 7)] {
         let source = MemorySource::new(b"abc\nabcd\na\n".to_vec(alloc)?, Vec::new(alloc));
         let mut lines = Lines::new(alloc, source, look)?;
         let mut space = Space::new(alloc, 6)?;
         assert!(rt; lines.next_into(&mut space) == Ok(Got::Line));
-        assert!(rt; lines.is_last() == Ok(false));
+        assert!(rt; lines.is_last() == Ok(false) && lines.ahead_len() == ahead);
         assert!(rt; lines.next_into(&mut space) == Err(LineFault::TooLong));
         stays_at(&rt, &mut lines, &mut space, LineFault::TooLong);
         same(&rt, space.bytes(), b"abc");
