@@ -4,12 +4,12 @@ use Rattle.std.proofs.lemmas.Bool.{cases_lt}
 use Rattle.sedre.specs.Arena.{tree_at}
 use Rattle.sedre.specs.Tree.{Tree}
 use Rattle.sedre.specs.declared.types.Node.{Node}
-use Rattle.sedmatch.specs.declared.ahead.Lead.TheVariants.{To}
+use Rattle.sedmarks.specs.declared.ahead.Lead.TheVariants.{To}
 use Rattle.sedmatch.specs.Linear.{NoneBefore}
-use Rattle.sedmatch.specs.Search.{Sought}
-use Rattle.sedmatch.specs.Spans.{Found, NotFound}
-use Rattle.sedmatch.proofs.SpanLemmas.{Spans-forward}
-use Rattle.sedmatch.proofs.SweepLemmas.{missed_end}
+use Rattle.sedmarks.specs.Search.{Sought}
+use Rattle.sedmarks.specs.Spans.{Found, NotFound}
+use Rattle.sedmarks.proofs.SpanLemmas.{Spans-forward}
+use Rattle.sedmarks.proofs.SweepLemmas.{missed_end}
 
 -- where a look ahead tells its end
 pub found_ahead : (e : Tree) (w : List ℕ) (from start end : ℕ) → Sought e w from (Some (start, To end)) → Found e w from start end

@@ -9,19 +9,20 @@ use Rattle.sedre.specs.Arena.{IsArena}
 use Rattle.sedre.specs.declared.types.Node.{Node}
 use Rattle.sedre.specs.declared.types.NodeId.{NodeId}
 use Rattle.sedre.specs.declared.types.Node.TheVariants.{Seq}
-use Rattle.sedmatch.specs.Spans.{Spans, IsIn, no_copy}
-use Rattle.sedmatch.specs.declared.few.Few.{Few}
-use Rattle.sedmatch.specs.declared.needed.Literal.{Literal}
-use Rattle.sedmatch.specs.Few.{HasFew, FirstFew, AreBytes}
-use Rattle.sedmatch.specs.Needed.{IsLiteral, GoesOnAs, FirstLiteral, LastLiteral}
-use Rattle.sedmatch.specs.Reach.{At}
-use Rattle.sedmatch.specs.FarAhead.{Repeated, AllRepeat}
+use Rattle.sedmarks.specs.Spans.{Spans, IsIn, no_copy}
+use Rattle.sedneedles.specs.declared.few.Few.{Few}
+use Rattle.sedneedles.specs.declared.needed.Literal.{Literal}
+use Rattle.sedneedles.specs.Few.{HasFew, FirstFew}
+use Rattle.sedmarks.specs.Bytes.{AreBytes}
+use Rattle.sedneedles.specs.Needed.{IsLiteral, GoesOnAs, FirstLiteral, LastLiteral}
+use Rattle.sedmarks.specs.Reach.{At}
+use Rattle.sedmarks.specs.FarAhead.{Repeated, AllRepeat}
 use Rattle.sedmatch.specs.Between.{Parted, AreOutside, IsClear, PartedAt, PartedSpans, AllParted, GoesClear, ClearTo, LastTail, PartedEnd, CanPart, PartedNowhere, FirstParted}
-use Rattle.sedmatch.proofs.SpanLemmas.{Copies-forward}
-use Rattle.sedmatch.proofs.FewLemmas.{few_inside}
-use Rattle.sedmatch.proofs.NeededLemmas.{seq_below}
-use Rattle.sedmatch.proofs.TimesLemmas.{repeated_in, repeated_within, repeated_before}
-use Rattle.sedmatch.proofs.ReachLemmas.{open_at, close_at}
+use Rattle.sedmarks.proofs.SpanLemmas.{Copies-forward}
+use Rattle.sedneedles.proofs.FewLemmas.{few_inside}
+use Rattle.sedneedles.proofs.NeededLemmas.{seq_below}
+use Rattle.sedneedles.proofs.TimesLemmas.{repeated_in, repeated_within, repeated_before}
+use Rattle.sedmarks.proofs.ReachLemmas.{open_at, close_at}
 
 module _ (few : Few) (members : List Bool) (outside : AreOutside few members) (w : List ℕ) (bytes : AreBytes w) where
   -- bytes of the set are none of the few

@@ -5,12 +5,12 @@ use Rattle.std.proofs.Math.Nat.{lt-mul-div-succ, lt_of_mul-lt-mul_left, mul-div-
 use Rattle.std.proofs.lemmas.Bool.{cases_lt, cases_eq}
 use Rattle.std.proofs.lemmas.List.{get_or-set_same, get_or-set_other}
 use Rattle.sedre.specs.declared.types.Node.{Node}
-use Rattle.sedmatch.specs.Words.{AgreeBelow, row_of}
-use Rattle.sedmatch.specs.Reach.{Marked, Below, Enters, Entered, TellBegun, TellEntered, SomeSpan}
-use Rattle.sedmatch.specs.Search.{starts_to}
+use Rattle.sedmarks.specs.Words.{AgreeBelow, row_of}
+use Rattle.sedmarks.specs.Reach.{Marked, Below, Enters, Entered, TellBegun, TellEntered, SomeSpan}
+use Rattle.sedmarks.specs.Search.{starts_to}
 use Rattle.sedmatch.specs.Meet.{RowTells, RowsTell, EdgesTell, MarkTells, HasBackPass, KeepsBackPass, low_of}
 use Rattle.sedmatch.specs.declared.meet.BackPass.{BackPass}
-use Rattle.sedmatch.specs.declared.scratch.Sets.{Sets}
+use Rattle.sedmarks.specs.declared.scratch.Sets.{Sets}
 
 -- marks that agree tell the same
 pub same_told : (n : ℕ) (marks other : List Bool) (P : ℕ → Type 0) → AgreeBelow n other marks → Marked marks (Below n) P → Marked other (Below n) P

@@ -6,15 +6,15 @@ use Rattle.sedre.specs.Arena.{Written, tree, tree_at}
 use Rattle.sedre.specs.Mirror.{mirror, seen}
 use Rattle.sedre.proofs.MirrorLemmas.{seen-tree}
 use Rattle.sedre.specs.declared.types.Node.{Node}
-use Rattle.sedmatch.specs.Spans.{Spans, Found}
-use Rattle.sedmatch.specs.Reach.{SomeSpan, LongestBelow}
-use Rattle.sedmatch.specs.Search.{IsRegionTo}
+use Rattle.sedmarks.specs.Spans.{Spans, Found}
+use Rattle.sedmarks.specs.Reach.{SomeSpan, LongestBelow}
+use Rattle.sedmarks.specs.Search.{IsRegionTo}
 use Rattle.sedmatch.specs.Tables.{starts_from}
 use Rattle.sedmatch.specs.Linear.{NoneBefore, IsFirstStart}
-use Rattle.sedmatch.specs.declared.region.Region.{Region}
-use Rattle.sedmatch.proofs.SpanLemmas.{Spans-forward}
-use Rattle.sedmatch.proofs.MirrorLemmas.{Spans-mirror, Spans-unmirror}
-use Rattle.sedmatch.proofs.RegionLemmas.{to_tree, from_tree}
+use Rattle.sedmarks.specs.declared.region.Region.{Region}
+use Rattle.sedmarks.proofs.SpanLemmas.{Spans-forward}
+use Rattle.sedmarks.proofs.MirrorLemmas.{Spans-mirror, Spans-unmirror}
+use Rattle.sedmarks.proofs.RegionLemmas.{to_tree, from_tree}
 
 -- what a pass over the mirrored expression and the text read from its end tells
 pub below_mirrored : (e nodes : Written) (w bytes : List ℕ) (len a b : ℕ) (best : Option ℕ) → nodes ≡ seen true e → bytes ≡ reverse w → len ≡ length w →

@@ -4,21 +4,21 @@ use Rattle.std.proofs.lemmas.Bool.{cases_lt}
 use Rattle.sedre.specs.Tree.{Tree}
 use Rattle.std.specs.Prelude.{is_some, IfSome, IfNone}
 use Rattle.sedre.specs.Arena.{Written, tree, tree_at}
-use Rattle.sedmatch.specs.Matching.{found}
-use Rattle.sedmatch.proofs.MatchingLemmas.{same_test, span_is}
+use Rattle.sedmarks.specs.Matching.{found}
+use Rattle.sedmarks.proofs.MatchingLemmas.{same_test, span_is}
 use Rattle.sedre.specs.declared.types.Node.{Node}
-use Rattle.sedmatch.specs.declared.passes.Starts.{Starts}
-use Rattle.sedmatch.specs.declared.states.Ends.{Ends}
+use Rattle.sedmarks.specs.declared.passes.Starts.{Starts}
+use Rattle.sedmarks.specs.declared.states.Ends.{Ends}
 use Rattle.sedmatch.specs.declared.tables.Table.{Table}
-use Rattle.sedmatch.specs.declared.region.Region.{Region}
-use Rattle.sedmatch.specs.Spans.{Spans, Found, NotFound, SomeFound}
-use Rattle.sedmatch.specs.Reach.{At, SomeSpan, OpenAt, TellBegun, Longest}
-use Rattle.sedmatch.specs.Search.{LastEnd, starts_to, IsRegion, IsEarliest}
-use Rattle.sedmatch.specs.States.{IsAt}
+use Rattle.sedmarks.specs.declared.region.Region.{Region}
+use Rattle.sedmarks.specs.Spans.{Spans, Found, NotFound, SomeFound}
+use Rattle.sedmarks.specs.Reach.{At, SomeSpan, OpenAt, TellBegun, Longest}
+use Rattle.sedmarks.specs.Search.{LastEnd, starts_to, IsRegion, IsEarliest}
+use Rattle.sedmarks.specs.States.{IsAt}
 use Rattle.sedmatch.specs.Tables.{StartsAre, starts_from}
 use Rattle.sedmatch.specs.Linear.{IsBound}
-use Rattle.sedmatch.proofs.SpanLemmas.{Spans-forward}
-use Rattle.sedmatch.proofs.RegionLemmas.{begun_restart, closed_at, closed_end, earliest_found}
+use Rattle.sedmarks.proofs.SpanLemmas.{Spans-forward}
+use Rattle.sedmarks.proofs.RegionLemmas.{begun_restart, closed_at, closed_end, earliest_found}
 
 -- the steps: bytes that are followed, and one that is not
 pub line_step : (m k from place p s0 s1 s2 : ℕ) → 0 < m → place ≤ p → s1 + 42 * m * from ≤ s0 + k + 42 * m * place → s2 + 2 * place ≤ s1 + 2 * p + 32 * m + 10 →

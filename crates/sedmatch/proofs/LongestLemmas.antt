@@ -1,16 +1,17 @@
 -- A search from one start by a table.
-use Rattle.std.proofs.Common.{◌≡◌, ℕ, ◌+◌, ◌-◌, ◌<◌, ◌≤◌, ◌↔◌, Bool, false, List, length, Option, Some, None, IfSome, IsTrue, sym, ◌∙◌, subst, ⊎_elim, true≢false, arith}
+use Rattle.std.proofs.Common.{◌≡◌, ℕ, ◌+◌, ◌<◌, ◌≤◌, false, List, length, Option, Some, None, IfSome, IsTrue, sym, ◌∙◌, subst, ⊎_elim, true≢false, arith}
 use Rattle.std.proofs.lemmas.Bool.{cases_lt, both_ways}
 use Rattle.sedre.specs.Tree.{Tree}
-use Rattle.sedre.specs.Arena.{Written, tree, tree_at}
+use Rattle.sedre.specs.Arena.{Written, tree}
 use Rattle.sedre.specs.declared.types.Node.{Node}
 use Rattle.sedmatch.specs.declared.quick.Passed.{Passed}
 use Rattle.sedmatch.specs.declared.tables.Table.{Table}
 use Rattle.sedmatch.specs.Longest.{HasPassed}
-use Rattle.sedmatch.specs.Spans.{Spans}
-use Rattle.sedmatch.specs.Reach.{At, SomeSpan, OpenAt, one_start, LongestBelow}
+use Rattle.sedmarks.specs.Spans.{Spans}
+use Rattle.sedmarks.specs.Reach.{one_start, LongestBelow}
 use Rattle.sedmatch.specs.Tables.{StartsAre, StateAt, LeadsOn, ends_of}
-use Rattle.sedmatch.specs.Words.{row_of}
+use Rattle.sedmarks.specs.Words.{row_of}
+use Rattle.sedmarks.proofs.WholeLemmas.{Tree_of, one_span}
 use Rattle.std.specs.Prelude.{slice_get, slice_index_or}
 use Rattle.std.proofs.lemmas.Option.{slice_get_within}
 
@@ -22,37 +23,6 @@ one_are t w start place none low p after within = (λ h. absurd (true≢false (s
 pub pass_best : (e : Tree) (w : List ℕ) (i n stop : ℕ) (best : Option ℕ) → ((p : ℕ) → n ≤ p → p < stop → Spans e w i p → ⊥) → LongestBelow e w i n best → LongestBelow e w i stop best
 pass_best e w i n stop None none old = λ k lt s. ⊎_elim (λ (l : k < n). old k l s) (λ (g : n ≤ k). none k g lt s) (cases_lt k n)
 pass_best e w i n stop (Some j) none old = (old.0, λ k lt s. ⊎_elim (λ (l : k < n). old.1 k l s) (λ (g : n ≤ k). absurd (none k g lt s)) (cases_lt k n))
-
-module _ (nodes : List Node) (w : List ℕ) (r start : ℕ) (root : r + 1 ≡ length nodes) where
-  abbrev pub Tree_of : Tree
-  Tree_of = tree_at nodes (length nodes - 1)
-
-  pub to_whole : (k : ℕ) → At nodes w r start k → Spans Tree_of w start k
-  to_whole k at = let last : r ≡ length nodes - 1 = omega arith in subst (λ x. At nodes w x start k) last at
-
-  pub from_whole : (k : ℕ) → Spans Tree_of w start k → At nodes w r start k
-  from_whole k s = let last : length nodes - 1 ≡ r = omega arith in subst (λ x. At nodes w x start k) last s
-
-  -- a span from the one start is one of the expression
-  pub one_span : (place : ℕ) (b : Bool) → (IsTrue b ↔ SomeSpan nodes w r (one_start start) place) → IsTrue b ↔ Spans Tree_of w start place
-  one_span place b tells = (
-    λ h. let some = tells.0 h in
-        let same : some.0 ≡ start = omega (arith, some.1.0, some.1.1) in
-        to_whole place (subst (λ i. At nodes w r i place) same some.2),
-    λ s. tells.1 (start, (omega arith, omega arith), from_whole place s),
-  )
-
-  pub at_whole : (place : ℕ) (b : Bool) → (IsTrue b ↔ At nodes w r start place) → IsTrue b ↔ Spans Tree_of w start place
-  at_whole place b tells = (λ h. to_whole place (tells.0 h), λ s. tells.1 (from_whole place s))
-
-  -- where no match goes on, none ends later
-  pub closed : (place : ℕ) (b : Bool) → start ≤ place → b ≡ false → OpenAt nodes w r (one_start start) place b → (p : ℕ) → place + 1 ≤ p → Spans Tree_of w start p → ⊥
-  closed place b low is opens p late s = both_ways b is (opens start p (omega arith, omega arith) low (omega arith) (from_whole p s))
-
-  -- none of the places that were passed ends a match
-  pub none_passed : (place stop : ℕ) → ((p : ℕ) → place < p → p ≤ stop → p < length w → SomeSpan nodes w r (one_start start) p → ⊥) → (n : ℕ) → n ≤ stop + 1 → n ≤ length w →
-      (p : ℕ) → place + 1 ≤ p → p < n → Spans Tree_of w start p → ⊥
-  none_passed place stop none n low within p late less s = none p (omega arith) (omega arith) (omega arith) (start, (omega arith, omega arith), from_whole p s)
 
 -- what is the best of more places is that of fewer
 pub fewer_places : (e : Tree) (w : List ℕ) (i n : ℕ) (best : Option ℕ) → LongestBelow e w i (n + 1) best → LongestBelow e w i n best

@@ -8,20 +8,20 @@ use Rattle.sedre.proofs.MirrorLemmas.{seen-arena, seen-node}
 use Rattle.sedre.specs.declared.types.Node.{Node}
 use Rattle.sedre.specs.declared.types.Node.TheVariants.{Empty, Set, Begin, End, Seq, Alt, Group, Star, Opt}
 use Rattle.sedre.specs.Tree.{Tree}
-use Rattle.sedmatch.specs.Cuts.{LeastFrom}
-use Rattle.sedmatch.specs.Spans.{Found, NotFound, Copies, no_copy, one_more}
-use Rattle.sedmatch.specs.declared.passes.Starts.{Starts}
-use Rattle.sedmatch.specs.Local.{takes}
-use Rattle.sedmatch.specs.Reach.{At, BeginsWith, IsStart, one_start, Enters, at_root, with_whole, after_left, again, OpenAt, SomeSpan, TellBegun, Longest, LongestBelow}
+use Rattle.sedmarks.specs.Cuts.{LeastFrom}
+use Rattle.sedmarks.specs.Spans.{Found, NotFound, Copies, no_copy, one_more}
+use Rattle.sedmarks.specs.declared.passes.Starts.{Starts}
+use Rattle.sedmarks.specs.Local.{takes}
+use Rattle.sedmarks.specs.Reach.{At, BeginsWith, IsStart, one_start, Enters, at_root, with_whole, after_left, again, OpenAt, SomeSpan, TellBegun, Longest, LongestBelow}
 use Rattle.sedmatch.specs.Meet.{MeetsBelow, GoesOn, GoesOnFrom, BeginsAt, KeptStarts, MarkTells, met_to, end_to}
-use Rattle.sedmatch.specs.Search.{starts_to}
+use Rattle.sedmarks.specs.Search.{starts_to}
 use Rattle.std.proofs.lemmas.List.{length-reverse}
-use Rattle.sedmatch.proofs.SpanLemmas.{Copies-append, Copies-forward, Spans-forward, Spans-within}
-use Rattle.sedmatch.proofs.ReachLemmas.{FromNode, open_at, close_at, takes_some, Enters-inside, Enters-part}
-use Rattle.sedmatch.proofs.MirrorLemmas.{At-mirror}
-use Rattle.sedmatch.proofs.OpenLemmas.{node_at}
-use Rattle.sedmatch.proofs.SearchLemmas.{LongestBelow-yes, LongestBelow-no}
-use Rattle.sedmatch.proofs.RegionLemmas.{to_tree, from_tree}
+use Rattle.sedmarks.proofs.SpanLemmas.{Copies-append, Copies-forward, Spans-forward, Spans-within}
+use Rattle.sedmarks.proofs.ReachLemmas.{FromNode, open_at, close_at, takes_some, Enters-inside, Enters-part}
+use Rattle.sedmarks.proofs.MirrorLemmas.{At-mirror}
+use Rattle.sedmarks.proofs.OpenLemmas.{node_at}
+use Rattle.sedmarks.proofs.SearchLemmas.{LongestBelow-yes, LongestBelow-no}
+use Rattle.sedmarks.proofs.RegionLemmas.{to_tree, from_tree}
 
 -- copies that pass j have one that passes it, and copies lead from its end to theirs
 Copies-cross : (R : ℕ → ℕ → Type 0) (P : ℕ → Type 0) (G : Type 0) (j k : ℕ) →

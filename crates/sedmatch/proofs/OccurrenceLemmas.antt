@@ -5,9 +5,9 @@ use Rattle.std.proofs.lemmas.Bool.{cases_lt}
 use Rattle.std.proofs.lemmas.Bool.Decides.{nat_tests}
 use Rattle.sedre.specs.Tree.{Tree}
 use Rattle.sedre.specs.Arena.{Written}
-use Rattle.sedmatch.specs.Spans.{Spans}
-use Rattle.sedmatch.specs.Matching.{found}
-use Rattle.sedmatch.proofs.MatchingLemmas.{found-iff}
+use Rattle.sedmarks.specs.Spans.{Spans}
+use Rattle.sedmarks.specs.Matching.{found}
+use Rattle.sedmarks.proofs.MatchingLemmas.{found-iff}
 use Rattle.sedmatch.specs.declared.occurrences.Occurrences.{Occurrences}
 use Rattle.sedmatch.specs.Meet.{blocks_cost, end_to}
 use Rattle.sedmatch.specs.Occurrences.{EndsWithin, Keeps, LiesOn, Occurs, Serves, next_span, unless_null_at, owed_met, owed_apart, owed_together, owed_from, owed_after}

@@ -7,19 +7,19 @@ use Rattle.std.proofs.lemmas.Bool.{cases_lt, both_ways}
 use Rattle.std.proofs.lemmas.Option.{slice_get_within}
 use Rattle.sedre.specs.Arena.{tree_at}
 use Rattle.sedre.specs.declared.types.Node.{Node}
-use Rattle.sedmatch.specs.declared.states.Ends.{Ends}
+use Rattle.sedmarks.specs.declared.states.Ends.{Ends}
 use Rattle.sedmatch.specs.declared.tables.Table.{Table}
 use Rattle.sedmatch.specs.declared.tables.Next.{Next}
 use Rattle.sedmatch.specs.declared.tables.Next.TheVariants.{To, Full}
 use Rattle.sedre.specs.Tree.{Tree}
-use Rattle.sedmatch.specs.Spans.{SomeFound}
-use Rattle.sedmatch.specs.Reach.{At, SomeSpan}
-use Rattle.sedmatch.specs.Beginnings.{AllBegin, CanBegin}
-use Rattle.sedmatch.specs.declared.beginnings.Begins.{Begins}
+use Rattle.sedmarks.specs.Spans.{SomeFound}
+use Rattle.sedmarks.specs.Reach.{At, SomeSpan}
+use Rattle.sedmarks.specs.Beginnings.{AllBegin, CanBegin}
+use Rattle.sedmarks.specs.declared.beginnings.Begins.{Begins}
 use Rattle.sedmatch.specs.Tables.{StateAt, StartsAre, Follows, Stays, look_cost, LeadsFrom, NextIs, ends_of, starts_from}
-use Rattle.sedmatch.specs.Words.{row_of}
-use Rattle.sedmatch.proofs.SpanLemmas.{Spans-forward, Spans-within}
-use Rattle.sedmatch.proofs.SweepLemmas.{swept_hit, missed_end, from_tree}
+use Rattle.sedmarks.specs.Words.{row_of}
+use Rattle.sedmarks.proofs.SpanLemmas.{Spans-forward, Spans-within}
+use Rattle.sedmarks.proofs.SweepLemmas.{swept_hit, missed_end, from_tree}
 
 -- nothing is passed at first
 pub follow_none : (nodes : List Node) (r : ℕ) (t : Table) (w : List ℕ) (from state : ℕ) → Follows nodes r t w from state from state

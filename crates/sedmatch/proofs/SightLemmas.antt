@@ -7,28 +7,29 @@ use Rattle.sedre.specs.Arena.{IsArena, tree_at}
 use Rattle.sedre.specs.declared.types.Node.{Node}
 use Rattle.sedre.specs.declared.types.NodeId.{NodeId}
 use Rattle.sedre.specs.declared.types.Node.TheVariants.{Set, Seq}
-use Rattle.sedmatch.specs.Spans.{Spans, Found, NotFound, SomeFound, IsIn, no_copy}
-use Rattle.sedmatch.specs.Few.{AreBytes, FirstFew}
-use Rattle.sedmatch.specs.declared.few.Few.{Few}
-use Rattle.sedmatch.specs.Reach.{At}
-use Rattle.sedmatch.specs.Beginnings.{CanBegin, NextStart}
-use Rattle.sedmatch.specs.declared.beginnings.Begins.TheVariants.{WithSet}
-use Rattle.sedmatch.specs.Times.{AllTimes, FirstTimes}
+use Rattle.sedmarks.specs.Spans.{Spans, Found, NotFound, SomeFound, IsIn, no_copy}
+use Rattle.sedneedles.specs.Few.{FirstFew}
+use Rattle.sedmarks.specs.Bytes.{AreBytes}
+use Rattle.sedneedles.specs.declared.few.Few.{Few}
+use Rattle.sedmarks.specs.Reach.{At}
+use Rattle.sedmarks.specs.Beginnings.{CanBegin, NextStart}
+use Rattle.sedmarks.specs.declared.beginnings.Begins.TheVariants.{WithSet}
+use Rattle.sedneedles.specs.Times.{AllTimes, FirstTimes}
 use Rattle.sedmatch.specs.Between.{Parted, AllParted, FirstParted}
-use Rattle.sedmatch.specs.Needed.{IsLiteral, GoesOnAs, FirstLiteral}
-use Rattle.sedmatch.specs.declared.needed.Literal.{Literal}
-use Rattle.sedmatch.specs.Word.{WordSpans, AllWord}
-use Rattle.sedmatch.specs.Choice.{AllChoice, FirstChoice}
-use Rattle.sedmatch.specs.FarAhead.{Repeated, AllRepeat, IsRun}
+use Rattle.sedneedles.specs.Needed.{IsLiteral, GoesOnAs, FirstLiteral}
+use Rattle.sedneedles.specs.declared.needed.Literal.{Literal}
+use Rattle.sedneedles.specs.Word.{WordSpans, AllWord}
+use Rattle.sedneedles.specs.Choice.{AllChoice, FirstChoice}
+use Rattle.sedmarks.specs.FarAhead.{Repeated, AllRepeat, IsRun}
 use Rattle.sedmatch.specs.Sight.{IsFirst, StartsWith, SightSpans, IsSight, CanStart, FirstWith, FirstStart, EndsAt}
 use Rattle.sedmatch.specs.declared.sight.First.{First}
 use Rattle.sedmatch.specs.declared.sight.First.TheVariants.{Among, Member}
 use Rattle.sedmatch.specs.declared.sight.Sight.{Sight}
 use Rattle.sedmatch.specs.declared.sight.Sight.TheVariants.{One, Run, Led, Trail, Times, Between, Word, Choice}
-use Rattle.sedmatch.proofs.ReachLemmas.{open_at, close_at}
-use Rattle.sedmatch.proofs.FarLemmas.{run_far}
-use Rattle.sedmatch.proofs.TimesLemmas.{repeated_within}
-use Rattle.sedmatch.proofs.SpanLemmas.{Copies-forward}
+use Rattle.sedmarks.proofs.ReachLemmas.{open_at, close_at}
+use Rattle.sedmarks.proofs.FarLemmas.{run_far}
+use Rattle.sedneedles.proofs.TimesLemmas.{repeated_within}
+use Rattle.sedmarks.proofs.SpanLemmas.{Copies-forward}
 
 -- what comes first, where its bytes are those of the set
 abbrev pub AreFirst : First → List Bool → Type 0

@@ -5,10 +5,10 @@ use Rattle.sedre.specs.Tree.{Tree}
 use Rattle.sedre.specs.declared.types.Node.{Node}
 use Rattle.sedmatch.specs.declared.linear.FirstEnd.{FirstEnd}
 use Rattle.sedmatch.specs.Linear.{IsFirstEnd, ended_to}
-use Rattle.sedmatch.specs.Spans.{Spans, SomeFound}
-use Rattle.sedmatch.specs.Ahead.{LeadsTo}
-use Rattle.sedmatch.specs.declared.ahead.Lead.{Lead}
-use Rattle.sedmatch.specs.declared.ahead.Lead.TheVariants.{To}
+use Rattle.sedmarks.specs.Spans.{Spans, SomeFound}
+use Rattle.sedmarks.specs.Ahead.{LeadsTo}
+use Rattle.sedmarks.specs.declared.ahead.Lead.{Lead}
+use Rattle.sedmarks.specs.declared.ahead.Lead.TheVariants.{To}
 use Rattle.sedmatch.specs.declared.sight.Sight.{Sight}
 use Rattle.sedmatch.specs.Sight.{IsSight, IsSightOf}
 

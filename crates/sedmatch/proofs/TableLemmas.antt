@@ -1,5 +1,5 @@
 -- Tables of states.
-use Rattle.std.proofs.Common.{◌≡◌, ◌≢◌, ℕ, zero, suc, ◌+◌, ◌-◌, ◌*◌, ◌/◌, ◌<◌, ◌≤◌, ◌↔◌, Bool, true, false, ◌||◌, List, [], ◌∷◌, length, Option, Some, None, IsTrue, refl, sym, ap, ◌∙◌, subst, ⊎_elim, true≢false, arith, length-set, mul-le-mul_left}
+use Rattle.std.proofs.Common.{◌≡◌, ◌≢◌, ℕ, ◌+◌, ◌-◌, ◌*◌, ◌/◌, ◌<◌, ◌≤◌, ◌↔◌, Bool, true, false, ◌||◌, List, length, Option, Some, None, IsTrue, refl, sym, ap, ◌∙◌, subst, ⊎_elim, true≢false, arith, length-set, mul-le-mul_left}
 use Rattle.std.proofs.Math.Nat.{mul-div_cancel_left}
 use Rattle.std.specs.Prelude.{slice_get, slice_index_or, slice_set, not}
 use Rattle.std.proofs.lemmas.Bool.{cases_eq, cases_lt}
@@ -8,16 +8,15 @@ use Rattle.std.proofs.lemmas.Option.{slice_get_within}
 use Rattle.sedre.specs.Arena.{IsArena}
 use Rattle.sedre.specs.declared.types.Node.{Node}
 use Rattle.sedre.specs.declared.types.Node.TheVariants.{Set}
-use Rattle.sedmatch.specs.declared.passes.Starts.{Starts}
-use Rattle.sedmatch.specs.declared.states.Ends.{Ends}
-use Rattle.sedmatch.specs.Local.{takes}
-use Rattle.sedmatch.specs.Words.{AgreeBelow, row_of}
-use Rattle.sedmatch.specs.Reach.{Marked, Below, IsStart, Enters, TellEntered, TellBegun, SetsFrom}
-use Rattle.sedmatch.specs.Places.{ComesAfter}
-use Rattle.sedmatch.specs.States.{IsAt}
+use Rattle.sedmarks.specs.declared.passes.Starts.{Starts}
+use Rattle.sedmarks.specs.declared.states.Ends.{Ends}
+use Rattle.sedmarks.specs.Local.{takes}
+use Rattle.sedmarks.specs.Words.{AgreeBelow, row_of}
+use Rattle.sedmarks.specs.Reach.{Marked, Below, IsStart, Enters, TellEntered}
+use Rattle.sedmarks.specs.Places.{ComesAfter}
+use Rattle.sedmarks.specs.States.{IsAt}
 use Rattle.sedmatch.specs.Tables.{ends_of, stops, code_of, AreClasses, LeadsOn, IsFirst, FirstKnown, AreStates}
-use Rattle.sedmatch.proofs.ReachLemmas.{Enters-inside}
-use Rattle.sedmatch.proofs.SearchLemmas.{next_entered, none_entered}
+use Rattle.sedmarks.proofs.SearchLemmas.{next_entered, none_entered}
 
 or_false_left : (a b : Bool) → (a || b) ≡ false → a ≡ false
 or_false_left false b is = refl
@@ -280,12 +279,6 @@ module _ (nodes : List Node) (r : ℕ) (sweeps : Bool) (classes : List ℕ) (col
     goes_on = λ t is. absurd (omega arith);
   }
 
--- at a place that is there, nothing stands in for an item
-pub default_same : {A : Type 0} → (xs : List A) (i : ℕ) (d e : A) → i < length xs → slice_index_or xs i d ≡ slice_index_or xs i e
-default_same [] i d e inside = absurd (omega arith)
-default_same (x ∷ xs) zero d e inside = refl
-default_same (x ∷ xs) (suc i) d e inside = default_same xs i d e (omega arith)
-
 -- what is found is found in a table of more states
 pub leads_same : (nodes : List Node) (r : ℕ) (sweeps sweeps2 : Bool) (classes classes2 : List ℕ) (row row2 : List Bool) (ends ends2 : Ends) (class : ℕ) (after : List Bool) (after_ends : Ends) →
     sweeps2 ≡ sweeps → classes2 ≡ classes → row2 ≡ row → ends2 ≡ ends →
@@ -386,10 +379,3 @@ one_class nodes classes firsts alike a b x members low high same is =
 -- where a search doesn't stop, no match ends among bytes
 pub not_inner : (sweeps : Bool) (e : Ends) → stops sweeps e ≡ false → e.inner ≡ false
 not_inner sweeps e is = or_false_left e.inner (not (sweeps || e.goes)) is
-
--- the set that is marked is open
-pub open_sets : (nodes : List Node) (w : List ℕ) (r : ℕ) (s : Starts) (place : ℕ) (marks : List Bool) (next : Option ℕ) (more : Bool) → TellBegun nodes w r s place marks →
-    ((c : ℕ) (members : List Bool) → c < r + 1 → slice_get nodes c ≡ Some (Set members) → IsTrue (slice_index_or marks c false) → IsTrue more) → IsArena nodes → SetsFrom nodes w r s place 0 next more
-open_sets nodes w r s place marks next more begun told arena c members le is enters taken =
-    let low = Enters-inside nodes w r s arena c place enters in
-    told c members (omega arith) is ((begun c (omega arith)).1 enters)

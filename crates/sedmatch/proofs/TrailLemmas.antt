@@ -3,16 +3,16 @@ use Rattle.std.proofs.Common.{◌≡◌, ℕ, ◌+◌, ◌<◌, ◌≤◌, ◌�
 use Rattle.std.specs.Prelude.{slice_get, slice_index_or}
 use Rattle.std.proofs.lemmas.Bool.{cases_lt}
 use Rattle.sedre.specs.Tree.{set}
-use Rattle.sedmatch.specs.Spans.{Spans}
-use Rattle.sedmatch.specs.FarAhead.{Repeated, IsRun}
+use Rattle.sedmarks.specs.Spans.{Spans}
+use Rattle.sedmarks.specs.FarAhead.{Repeated, IsRun}
 use Rattle.sedmatch.specs.Sight.{IsFirst, StartsWith, CanStart, FirstWith, FirstStart, EndsAt}
 use Rattle.sedmatch.specs.declared.sight.First.{First}
 use Rattle.sedmatch.specs.declared.sight.Sight.TheVariants.{Trail}
 use Rattle.sedmatch.specs.Trail.{RunBegins, LastWith}
-use Rattle.sedmatch.proofs.SpanLemmas.{Copies-forward}
-use Rattle.sedmatch.proofs.TimesLemmas.{repeated_cut, repeated_in}
-use Rattle.sedmatch.proofs.FarLemmas.{in_run, run_forward}
-use Rattle.sedmatch.proofs.BeginningLemmas.{member_step}
+use Rattle.sedmarks.proofs.SpanLemmas.{Copies-forward}
+use Rattle.sedneedles.proofs.TimesLemmas.{repeated_cut, repeated_in}
+use Rattle.sedmarks.proofs.FarLemmas.{in_run, run_forward}
+use Rattle.sedmarks.proofs.BeginningLemmas.{member_step}
 use Rattle.sedmatch.proofs.SightLemmas.{starts_inside}
 
 module _ (members : List Bool) (last : First) (w : List ℕ) where

@@ -3,10 +3,11 @@
 use Rattle.std.specs.Prelude.{◌≡◌, ℕ, ◌+◌, ◌<◌, ◌≤◌, ◌↔◌, Bool, List, length, Option, Some, None}
 use Rattle.memchr.specs.Find.{OccursAt}
 use Rattle.sedre.specs.declared.types.Node.{Node}
-use Rattle.sedmatch.specs.declared.few.Few.{Few}
-use Rattle.sedmatch.specs.Spans.{IsIn}
-use Rattle.sedmatch.specs.Few.{HasFew, FewAt, AreBytes}
-use Rattle.sedmatch.specs.Reach.{At}
+use Rattle.sedneedles.specs.declared.few.Few.{Few}
+use Rattle.sedmarks.specs.Spans.{IsIn}
+use Rattle.sedneedles.specs.Few.{HasFew, FewAt}
+use Rattle.sedmarks.specs.Bytes.{AreBytes}
+use Rattle.sedmarks.specs.Reach.{At}
 
 -- the first literal, the few bytes that don't stand between, and the second literal
 pub record Parted : Type 0 where

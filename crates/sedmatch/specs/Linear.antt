@@ -1,12 +1,12 @@
 -- Private to the proofs: no contract of a public item cites what stands here.
 -- What the passes by tables tell.
-use Rattle.std.specs.Prelude.{ℕ, ◌+◌, ◌<◌, ◌≤◌, Bool, List, length, Option, Some, None, IfSome, IfNone}
+use Rattle.std.specs.Prelude.{ℕ, ◌+◌, ◌<◌, ◌≤◌, Bool, List, length, Option, Some, None}
 use Rattle.sedre.specs.Tree.{Tree}
 use Rattle.sedre.specs.declared.types.Node.{Node}
 use Rattle.sedmatch.specs.declared.linear.FirstEnd.{FirstEnd}
-use Rattle.sedmatch.specs.Spans.{Spans, Found}
-use Rattle.sedmatch.specs.Reach.{At, SomeSpan}
-use Rattle.sedmatch.specs.States.{IsAt}
+use Rattle.sedmarks.specs.Spans.{Spans}
+use Rattle.sedmarks.specs.Reach.{At, SomeSpan}
+use Rattle.sedmarks.specs.States.{IsAt}
 use Rattle.sedmatch.specs.Tables.{starts_from}
 
 -- no match from the start on ends before the place
@@ -34,7 +34,3 @@ pub record IsFirstStart (e : Tree) (w : List ℕ) (from end i : ℕ) : Type 0 wh
   pub before : i ≤ end
   pub spans : Spans e w i end
   pub first : (h : ℕ) → from ≤ h → h < i → Spans e w h end → ⊥
-
--- there is a leftmost-longest match from the place on, within the text
-abbrev pub IsThere : Tree → List ℕ → ℕ → Option (ℕ × ℕ) → Type 0
-IsThere e w from r = IfSome r (λ f. Found e w from f.0 f.1) × IfNone r ⊥ × IfSome r (λ f. (f.0 ≤ f.1) × (f.1 ≤ length w))

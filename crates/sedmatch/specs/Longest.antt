@@ -5,7 +5,7 @@ use Rattle.sedre.specs.Tree.{Tree}
 use Rattle.sedre.specs.Arena.{Written, tree}
 use Rattle.sedmatch.specs.declared.quick.Passed.{Passed}
 use Rattle.sedmatch.specs.declared.tables.Table.{Table}
-use Rattle.sedmatch.specs.Reach.{one_start, LongestBelow}
+use Rattle.sedmarks.specs.Reach.{one_start, LongestBelow}
 use Rattle.sedmatch.specs.Tables.{StateAt}
 
 -- the match, if there is one, is the longest from the start of those that end below n, and ends at `stop` or before

@@ -6,13 +6,13 @@ use Rattle.sedre.specs.Arena.{Written}
 use Rattle.sedre.specs.Mirror.{seen}
 use Rattle.sedre.specs.declared.types.Node.{Node}
 use Rattle.sedre.specs.declared.types.Node.TheVariants.{Set}
-use Rattle.sedmatch.specs.declared.passes.Starts.{Starts}
+use Rattle.sedmarks.specs.declared.passes.Starts.{Starts}
 use Rattle.sedmatch.specs.declared.meet.BackPass.{BackPass}
-use Rattle.sedmatch.specs.Local.{takes}
-use Rattle.sedmatch.specs.Words.{row_of}
-use Rattle.sedmatch.specs.Reach.{At, IsStart, TellBegun, TellEntered, SomeSpan}
-use Rattle.sedmatch.specs.Search.{starts_to}
-use Rattle.sedmatch.specs.Spans.{Spans}
+use Rattle.sedmarks.specs.Local.{takes}
+use Rattle.sedmarks.specs.Words.{row_of}
+use Rattle.sedmarks.specs.Reach.{At, IsStart, TellBegun, TellEntered, SomeSpan}
+use Rattle.sedmarks.specs.Search.{starts_to}
+use Rattle.sedmarks.specs.Spans.{Spans}
 
 -- a node below n that takes the byte that comes is marked in both lists
 abbrev pub MeetsBelow : List Node → ℕ → List Bool → List Bool → Option ℕ → Type 0

@@ -2,7 +2,7 @@
 use Rattle.std.specs.Prelude.{◌≡◌, ℕ, ◌+◌, ◌-◌, ◌*◌, ◌<◌, ◌≤◌, false, ◌&&◌, List, length, Option, Some, None, IfSome, IsTrue, nat_eq, nat_lt, if◌then◌else◌}
 use Rattle.sedre.specs.Arena.{Written}
 use Rattle.sedre.specs.Tree.{Tree}
-use Rattle.sedmatch.specs.Spans.{Spans}
+use Rattle.sedmarks.specs.Spans.{Spans}
 use Rattle.sedmatch.specs.declared.occurrences.Occurrences.{Occurrences}
 use Rattle.sedmatch.specs.Meet.{HasBackPass, Served, blocks_cost}
 

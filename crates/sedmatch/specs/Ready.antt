@@ -4,13 +4,13 @@ use Rattle.std.specs.Prelude.{ℕ, true, IsTrue, Option}
 use Rattle.sedre.specs.Tree.{Tree}
 use Rattle.sedre.specs.Arena.{IsArena, Written, tree}
 use Rattle.sedre.specs.Mirror.{seen}
-use Rattle.sedmatch.specs.Beginnings.{AllBegin}
-use Rattle.sedmatch.specs.Needed.{IsNeeded}
-use Rattle.sedmatch.specs.Nodes.{IsRoot}
-use Rattle.sedmatch.specs.Rare.{AllRare}
+use Rattle.sedmarks.specs.Beginnings.{AllBegin}
+use Rattle.sedneedles.specs.Needed.{IsNeeded}
+use Rattle.sedmarks.specs.Nodes.{IsRoot}
+use Rattle.sedneedles.specs.Rare.{AllRare}
 use Rattle.sedmatch.specs.Sight.{IsSightOf}
 use Rattle.sedmatch.specs.Tables.{IsSingle, IsSweep}
-use Rattle.sedmatch.specs.Work.{AreFlat}
+use Rattle.sedmarks.specs.Work.{AreFlat}
 use Rattle.sedmatch.specs.declared.sight.Sight.{Sight}
 use Rattle.sedmatch.specs.declared.ready.Known.{Known}
 use Rattle.sedmatch.specs.declared.ready.Tables.{Tables}

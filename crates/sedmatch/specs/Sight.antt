@@ -3,13 +3,14 @@
 use Rattle.std.specs.Prelude.{◌≡◌, ℕ, ◌+◌, ◌<◌, ◌≤◌, ◌↔◌, List, length, slice_get, Option, Some, None}
 use Rattle.memchr.specs.Find.{OccursAt}
 use Rattle.sedre.specs.Tree.{Tree}
-use Rattle.sedmatch.specs.Spans.{Spans, IsIn}
-use Rattle.sedmatch.specs.FarAhead.{Repeated}
-use Rattle.sedmatch.specs.Times.{HasTimes}
+use Rattle.sedmarks.specs.Spans.{Spans, IsIn}
+use Rattle.sedmarks.specs.FarAhead.{Repeated}
+use Rattle.sedneedles.specs.Times.{HasTimes}
 use Rattle.sedmatch.specs.Between.{PartedSpans, CanPart}
-use Rattle.sedmatch.specs.Word.{WordSpans}
-use Rattle.sedmatch.specs.Choice.{ChoiceAt, ChoiceSpans}
-use Rattle.sedmatch.specs.Few.{HasFew, AreBytes}
+use Rattle.sedneedles.specs.Word.{WordSpans}
+use Rattle.sedneedles.specs.Choice.{ChoiceAt, ChoiceSpans}
+use Rattle.sedneedles.specs.Few.{HasFew}
+use Rattle.sedmarks.specs.Bytes.{AreBytes}
 use Rattle.sedmatch.specs.declared.sight.First.{First}
 use Rattle.sedmatch.specs.declared.sight.First.TheVariants.{Among, Member}
 use Rattle.sedmatch.specs.declared.sight.Sight.{Sight}

@@ -3,16 +3,16 @@
 use Rattle.std.specs.Prelude.{◌≡◌, ℕ, ◌+◌, ◌*◌, ◌<◌, ◌≤◌, ◌↔◌, Bool, true, false, not, ◌||◌, List, length, slice_get, slice_index_or, Option, Some, None, IsTrue}
 use Rattle.sedre.specs.declared.types.Node.{Node}
 use Rattle.sedre.specs.declared.types.Node.TheVariants.{Set}
-use Rattle.sedmatch.specs.declared.passes.Starts.{Starts}
-use Rattle.sedmatch.specs.declared.states.Ends.{Ends}
+use Rattle.sedmarks.specs.declared.passes.Starts.{Starts}
+use Rattle.sedmarks.specs.declared.states.Ends.{Ends}
 use Rattle.sedmatch.specs.declared.classes.Classes.{Classes}
 use Rattle.sedmatch.specs.declared.tables.Table.{Table}
 use Rattle.sedmatch.specs.declared.tables.Next.{Next}
 use Rattle.sedmatch.specs.declared.tables.Next.TheVariants.{To, Full}
-use Rattle.sedmatch.specs.Local.{takes}
-use Rattle.sedmatch.specs.Reach.{IsStart, SomeSpan}
-use Rattle.sedmatch.specs.Words.{AgreeBelow, row_of}
-use Rattle.sedmatch.specs.States.{IsAt}
+use Rattle.sedmarks.specs.Local.{takes}
+use Rattle.sedmarks.specs.Reach.{IsStart, SomeSpan}
+use Rattle.sedmarks.specs.Words.{AgreeBelow, row_of}
+use Rattle.sedmarks.specs.States.{IsAt}
 
 -- whether a match ends where the state is
 abbrev pub ends_of : List Ends → ℕ → Ends

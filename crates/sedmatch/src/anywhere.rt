@@ -1,24 +1,24 @@
 //! The leftmost-longest span by tables: from where a match can begin at all, and what tells of it before any table does.
 ghost use Rattle.std.specs.Prelude.{IfNone, ◌≡◌, ℕ, ◌+◌, ◌*◌, ◌^◌, ◌<◌, ◌≤◌, length};
 ghost use Rattle.sedre.specs.Arena.{tree};
-ghost use Rattle.sedmatch.specs.Nodes.{IsRoot};
-ghost use Rattle.sedmatch.specs.Spans.{Spans};
+ghost use Rattle.sedmarks.specs.Nodes.{IsRoot};
+ghost use Rattle.sedmarks.specs.Spans.{Spans};
 ghost use Rattle.sedmatch.specs.Tables.{IsSingle};
 ghost use Rattle.sedmatch.specs.Ready.{AreTables, IsPrepared};
-ghost use Rattle.sedmatch.specs.Answer.{SpanAnswer};
-ghost use Rattle.sedmatch.specs.Costs.{Pays};
+ghost use Rattle.sedmarks.specs.Answer.{SpanAnswer};
+ghost use Rattle.sedmarks.specs.Costs.{Pays};
 ghost use Rattle.sedre.specs.Steps.{Takes};
 
-use crate::ahead::Lead;
-use crate::beginnings::Begins;
-use crate::counted::Text;
 use crate::linear::{first_end_in, region_by, span_by, start_to};
-use crate::needed::narrowed;
 use crate::quick::longest_in;
-use crate::rare::first_place;
 use crate::ready::{Known, Tables};
-use crate::scratch::Sets;
 use crate::tables::Table;
+use sedmarks::ahead::Lead;
+use sedmarks::beginnings::Begins;
+use sedmarks::counted::Text;
+use sedmarks::scratch::Sets;
+use sedneedles::needed::narrowed;
+use sedneedles::rare::first_place;
 use sedre::{Expr, Steps};
 
 /// The leftmost-longest span of an expression that matches at the beginning of the text alone, by one pass from there.

@@ -4,16 +4,18 @@
 //! Both are sought by their own searches, the last one from the end, and the few bytes that can't stand between by a third:
 //! a match ends before the first of them.
 ghost use Rattle.std.specs.Prelude.{◌≡◌, ℕ, ◌+◌, ◌*◌, ◌^◌, ◌<◌, ◌≤◌, ◌-◌, length, None, IfOk, IfSome, IsTrue};
-ghost use Rattle.sedmatch.specs.Needed.{FirstLiteral};
+ghost use Rattle.sedneedles.specs.Needed.{FirstLiteral};
 ghost use Rattle.sedmatch.specs.Between.{AreOutside, GoesClear, ClearTo, LastTail, AllParted, CanPart, PartedEnd, FirstParted, IsShort};
-ghost use Rattle.sedmatch.specs.Costs.{Pays};
+ghost use Rattle.sedmarks.specs.Costs.{Pays};
 ghost use Rattle.sedre.specs.Steps.{Takes};
 
-use crate::counted::Text;
-use crate::far_ahead::star_set;
-use crate::few::{Few, with_byte};
-use crate::needed::{Literal, literal_from};
+use crate::backwards::find_last;
 use memchr::memmem::{Finder, FinderRev};
+use sedmarks::counted::Text;
+use sedmarks::far_ahead::star_set;
+use sedneedles::few::{Few, with_byte};
+use sedneedles::lookups::{find_few, find_literal};
+use sedneedles::needed::{Literal, literal_from};
 use sedre::{ByteSet, Expr, Node, Steps};
 use std::alloc::{AllocError, Global};
 use std::marker::Model;
@@ -154,7 +156,7 @@ fn clear_end(few: &Few, text: &Text, from: usize, steps: &mut Steps) -> usize
     ensures clear { ClearTo few.now text.now from result }
     ensures cost { Pays steps.old steps.new (result + 1) from }
 {
-    match text.find_few(few, from, steps) {
+    match find_few(text, few, from, steps) {
         None => text.len(),
         Some(place) => place,
     }
@@ -175,7 +177,7 @@ fn last_tail(
     ensures cost { Pays steps.old steps.new (to + length tail.now) from }
 {
     let end = text.len().min(to + tail_len(tail));
-    text.find_last(tail, from, end, steps)
+    find_last(text, tail, from, end, steps)
 }
 
 /// The first place from `from` on at which a match begins.
@@ -193,7 +195,7 @@ fn first_parted(
     ensures cost { Pays steps.old steps.new (24 * (length text.now + 1)) (24 * from) }
 {
     let mut place = from;
-    while let Some(start) = text.find_literal(head, place, steps) {
+    while let Some(start) = find_literal(text, head, place, steps) {
         let after = place_after(head, text, start);
         let stop = clear_end(outside, text, after, steps);
         if last_tail(tail, text, after, stop, steps).is_some() {
@@ -216,7 +218,7 @@ fn lacks_tail(head: &Finder, ahead: &Finder, text: &Text, from: usize, steps: &m
     if ahead.needle().len() <= head.needle().len() {
         return false;
     }
-    match text.find_literal(ahead, from, steps) {
+    match find_literal(text, ahead, from, steps) {
         None => true,
         Some(_) => false,
     }

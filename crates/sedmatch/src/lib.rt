@@ -4,56 +4,35 @@
 //! the text with marks at the nodes of the expression, never back, so that their steps are bounded for every
 //! expression and text: 64 times nodes times places where there is no match, as many times the places again where
 //! there is one, and as many times the nodes again where groups are reported. A step is one look at a node, a byte,
-//! a mark or a cell. They work in the room of a [`Scratch`] and take no memory.
+//! a mark or a cell. They work in the room of a [`Scratch`] and take no memory. They stand in `sedmarks`.
 //!
 //! A [`TableMatcher`] keeps what such a search finds out of an expression, and looks it up in the next one: at most
 //! places that is one cell of a table in place of all nodes. Where a match begins and ends then takes steps in
 //! proportion to the text, whatever the answer: 128 times nodes times places at most. What an expression tells of all its
 //! matches is found out once, when such a matcher is made: a literal that they hold, the rarest bytes at fixed distances
-//! after their beginning, and whether they are seen at the first look.
+//! after their beginning (both in `sedneedles`), and whether they are seen at the first look.
 //!
 //! [`TableMatcher::next_occurrence`] goes over all occurrences in one text. They take at most 416 times nodes times
 //! places together, whatever the answers: where searches look far past their matches, one pass from the text's end
 //! tells the later ones where to stop ([`Occurrences`]). [`TableMatcher::groups_of`] tells the groups of one of them.
 #![tactic(auto)]
 
-mod ahead;
 mod anywhere;
-mod apart;
-mod beginnings;
+mod backwards;
 mod between;
-mod choice;
 mod classes;
-mod counted;
-mod cuts;
-mod far_ahead;
-mod few;
-mod groups;
-mod laws;
 mod linear;
-mod matcher;
 mod meet;
-mod members;
-mod needed;
 mod occurrences;
-mod openings;
-mod passes;
 mod quick;
-mod rare;
 mod ready;
-mod region;
-mod scratch;
-mod search;
 mod sight;
-mod states;
 mod tables;
-mod times;
 mod trail;
 mod word;
 
-pub use counted::{Marks, Text};
-pub use laws::{found_law, groups_law, spans_law};
-pub use matcher::{Found, find, find_span, is_match};
 pub use occurrences::Occurrences;
 pub use quick::TableMatcher;
-pub use scratch::Scratch;
+pub use sedmarks::{
+    Found, Marks, Scratch, Text, find, find_span, found_law, groups_law, is_match, spans_law,
+};

@@ -3,25 +3,26 @@ ghost use Rattle.std.specs.Prelude.{Some, true, Bool, List, ◌≡◌, ℕ, ◌+
 ghost use Rattle.sedre.specs.Arena.{tree};
 ghost use Rattle.sedre.specs.Mirror.{seen};
 ghost use Rattle.sedre.specs.declared.types.Node.{Node};
-ghost use Rattle.sedmatch.specs.Nodes.{IsRoot};
-ghost use Rattle.sedmatch.specs.Places.{InOrder};
-ghost use Rattle.sedmatch.specs.Reach.{SomeSpan};
-ghost use Rattle.sedmatch.specs.Search.{IsRegion, IsRegionTo, LastEnd, IsEarliest, starts_to};
-ghost use Rattle.sedmatch.specs.States.{IsAt};
+ghost use Rattle.sedmarks.specs.Nodes.{IsRoot};
+ghost use Rattle.sedmarks.specs.Places.{InOrder};
+ghost use Rattle.sedmarks.specs.Reach.{SomeSpan};
+ghost use Rattle.sedmarks.specs.Search.{IsRegion, IsRegionTo, LastEnd, IsEarliest, starts_to};
+ghost use Rattle.sedmarks.specs.States.{IsAt};
 ghost use Rattle.sedmatch.specs.Tables.{IsSingle, IsSweep, IsTable, NextIs, starts_from};
-ghost use Rattle.sedmatch.specs.Linear.{NoneBefore, IsFirstEnd, ended_to, IsBound, IsFirstStart, IsThere};
+ghost use Rattle.sedmatch.specs.Linear.{NoneBefore, IsFirstEnd, ended_to, IsBound, IsFirstStart};
+ghost use Rattle.sedmarks.specs.Search.{IsThere};
 ghost use Rattle.sedmatch.specs.Ready.{AreTables};
-ghost use Rattle.sedmatch.specs.Costs.{Pays};
+ghost use Rattle.sedmarks.specs.Costs.{Pays};
 ghost use Rattle.sedre.specs.Steps.{Takes};
 
-use crate::counted::{Bytes, Text};
-use crate::passes::{Starts, advance};
 use crate::quick::{longest_in, longest_to};
 use crate::ready::Tables;
-use crate::region::Region;
-use crate::scratch::Sets;
-use crate::states::{Ends, ends_at};
 use crate::tables::{Next, Table, first_state, follow, follow_past, go, settle, stay};
+use sedmarks::counted::{Bytes, Text};
+use sedmarks::passes::{Starts, advance};
+use sedmarks::region::Region;
+use sedmarks::scratch::Sets;
+use sedmarks::states::{Ends, ends_at};
 use sedre::{Expr, Nodes, Steps};
 
 /// Where the first match ends.

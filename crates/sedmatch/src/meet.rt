@@ -8,22 +8,22 @@
 //! beginning to its end, so that each block is made twice in all.
 ghost use Rattle.std.specs.Prelude.{◌≡◌, ℕ, [], ◌+◌, ◌-◌, ◌*◌, ◌^◌, ◌<◌, ◌≤◌, ◌↔◌, length, IsTrue, IfSome, IfOk, true, false, slice_index_or, Option, Some, if◌then◌else◌};
 ghost use Rattle.sedre.specs.Arena.{tree};
-ghost use Rattle.sedmatch.specs.Nodes.{IsArenaRoot, IsNode, IsRoot};
-ghost use Rattle.sedmatch.specs.Local.{takes_next};
-ghost use Rattle.sedmatch.specs.Words.{row_of};
-ghost use Rattle.sedmatch.specs.Reach.{Longest, TellBegun, TellEntered, one_start};
+ghost use Rattle.sedmarks.specs.Nodes.{IsArenaRoot, IsNode, IsRoot};
+ghost use Rattle.sedmarks.specs.Local.{takes_next};
+ghost use Rattle.sedmarks.specs.Words.{row_of};
+ghost use Rattle.sedmarks.specs.Reach.{Longest, TellBegun, TellEntered, one_start};
 ghost use Rattle.sedmatch.specs.Meet.{MeetsBelow, GoesOnFrom, CameTo, PassTells, MarksGrow, BlockTells, HasKept, IsKept, Served, ServedAfter, HasBackPass, FitsRows, SameShape, KeepsBackPass, HasPlace, TurnsTo, BlockTakes, low_of, met_to, begin_to, end_to, blocks_cost};
 ghost use Rattle.sedmatch.specs.Occurrences.{next_span, unless_null_at};
-ghost use Rattle.sedmatch.specs.Search.{starts_to};
-ghost use Rattle.sedmatch.specs.Cuts.{LeastFrom};
-ghost use Rattle.sedmatch.specs.Matching.{found};
-ghost use Rattle.sedmatch.specs.Costs.{Pays};
+ghost use Rattle.sedmarks.specs.Search.{starts_to};
+ghost use Rattle.sedmarks.specs.Cuts.{LeastFrom};
+ghost use Rattle.sedmarks.specs.Matching.{found};
+ghost use Rattle.sedmarks.specs.Costs.{Pays};
 ghost use Rattle.sedre.specs.Steps.{Takes};
 
-use crate::counted::{Bytes, Marks, NodeMarks, Rows, Text};
-use crate::passes::{Starts, advance, takes_byte};
-use crate::scratch::{Sets, new_sets};
-use crate::search::advance_from;
+use sedmarks::counted::{Bytes, Marks, NodeMarks, Rows, Text};
+use sedmarks::passes::{Starts, advance, takes_byte};
+use sedmarks::scratch::{Sets, new_sets};
+use sedmarks::search::advance_from;
 use sedre::{Expr, Node, Nodes, Steps};
 use std::alloc::{AllocError, Global};
 

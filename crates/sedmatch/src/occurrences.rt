@@ -1,22 +1,22 @@
 //! All occurrences in one text, one after another.
 ghost use Rattle.std.specs.Prelude.{◌≡◌, ℕ, false, ◌+◌, ◌*◌, ◌^◌, ◌<◌, ◌≤◌, length, nat_lt, if◌then◌else◌, None, Some, IfOk, IfSome, IsTrue};
 ghost use Rattle.sedre.specs.Arena.{Written, tree};
-ghost use Rattle.sedmatch.specs.Matching.{found, report};
+ghost use Rattle.sedmarks.specs.Matching.{found, report};
 ghost use Rattle.sedmatch.specs.Meet.{HasBackPass, KeepsBackPass, Served};
 ghost use Rattle.sedmatch.specs.Occurrences.{EndsWithin, Keeps, KeepsOn, KeepsRoom, LiesOn, Occurs, RoomFor, Serves, ServesOn};
 ghost use Rattle.sedmatch.specs.Occurrences.{next_span, owed, owed_after, owed_apart, owed_met, owed_together};
-ghost use Rattle.sedmatch.specs.Nodes.{IsRoot};
-ghost use Rattle.sedmatch.specs.Parts.{SpanIn, span_of};
-ghost use Rattle.sedmatch.specs.Spans.{Spans};
-ghost use Rattle.sedmatch.specs.Room.{FitInto};
-ghost use Rattle.sedmatch.specs.Costs.{Pays};
+ghost use Rattle.sedmarks.specs.Nodes.{IsRoot};
+ghost use Rattle.sedmarks.specs.Parts.{SpanIn, span_of};
+ghost use Rattle.sedmarks.specs.Spans.{Spans};
+ghost use Rattle.sedmarks.specs.Room.{FitInto};
+ghost use Rattle.sedmarks.specs.Costs.{Pays};
 ghost use Rattle.sedre.specs.Steps.{Takes};
 
-use crate::counted::Text;
-use crate::groups::report;
 use crate::meet::{BackPass, is_null_at, keep_back_pass, new_back_pass, next_after};
 use crate::quick::TableMatcher;
-use crate::scratch::Scratch;
+use sedmarks::counted::Text;
+use sedmarks::groups::report;
+use sedmarks::scratch::Scratch;
 use sedre::{Expr, Steps};
 use std::alloc::{AllocError, Global};
 

@@ -4,14 +4,14 @@ ghost use Rattle.sedre.specs.Arena.{tree};
 ghost use Rattle.sedre.specs.Mirror.{seen};
 ghost use Rattle.sedmatch.specs.Ready.{AreTables, IsKnown};
 ghost use Rattle.sedmatch.specs.Tables.{IsCut, IsTable};
-ghost use Rattle.sedmatch.specs.Work.{AreFlat};
+ghost use Rattle.sedmarks.specs.Work.{AreFlat};
 
-use crate::beginnings::{Begins, how_begins};
 use crate::classes::{Classes, find_classes};
-use crate::groups::are_flat;
-use crate::needed::{Needed, find_needed};
-use crate::rare::{Rare, rare_of};
 use crate::tables::{Table, new_table};
+use sedmarks::beginnings::{Begins, how_begins};
+use sedmarks::groups::are_flat;
+use sedneedles::needed::{Needed, find_needed};
+use sedneedles::rare::{Rare, rare_of};
 use sedre::{Expr, Nodes, Steps};
 use std::alloc::{AllocError, Global};
 

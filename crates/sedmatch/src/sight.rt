@@ -8,24 +8,26 @@ ghost use Rattle.std.specs.Prelude.{IfOk, IfSome, IfNone, IsTrue};
 ghost use Rattle.sedre.specs.Arena.{IsArena, tree};
 ghost use Rattle.sedre.specs.Tree.{Tree};
 ghost use Rattle.sedre.specs.declared.types.Node.TheVariants.{Seq};
-ghost use Rattle.sedmatch.specs.Spans.{Found as IsFound, NotFound, SomeFound, IsIn};
-ghost use Rattle.sedmatch.specs.Answer.{IsComputed, MatchAnswer};
+ghost use Rattle.sedmarks.specs.Spans.{Found as IsFound, NotFound, SomeFound, IsIn};
+ghost use Rattle.sedmarks.specs.Answer.{IsComputed, MatchAnswer};
 ghost use Rattle.sedmatch.specs.Sight.{IsFirst, FirstWith, IsSight, IsSightOf, CanStart, FirstStart, EndsAt};
-ghost use Rattle.sedmatch.specs.Room.{FitInto};
-ghost use Rattle.sedmatch.specs.Costs.{Pays};
+ghost use Rattle.sedmarks.specs.Room.{FitInto};
+ghost use Rattle.sedmarks.specs.Costs.{Pays};
 ghost use Rattle.sedre.specs.Steps.{Takes};
 
 use crate::between::{Between, between_of};
-use crate::choice::{Choice, choice_of};
-use crate::counted::Text;
-use crate::far_ahead::star_set;
-use crate::few::{Few, members_of};
-use crate::groups::report;
-use crate::matcher::Found;
-use crate::scratch::Scratch;
-use crate::times::{find_times, times_of};
 use crate::trail::{trail_end, trail_start};
 use crate::word::{Word, word_of};
+use sedmarks::counted::{Text, are_bytes};
+use sedmarks::far_ahead::star_set;
+use sedmarks::groups::report;
+use sedmarks::matcher::Found;
+use sedmarks::members::{find_member, run_end};
+use sedmarks::scratch::Scratch;
+use sedneedles::choice::{Choice, choice_of};
+use sedneedles::few::{Few, members_of};
+use sedneedles::lookups::find_few;
+use sedneedles::times::{find_times, times_of};
 use sedre::{ByteSet, Expr, Node, NodeId, Steps};
 use std::alloc::{AllocError, Global};
 
@@ -150,8 +152,8 @@ pub fn find_first(first: &First, text: &Text, from: usize, steps: &mut Steps) ->
     ensures cost { Pays steps.old steps.new (length text.now + 1) from }
 {
     match first {
-        First::Among(few) => text.find_few(few, from, steps),
-        First::Member(set) => text.find_member(set, from, steps),
+        First::Among(few) => find_few(text, few, from, steps),
+        First::Member(set) => find_member(text, set, from, steps),
     }
 }
 
@@ -181,7 +183,7 @@ pub fn sight_matches(sight: &Sight, text: &Text, from: usize, steps: &mut Steps)
     ensures matches { (e : Tree) → IsSight e sight.now → IsTrue result ↔ SomeFound e text.now from }
     ensures cost { Takes steps.old steps.new (50 * (length text.now + 1)) }
 {
-    text.are_bytes();
+    are_bytes(text);
     sight_start(sight, text, from, steps).is_some()
 }
 
@@ -195,8 +197,8 @@ fn sight_end(sight: &Sight, text: &Text, start: usize, steps: &mut Steps) -> usi
 {
     match sight {
         Sight::One(_) => text.after(start, 1),
-        Sight::Led(_, members) => text.run_end(members, text.after(start, 1), steps),
-        Sight::Run(members) => text.run_end(members, start, steps),
+        Sight::Led(_, members) => run_end(text, members, text.after(start, 1), steps),
+        Sight::Run(members) => run_end(text, members, start, steps),
         Sight::Trail(members, last) => trail_end(members, last, text, start, steps),
         Sight::Times(_, count) => text.after(start, *count),
         Sight::Between(between) => between.end(text, start, steps),
@@ -219,7 +221,7 @@ pub fn sight_span(
     ensures lies { IfSome result (λ f. (f.0 ≤ f.1) × (f.1 ≤ length text.now)) }
     ensures cost { Takes steps.old steps.new (50 * (length text.now + 1)) }
 {
-    text.are_bytes();
+    are_bytes(text);
     match sight_start(sight, text, from, steps) {
         None => None,
         Some(start) => Some((start, sight_end(sight, text, start, steps))),

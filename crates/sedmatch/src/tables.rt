@@ -6,16 +6,16 @@
 //! A full table is emptied, and the search goes on. Where few bytes were passed by its cells since the last time,
 //! that search goes on by marks in its place: so a table that doesn't help costs little.
 ghost use Rattle.std.specs.Prelude.{◌≡◌, ℕ, true, false, ◌+◌, ◌-◌, ◌*◌, ◌/◌, ◌^◌, ◌<◌, ◌≤◌, ◌↔◌, length, slice_index_or, Some, IsTrue, IfOk, IfSome, IfNone, vec_len};
-ghost use Rattle.sedmatch.specs.Places.{InOrder};
-ghost use Rattle.sedmatch.specs.Words.{row_of};
+ghost use Rattle.sedmarks.specs.Places.{InOrder};
+ghost use Rattle.sedmarks.specs.Words.{row_of};
 ghost use Rattle.sedmatch.specs.Tables.{IsTable, NextIs, stops, code_of, ends_of, LeadsFrom, IsFirst, HasState, Grows, Follows, Stays, look_cost, IsCut};
-ghost use Rattle.sedmatch.specs.Costs.{Pays};
+ghost use Rattle.sedmarks.specs.Costs.{Pays};
 ghost use Rattle.sedre.specs.Steps.{Takes, Counted, TakesAtLeast};
 
 use crate::classes::{Classes, are_classes};
-use crate::counted::{Bytes, NodeMarks, Rows, Tally};
-use crate::scratch::Sets;
-use crate::states::{Ends, step};
+use sedmarks::counted::{Bytes, NodeMarks, Rows, Tally};
+use sedmarks::scratch::Sets;
+use sedmarks::states::{Ends, step};
 use sedre::{Nodes, Steps};
 use std::alloc::{AllocError, Global};
 

@@ -8,8 +8,10 @@ ghost use Rattle.sedmatch.specs.Sight.{CanStart, FirstStart, EndsAt};
 ghost use Rattle.sedmatch.specs.declared.sight.Sight.TheVariants.{Trail};
 ghost use Rattle.sedre.specs.Steps.{Takes};
 
-use crate::counted::Text;
+use crate::backwards::{last_with, run_begin};
 use crate::sight::{First, find_first};
+use sedmarks::counted::Text;
+use sedmarks::members::run_end;
 use sedre::{ByteSet, Steps};
 
 /// The first place from `from` on at which a match begins.
@@ -27,7 +29,7 @@ pub fn trail_start(
     ensures cost { Takes steps.old steps.new (2 * (length text.now + 1)) }
 {
     match find_first(last, text, from, steps) {
-        Some(place) => Some(text.run_begin(members, from, place, steps)),
+        Some(place) => Some(run_begin(text, members, from, place, steps)),
         None => None,
     }
 }
@@ -46,10 +48,10 @@ pub fn trail_end(
     ensures end { EndsAt (Trail members.now last.now) text.now start result }
     ensures cost { Takes steps.old steps.new (2 * (length text.now + 1)) }
 {
-    let run = text.run_end(members, start, steps);
+    let run = run_end(text, members, start, steps);
     // The byte that ends the run can be the last of the match.
     let to = text.len().min(run + 1);
-    match text.last_with(last, start, to, steps) {
+    match last_with(text, last, start, to, steps) {
         Some(place) => place + 1,
         None => unreachable!(),
     }

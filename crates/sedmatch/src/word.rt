@@ -2,14 +2,15 @@
 //!
 //! The search for it tells the whole match, so that no table is looked at.
 ghost use Rattle.std.specs.Prelude.{◌≡◌, ℕ, List, ◌+◌, ◌^◌, ◌<◌, ◌≤◌, ◌-◌, length, IfOk, IfSome};
-ghost use Rattle.sedmatch.specs.Needed.{FirstLiteral};
-ghost use Rattle.sedmatch.specs.Word.{AllWord};
-ghost use Rattle.sedmatch.specs.Costs.{Pays};
+ghost use Rattle.sedneedles.specs.Needed.{FirstLiteral};
+ghost use Rattle.sedneedles.specs.Word.{AllWord};
+ghost use Rattle.sedmarks.specs.Costs.{Pays};
 ghost use Rattle.sedre.specs.Steps.{Takes};
 
-use crate::counted::Text;
-use crate::needed::{Literal, literal_from};
 use memchr::memmem::Finder;
+use sedmarks::counted::Text;
+use sedneedles::lookups::find_literal;
+use sedneedles::needed::{Literal, literal_from};
 use sedre::{Expr, Steps};
 use std::alloc::{AllocError, Global};
 use std::marker::Model;
@@ -56,7 +57,7 @@ impl Word {
         ensures first { FirstLiteral text.now self.now from result }
         ensures cost { Pays steps.old steps.new (length text.now) from }
     {
-        text.find_literal(&self.finder, from, steps)
+        find_literal(text, &self.finder, from, steps)
     }
 
     /// Where the match ends that begins at `start`.

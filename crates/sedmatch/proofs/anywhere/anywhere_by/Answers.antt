@@ -1,8 +1,8 @@
 use Rattle.std.proofs.Common.{◌+◌, ◌*◌, ◌≤◌, length, Some, subst, arith}
 use Rattle.sedre.specs.Arena.{tree}
-use Rattle.sedmatch.specs.Search.{Sought}
+use Rattle.sedmarks.specs.Search.{Sought}
 use Rattle.sedmatch.proofs.AnywhereLemmas.{found_ahead, ahead_lies, all_steps, none_steps, square_steps}
-use Rattle.sedmatch.proofs.NarrowLemmas.{answer_later, none_then}
+use Rattle.sedmarks.proofs.NarrowLemmas.{answer_later, none_then}
 use Rattle.sedmatch.proofs.anywhere.anywhere_by.Goals as goal
 
 pub returns-in-To-clause-answer : goal.returns-in-To-clause-answer

@@ -1,8 +1,8 @@
 use Rattle.std.proofs.Common.{◌+◌, ◌*◌, ◌≤◌, length, subst, arith}
 use Rattle.sedre.specs.Arena.{tree}
-use Rattle.sedmatch.specs.Beginnings.{CanBegin}
+use Rattle.sedmarks.specs.Beginnings.{CanBegin}
 use Rattle.sedmatch.proofs.LinearLemmas.{anchored_steps, none_linear, whole_linear, whole_square}
-use Rattle.sedmatch.proofs.NarrowLemmas.{answer_later, none_then}
+use Rattle.sedmarks.proofs.NarrowLemmas.{answer_later, none_then}
 use Rattle.sedmatch.proofs.anywhere.leftmost_by.Goals as goal
 
 pub anchored_by-requires-clause-begins : goal.anchored_by-requires-clause-begins

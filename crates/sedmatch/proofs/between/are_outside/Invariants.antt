@@ -1,6 +1,6 @@
 use Rattle.std.proofs.Common.{ℕ, ◌<◌, ◌↔◌}
-use Rattle.sedmatch.specs.Spans.{IsIn}
-use Rattle.sedmatch.specs.Few.{HasFew}
+use Rattle.sedmarks.specs.Spans.{IsIn}
+use Rattle.sedneedles.specs.Few.{HasFew}
 use Rattle.sedmatch.proofs.between.are_outside.Given as goal
 
 abbrev pub invariant-loop-byte : goal.invariant-loop-byte

@@ -1,7 +1,7 @@
 use Rattle.std.proofs.Common.{◌≡◌, Some, arith}
 use Rattle.std.specs.Prelude.{slice_get}
 use Rattle.sedre.specs.declared.types.Node.TheVariants.{Seq}
-use Rattle.sedmatch.proofs.NeededLemmas.{seq_below}
+use Rattle.sedneedles.proofs.NeededLemmas.{seq_below}
 use Rattle.sedmatch.proofs.BetweenLemmas.{seq_clear}
 use Rattle.sedmatch.proofs.between.middle_of.Goals as goal
 

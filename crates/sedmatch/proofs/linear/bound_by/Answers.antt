@@ -1,11 +1,11 @@
 use Rattle.std.proofs.Common.{◌+◌, ◌*◌, ◌∙◌, false, length, refl, sym, subst, true≢false, arith}
 use Rattle.std.proofs.lemmas.Bool.{not-true}
 use Rattle.sedmatch.specs.declared.tables.Next.TheVariants.{To}
-use Rattle.sedmatch.specs.States.{IsAt}
-use Rattle.sedmatch.specs.Search.{starts_to}
+use Rattle.sedmarks.specs.States.{IsAt}
+use Rattle.sedmarks.specs.Search.{starts_to}
 use Rattle.sedmatch.specs.Tables.{NextIs, LeadsFrom}
-use Rattle.sedmatch.specs.Words.{row_of}
-use Rattle.sedmatch.proofs.TableLemmas.{default_same}
+use Rattle.sedmarks.specs.Words.{row_of}
+use Rattle.sedmarks.proofs.MarkLemmas.{default_same}
 use Rattle.sedmatch.proofs.QuickLemmas.{next_map, look_most}
 use Rattle.sedmatch.proofs.LinearLemmas.{line_step, line_end, line_rest, to_are, bound_closed, bound_end}
 use Rattle.sedmatch.proofs.linear.bound_by.Goals as goal

@@ -1,6 +1,6 @@
 use Rattle.std.proofs.Common.{◌≡◌, ◌+◌, ◌-◌, ◌*◌, ◌≤◌, false, length}
-use Rattle.sedmatch.specs.States.{IsAt}
-use Rattle.sedmatch.specs.Search.{starts_to}
+use Rattle.sedmarks.specs.States.{IsAt}
+use Rattle.sedmarks.specs.Search.{starts_to}
 use Rattle.sedmatch.specs.Tables.{IsTable, NextIs}
 use Rattle.sedmatch.proofs.linear.bound_by.Given as goal
 

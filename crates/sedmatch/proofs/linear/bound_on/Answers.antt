@@ -1,7 +1,7 @@
 use Rattle.std.proofs.Common.{◌≡◌, ◌+◌, ◌*◌, length, ap, arith}
 use Rattle.std.proofs.lemmas.Bool.{not-true}
-use Rattle.sedmatch.specs.Search.{starts_to}
-use Rattle.sedmatch.proofs.SearchLemmas.{next_entered}
+use Rattle.sedmarks.specs.Search.{starts_to}
+use Rattle.sedmarks.proofs.SearchLemmas.{next_entered}
 use Rattle.sedmatch.proofs.LinearLemmas.{bound_closed, bound_end}
 use Rattle.sedmatch.proofs.linear.bound_on.Goals as goal
 

@@ -1,5 +1,5 @@
 use Rattle.std.proofs.Common.{◌+◌, ◌*◌, ◌≤◌, length}
-use Rattle.sedmatch.specs.Reach.{TellEntered}
+use Rattle.sedmarks.specs.Reach.{TellEntered}
 use Rattle.sedmatch.proofs.linear.bound_on.Given as goal
 
 abbrev pub invariant-loop-at : goal.invariant-loop-at

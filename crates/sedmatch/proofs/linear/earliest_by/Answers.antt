@@ -1,8 +1,8 @@
 use Rattle.std.proofs.Common.{◌-◌, length, None, Some, sym, subst, arith}
 use Rattle.sedre.specs.Arena.{Written, tree}
-use Rattle.sedmatch.specs.Search.{IsEarliest}
+use Rattle.sedmarks.specs.Search.{IsEarliest}
 use Rattle.sedmatch.specs.Tables.{IsSweep}
-use Rattle.sedmatch.proofs.RegionLemmas.{earliest_none, earliest_some, last_mirrored, mirrored_nodes}
+use Rattle.sedmarks.proofs.RegionLemmas.{earliest_none, earliest_some, last_mirrored, mirrored_nodes}
 use Rattle.sedmatch.proofs.LinearLemmas.{back_steps}
 use Rattle.sedmatch.proofs.linear.earliest_by.Goals as goal
 

@@ -1,6 +1,6 @@
 use Rattle.std.proofs.Common.{length, sym, subst, arith}
-use Rattle.sedmatch.specs.States.{IsAt}
-use Rattle.sedmatch.specs.Words.{row_of}
+use Rattle.sedmarks.specs.States.{IsAt}
+use Rattle.sedmarks.specs.Words.{row_of}
 use Rattle.sedmatch.proofs.TableLemmas.{at_agree}
 use Rattle.sedmatch.proofs.linear.enter.Goals as goal
 

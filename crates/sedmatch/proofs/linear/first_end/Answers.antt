@@ -2,12 +2,13 @@ use Rattle.std.proofs.Common.{◌≡◌, ◌+◌, ◌*◌, ◌∙◌, false, len
 use Rattle.std.specs.Prelude.{eqb}
 use Rattle.std.proofs.lemmas.Bool.{eqb-true, eq-eqb}
 use Rattle.sedmatch.specs.declared.tables.Next.TheVariants.{To}
-use Rattle.sedmatch.specs.States.{IsAt}
+use Rattle.sedmarks.specs.States.{IsAt}
 use Rattle.sedmatch.specs.Linear.{ended_to}
-use Rattle.sedmatch.specs.Words.{AgreeBelow, row_of}
+use Rattle.sedmarks.specs.Words.{AgreeBelow, row_of}
 use Rattle.sedmatch.specs.Tables.{NextIs, LeadsFrom, IsFirst, starts_from}
-use Rattle.sedmatch.proofs.TableLemmas.{default_same, at_agree, agree_back}
-use Rattle.sedmatch.proofs.SweepLemmas.{missed_init}
+use Rattle.sedmatch.proofs.TableLemmas.{at_agree, agree_back}
+use Rattle.sedmarks.proofs.MarkLemmas.{default_same}
+use Rattle.sedmarks.proofs.SweepLemmas.{missed_init}
 use Rattle.sedmatch.proofs.QuickLemmas.{next_map, starts_are, pass_one, pass_more, pass_rest}
 use Rattle.sedmatch.proofs.LinearLemmas.{line_step, line_end, line_rest, line_stop}
 use Rattle.sedmatch.proofs.linear.first_end.Goals as goal

@@ -1,5 +1,5 @@
 use Rattle.std.proofs.Common.{◌+◌, ◌-◌, ◌*◌, ◌≤◌, IsTrue, length}
-use Rattle.sedmatch.specs.States.{IsAt}
+use Rattle.sedmarks.specs.States.{IsAt}
 use Rattle.sedmatch.specs.Linear.{NoneBefore}
 use Rattle.sedmatch.specs.Tables.{IsTable, NextIs, starts_from}
 use Rattle.sedmatch.proofs.linear.first_end.Given as goal

@@ -1,8 +1,8 @@
 use Rattle.std.proofs.Common.{◌≡◌, ℕ, ◌+◌, ◌*◌, length, IsTrue, ◌↔◌, sym, ap, subst, arith}
-use Rattle.sedmatch.specs.declared.passes.Starts.{Starts}
-use Rattle.sedmatch.specs.Reach.{TellBegun, SomeSpan, OpenAt}
+use Rattle.sedmarks.specs.declared.passes.Starts.{Starts}
+use Rattle.sedmarks.specs.Reach.{TellBegun, SomeSpan, OpenAt}
 use Rattle.sedmatch.specs.Tables.{starts_from}
-use Rattle.sedmatch.proofs.SearchLemmas.{next_entered}
+use Rattle.sedmarks.proofs.SearchLemmas.{next_entered}
 use Rattle.sedmatch.proofs.QuickLemmas.{pass_one}
 use Rattle.sedmatch.proofs.LinearLemmas.{told_at}
 use Rattle.sedmatch.proofs.linear.first_end_on.Goals as goal

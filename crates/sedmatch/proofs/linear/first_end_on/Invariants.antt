@@ -1,5 +1,5 @@
 use Rattle.std.proofs.Common.{◌+◌, ◌*◌, ◌≤◌, length}
-use Rattle.sedmatch.specs.Reach.{TellEntered}
+use Rattle.sedmarks.specs.Reach.{TellEntered}
 use Rattle.sedmatch.specs.Linear.{NoneBefore}
 use Rattle.sedmatch.proofs.linear.first_end_on.Given as goal
 

@@ -3,13 +3,13 @@ use Rattle.std.specs.Prelude.{eqb}
 use Rattle.std.proofs.lemmas.Bool.{eqb-true, eq-eqb}
 use Rattle.sedre.specs.Arena.{tree}
 use Rattle.sedmatch.specs.declared.tables.Next.TheVariants.{To}
-use Rattle.sedmatch.specs.States.{IsAt}
-use Rattle.sedmatch.specs.Search.{LastEnd}
+use Rattle.sedmarks.specs.States.{IsAt}
+use Rattle.sedmarks.specs.Search.{LastEnd}
 use Rattle.sedmatch.specs.Tables.{NextIs, LeadsFrom, IsFirst, starts_from}
-use Rattle.sedmatch.specs.Words.{row_of}
-use Rattle.sedmatch.proofs.TableLemmas.{default_same}
+use Rattle.sedmarks.specs.Words.{row_of}
+use Rattle.sedmarks.proofs.MarkLemmas.{default_same}
 use Rattle.sedmatch.proofs.QuickLemmas.{next_map, starts_are, look_most}
-use Rattle.sedmatch.proofs.RegionLemmas.{LastEnd-none, LastEnd-hit}
+use Rattle.sedmarks.proofs.RegionLemmas.{LastEnd-none, LastEnd-hit}
 use Rattle.sedmatch.proofs.LinearLemmas.{line_step, line_end, line_rest, last_passed}
 use Rattle.sedmatch.proofs.linear.last_by.Goals as goal
 

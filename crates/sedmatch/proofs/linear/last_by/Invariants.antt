@@ -1,7 +1,7 @@
 use Rattle.std.proofs.Common.{◌+◌, ◌-◌, ◌*◌, ◌≤◌, IsTrue, length}
 use Rattle.sedre.specs.Arena.{tree}
-use Rattle.sedmatch.specs.States.{IsAt}
-use Rattle.sedmatch.specs.Search.{LastEnd}
+use Rattle.sedmarks.specs.States.{IsAt}
+use Rattle.sedmarks.specs.Search.{LastEnd}
 use Rattle.sedmatch.specs.Tables.{IsTable, NextIs, starts_from}
 use Rattle.sedmatch.proofs.linear.last_by.Given as goal
 

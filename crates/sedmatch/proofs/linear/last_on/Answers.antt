@@ -1,10 +1,10 @@
 use Rattle.std.proofs.Common.{◌≡◌, ℕ, ◌+◌, ◌*◌, length, IsTrue, ◌↔◌, sym, ap, subst, arith}
 use Rattle.sedre.specs.Arena.{tree}
-use Rattle.sedmatch.specs.declared.passes.Starts.{Starts}
-use Rattle.sedmatch.specs.Reach.{TellBegun, SomeSpan}
-use Rattle.sedmatch.specs.Search.{LastEnd}
+use Rattle.sedmarks.specs.declared.passes.Starts.{Starts}
+use Rattle.sedmarks.specs.Reach.{TellBegun, SomeSpan}
+use Rattle.sedmarks.specs.Search.{LastEnd}
 use Rattle.sedmatch.specs.Tables.{starts_from}
-use Rattle.sedmatch.proofs.SearchLemmas.{next_entered}
+use Rattle.sedmarks.proofs.SearchLemmas.{next_entered}
 use Rattle.sedmatch.proofs.linear.last_on.Goals as goal
 
 pub later-best-requires-clause-tells : goal.later-best-requires-clause-tells

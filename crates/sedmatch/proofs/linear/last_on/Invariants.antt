@@ -1,7 +1,7 @@
 use Rattle.std.proofs.Common.{◌+◌, ◌*◌, ◌≤◌, length}
 use Rattle.sedre.specs.Arena.{tree}
-use Rattle.sedmatch.specs.Reach.{TellEntered}
-use Rattle.sedmatch.specs.Search.{LastEnd}
+use Rattle.sedmarks.specs.Reach.{TellEntered}
+use Rattle.sedmarks.specs.Search.{LastEnd}
 use Rattle.sedmatch.proofs.linear.last_on.Given as goal
 
 abbrev pub invariant-loop-at : goal.invariant-loop-at

@@ -1,5 +1,5 @@
 use Rattle.std.proofs.Common.{length, refl}
-use Rattle.sedmatch.proofs.RegionLemmas.{LastEnd-hit, LastEnd-miss}
+use Rattle.sedmarks.proofs.RegionLemmas.{LastEnd-hit, LastEnd-miss}
 use Rattle.sedmatch.proofs.linear.later.Goals as goal
 
 pub returns-then-matched : goal.returns-then-matched

@@ -1,5 +1,5 @@
 use Rattle.std.proofs.Common.{length, true, refl, arith}
-use Rattle.sedmatch.proofs.RegionLemmas.{region_closed, closed_end}
+use Rattle.sedmarks.proofs.RegionLemmas.{region_closed, closed_end}
 use Rattle.sedmatch.proofs.LinearLemmas.{restart_at}
 use Rattle.sedmatch.proofs.linear.region_by.Goals as goal
 

@@ -2,7 +2,7 @@ use Rattle.std.proofs.Common.{◌-◌, length, None, Some, sym, subst, arith}
 use Rattle.sedre.specs.Arena.{Written, tree}
 use Rattle.sedmatch.specs.Linear.{IsFirstStart}
 use Rattle.sedmatch.specs.Tables.{IsSingle}
-use Rattle.sedmatch.proofs.RegionLemmas.{mirrored_nodes}
+use Rattle.sedmarks.proofs.RegionLemmas.{mirrored_nodes}
 use Rattle.sedmatch.proofs.FirstStartLemmas.{below_mirrored, start_alone, start_none, start_some}
 use Rattle.sedmatch.proofs.LinearLemmas.{back_steps}
 use Rattle.sedmatch.proofs.linear.start_to.Goals as goal

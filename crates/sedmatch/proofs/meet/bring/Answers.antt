@@ -1,6 +1,6 @@
 use Rattle.std.proofs.Common.{◌≡◌, ◌+◌, ◌*◌, ◌≤◌, length, subst, sym, refl, arith}
 use Rattle.sedmatch.specs.Meet.{low_of, blocks_cost}
-use Rattle.sedmatch.proofs.RegionLemmas.{mirrored_nodes}
+use Rattle.sedmarks.proofs.RegionLemmas.{mirrored_nodes}
 use Rattle.sedmatch.proofs.BlockLemmas.{bring_cost, low_is}
 use Rattle.sedmatch.proofs.meet.bring.Goals as goal
 

@@ -1,9 +1,9 @@
 use Rattle.std.proofs.Common.{◌≡◌, ◌+◌, ◌-◌, length, reverse, true, true≢false, sym, arith}
 use Rattle.std.proofs.lemmas.List.{length-reverse}
 use Rattle.sedre.specs.Mirror.{seen}
-use Rattle.sedmatch.specs.Words.{row_of}
-use Rattle.sedmatch.specs.Reach.{Enters, TellBegun}
-use Rattle.sedmatch.specs.Search.{starts_to}
+use Rattle.sedmarks.specs.Words.{row_of}
+use Rattle.sedmarks.specs.Reach.{Enters, TellBegun}
+use Rattle.sedmarks.specs.Search.{starts_to}
 use Rattle.sedmatch.specs.Meet.{low_of}
 use Rattle.sedmatch.proofs.BlockLemmas.{same_told}
 use Rattle.sedmatch.proofs.MeetLemmas.{goes_met, goes_end}

@@ -1,8 +1,8 @@
 use Rattle.std.proofs.Common.{◌≡◌, ◌+◌, ◌*◌, ◌<◌, ◌≤◌, length, sym, subst, ⊎_elim, arith}
 use Rattle.std.proofs.lemmas.Bool.{cases_lt}
-use Rattle.sedmatch.specs.Words.{row_of}
-use Rattle.sedmatch.specs.Reach.{TellEntered}
-use Rattle.sedmatch.specs.Search.{starts_to}
+use Rattle.sedmarks.specs.Words.{row_of}
+use Rattle.sedmarks.specs.Reach.{TellEntered}
+use Rattle.sedmarks.specs.Search.{starts_to}
 use Rattle.sedmatch.specs.Meet.{EdgesTell, low_of}
 use Rattle.sedmatch.proofs.BlockLemmas.{edges_kept, edges_next, edge_there, low_is, next_low}
 use Rattle.sedmatch.proofs.meet.keep_block.Goals as goal

@@ -1,6 +1,6 @@
 use Rattle.std.proofs.Common.{ℕ, ◌≡◌, ◌+◌, ◌*◌, ◌<◌, ◌≤◌, length}
-use Rattle.sedmatch.specs.Reach.{TellEntered}
-use Rattle.sedmatch.specs.Search.{starts_to}
+use Rattle.sedmarks.specs.Reach.{TellEntered}
+use Rattle.sedmarks.specs.Search.{starts_to}
 use Rattle.sedmatch.specs.Meet.{EdgesTell, MarkTells, HasBackPass, KeepsBackPass}
 use Rattle.sedmatch.proofs.meet.keep_blocks.Given as goal
 

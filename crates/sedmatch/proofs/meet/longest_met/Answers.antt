@@ -1,8 +1,8 @@
 use Rattle.std.proofs.Common.{◌≡◌, ◌+◌, ◌≤◌, ◌∙◌, IfSome, length, refl, subst, sym, arith, rules, true≢false}
 use Rattle.sedre.specs.Arena.{tree}
-use Rattle.sedmatch.specs.Reach.{one_start, Entered, LongestBelow, Marked, Below}
+use Rattle.sedmarks.specs.Reach.{one_start, Entered, LongestBelow, Marked, Below}
 use Rattle.sedmatch.specs.Meet.{met_to, GoesOnFrom, blocks_cost}
-use Rattle.sedmatch.proofs.SearchLemmas.{none_entered, next_entered, LongestBelow-none, Longest-from_below}
+use Rattle.sedmarks.proofs.SearchLemmas.{none_entered, next_entered, LongestBelow-none, Longest-from_below}
 use Rattle.sedmatch.proofs.MeetLemmas.{met_reached, met_from, met_cost, goes_end, best_hit, best_miss, best_all}
 use Rattle.sedmatch.proofs.meet.longest_met.Goals.{then-here, else-here}
 use Rattle.sedmatch.proofs.meet.longest_met.Goals as goal

@@ -1,6 +1,6 @@
 use Rattle.std.proofs.Common.{◌≡◌, ℕ, ◌+◌, ◌*◌, ◌≤◌, IfSome, length}
 use Rattle.sedre.specs.Arena.{tree}
-use Rattle.sedmatch.specs.Reach.{Marked, Below, one_start, Entered, LongestBelow}
+use Rattle.sedmarks.specs.Reach.{Marked, Below, one_start, Entered, LongestBelow}
 use Rattle.sedmatch.specs.Meet.{GoesOnFrom, HasBackPass, KeepsBackPass, IsKept, Reaches, blocks_cost}
 use Rattle.sedmatch.proofs.meet.longest_met.Given as goal
 

@@ -1,7 +1,7 @@
 use Rattle.std.proofs.Common.{length, sym, arith}
 use Rattle.sedre.specs.Arena.{tree}
 use Rattle.sedmatch.specs.Meet.{KeptStarts, blocks_cost}
-use Rattle.sedmatch.proofs.MatchingLemmas.{found-iff, not_found-iff}
+use Rattle.sedmarks.proofs.MatchingLemmas.{found-iff, not_found-iff}
 use Rattle.sedmatch.proofs.MeetLemmas.{starts_kept, none_begins, first_begins, next_cost}
 use Rattle.sedmatch.proofs.meet.next_met.Goals as goal
 

@@ -1,8 +1,8 @@
 use Rattle.std.proofs.Common.{◌≡◌, ◌+◌, ◌-◌, ◌<◌, ◌≤◌, ◌↔◌, ◌∙◌, IsTrue, length, subst, arith, length-set}
-use Rattle.sedmatch.specs.Words.{row_of}
-use Rattle.sedmatch.specs.Search.{starts_to}
-use Rattle.sedmatch.specs.Reach.{TellBegun, SomeSpan}
-use Rattle.sedmatch.proofs.SearchLemmas.{next_entered}
+use Rattle.sedmarks.specs.Words.{row_of}
+use Rattle.sedmarks.specs.Search.{starts_to}
+use Rattle.sedmarks.specs.Reach.{TellBegun, SomeSpan}
+use Rattle.sedmarks.proofs.SearchLemmas.{next_entered}
 use Rattle.sedmatch.proofs.BlockLemmas.{rows_next, marks_next, mark_kept}
 use Rattle.sedmatch.proofs.meet.pass_places.Goals as goal
 

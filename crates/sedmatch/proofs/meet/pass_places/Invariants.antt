@@ -1,7 +1,7 @@
 use Rattle.std.proofs.Common.{ℕ, ◌≡◌, ◌+◌, ◌*◌, ◌<◌, ◌≤◌, length}
-use Rattle.sedmatch.specs.Words.{row_of}
-use Rattle.sedmatch.specs.Reach.{TellEntered}
-use Rattle.sedmatch.specs.Search.{starts_to}
+use Rattle.sedmarks.specs.Words.{row_of}
+use Rattle.sedmarks.specs.Reach.{TellEntered}
+use Rattle.sedmarks.specs.Search.{starts_to}
 use Rattle.sedmatch.specs.Meet.{RowsTell, MarkTells}
 use Rattle.sedmatch.proofs.meet.pass_places.Given as goal
 

@@ -1,9 +1,9 @@
 use Rattle.std.proofs.Common.{◌≡◌, None, length, sym, subst, arith}
 use Rattle.sedre.specs.Arena.{tree}
-use Rattle.sedmatch.proofs.GroupLemmas.{by_miss, by_cost}
-use Rattle.sedmatch.specs.Answer.{IsComputed}
-use Rattle.sedmatch.proofs.MatchingLemmas.{found-iff, not_found-iff, report-iff}
-use Rattle.sedmatch.proofs.PartLemmas.{report_lies}
+use Rattle.sedmarks.proofs.GroupLemmas.{by_miss, by_cost}
+use Rattle.sedmarks.specs.Answer.{IsComputed}
+use Rattle.sedmarks.proofs.MatchingLemmas.{found-iff, not_found-iff, report-iff}
+use Rattle.sedmarks.proofs.PartLemmas.{report_lies}
 use Rattle.sedmatch.proofs.quick.find_by.Goals as goal
 
 pub returns-in_err-start-clause-cost : goal.returns-in_err-start-clause-cost

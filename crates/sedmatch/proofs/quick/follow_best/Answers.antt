@@ -1,7 +1,8 @@
 use Rattle.std.proofs.Common.{◌+◌, true≢false, sym, arith}
 use Rattle.sedre.specs.Arena.{tree}
-use Rattle.sedmatch.specs.Reach.{one_start}
-use Rattle.sedmatch.proofs.LongestLemmas.{none_passed, one_are, pass_best}
+use Rattle.sedmarks.specs.Reach.{one_start}
+use Rattle.sedmatch.proofs.LongestLemmas.{one_are, pass_best}
+use Rattle.sedmarks.proofs.WholeLemmas.{none_passed}
 use Rattle.sedmatch.proofs.quick.follow_best.Goals as goal
 
 pub returns-clause-passed : goal.returns-clause-passed

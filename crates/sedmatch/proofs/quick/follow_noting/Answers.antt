@@ -2,14 +2,16 @@ use Rattle.std.proofs.Common.{◌≡◌, ◌+◌, ◌-◌, ◌*◌, ◌/◌, ◌
 use Rattle.std.proofs.lemmas.Bool.{not-true}
 use Rattle.std.specs.Prelude.{slice_index_or}
 use Rattle.sedre.specs.Arena.{tree}
-use Rattle.sedmatch.specs.Reach.{one_start, LongestBelow}
-use Rattle.sedmatch.specs.States.{IsAt}
+use Rattle.sedmarks.specs.Reach.{one_start, LongestBelow}
+use Rattle.sedmarks.specs.States.{IsAt}
 use Rattle.sedmatch.specs.Tables.{ends_of, StateAt}
-use Rattle.sedmatch.specs.Words.{row_of}
-use Rattle.sedmatch.proofs.TableLemmas.{default_same, known_plain, known_low, known_offset, cell_inside, offset_state, not_inner}
+use Rattle.sedmarks.specs.Words.{row_of}
+use Rattle.sedmatch.proofs.TableLemmas.{known_plain, known_low, known_offset, cell_inside, offset_state, not_inner}
+use Rattle.sedmarks.proofs.MarkLemmas.{default_same}
 use Rattle.sedre.specs.Steps.{TakesAtLeast}
-use Rattle.sedmatch.proofs.StepLemmas.{least_own}
-use Rattle.sedmatch.proofs.LongestLemmas.{closed, fewer_places, has_passed, none_here, one_span, one_step, pass_best}
+use Rattle.sedmarks.proofs.StepLemmas.{least_own}
+use Rattle.sedmatch.proofs.LongestLemmas.{fewer_places, has_passed, none_here, one_step, pass_best}
+use Rattle.sedmarks.proofs.WholeLemmas.{closed, one_span}
 use Rattle.sedmatch.proofs.quick.follow_noting.Goals as goal
 use Rattle.sedmatch.proofs.quick.follow_noting.Goals.{then-cell-ge-PLAIN, else-cell-ge-PLAIN+else-is_left_out+then-place-stop+else-not-ends, else-cell-ge-PLAIN+else-is_left_out+else-place-stop}
 

@@ -1,6 +1,6 @@
 use Rattle.std.proofs.Common.{◌≡◌, ◌+◌, ◌-◌, ◌*◌, ◌/◌, ◌<◌, ◌≤◌, IfSome}
 use Rattle.sedre.specs.Arena.{tree}
-use Rattle.sedmatch.specs.Reach.{one_start, LongestBelow}
+use Rattle.sedmarks.specs.Reach.{one_start, LongestBelow}
 use Rattle.sedmatch.specs.Tables.{StateAt, ends_of}
 use Rattle.sedmatch.proofs.quick.follow_noting.Given as goal
 

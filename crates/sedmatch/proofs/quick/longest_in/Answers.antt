@@ -1,7 +1,7 @@
 use Rattle.std.proofs.Common.{ℕ, ◌+◌, List, subst, arith}
 use Rattle.sedre.specs.Arena.{Written, tree}
-use Rattle.sedmatch.specs.Reach.{LongestBelow}
-use Rattle.sedmatch.proofs.SearchLemmas.{Longest-from_below}
+use Rattle.sedmarks.specs.Reach.{LongestBelow}
+use Rattle.sedmarks.proofs.SearchLemmas.{Longest-from_below}
 use Rattle.sedmatch.proofs.quick.longest_in.Goals as goal
 
 pub returns-clause-longest : goal.returns-clause-longest

@@ -3,13 +3,14 @@ use Rattle.std.specs.Prelude.{eqb}
 use Rattle.std.proofs.lemmas.Bool.{eqb-true, eq-eqb, not-true}
 use Rattle.sedre.specs.Arena.{tree}
 use Rattle.sedmatch.specs.declared.tables.Next.TheVariants.{To}
-use Rattle.sedmatch.specs.Reach.{one_start, LongestBelow}
-use Rattle.sedmatch.specs.States.{IsAt}
+use Rattle.sedmarks.specs.Reach.{one_start, LongestBelow}
+use Rattle.sedmarks.specs.States.{IsAt}
 use Rattle.sedmatch.specs.Tables.{NextIs, LeadsFrom, IsFirst}
-use Rattle.sedmatch.specs.Words.{row_of}
-use Rattle.sedmatch.proofs.SearchLemmas.{LongestBelow-none}
-use Rattle.sedmatch.proofs.TableLemmas.{default_same}
-use Rattle.sedmatch.proofs.LongestLemmas.{one_span, pass_best, closed}
+use Rattle.sedmarks.specs.Words.{row_of}
+use Rattle.sedmarks.proofs.SearchLemmas.{LongestBelow-none}
+use Rattle.sedmarks.proofs.MarkLemmas.{default_same}
+use Rattle.sedmatch.proofs.LongestLemmas.{pass_best}
+use Rattle.sedmarks.proofs.WholeLemmas.{one_span, closed}
 use Rattle.sedmatch.proofs.QuickLemmas.{next_map}
 use Rattle.sedmatch.proofs.LinearLemmas.{line_step, line_end}
 use Rattle.sedmatch.proofs.quick.longest_to.Goals as goal

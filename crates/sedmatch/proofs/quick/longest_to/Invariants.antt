@@ -1,7 +1,7 @@
 use Rattle.std.proofs.Common.{◌≡◌, ◌+◌, ◌-◌, ◌*◌, ◌≤◌, false, IfSome, length}
 use Rattle.sedre.specs.Arena.{tree}
-use Rattle.sedmatch.specs.Reach.{one_start, LongestBelow}
-use Rattle.sedmatch.specs.States.{IsAt}
+use Rattle.sedmarks.specs.Reach.{one_start, LongestBelow}
+use Rattle.sedmarks.specs.States.{IsAt}
 use Rattle.sedmatch.specs.Tables.{IsTable, NextIs}
 use Rattle.sedmatch.proofs.quick.longest_to.Given as goal
 

@@ -1,8 +1,8 @@
 use Rattle.std.proofs.Common.{◌↔◌, length, IsTrue, sym, subst, arith}
 use Rattle.sedre.specs.Arena.{tree}
-use Rattle.sedmatch.specs.Spans.{SomeFound}
+use Rattle.sedmarks.specs.Spans.{SomeFound}
 use Rattle.sedmatch.specs.Linear.{ended_to}
-use Rattle.sedmatch.proofs.NarrowLemmas.{not_some, some_before}
+use Rattle.sedmarks.proofs.NarrowLemmas.{not_some, some_before}
 use Rattle.sedmatch.proofs.QuickLemmas.{first_tells, ended_within}
 use Rattle.sedmatch.proofs.StartLemmas.{some_steps, ended_after}
 use Rattle.sedmatch.proofs.quick.some_anywhere.Goals as goal

@@ -1,10 +1,10 @@
 use Rattle.std.proofs.Common.{◌↔◌, IsTrue, length, sym, subst, arith}
 use Rattle.sedre.specs.Arena.{tree}
-use Rattle.sedmatch.specs.Beginnings.{CanBegin}
-use Rattle.sedmatch.specs.Spans.{SomeFound}
+use Rattle.sedmarks.specs.Beginnings.{CanBegin}
+use Rattle.sedmarks.specs.Spans.{SomeFound}
 use Rattle.sedmatch.proofs.LinearLemmas.{found_tells}
 use Rattle.sedmatch.proofs.StartLemmas.{some_linear}
-use Rattle.sedmatch.proofs.NarrowLemmas.{not_some, some_before}
+use Rattle.sedmarks.proofs.NarrowLemmas.{not_some, some_before}
 use Rattle.sedmatch.proofs.quick.some_by.Goals as goal
 
 pub anchored_by-requires-clause-begins : goal.anchored_by-requires-clause-begins

@@ -1,9 +1,10 @@
 use Rattle.std.proofs.Common.{true≢false, sym, arith}
 use Rattle.sedre.specs.Arena.{tree}
-use Rattle.sedmatch.specs.Reach.{one_start}
-use Rattle.sedmatch.specs.Spans.{Spans}
+use Rattle.sedmarks.specs.Reach.{one_start}
+use Rattle.sedmarks.specs.Spans.{Spans}
 use Rattle.sedmatch.specs.Tables.{ends_of}
-use Rattle.sedmatch.proofs.LongestLemmas.{one_are, one_span}
+use Rattle.sedmatch.proofs.LongestLemmas.{one_are}
+use Rattle.sedmarks.proofs.WholeLemmas.{one_span}
 use Rattle.sedmatch.proofs.quick.stay_best.Goals as goal
 
 pub returns-clause-passed : goal.returns-clause-passed

@@ -1,6 +1,6 @@
 use Rattle.std.proofs.Common.{sym, subst, arith}
 use Rattle.sedmatch.specs.Sight.{FirstWith}
-use Rattle.sedmatch.proofs.FewLemmas.{few_looked}
+use Rattle.sedneedles.proofs.FewLemmas.{few_looked}
 use Rattle.sedmatch.proofs.SightLemmas.{first_few, first_member}
 use Rattle.sedmatch.proofs.sight.find_first.Goals as goal
 

@@ -1,9 +1,9 @@
 use Rattle.std.proofs.Common.{◌≡◌, None, length, sym, subst, arith}
 use Rattle.sedre.specs.Arena.{tree}
 use Rattle.sedmatch.proofs.SightLemmas.{sight_miss, sight_cost}
-use Rattle.sedmatch.specs.Answer.{IsComputed}
-use Rattle.sedmatch.proofs.MatchingLemmas.{found-iff, not_found-iff, report-iff}
-use Rattle.sedmatch.proofs.PartLemmas.{report_lies}
+use Rattle.sedmarks.specs.Answer.{IsComputed}
+use Rattle.sedmarks.proofs.MatchingLemmas.{found-iff, not_found-iff, report-iff}
+use Rattle.sedmarks.proofs.PartLemmas.{report_lies}
 use Rattle.sedmatch.proofs.sight.sight_find.Goals as goal
 
 pub returns-in_err-start-clause-cost : goal.returns-in_err-start-clause-cost

@@ -1,5 +1,5 @@
 use Rattle.std.proofs.Common.{◌↔◌, IsTrue, sym, subst}
-use Rattle.sedmatch.specs.Spans.{SomeFound}
+use Rattle.sedmarks.specs.Spans.{SomeFound}
 use Rattle.sedmatch.proofs.SightLemmas.{sight_some}
 use Rattle.sedmatch.proofs.sight.sight_matches.Goals as goal
 

@@ -1,7 +1,7 @@
 use Rattle.std.proofs.Common.{◌≡◌, ◌-◌, length, Some, refl, arith}
 use Rattle.std.specs.Prelude.{slice_get}
 use Rattle.sedre.specs.declared.types.Node.TheVariants.{Set}
-use Rattle.sedmatch.proofs.NeededLemmas.{seq_below}
+use Rattle.sedneedles.proofs.NeededLemmas.{seq_below}
 use Rattle.sedmatch.proofs.SightLemmas.{sight_trail}
 use Rattle.sedmatch.proofs.sight.trail_sight.Goals as goal
 

@@ -1,5 +1,5 @@
 use Rattle.std.proofs.Common.{arith}
-use Rattle.sedmatch.proofs.StepLemmas.{counted_twice}
+use Rattle.sedmarks.proofs.StepLemmas.{counted_twice}
 use Rattle.sedmatch.proofs.tables.add_looks.Goals as goal
 
 pub returns-clause-counts : goal.returns-clause-counts

@@ -1,6 +1,6 @@
 use Rattle.std.proofs.Common.{length, sym, ap, subst, arith}
 use Rattle.std.specs.Prelude.{slice_index_or}
-use Rattle.sedmatch.specs.Words.{AgreeBelow, row_of}
+use Rattle.sedmarks.specs.Words.{AgreeBelow, row_of}
 use Rattle.sedmatch.specs.Tables.{ends_of, LeadsFrom}
 use Rattle.sedmatch.proofs.TableLemmas.{step_leads, leads_agree, leads_same}
 use Rattle.sedmatch.proofs.tables.fill.Goals as goal

@@ -1,8 +1,9 @@
 use Rattle.std.proofs.Common.{◌≡◌, ◌+◌, ◌*◌, ◌<◌, ◌∙◌, false, refl, sym, ap, subst, arith}
 use Rattle.std.specs.Prelude.{slice_index_or, slice_set}
-use Rattle.sedmatch.specs.Words.{row_of}
+use Rattle.sedmarks.specs.Words.{row_of}
 use Rattle.sedmatch.specs.Tables.{ends_of, LeadsOn, stops, code_of}
-use Rattle.sedmatch.proofs.TableLemmas.{default_same, fill_cell}
+use Rattle.sedmatch.proofs.TableLemmas.{fill_cell}
+use Rattle.sedmarks.proofs.MarkLemmas.{default_same}
 use Rattle.sedmatch.proofs.tables.fill_cell.Goals as goal
 
 pub returns-clause-table : goal.returns-clause-table

@@ -1,5 +1,5 @@
 use Rattle.std.proofs.Common.{sym, subst, arith}
-use Rattle.sedmatch.specs.Words.{row_of}
+use Rattle.sedmarks.specs.Words.{row_of}
 use Rattle.sedmatch.specs.Tables.{ends_of, IsFirst}
 use Rattle.sedmatch.proofs.TableLemmas.{step_first, first_agree, note_begin, note_later}
 use Rattle.sedmatch.proofs.tables.find_first.Goals as goal

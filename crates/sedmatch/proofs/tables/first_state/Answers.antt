@@ -1,6 +1,6 @@
 use Rattle.std.proofs.Common.{◌-◌, sym, subst, arith}
 use Rattle.sedmatch.specs.Tables.{ends_of, IsFirst}
-use Rattle.sedmatch.specs.Words.{row_of}
+use Rattle.sedmarks.specs.Words.{row_of}
 use Rattle.sedmatch.proofs.tables.first_state.Goals as goal
 
 pub returns-then-table-gt0-clause-next : goal.returns-then-table-gt0-clause-next

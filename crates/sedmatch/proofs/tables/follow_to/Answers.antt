@@ -1,11 +1,12 @@
 use Rattle.std.proofs.Common.{◌≡◌, ◌+◌, ◌-◌, ◌*◌, ◌/◌, ◌<◌, ◌∙◌, length, refl, sym, ap, subst, arith}
 use Rattle.std.specs.Prelude.{slice_index_or}
-use Rattle.sedmatch.specs.Words.{row_of}
+use Rattle.sedmarks.specs.Words.{row_of}
 use Rattle.sedmatch.specs.Tables.{ends_of, LeadsOn, Follows}
-use Rattle.sedmatch.proofs.TableLemmas.{default_same, known_plain, cell_inside, offset_state, not_inner}
+use Rattle.sedmatch.proofs.TableLemmas.{known_plain, cell_inside, offset_state, not_inner}
+use Rattle.sedmarks.proofs.MarkLemmas.{default_same}
 use Rattle.sedmatch.proofs.QuickLemmas.{follow_none, follow_step}
 use Rattle.sedre.specs.Steps.{TakesAtLeast}
-use Rattle.sedmatch.proofs.StepLemmas.{least_own}
+use Rattle.sedmarks.proofs.StepLemmas.{least_own}
 use Rattle.sedmatch.proofs.tables.follow_to.Goals as goal
 
 pub returns-then-cell-lt-PLAIN-clause-counts : goal.returns-then-cell-lt-PLAIN-clause-counts

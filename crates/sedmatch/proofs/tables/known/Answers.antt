@@ -1,8 +1,9 @@
 use Rattle.std.proofs.Common.{◌≡◌, ◌+◌, ◌-◌, ◌*◌, ◌/◌, ◌<◌, ◌∙◌, length, sym, subst, arith}
 use Rattle.std.specs.Prelude.{slice_index_or}
-use Rattle.sedmatch.specs.Words.{row_of}
+use Rattle.sedmarks.specs.Words.{row_of}
 use Rattle.sedmatch.specs.Tables.{ends_of, LeadsOn}
-use Rattle.sedmatch.proofs.TableLemmas.{default_same, known_plain, known_low, cell_inside}
+use Rattle.sedmatch.proofs.TableLemmas.{known_plain, known_low, cell_inside}
+use Rattle.sedmarks.proofs.MarkLemmas.{default_same}
 use Rattle.sedmatch.proofs.tables.known.Goals as goal
 
 pub returns-then-cell-ge-PLAIN-clause-to : goal.returns-then-cell-ge-PLAIN-clause-to

@@ -1,11 +1,12 @@
 use Rattle.std.proofs.Common.{◌≡◌, ◌+◌, ◌-◌, ◌*◌, ◌/◌, ◌<◌, ◌∙◌, length, refl, subst, arith}
 use Rattle.std.specs.Prelude.{slice_index_or}
-use Rattle.sedmatch.specs.Words.{row_of}
+use Rattle.sedmarks.specs.Words.{row_of}
 use Rattle.sedmatch.specs.Tables.{ends_of, LeadsOn, Stays}
-use Rattle.sedmatch.proofs.TableLemmas.{default_same, known_low, cell_inside, few_cells, back_state}
+use Rattle.sedmatch.proofs.TableLemmas.{known_low, cell_inside, few_cells, back_state}
+use Rattle.sedmarks.proofs.MarkLemmas.{default_same}
 use Rattle.sedmatch.proofs.QuickLemmas.{stay_none, stay_step}
 use Rattle.sedre.specs.Steps.{TakesAtLeast}
-use Rattle.sedmatch.proofs.StepLemmas.{least_own}
+use Rattle.sedmarks.proofs.StepLemmas.{least_own}
 use Rattle.sedmatch.proofs.tables.stay_on.Goals as goal
 
 pub returns-then-cell-offset-clause-counts : goal.returns-then-cell-offset-clause-counts

@@ -1,8 +1,8 @@
 use Rattle.std.proofs.Common.{length, subst}
-use Rattle.sedmatch.specs.Caps.{IsReport}
+use Rattle.sedmarks.specs.Caps.{IsReport}
 use Rattle.sedre.specs.Arena.{tree}
-use Rattle.sedmatch.proofs.MatchingLemmas.{report-iff}
-use Rattle.sedmatch.proofs.PartLemmas.{report_lies}
+use Rattle.sedmarks.proofs.MatchingLemmas.{report-iff}
+use Rattle.sedmarks.proofs.PartLemmas.{report_lies}
 use Rattle.sedmatch.proofs.quick.TableMatcher.groups_of.Goals as goal
 
 pub returns-clause-groups : goal.returns-clause-groups

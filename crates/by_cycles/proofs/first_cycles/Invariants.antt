@@ -1,5 +1,0 @@
-use Rattle.std.proofs.Common.{◌≡◌, ◌<◌, length}
-use Rattle.by_cycles.proofs.first_cycles.Given as goal
-
-abbrev pub invariant-loop-cycle : goal.invariant-loop-cycle
-invariant-loop-cycle g l = (l.lines.look ≡ l.engine.limits.look) × (length l.engine.script.wfiles < g.O.Outputs.count l.outputs)

@@ -1,0 +1,21 @@
+-- Where a text holds a byte, and in which order its bytes are read.
+use Rattle.std.specs.Prelude.{◌≡◌, ℕ, ◌+◌, ◌-◌, ◌<◌, ◌≤◌, Bool, true, false, List, reverse, slice_get, Option, Some, None}
+
+-- the first place from p on that holds the byte, if there is one
+abbrev pub FirstAt : List ℕ → ℕ → ℕ → Option ℕ → Type 0
+FirstAt w byte p None = (k : ℕ) → p ≤ k → slice_get w k ≡ Some byte → ⊥
+FirstAt w byte p (Some k) = (p ≤ k) × (slice_get w k ≡ Some byte) × ((h : ℕ) → p ≤ h → h < k → slice_get w h ≡ Some byte → ⊥)
+
+-- how many bytes are looked at from p to the place found, or to the end n of the text
+abbrev pub looked_at : ℕ → ℕ → Option ℕ → ℕ
+looked_at n p None = n - p
+looked_at n p (Some k) = k + 1 - p
+
+-- the bytes, from the last to the first or as they are
+abbrev pub in_order : Bool → List ℕ → List ℕ
+in_order true w = reverse w
+in_order false w = w
+
+-- the text is of bytes
+abbrev pub AreBytes : List ℕ → Type 0
+AreBytes w = (i c : ℕ) → slice_get w i ≡ Some c → c < 256

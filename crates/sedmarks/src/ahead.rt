@@ -1,0 +1,203 @@
+//! What the nodes that come first in a match tell of the matches that begin at a place.
+//!
+//! A concatenation is followed from part to part as long as each is a set, an anchor or the null string: so far a match
+//! goes one way only. Most places at which none begins are told by one or two of these parts.
+ghost use Rattle.std.specs.Prelude.{◌≡◌, ℕ, ◌+◌, ◌*◌, ◌^◌, ◌<◌, ◌≤◌, length, slice_get, Some, IsTrue};
+ghost use Rattle.sedre.specs.Arena.{IsArena, tree, tree_of};
+ghost use Rattle.sedre.specs.declared.types.Node.TheVariants.{Seq};
+ghost use Rattle.sedre.specs.Tree.{Tree, set as a_set};
+ghost use Rattle.sedmarks.specs.Spans.{Spans};
+ghost use Rattle.sedmarks.specs.Reach.{At};
+ghost use Rattle.sedmarks.specs.Ahead.{LeadsTo, anchor_lead, GoesOn, IsBelow};
+ghost use Rattle.sedre.specs.Steps.{Takes};
+
+use crate::counted::Text;
+use sedre::{ByteSet, Expr, Node, NodeId, Steps};
+
+/// Where the spans end that begin at a place.
+#[derive(Clone, Copy)]
+pub enum Lead {
+    /// There are none.
+    Nowhere,
+    /// There is one, which ends at this place.
+    To(usize),
+    /// That isn't known.
+    Unknown,
+}
+
+/// Where the spans of a set end that begin at the place.
+fn set_lead(set: &ByteSet, text: &Text, place: usize, steps: &mut Steps) -> Lead
+    requires place { place ≤ length text.now }
+    ensures leads { LeadsTo (length text.now) (Spans (a_set set.now) text.now place) result }
+    ensures cost { Takes steps.old steps.new 1 }
+{
+    if place < text.len() && set.has(text.byte(place, steps)) {
+        Lead::To(place + 1)
+    } else {
+        Lead::Nowhere
+    }
+}
+
+/// Where the spans of an anchor end that begin at the place, given whether it holds there.
+fn anchor_lead(holds: bool, place: usize) -> Lead
+    ensures { result ≡ anchor_lead holds place }
+{
+    if holds {
+        Lead::To(place)
+    } else {
+        Lead::Nowhere
+    }
+}
+
+/// Where the spans of a node end that begin at the place.
+fn node_lead(node: &Node, text: &Text, place: usize, steps: &mut Steps) -> Lead
+    requires place { place ≤ length text.now }
+    ensures leads { (part : ℕ → Tree) → LeadsTo (length text.now) (Spans (tree_of part node.now) text.now place) result }
+    ensures cost { Takes steps.old steps.new 1 }
+{
+    match node {
+        Node::Empty => Lead::To(place),
+        Node::Set(set) => set_lead(set, text, place, steps),
+        Node::Begin => anchor_lead(place == 0, place),
+        Node::End => anchor_lead(place == text.len(), place),
+        _ => Lead::Unknown,
+    }
+}
+
+/// What is left of the spans of a node that begin at a place.
+#[derive(Clone, Copy)]
+pub enum Rest {
+    /// They go on as the spans of this node from this place on.
+    Part(usize, usize),
+    /// They end there.
+    End(Lead),
+}
+
+/// What is left of the spans of a concatenation, which stands at the index, after its first part.
+#[inline(always)]
+pub fn rest_of_seq(
+    expr: &Expr,
+    index: usize,
+    a: NodeId,
+    b: NodeId,
+    first: &Node,
+    text: &Text,
+    place: usize,
+    steps: &mut Steps,
+) -> Rest
+    requires node { slice_get expr.now.nodes index ≡ Some (Seq a b) }
+    requires first { slice_get expr.now.nodes a.index ≡ Some first.now }
+    requires arena { IsArena expr.now.nodes }
+    requires inside { index < length expr.now.nodes }
+    requires place { place ≤ length text.now }
+    ensures goes { GoesOn expr.now.nodes text.now (At expr.now.nodes text.now index place) result }
+    ensures below { IsBelow index (length text.now) result }
+    ensures cost { Takes steps.old steps.new 1 }
+{
+    match node_lead(first, text, place, steps) {
+        Lead::Nowhere => Rest::End(Lead::Nowhere),
+        Lead::To(end) => Rest::Part(b.index(), end),
+        Lead::Unknown => Rest::End(Lead::Unknown),
+    }
+}
+
+/// What is left of the spans of the node, which stands at the index, after its first part.
+#[inline(always)]
+pub fn rest_of_node(
+    expr: &Expr,
+    index: usize,
+    node: &Node,
+    text: &Text,
+    place: usize,
+    steps: &mut Steps,
+) -> Rest
+    requires node { slice_get expr.now.nodes index ≡ Some node.now }
+    requires arena { IsArena expr.now.nodes }
+    requires inside { index < length expr.now.nodes }
+    requires place { place ≤ length text.now }
+    ensures goes { GoesOn expr.now.nodes text.now (At expr.now.nodes text.now index place) result }
+    ensures below { IsBelow index (length text.now) result }
+    ensures cost { Takes steps.old steps.new 2 }
+{
+    match node {
+        Node::Seq(a, b) => {
+            let first = expr.look(*a, steps);
+            rest_of_seq(expr, index, *a, *b, &first, text, place, steps)
+        }
+        Node::Group(_, a) => Rest::Part(a.index(), place),
+        _ => Rest::End(node_lead(node, text, place, steps)),
+    }
+}
+
+/// Whether the first part of a node tells that no span of it begins at the place, or what is left after that part.
+fn fails_early(expr: &Expr, index: usize, text: &Text, place: usize, steps: &mut Steps) -> bool
+    requires inside { index < length expr.now.nodes }
+    requires place { place ≤ length text.now }
+    ensures fails { IsTrue result → (j : ℕ) → At expr.now.nodes text.now index place j → ⊥ }
+    ensures cost { Takes steps.old steps.new 6 }
+{
+    let node = expr.look(expr.id(index), steps);
+    match rest_of_node(expr, index, &node, text, place, steps) {
+        Rest::End(Lead::Nowhere) => true,
+        Rest::End(_) => false,
+        Rest::Part(part, from) => {
+            let next = expr.look(expr.id(part), steps);
+            match rest_of_node(expr, part, &next, text, from, steps) {
+                Rest::End(Lead::Nowhere) => true,
+                _ => false,
+            }
+        }
+    }
+}
+
+/// What is left of the spans of the node at the index that begin at the place, after its first part. An alternative
+/// that fails early is left out.
+pub fn rest_after(expr: &Expr, index: usize, text: &Text, place: usize, steps: &mut Steps) -> Rest
+    requires inside { index < length expr.now.nodes }
+    requires place { place ≤ length text.now }
+    ensures goes { GoesOn expr.now.nodes text.now (At expr.now.nodes text.now index place) result }
+    ensures below { IsBelow index (length text.now) result }
+    ensures cost { Takes steps.old steps.new 7 }
+{
+    let node = expr.look(expr.id(index), steps);
+    match node {
+        Node::Alt(a, b) => {
+            if fails_early(expr, a.index(), text, place, steps) {
+                Rest::Part(b.index(), place)
+            } else {
+                Rest::End(Lead::Unknown)
+            }
+        }
+        _ => rest_of_node(expr, index, &node, text, place, steps),
+    }
+}
+
+/// Where the matches end that begin at the place, as far as what comes first in them tells.
+pub fn look_ahead(expr: &Expr, text: &Text, place: usize, steps: &mut Steps) -> Lead
+    requires place { place ≤ length text.now }
+    ensures leads { LeadsTo (length text.now) (Spans (tree expr.now) text.now place) result }
+    ensures cost { Takes steps.old steps.new (7 * length expr.now.nodes) }
+{
+    let root = expr.root().index();
+    lead_from(expr, root, text, place, steps)
+}
+
+/// The same of the spans of a node.
+pub fn lead_from(expr: &Expr, root: usize, text: &Text, place: usize, steps: &mut Steps) -> Lead
+    requires root { root < length expr.now.nodes }
+    requires place { place ≤ length text.now }
+    ensures leads { LeadsTo (length text.now) (At expr.now.nodes text.now root place) result }
+    ensures cost { Takes steps.old steps.new (7 * length expr.now.nodes) }
+{
+    let mut index = root;
+    let mut at = place;
+    loop {
+        match rest_after(expr, index, text, at, steps) {
+            Rest::Part(part, from) => {
+                index = part;
+                at = from;
+            }
+            Rest::End(lead) => return lead,
+        }
+    }
+}

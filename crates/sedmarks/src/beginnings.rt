@@ -1,0 +1,211 @@
+//! From which places a match can begin at all, so that the others are passed over.
+ghost use Rattle.std.specs.Prelude.{◌≡◌, ◌+◌, ◌*◌, ◌^◌, ◌<◌, ◌≤◌, ◌↔◌, length, IfSome, IsTrue};
+ghost use Rattle.sedre.specs.Arena.{IsArena, tree};
+ghost use Rattle.sedmarks.specs.declared.beginnings.Begins.TheVariants.{WithSet, WithEither};
+ghost use Rattle.sedmarks.specs.Beginnings.{AllBegin, AllAt, CanBegin, NextStart, skip_cost, left_part, LeafBegins, IsLeaf};
+ghost use Rattle.sedmarks.specs.Beginnings.{EitherHas, with_set, alternatives};
+ghost use Rattle.sedmarks.specs.Costs.{Pays};
+ghost use Rattle.sedre.specs.Steps.{Takes};
+
+use crate::counted::Text;
+use crate::members::find_member;
+use crate::passes::takes_byte;
+use sedre::{ByteSet, Expr, Node, Steps};
+
+/// Up to four sets, the last ones the same as the first where there are fewer.
+#[derive(Clone, Copy)]
+pub struct Either {
+    /// The first of them.
+    pub first: ByteSet,
+    /// The second.
+    pub second: ByteSet,
+    /// The third.
+    pub third: ByteSet,
+    /// The fourth.
+    pub fourth: ByteSet,
+}
+
+impl Either {
+    /// Whether the byte is in one of the sets.
+    pub fn has(&self, byte: u8) -> bool
+        ensures { IsTrue result ↔ EitherHas self.now byte }
+    {
+        self.first.has(byte)
+            || self.second.has(byte)
+            || self.third.has(byte)
+            || self.fourth.has(byte)
+    }
+
+    /// The sets with one more, in place of the fourth.
+    fn with(&self, set: ByteSet) -> Either
+        ensures { result ≡ with_set self.now set }
+    {
+        Either {
+            first: self.first,
+            second: set,
+            third: self.second,
+            fourth: self.third,
+        }
+    }
+}
+
+/// How every span of an expression begins.
+#[derive(Clone, Copy)]
+pub enum Begins {
+    /// Nothing is known of it.
+    Anyhow,
+    /// At the beginning of the text.
+    AtStart,
+    /// With this byte.
+    WithByte(u8),
+    /// With a byte of this set.
+    WithSet(ByteSet),
+    /// With a byte of one of these sets.
+    WithEither(Either),
+}
+
+/// The part with which every span of a node begins, if the node has one.
+pub fn left_part(node: &Node) -> Option<usize>
+    ensures { result ≡ left_part node.now }
+{
+    match node {
+        Node::Seq(a, _) | Node::Group(_, a) => Some(a.index()),
+        _ => None,
+    }
+}
+
+/// How every span of a node begins that has no such part.
+fn begins_of(node: &Node) -> Begins
+    ensures { LeafBegins node.now result }
+{
+    match node {
+        Node::Set(set) => match set.sole() {
+            Some(byte) => Begins::WithByte(byte),
+            None => Begins::WithSet(*set),
+        },
+        Node::Begin => Begins::AtStart,
+        _ => Begins::Anyhow,
+    }
+}
+
+/// The node at the end of the way down the left side of a node: where the node matches, this one does first.
+fn left_leaf(expr: &Expr, from: usize, steps: &mut Steps) -> Node
+    requires inside { from < length expr.now.nodes }
+    ensures leaf { IsLeaf expr.now.nodes from result }
+    ensures cost { Takes steps.old steps.new (from + 1) }
+    ensures arena { IsArena expr.now.nodes }
+{
+    let mut index = from;
+    loop {
+        let node = expr.look(expr.id(index), steps);
+        match left_part(&node) {
+            Some(part) => index = part,
+            None => return node,
+        }
+    }
+}
+
+/// The set with which every span of a node begins, if there is one.
+fn first_set(expr: &Expr, from: usize, steps: &mut Steps) -> Option<ByteSet>
+    requires inside { from < length expr.now.nodes }
+    ensures begins { IfSome result (λ s. AllAt expr.now.nodes from (WithSet s)) }
+    ensures cost { Takes steps.old steps.new (from + 1) }
+{
+    match left_leaf(expr, from, steps) {
+        Node::Set(set) => Some(set),
+        _ => None,
+    }
+}
+
+/// The two alternatives of a node, if it has them.
+fn alternatives(node: &Node) -> Option<(usize, usize)>
+    ensures { result ≡ alternatives node.now }
+{
+    match node {
+        Node::Alt(a, b) => Some((a.index(), b.index())),
+        _ => None,
+    }
+}
+
+/// How every span of two alternatives begins, the second of which may have alternatives of its own.
+fn begins_either(expr: &Expr, left: usize, right: usize, steps: &mut Steps) -> Begins
+    requires left { left < length expr.now.nodes }
+    requires right { right < length expr.now.nodes }
+    ensures left { AllAt expr.now.nodes left result }
+    ensures right { AllAt expr.now.nodes right result }
+    ensures cost { Takes steps.old steps.new (8 * length expr.now.nodes) }
+{
+    let Some(set) = first_set(expr, left, steps) else {
+        return Begins::Anyhow;
+    };
+    let mut sets = Either {
+        first: set,
+        second: set,
+        third: set,
+        fourth: set,
+    };
+    let mut rest = right;
+    for _turn in 1..4usize {
+        let node = expr.look(expr.id(rest), steps);
+        match alternatives(&node) {
+            Some((part, next)) => {
+                let Some(set) = first_set(expr, part, steps) else {
+                    return Begins::Anyhow;
+                };
+                sets = sets.with(set);
+                rest = next;
+            }
+            None => {
+                let Some(set) = first_set(expr, rest, steps) else {
+                    return Begins::Anyhow;
+                };
+                return Begins::WithEither(sets.with(set));
+            }
+        }
+    }
+    Begins::Anyhow
+}
+
+/// How every span of the expression begins, by the nodes that can stand first in one.
+pub fn how_begins(expr: &Expr, steps: &mut Steps) -> Begins
+    ensures begins { AllBegin (tree expr.now) result }
+    ensures cost { Takes steps.old steps.new (9 * length expr.now.nodes) }
+    ensures arena { IsArena expr.now.nodes }
+{
+    let root = expr.root().index();
+    let leaf = left_leaf(expr, root, steps);
+    match alternatives(&leaf) {
+        Some((left, right)) => begins_either(expr, left, right, steps),
+        None => begins_of(&leaf),
+    }
+}
+
+/// The first place from `from` on whose byte is in one of the sets. Counts one look for each byte.
+fn find_either(sets: &Either, text: &Text, from: usize, steps: &mut Steps) -> Option<usize>
+    requires from { from ≤ length text.now }
+    ensures next { NextStart (WithEither sets.now) text.now from result }
+    ensures cost { Pays steps.old steps.new (skip_cost (length text.now) result) from }
+{
+    for at in from..text.len() {
+        let byte = text.byte(at, steps);
+        if sets.has(byte) {
+            return Some(at);
+        }
+    }
+    None
+}
+
+/// The first place from `from` on at which a match can begin.
+pub fn next_start(begins: &Begins, text: &Text, from: usize, steps: &mut Steps) -> Option<usize>
+    requires from { from ≤ length text.now }
+    ensures next { NextStart begins.now text.now from result }
+    ensures cost { Pays steps.old steps.new (skip_cost (length text.now) result) from }
+{
+    match begins {
+        Begins::Anyhow => Some(from),
+        Begins::AtStart => if from == 0 { Some(0) } else { None },
+        Begins::WithByte(byte) => text.find_byte(*byte, from, steps),
+        Begins::WithSet(set) => find_member(text, set, from, steps),
+        Begins::WithEither(sets) => find_either(sets, text, from, steps),
+    }
+}

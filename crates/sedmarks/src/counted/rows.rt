@@ -1,0 +1,184 @@
+//! Marks of several states, a row for each.
+ghost use Rattle.std.specs.Prelude.{◌≡◌, ◌≢◌, ℕ, Bool, List, [], ◌+◌, ◌*◌, ◌^◌, ◌<◌, ◌≤◌, length, slice_index_or, vec_len, IfOk, IsTrue};
+ghost use Rattle.sedmarks.specs.Words.{AgreeBelow, rows_of, row_of};
+ghost use Rattle.sedre.specs.Steps.{Takes, Counted};
+
+use super::{Marks, NodeMarks, zero_words};
+use sedre::Steps;
+use std::alloc::{AllocError, Global};
+use std::marker::Model;
+
+/// Rows of marks, all of them in one piece of memory. A word holds 64 marks of a row.
+#[derive(Drop)]
+pub struct Rows {
+    words: Vec<u64>,
+    width: usize,
+    marks: usize,
+    count: usize,
+}
+
+impl Model for Rows {
+    ghost Value = { List (List Bool) };
+
+    ghost view = { λ r. rows_of r.words.items r.width r.marks r.count };
+
+    ghost invariant = { λ r. (r.marks ≤ 64 * r.width) × (r.width * r.count ≤ length r.words.items) };
+}
+
+impl Rows {
+    /// So many rows of so many marks.
+    pub fn new(alloc: Global, count: usize, marks: usize) -> Result<Rows, AllocError>
+        requires few { count ≤ 65536 }
+        requires short { marks ≤ 65536 }
+        ensures count { IfOk result (λ v. length v ≡ count) }
+        ensures marks { IfOk result (λ v. (q : ℕ) → q < count → length (row_of v q) ≡ marks) }
+    {
+        let width = marks / 64 + 1;
+        Ok(Rows {
+            words: zero_words(alloc, width * count)?,
+            width,
+            marks,
+            count,
+        })
+    }
+
+    /// How many rows there are.
+    pub fn len(&self) -> usize
+        ensures { result ≡ length self.now }
+    {
+        self.count
+    }
+
+    /// Copies the first `count` marks of a row, a word at a time; those after them may change too.
+    /// Counts a look for each of the `count`.
+    #[inline(always)]
+    pub fn load(&self, row: usize, marks: &mut NodeMarks, count: usize, steps: &mut Steps)
+        requires row { row < length self.now }
+        requires inside { count ≤ length (row_of self.now row) }
+        requires there { count ≤ 65536 }
+        ensures same { AgreeBelow count marks.new (row_of self.now row) }
+        ensures cost { Takes steps.old steps.new count }
+        ensures counts { Counted steps.old steps.new count }
+    {
+        self.load_marks(row, &mut marks.marks, count, steps);
+    }
+
+    /// Makes the first `count` marks of a row these, a word at a time; those after them may change too.
+    /// Counts a look for each of the `count`.
+    #[inline(always)]
+    pub fn store(&mut self, row: usize, marks: &NodeMarks, count: usize, steps: &mut Steps)
+        requires row { row < length self.old }
+        requires inside { count ≤ length (row_of self.old row) }
+        requires there { count ≤ 65536 }
+        ensures len { length self.new ≡ length self.old }
+        ensures lens { (q : ℕ) → q < length self.old → length (row_of self.new q) ≡ length (row_of self.old q) }
+        ensures same { AgreeBelow count (row_of self.new row) marks.now }
+        ensures other { (q : ℕ) → q < length self.old → q ≢ row → row_of self.new q ≡ row_of self.old q }
+        ensures cost { Takes steps.old steps.new count }
+        ensures counts { Counted steps.old steps.new count }
+    {
+        self.store_marks(row, &marks.marks, count, steps);
+    }
+
+    /// Whether the first `count` marks of a row are these, and the rest of their last word too.
+    /// Counts a look for each of the `count`.
+    #[inline(always)]
+    pub fn same(&self, row: usize, marks: &NodeMarks, count: usize, steps: &mut Steps) -> bool
+        requires row { row < length self.now }
+        requires inside { count ≤ length (row_of self.now row) }
+        requires there { count ≤ 65536 }
+        ensures same { IsTrue result → AgreeBelow count (row_of self.now row) marks.now }
+        ensures cost { Takes steps.old steps.new count }
+        ensures counts { Counted steps.old steps.new count }
+    {
+        self.same_marks(row, &marks.marks, count, steps)
+    }
+
+    /// The same as [`Rows::load`] for any marks.
+    fn load_marks(&self, row: usize, marks: &mut Marks, count: usize, steps: &mut Steps)
+        requires row { row < length self.now }
+        requires inside { count ≤ length (row_of self.now row) }
+        requires there { count ≤ length marks.old }
+        ensures len { length marks.new ≡ length marks.old }
+        ensures same { AgreeBelow count marks.new (row_of self.now row) }
+        ensures cost { Takes steps.old steps.new count }
+        ensures counts { Counted steps.old steps.new count }
+    {
+        steps.add(count);
+        copy_words(
+            &mut marks.words,
+            0,
+            &self.words,
+            self.width * row,
+            count.div_ceil(64),
+        );
+    }
+
+    /// The same as [`Rows::store`] for any marks.
+    fn store_marks(&mut self, row: usize, marks: &Marks, count: usize, steps: &mut Steps)
+        requires row { row < length self.old }
+        requires inside { count ≤ length (row_of self.old row) }
+        requires there { count ≤ length marks.now }
+        ensures len { length self.new ≡ length self.old }
+        ensures lens { (q : ℕ) → q < length self.old → length (row_of self.new q) ≡ length (row_of self.old q) }
+        ensures same { AgreeBelow count (row_of self.new row) marks.now }
+        ensures other { (q : ℕ) → q < length self.old → q ≢ row → row_of self.new q ≡ row_of self.old q }
+        ensures cost { Takes steps.old steps.new count }
+        ensures counts { Counted steps.old steps.new count }
+    {
+        steps.add(count);
+        copy_words(
+            &mut self.words,
+            self.width * row,
+            &marks.words,
+            0,
+            count.div_ceil(64),
+        );
+    }
+
+    /// The same as [`Rows::same`] for any marks.
+    fn same_marks(&self, row: usize, marks: &Marks, count: usize, steps: &mut Steps) -> bool
+        requires row { row < length self.now }
+        requires inside { count ≤ length (row_of self.now row) }
+        requires there { count ≤ length marks.now }
+        ensures same { IsTrue result → AgreeBelow count (row_of self.now row) marks.now }
+        ensures cost { Takes steps.old steps.new count }
+        ensures counts { Counted steps.old steps.new count }
+    {
+        steps.add(count);
+        same_words(
+            &self.words,
+            self.width * row,
+            &marks.words,
+            count.div_ceil(64),
+        )
+    }
+}
+
+/// Copies so many words from one place to another.
+fn copy_words(words: &mut Vec<u64>, to: usize, other: &Vec<u64>, from: usize, count: usize)
+    requires inside { to + count ≤ vec_len words.old }
+    requires there { from + count ≤ vec_len other.now }
+    ensures len { length words.new.items ≡ length words.old.items }
+    ensures same { (k : ℕ) → k < count → slice_index_or words.new.items (to + k) 0 ≡ slice_index_or other.now.items (from + k) 0 }
+    ensures before { (k : ℕ) → k < to → slice_index_or words.new.items k 0 ≡ slice_index_or words.old.items k 0 }
+    ensures rest { (k : ℕ) → to + count ≤ k → slice_index_or words.new.items k 0 ≡ slice_index_or words.old.items k 0 }
+{
+    for x in 0..count {
+        words[to + x] = other[from + x];
+    }
+}
+
+/// Whether so many words from a place on are the first ones of another list.
+fn same_words(words: &Vec<u64>, at: usize, other: &Vec<u64>, count: usize) -> bool
+    requires inside { at + count ≤ vec_len words.now }
+    requires there { count ≤ vec_len other.now }
+    ensures same { IsTrue result → (k : ℕ) → k < count → slice_index_or words.now.items (at + k) 0 ≡ slice_index_or other.now.items k 0 }
+{
+    for x in 0..count {
+        if words[at + x] != other[x] {
+            return false;
+        }
+    }
+    true
+}

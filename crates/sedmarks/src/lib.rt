@@ -1,0 +1,30 @@
+//! The search by marks: the match that begins earliest and of those is the longest, with its groups (XBD 9.1).
+//!
+//! [`find`] answers it whole, [`find_span`] without the groups, [`is_match`] only whether there is one. They go over
+//! the text with marks at the nodes of the expression, never back, so that their steps are bounded for every
+//! expression and text: 64 times nodes times places where there is no match, as many times the places again where
+//! there is one, and as many times the nodes again where groups are reported. A step is one look at a node, a byte,
+//! a mark or a cell. They work in the room of a [`Scratch`] and take no memory.
+//!
+//! The public modules are for the two crates above that find the same faster; `sedmatch` passes on what a program calls.
+#![tactic(auto)]
+
+pub mod ahead;
+pub mod beginnings;
+pub mod counted;
+pub mod cuts;
+pub mod far_ahead;
+pub mod groups;
+mod laws;
+pub mod matcher;
+pub mod members;
+pub mod passes;
+pub mod region;
+pub mod scratch;
+pub mod search;
+pub mod states;
+
+pub use counted::{Marks, Text};
+pub use laws::{found_law, groups_law, spans_law};
+pub use matcher::{Found, find, find_span, is_match};
+pub use scratch::Scratch;

@@ -1,0 +1,121 @@
+//! The calls that search (XBD 9.1).
+ghost use Rattle.std.specs.Prelude.{◌≡◌, ◌+◌, ◌*◌, ◌^◌, ◌<◌, ◌≤◌, ◌↔◌, length, IfNone, IsTrue, is_some};
+ghost use Rattle.sedre.specs.Arena.{tree};
+ghost use Rattle.sedmarks.specs.Spans.{SomeFound};
+ghost use Rattle.sedmarks.specs.Answer.{IsComputed, MatchAnswer, SpanAnswer};
+ghost use Rattle.sedmarks.specs.Matching.{found};
+ghost use Rattle.sedmarks.specs.Parts.{SpanIn, span_of, part_of};
+ghost use Rattle.sedmarks.specs.Room.{FitInto};
+ghost use Rattle.sedre.specs.Steps.{Takes};
+
+use crate::beginnings::how_begins;
+use crate::counted::Text;
+use crate::groups::report;
+use crate::scratch::Scratch;
+use crate::search::{leftmost, scan};
+use sedre::{Expr, Steps};
+
+/// A match, and which part of the text each group reports.
+#[derive(Clone, Copy)]
+pub struct Found {
+    /// Where the match begins.
+    pub start: usize,
+    /// Where it ends: the place after its last byte.
+    pub end: usize,
+    /// Entry 0 is the whole match, entry k the span of group k; None where the group has no match.
+    pub groups: [Option<(usize, usize)>; 10],
+}
+
+impl Found {
+    /// The bytes of group `k` in the text, and of the whole match for 0; empty where the group has no match.
+    pub fn part<'a>(&self, text: &'a [u8], k: usize) -> &'a [u8]
+        requires group { k ≤ 9 }
+        requires lies { SpanIn (length text.now) (span_of self.now.groups k) }
+        ensures { result.now ≡ part_of text.now (span_of self.now.groups k) }
+    {
+        match self.groups[k] {
+            None => &[],
+            Some((start, end)) => &text[start..end],
+        }
+    }
+}
+
+/// The leftmost-longest match that begins at `from` or later, with its groups. None just where there is none.
+///
+/// It takes no memory, and its steps are bounded whatever the expression; None costs steps in proportion to the
+/// text.
+pub fn find(
+    expr: &Expr,
+    text: &Text,
+    from: usize,
+    scratch: &mut Scratch,
+    steps: &mut Steps,
+) -> Option<Found>
+    requires from { from ≤ length text.now }
+    requires fits { FitInto (length text.now) (length expr.now.nodes) scratch.old }
+    ensures scratch { scratch.new ≡ scratch.old }
+    ensures answer { MatchAnswer (tree expr.now) text.now from result }
+    ensures computed { IsComputed (tree expr.now) text.now from result }
+    ensures cost { let m = length expr.now.nodes in let n = length text.now in
+        Takes steps.old steps.new (64 * m * m * (n + 1) * (n + 1)) }
+    ensures cost_without_groups { let m = length expr.now.nodes in let n = length text.now in expr.now.groups ≡ 0 →
+        (steps.new ≤ steps.old + 64 * m * (n + 1) * (n + 1)) × (steps.new ≤ steps.old + 96 * m * (n + 1)) }
+    ensures cost_of_none { let m = length expr.now.nodes in let n = length text.now in
+        IfNone result (steps.new ≤ steps.old + 64 * m * (n + 1)) }
+{
+    let (start, end) = leftmost(expr, text, from, &mut scratch.sets, steps)?;
+    let groups = report(
+        expr,
+        false,
+        text,
+        start,
+        end,
+        &mut scratch.plan,
+        &mut scratch.sets,
+        &mut scratch.places,
+        steps,
+    );
+    Some(Found { start, end, groups })
+}
+
+/// Where the leftmost-longest match that begins at `from` or later begins and ends, without its groups.
+pub fn find_span(
+    expr: &Expr,
+    text: &Text,
+    from: usize,
+    scratch: &mut Scratch,
+    steps: &mut Steps,
+) -> Option<(usize, usize)>
+    requires from { from ≤ length text.now }
+    requires fits { FitInto (length text.now) (length expr.now.nodes) scratch.old }
+    ensures scratch { scratch.new ≡ scratch.old }
+    ensures answer { SpanAnswer (tree expr.now) text.now from result }
+    ensures computed { result ≡ found (tree expr.now) text.now from }
+    ensures cost { let m = length expr.now.nodes in let n = length text.now in
+        Takes steps.old steps.new (64 * m * (n + 1) * (n + 1)) }
+    ensures linear_cost { let m = length expr.now.nodes in let n = length text.now in
+        steps.new ≤ steps.old + 96 * m * (n + 1) }
+    ensures cost_of_none { let m = length expr.now.nodes in let n = length text.now in
+        IfNone result (steps.new ≤ steps.old + 64 * m * (n + 1)) }
+{
+    leftmost(expr, text, from, &mut scratch.sets, steps)
+}
+
+/// Whether any match begins at `from` or later. Its steps are in proportion to the text, whatever the expression.
+pub fn is_match(
+    expr: &Expr,
+    text: &Text,
+    from: usize,
+    scratch: &mut Scratch,
+    steps: &mut Steps,
+) -> bool
+    requires from { from ≤ length text.now }
+    requires fits { FitInto (length text.now) (length expr.now.nodes) scratch.old }
+    ensures scratch { scratch.new ≡ scratch.old }
+    ensures matches { IsTrue result ↔ SomeFound (tree expr.now) text.now from }
+    ensures computed { result ≡ is_some (found (tree expr.now) text.now from) }
+    ensures cost { Takes steps.old steps.new (64 * length expr.now.nodes * (length text.now + 1)) }
+{
+    let begins = how_begins(expr, steps);
+    scan(expr, &begins, text, from, false, &mut scratch.sets, steps).is_some()
+}

@@ -1,7 +1,0 @@
-use Rattle.sedmatch.specs.FarAhead.{Repeated}
-use Rattle.sedmatch.proofs.members.run_to.Given as goal
-
-abbrev pub invariant-loop-place : goal.invariant-loop-place
-invariant-loop-place l = record {
-  copies : Repeated l.set l.bytes l.from l.place;
-}

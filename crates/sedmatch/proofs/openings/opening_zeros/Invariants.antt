@@ -1,7 +1,0 @@
-use Rattle.sedmatch.specs.Openings.{OpensIn, ZerosWhere}
-use Rattle.sedmatch.proofs.openings.opening_zeros.Given as goal
-
-abbrev pub invariant-loop-x : goal.invariant-loop-x
-invariant-loop-x l = record {
-  zeros : ZerosWhere (OpensIn l.openings l.x l.ahead l.next) l.zeros;
-}

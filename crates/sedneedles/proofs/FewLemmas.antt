@@ -1,0 +1,167 @@
+-- A few bytes with which matches begin.
+use Rattle.std.proofs.Common.{◌≡◌, ℕ, ◌+◌, ◌-◌, ◌<◌, ◌≤◌, ◌↔◌, ◌⊎◌, ◌||◌, Bool, true, List, length, take, drop, Option, Some, None, refl, sym, ap, subst, ◌∙◌, inl, inr, ⊎_elim, arith, length-drop}
+use Rattle.std.specs.Prelude.{slice_index, eqb, IfSome}
+use Rattle.std.proofs.lemmas.Bool.{eqb-true, eq-eqb, or_left, or_right, or_cases, cases_lt}
+use Rattle.std.proofs.lemmas.List.{take_rest, get_or-drop}
+use Rattle.std.proofs.lemmas.Option.{slice_get_within, get_or_from_slice_get, slice_get-get_or}
+use Rattle.memchr.specs.Find.{Passes, IsFirstByte, is_byte, is_byte2, is_byte3}
+use Rattle.sedmarks.specs.Spans.{IsIn}
+use Rattle.sedmarks.specs.Bytes.{looked_at}
+use Rattle.sedmarks.specs.Beginnings.{EitherHas}
+use Rattle.sedmarks.specs.declared.beginnings.Begins.TheVariants.{WithByte, WithSet, WithEither}
+use Rattle.sedmarks.specs.declared.beginnings.Either.{Either}
+use Rattle.sedneedles.specs.Few.{HasFew, FewAt, FirstFew, Gathered, AreMembers, IsFewOf, FewOf}
+use Rattle.sedneedles.specs.declared.few.Few.{Few}
+use Rattle.sedneedles.specs.declared.few.Few.TheVariants.{One, Two, Three}
+
+-- a test of bytes that is passed by the few alone
+module _ (few : Few) (test : ℕ → Bool) (yes : (c : ℕ) → HasFew few c → test c ≡ true) (no : (c : ℕ) → test c ≡ true → HasFew few c) (hay : List ℕ) where
+  passes_at : (k : ℕ) → FewAt few hay k → Passes test hay k
+  passes_at k at = ap test (get_or_from_slice_get hay k at.0 0 at.1) ∙ yes at.0 at.2
+
+  pub few_first : (r : Option ℕ) → IsFirstByte test hay r → FirstFew few hay 0 r
+  few_first None none = λ k low at. none k low (let inside = slice_get_within hay k at.0 at.1 in inside) (passes_at k at)
+  few_first (Some k) first = (
+    omega arith,
+    (slice_index hay k, slice_get-get_or hay k 0 first.0.high, no (slice_index hay k) first.1),
+    λ h low lt at. first.0.before h low lt (passes_at h at),
+  )
+
+one_yes : (a c : ℕ) → HasFew (One a) c → is_byte a c ≡ true
+one_yes a c has = eq-eqb c a has
+
+one_no : (a c : ℕ) → is_byte a c ≡ true → HasFew (One a) c
+one_no a c passes = eqb-true c a passes
+
+two_yes : (a b c : ℕ) → HasFew (Two a b) c → is_byte2 a b c ≡ true
+two_yes a b c has = ⊎_elim (λ (e : c ≡ a). or_left (eqb c a) (eqb c b) (eq-eqb c a e)) (λ (e : c ≡ b). or_right (eqb c a) (eqb c b) (eq-eqb c b e)) has
+
+two_no : (a b c : ℕ) → is_byte2 a b c ≡ true → HasFew (Two a b) c
+two_no a b c passes = ⊎_elim (λ (e : eqb c a ≡ true). inl (eqb-true c a e)) (λ (e : eqb c b ≡ true). inr (eqb-true c b e)) (or_cases (eqb c a) (eqb c b) passes)
+
+three_yes : (a b d c : ℕ) → HasFew (Three a b d) c → is_byte3 a b d c ≡ true
+three_yes a b d c has =
+    ⊎_elim (λ (e : c ≡ a). or_left (eqb c a || eqb c b) (eqb c d) (or_left (eqb c a) (eqb c b) (eq-eqb c a e)))
+    (λ (rest : (c ≡ b) ⊎ (c ≡ d)).
+    ⊎_elim (λ (e : c ≡ b). or_left (eqb c a || eqb c b) (eqb c d) (or_right (eqb c a) (eqb c b) (eq-eqb c b e)))
+    (λ (e : c ≡ d). or_right (eqb c a || eqb c b) (eqb c d) (eq-eqb c d e)) rest) has
+
+three_no : (a b d c : ℕ) → is_byte3 a b d c ≡ true → HasFew (Three a b d) c
+three_no a b d c passes =
+    ⊎_elim
+    (λ (first : (eqb c a || eqb c b) ≡ true).
+    ⊎_elim (λ (e : eqb c a ≡ true). inl (eqb-true c a e)) (λ (e : eqb c b ≡ true). inr (inl (eqb-true c b e))) (or_cases (eqb c a) (eqb c b) first))
+    (λ (e : eqb c d ≡ true). inr (inr (eqb-true c d e)))
+    (or_cases (eqb c a || eqb c b) (eqb c d) passes)
+
+pub one_first : (a : ℕ) (hay : List ℕ) (r : Option ℕ) → IsFirstByte (is_byte a) hay r → FirstFew (One a) hay 0 r
+one_first a hay r first = few_first (One a) (is_byte a) (one_yes a) (one_no a) hay r first
+
+pub two_first : (a b : ℕ) (hay : List ℕ) (r : Option ℕ) → IsFirstByte (is_byte2 a b) hay r → FirstFew (Two a b) hay 0 r
+two_first a b hay r first = few_first (Two a b) (is_byte2 a b) (two_yes a b) (two_no a b) hay r first
+
+pub three_first : (a b d : ℕ) (hay : List ℕ) (r : Option ℕ) → IsFirstByte (is_byte3 a b d) hay r → FirstFew (Three a b d) hay 0 r
+three_first a b d hay r first = few_first (Three a b d) (is_byte3 a b d) (three_yes a b d) (three_no a b d) hay r first
+
+-- from what is left of a text to the text
+module _ (few : Few) (w rest : List ℕ) (p : ℕ) (from : p ≤ length w) (e : rest ≡ take (length w - p) (drop p w)) where
+  same_rest : rest ≡ drop p w
+  same_rest = e ∙ take_rest w p
+
+  length-rest : length rest ≡ length w - p
+  length-rest = ap length same_rest ∙ length-drop p w
+
+  rest_at : (k : ℕ) → slice_index rest k ≡ slice_index w (p + k)
+  rest_at k = ap (λ l. slice_index l k) same_rest ∙ get_or-drop p w k 0
+
+  to_rest : (k : ℕ) → p ≤ k → FewAt few w k → FewAt few rest (k - p)
+  to_rest k low at =
+      let inside = slice_get_within w k at.0 at.1 in
+      let back : p + (k - p) ≡ k = omega arith in
+      let read : slice_index rest (k - p) ≡ at.0 = rest_at (k - p) ∙ ap (λ v. slice_index w v) back ∙ get_or_from_slice_get w k at.0 0 at.1 in
+      (at.0, slice_get-get_or rest (k - p) 0 (omega (arith, length-rest)) ∙ ap Some read, at.2)
+
+  from_rest : (k : ℕ) → FewAt few rest k → FewAt few w (p + k)
+  from_rest k at =
+      let inside = slice_get_within rest k at.0 at.1 in
+      let read : slice_index w (p + k) ≡ at.0 = sym (rest_at k) ∙ get_or_from_slice_get rest k at.0 0 at.1 in
+      (at.0, slice_get-get_or w (p + k) 0 (omega (arith, length-rest)) ∙ ap Some read, at.2)
+
+  pub few_none : FirstFew few rest 0 None → FirstFew few w p None
+  few_none none k low at = none (k - p) (omega arith) (to_rest k low at)
+
+  pub few_some : (k : ℕ) → FirstFew few rest 0 (Some k) → FirstFew few w p (Some (p + k))
+  few_some k first = (omega arith, from_rest k first.1, λ h low lt at. first.2 (h - p) (omega arith) (omega arith) (to_rest h low at))
+
+-- a place at which one stands is in the text
+pub few_inside : (few : Few) (w : List ℕ) (i : ℕ) → FewAt few w i → i < length w
+few_inside few w i at = slice_get_within w i at.0 at.1
+
+-- the bytes looked at up to that place, or to the end
+pub few_looked : (few : Few) (w : List ℕ) (p s0 s1 : ℕ) (r : Option ℕ) → p ≤ length w → FirstFew few w p r → s1 ≤ s0 + looked_at (length w) p r → s1 + p ≤ s0 + (length w + 1)
+few_looked few w p s0 s1 None from none cost = omega (arith, cost)
+few_looked few w p s0 s1 (Some k) from first cost = let inside = few_inside few w k first.1 in omega (arith, first.0, inside, cost)
+
+-- the members of sets among the first bytes are those gathered
+abbrev pub AllGathered : Either → ℕ → Option Few → Type 0
+AllGathered sets n few = (c : ℕ) → Gathered few c ↔ ((c < n) × EitherHas sets c)
+
+pub gather_none : (sets : Either) → AllGathered sets 0 None
+gather_none sets c = ((λ h. absurd h), (λ h. absurd (omega (arith, h.0))))
+
+module _ (sets : Either) (n byte : ℕ) (few : Option Few) (same : byte ≡ n) (before : AllGathered sets n few) where
+  pub gather_more : (f : Few) → EitherHas sets byte → ((c : ℕ) → HasFew f c ↔ (Gathered few c ⊎ (c ≡ byte))) → AllGathered sets (n + 1) (Some f)
+  gather_more f has joins c = (
+    (λ h.
+        ⊎_elim
+        (λ (old : Gathered few c). let is = (before c).0 old in (omega (arith, is.0), is.1))
+        (λ (new : c ≡ byte). (omega arith, subst (EitherHas sets) (sym new) has))
+        ((joins c).0 h)),
+    (λ h.
+        ⊎_elim
+        (λ (lt : c < n). (joins c).1 (inl ((before c).1 (lt, h.1))))
+        (λ (ge : n ≤ c). (joins c).1 (inr (omega (arith, h.0))))
+        (cases_lt c n)),
+  )
+
+  pub gather_same : (EitherHas sets byte → ⊥) → AllGathered sets (n + 1) few
+  gather_same lacks c = (
+    (λ h. let is = (before c).0 h in (omega (arith, is.0), is.1)),
+    (λ h.
+        ⊎_elim
+        (λ (lt : c < n). (before c).1 (lt, h.1))
+        (λ (ge : n ≤ c). absurd (lacks (subst (EitherHas sets) (omega (arith, h.0)) h.1)))
+        (cases_lt c n)),
+  )
+
+pub gather_all : (sets : Either) (few : Option Few) → AllGathered sets 256 few → IfSome few (AreMembers sets)
+gather_all sets None all = tt
+gather_all sets (Some few) all = λ c small. ((λ h. ((all c).0 h).1), (λ h. (all c).1 (small, h)))
+
+-- one set in place of four
+abbrev pub four_times : List Bool → Either
+four_times s = record { first = s; second = s; third = s; fourth = s }
+
+one_set : (s : List Bool) (c : ℕ) → EitherHas (four_times s) c ↔ IsIn c s
+one_set s c = (
+  (λ h.
+      ⊎_elim (λ (first : IsIn c s). first)
+      (λ (more : IsIn c s ⊎ (IsIn c s ⊎ IsIn c s)). ⊎_elim (λ (second : IsIn c s). second) (λ (last : IsIn c s ⊎ IsIn c s). ⊎_elim (λ (third : IsIn c s). third) (λ (fourth : IsIn c s). fourth) last) more) h),
+  (λ h. inl h),
+)
+
+pub set_members : (s : List Bool) (r : Option Few) → IfSome r (AreMembers (four_times s)) → IfSome r (λ f. (c : ℕ) → c < 256 → HasFew f c ↔ IsIn c s)
+set_members s None are = tt
+set_members s (Some few) are = λ c small. ((λ h. (one_set s c).0 ((are c small).0 h)), (λ h. (are c small).1 ((one_set s c).1 h)))
+
+-- what begins so begins with one of the few
+pub few_byte : (b : ℕ) → IsFewOf (WithByte b) (One b)
+few_byte b w bytes i can = (b, can, refl)
+
+pub few_sets : (s : Either) (r : Option Few) → IfSome r (AreMembers s) → FewOf (WithEither s) r
+few_sets s None are = tt
+few_sets s (Some few) are = λ w bytes i can. (can.0, can.1, (are can.0 (bytes i can.0 can.1)).1 can.2)
+
+pub few_set : (s : List Bool) (r : Option Few) → IfSome r (λ f. (c : ℕ) → c < 256 → HasFew f c ↔ IsIn c s) → FewOf (WithSet s) r
+few_set s None are = tt
+few_set s (Some few) are = λ w bytes i can. (can.0, can.1, (are can.0 (bytes i can.0 can.1)).1 can.2)

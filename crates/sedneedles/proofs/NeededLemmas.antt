@@ -1,0 +1,279 @@
+-- Literals that the spans of an expression hold.
+use Rattle.std.proofs.Common.{◌≡◌, ℕ, ◌+◌, ◌-◌, ◌<◌, ◌≤◌, ◌⊎◌, ◌↔◌, Bool, false, List, [], ◌∷◌, ◌++◌, length, take, drop, Option, Some, None, IsTrue, refl, sym, ap, ◌∙◌, subst, inl, inr, ⊎_elim, true≢false, arith, length-append, length-drop, length-take}
+use Rattle.std.specs.Prelude.{slice_get, slice_index}
+use Rattle.std.proofs.lemmas.Bool.{cases_lt}
+use Rattle.std.proofs.lemmas.List.{take_rest, get_or-drop, get_or_append_left, get_or-append-add, get_or_push, get_or-take}
+use Rattle.std.proofs.lemmas.Option.{slice_get_within, get_or_from_slice_get, slice_get-get_or}
+use Rattle.memchr.specs.Find.{OccursAt, Nowhere, NoneBefore as FirstOf, NoneAfter as LastOf}
+use Rattle.sedre.specs.Tree.{Tree}
+use Rattle.sedre.specs.Arena.{IsArena, tree_at}
+use Rattle.sedre.specs.declared.types.Node.{Node}
+use Rattle.sedre.specs.declared.types.NodeId.{NodeId}
+use Rattle.sedre.specs.declared.types.Node.TheVariants.{Set, Seq, Group}
+use Rattle.sedmarks.specs.Spans.{NotFound}
+use Rattle.sedmarks.specs.Reach.{At}
+use Rattle.sedmarks.specs.Beginnings.{CanBegin}
+use Rattle.sedmarks.specs.declared.beginnings.Begins.TheVariants.{WithSet}
+use Rattle.sedneedles.specs.Needed.{IsOfSet, LinksTo, BeginsAs, IsLiteral, GoesOnAs, IsUpTo, IsSole, LastLiteral, AllHold, AllEndWith, IsNeeded, FirstLiteral, Narrowed}
+use Rattle.sedneedles.specs.declared.needed.Needed.{Needed}
+use Rattle.sedneedles.specs.declared.needed.Literal.{Literal}
+use Rattle.sedneedles.specs.declared.needed.Link.TheVariants.{OneOf, Last, Inner}
+use Rattle.sedmarks.proofs.ReachLemmas.{open_at, close_at}
+use Rattle.sedmarks.proofs.SpanLemmas.{Spans-forward, Spans-within}
+
+-- one more byte of a literal
+pub occurs_more : (w bytes : List ℕ) (i byte : ℕ) → OccursAt w bytes i → slice_get w (i + length bytes) ≡ Some byte → OccursAt w (bytes ++ byte ∷ []) i
+occurs_more w bytes i byte here is =
+    let inside = slice_get_within w (i + length bytes) byte is in
+    let long = length-append bytes (byte ∷ []) in
+    record {
+      fits = omega (arith, inside, long);
+      reads = λ j lt.
+          ⊎_elim
+          (λ (old : j < length bytes). here.reads j old ∙ sym (get_or_append_left bytes (byte ∷ []) 0 j old))
+          (λ (new : length bytes ≤ j).
+          let same : j ≡ length bytes + 0 = omega (arith, long) in
+          let read : slice_index w (i + length bytes) ≡ byte = get_or_from_slice_get w (i + length bytes) byte 0 is in
+          let there : slice_index w (i + j) ≡ byte = ap (λ v. slice_index w v) (let e : i + j ≡ i + length bytes = omega arith in e) ∙ read in
+          there ∙ sym (ap (λ v. slice_index (bytes ++ byte ∷ []) v) same ∙ get_or-append-add bytes (byte ∷ []) 0 0))
+          (cases_lt j (length bytes));
+    }
+
+-- the empty literal
+pub occurs_empty : (w : List ℕ) (i : ℕ) → i ≤ length w → OccursAt w [] i
+occurs_empty w i within = record { fits = omega arith; reads = λ j lt. absurd (omega arith) }
+
+module _ (nodes : List Node) (arena : IsArena nodes) (x : ℕ) where
+  -- a set
+  pub node_set : (s : List Bool) → slice_get nodes x ≡ Some (Set s) → IsOfSet nodes x s
+  node_set s is w i j = (
+    (λ at. let f = open_at nodes w x (Set s) arena is i j at in ((f.0, f.1, f.2), f.3)),
+    (λ h. close_at nodes w x (Set s) arena is i j (h.0.0, h.0.1, h.0.2, h.1)),
+  )
+
+  -- the parts of a concatenation stand before it
+  pub seq_below : (a b : NodeId) → slice_get nodes x ≡ Some (Seq a b) → (a.index < x) × (b.index < x)
+  seq_below a b is = (arena.below x a.index (Seq a b) is (inl refl), arena.below x b.index (Seq a b) is (inr refl))
+
+  -- a byte of a set, and what stands after it
+  pub set_links : (a b : NodeId) (y left : ℕ) (s : List Bool) → slice_get nodes x ≡ Some (Seq a b) → left ≡ a.index → y ≡ b.index → IsOfSet nodes left s → LinksTo nodes x (OneOf s y)
+  set_links a b y left s is left_is y_is first =
+      let below = seq_below a b is in (
+        omega (arith, below.1),
+        λ w i j. (
+          (λ at.
+              let f = open_at nodes w x (Seq a b) arena is i j at in
+              let h = (first w i f.0).0 (subst (λ v. At nodes w v i f.0) (sym left_is) f.1) in
+              (h.0, subst (λ p. At nodes w y p j) h.1 (subst (λ v. At nodes w v f.0 j) (sym y_is) f.2))),
+          (λ h.
+              close_at nodes w x (Seq a b) arena is i j
+              (i + 1, subst (λ v. At nodes w v i (i + 1)) left_is ((first w i (i + 1)).1 (h.0, refl)), subst (λ v. At nodes w v (i + 1) j) y_is h.1)),
+        ),
+      )
+
+  -- a group
+  pub group_links : (g : ℕ) (a : NodeId) (y : ℕ) → slice_get nodes x ≡ Some (Group g a) → y ≡ a.index → LinksTo nodes x (Inner y)
+  group_links g a y is y_is =
+      let below = arena.below x a.index (Group g a) is refl in (
+        omega (arith, below),
+        λ w i j. (
+          (λ at. subst (λ v. At nodes w v i j) (sym y_is) (open_at nodes w x (Group g a) arena is i j at)),
+          (λ h. close_at nodes w x (Group g a) arena is i j (subst (λ v. At nodes w v i j) y_is h)),
+        ),
+      )
+
+  -- the second part of a concatenation
+  pub second_ends : (a b : NodeId) (y : ℕ) → slice_get nodes x ≡ Some (Seq a b) → y ≡ b.index → AllEndWith nodes x y
+  second_ends a b y is y_is w i j within at =
+      let f = open_at nodes w x (Seq a b) arena is i j at in
+      (f.0, Spans-forward (tree_at nodes a.index) w i f.0 f.1, Spans-within (tree_at nodes a.index) w i f.0 within f.1, subst (λ v. At nodes w v f.0 j) (sym y_is) f.2)
+
+sole_stands : (s : List Bool) (byte : ℕ) (w : List ℕ) (i : ℕ) → IsSole s byte → CanBegin (WithSet s) w i → slice_get w i ≡ Some byte
+sole_stands s byte w i sole can = subst (λ b. slice_get w i ≡ Some b) (sole.0 can.0 can.2) can.1
+
+-- one byte less of a literal
+occurs_less : (w bytes : List ℕ) (i byte : ℕ) → OccursAt w (bytes ++ byte ∷ []) i → OccursAt w bytes i × (slice_get w (i + length bytes) ≡ Some byte)
+occurs_less w bytes i byte here =
+    let long = length-append bytes (byte ∷ []) in
+    let inside = here.fits in
+    let read : slice_index w (i + length bytes) ≡ byte = here.reads (length bytes) (omega (arith, long)) ∙ get_or_push bytes byte 0 (length bytes) refl in (
+      record {
+        fits = omega (arith, inside, long);
+        reads = λ j lt. here.reads j (omega (arith, long)) ∙ get_or_append_left bytes (byte ∷ []) 0 j lt;
+      },
+      slice_get-get_or w (i + length bytes) 0 (omega (arith, inside, long)) ∙ ap Some read,
+    )
+
+module _ (nodes : List Node) (x : ℕ) where
+  -- no bytes yet
+  pub begins_empty : BeginsAs nodes x [] x
+  begins_empty w i j within =
+      let same : i ≡ i + 0 = omega arith in (
+        (λ at. (occurs_empty w i within, subst (λ v. At nodes w x v j) same at)),
+        (λ h. subst (λ v. At nodes w x v j) (sym same) h.1),
+      )
+
+  -- one more byte
+  pub begins_byte : (bytes : List ℕ) (s : List Bool) (y byte z : ℕ) → BeginsAs nodes x bytes y → LinksTo nodes y (OneOf s z) → IsSole s byte → BeginsAs nodes x (bytes ++ byte ∷ []) z
+  begins_byte bytes s y byte z begins link sole w i j within =
+      let long = length-append bytes (byte ∷ []) in
+      let same : i + length bytes + 1 ≡ i + length (bytes ++ byte ∷ []) = omega (arith, long) in (
+        (λ at.
+            let h = (begins w i j within).0 at in
+            let k = (link.1 w (i + length bytes) j).0 h.1 in
+            (occurs_more w bytes i byte h.0 (sole_stands s byte w (i + length bytes) sole k.0), subst (λ v. At nodes w z v j) same k.1)),
+        (λ h.
+            let less = occurs_less w bytes i byte h.0 in
+            (begins w i j within).1 (less.0, (link.1 w (i + length bytes) j).1 ((byte, less.1, sole.1), subst (λ v. At nodes w z v j) (sym same) h.1))),
+      )
+
+  -- the last byte
+  pub begins_last : (bytes : List ℕ) (s : List Bool) (y byte : ℕ) → BeginsAs nodes x bytes y → LinksTo nodes y (Last s) → IsSole s byte →
+      (w : List ℕ) (i j : ℕ) → i ≤ length w → At nodes w x i j ↔ (OccursAt w (bytes ++ byte ∷ []) i × (i + length (bytes ++ byte ∷ []) ≡ j))
+  begins_last bytes s y byte begins link sole w i j within =
+      let long = length-append bytes (byte ∷ []) in (
+        (λ at.
+            let h = (begins w i j within).0 at in
+            let k = (link w (i + length bytes) j).0 h.1 in
+            (occurs_more w bytes i byte h.0 (sole_stands s byte w (i + length bytes) sole k.0), omega (arith, long, k.1))),
+        (λ h.
+            let less = occurs_less w bytes i byte h.0 in
+            (begins w i j within).1 (less.0, (link w (i + length bytes) j).1 ((byte, less.1, sole.1), omega (arith, long, h.1)))),
+      )
+
+  -- the same in a group
+  pub begins_inner : (bytes : List ℕ) (y z : ℕ) → BeginsAs nodes x bytes y → LinksTo nodes y (Inner z) → BeginsAs nodes x bytes z
+  begins_inner bytes y z begins link w i j within = (
+    (λ at. let h = (begins w i j within).0 at in (h.0, (link.1 w (i + length bytes) j).0 h.1)),
+    (λ h. (begins w i j within).1 (h.0, (link.1 w (i + length bytes) j).1 h.1)),
+  )
+
+  pub ends_empty : AllEndWith nodes x x
+  ends_empty w i j within at = (i, omega arith, within, at)
+
+  pub hold_empty : AllHold nodes x []
+  hold_empty w i j within at = (i, omega arith, occurs_empty w i within)
+
+  -- the longer of what it holds and what a part at its end begins with
+  pub hold_longer : (y : ℕ) (l : Literal) (these result : List ℕ) → AllEndWith nodes x y → IsLiteral nodes y l → AllHold nodes x these →
+      (result ≡ these) ⊎ (result ≡ l.bytes.items) → AllHold nodes x result
+  hold_longer y l these result ends literal first which =
+      ⊎_elim
+      (λ (e : result ≡ these). subst (AllHold nodes x) (sym e) first)
+      (λ (e : result ≡ l.bytes.items).
+      subst (AllHold nodes x) (sym e) (λ w i j within at. let f = ends w i j within at in (f.0, f.1, ((literal w f.0 j f.2).0 f.3).0)))
+      which
+
+  -- a part of the rest after a literal
+  pub ends_behind : (y r z : ℕ) (l : Literal) → l.rest ≡ Some r → AllEndWith nodes x y → IsLiteral nodes y l → AllEndWith nodes r z → AllEndWith nodes x z
+  ends_behind y r z l rest ends literal second w i j within at =
+      let f = ends w i j within at in
+      let h = (literal w f.0 j f.2).0 f.3 in
+      let there : At nodes w r (f.0 + length l.bytes.items) j = subst (GoesOnAs nodes w (f.0 + length l.bytes.items) j) rest h.1 in
+      let g = second w (f.0 + length l.bytes.items) j h.0.fits there in
+      (g.0, omega (arith, f.1, g.1), g.2, g.3)
+
+pub up_to_some : (x r : ℕ) (o : Option ℕ) → o ≡ Some r → IsUpTo x o → r ≤ x
+up_to_some x r o e h = subst (IsUpTo x) e h
+
+module _ (w rest : List ℕ) (p : ℕ) (from : p ≤ length w) (e : rest ≡ take (length w - p) (drop p w)) (literal : List ℕ) where
+  same_rest : rest ≡ drop p w
+  same_rest = e ∙ take_rest w p
+
+  length-rest : length rest ≡ length w - p
+  length-rest = ap length same_rest ∙ length-drop p w
+
+  rest_at : (k : ℕ) → slice_index rest k ≡ slice_index w (p + k)
+  rest_at k = ap (λ l. slice_index l k) same_rest ∙ get_or-drop p w k 0
+
+  -- where the literal stands in the text from p on, it does in the rest
+  to_rest : (k : ℕ) → p ≤ k → OccursAt w literal k → OccursAt rest literal (k - p)
+  to_rest k low here = record {
+    fits = omega (arith, here.fits, length-rest);
+    reads = λ j lt. rest_at (k - p + j) ∙ ap (λ v. slice_index w v) (let same : p + (k - p + j) ≡ k + j = omega arith in same) ∙ here.reads j lt;
+  }
+
+  -- and the other way round
+  from_rest : (k : ℕ) → OccursAt rest literal k → OccursAt w literal (p + k)
+  from_rest k here = record {
+    fits = omega (arith, here.fits, length-rest);
+    reads = λ j lt. ap (λ v. slice_index w v) (let same : p + k + j ≡ p + (k + j) = omega arith in same) ∙ sym (rest_at (k + j)) ∙ here.reads j lt;
+  }
+
+  pub literal_none : Nowhere (OccursAt rest literal) 0 (length rest + 1) → FirstLiteral w literal p None
+  literal_none none k low here =
+      let there = to_rest k low here in
+      none (k - p) (omega arith) (omega (arith, there.fits)) there
+
+  pub literal_some : (k : ℕ) → FirstOf (OccursAt rest literal) 0 (length rest + 1) k → OccursAt rest literal k → FirstLiteral w literal p (Some (p + k))
+  literal_some k least here = (omega arith, from_rest k here, λ h low high is. least.before (h - p) (omega arith) (omega arith) (to_rest h low is))
+
+  pub literal_steps : (k : ℕ) → OccursAt rest literal k → p + (k + length literal) ≤ length w
+  literal_steps k here = omega (arith, here.fits, length-rest)
+
+module _ (w part : List ℕ) (p q : ℕ) (from : p ≤ q) (to : q ≤ length w) (e : part ≡ take (q - p) (drop p w)) (literal : List ℕ) where
+  length-part : length part ≡ q - p
+  length-part = ap length e ∙ length-take (q - p) (drop p w) ∙ (let long = length-drop p w in omega (arith, long))
+
+  part_at : (k : ℕ) → k < q - p → slice_index part k ≡ slice_index w (p + k)
+  part_at k lt = ap (λ l. slice_index l k) e ∙ get_or-take (q - p) (drop p w) k 0 lt ∙ get_or-drop p w k 0
+
+  -- where the literal stands in the text from p to q, it does in the part
+  to_part : (k : ℕ) → p ≤ k → k + length literal ≤ q → OccursAt w literal k → OccursAt part literal (k - p)
+  to_part k low high here = record {
+    fits = omega (arith, length-part);
+    reads = λ j lt. part_at (k - p + j) (omega arith) ∙ ap (λ v. slice_index w v) (let same : p + (k - p + j) ≡ k + j = omega arith in same) ∙ here.reads j lt;
+  }
+
+  -- and the other way round
+  from_part : (k : ℕ) → OccursAt part literal k → OccursAt w literal (p + k)
+  from_part k here =
+      let fits = here.fits in
+      record {
+        fits = omega (arith, fits, length-part);
+        reads = λ j lt. ap (λ v. slice_index w v) (let same : p + k + j ≡ p + (k + j) = omega arith in same) ∙ sym (part_at (k + j) (omega (arith, fits, length-part))) ∙ here.reads j lt;
+      }
+
+  pub last_none : Nowhere (OccursAt part literal) 0 (length part + 1) → LastLiteral w literal p q None
+  last_none none k low high here =
+      let there = to_part k low high here in
+      none (k - p) (omega arith) (omega (arith, there.fits)) there
+
+  pub last_some : (k : ℕ) → LastOf (OccursAt part literal) 0 (length part + 1) k → OccursAt part literal k → LastLiteral w literal p q (Some (p + k))
+  last_some k most here =
+      let fits = here.fits in (
+        omega arith,
+        omega (arith, fits, length-part),
+        from_part k here,
+        λ h low high is. let there = to_part h (omega arith) high is in most.after (h - p) (omega arith) (omega (arith, there.fits)) there,
+      )
+
+module _ (e : Tree) (w : List ℕ) (p : ℕ) (n : Needed) (holds : IsNeeded e (Some n)) where
+  -- a text without the literal has no match
+  pub needed_none : FirstLiteral w n.finder p None → NotFound e w p
+  needed_none none i k low within s = let h = holds w i k within s in none h.0 (omega (arith, h.1)) h.3
+
+  -- where each match begins with it, none begins before it
+  pub needed_first : (place : ℕ) → IsTrue n.leads → FirstLiteral w n.finder p (Some place) → Narrowed e w p (Some place)
+  needed_first place leads first =
+      let within : place ≤ length w = omega (arith, first.1.fits) in (
+        first.0,
+        within,
+        λ i k low lt s.
+            let h = holds w i k (omega arith) s in
+            first.2 i low lt (subst (OccursAt w n.finder) (h.2 leads) h.3),
+      )
+
+module _ (nodes : List Node) (r last : ℕ) (same : last ≡ r) (n : Needed) where
+  -- a literal with which all spans begin
+  pub needed_leads : (l : Literal) → n.finder ≡ l.bytes.items → IsLiteral nodes r l → IsNeeded (tree_at nodes last) (Some n)
+  needed_leads l is literal w i j within s =
+      let at : At nodes w r i j = subst (λ x. At nodes w x i j) same s in
+      (i, omega arith, λ leads. refl, subst (λ v. OccursAt w v i) (sym is) ((literal w i j within).0 at).0)
+
+  -- one that they hold somewhere
+  pub needed_holds : (l : List ℕ) → n.finder ≡ l → n.leads ≡ false → AllHold nodes r l → IsNeeded (tree_at nodes last) (Some n)
+  needed_holds l is leads holds w i j within s =
+      let at : At nodes w r i j = subst (λ x. At nodes w x i j) same s in
+      let h = holds w i j within at in
+      (h.0, h.1, λ yes. absurd (true≢false (sym yes ∙ leads)), subst (λ v. OccursAt w v h.0) (sym is) h.2)

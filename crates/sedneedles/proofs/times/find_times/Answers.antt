@@ -1,0 +1,39 @@
+use Rattle.std.proofs.Common.{arith}
+use Rattle.sedmarks.specs.Spans.{no_copy}
+use Rattle.sedneedles.proofs.TimesLemmas.{times_missed, times_none, times_here}
+use Rattle.sedneedles.proofs.times.find_times.Goals as goal
+
+pub loop-start-init : goal.loop-start-init
+loop-start-init c = record {
+  after = omega arith;
+  ahead = omega arith;
+  near = omega arith;
+  within = c.requires.from;
+  grows = omega arith;
+  cost = omega arith;
+  copies = no_copy;
+  missed = λ h low high. absurd (omega arith);
+}
+
+pub returns-in-None-clause-first : goal.returns-in-None-clause-first
+returns-in-None-clause-first c =
+    times_here c.args.set.now c.args.count c.args.text.now c.args.from c.loop-start.start c.loop-start.seen (omega arith) (omega arith)
+    c.loop-start.invariant.copies c.in-None.ensures.last c.loop-start.invariant.missed
+
+pub loop-start-preserved : goal.loop-start-preserved
+loop-start-preserved c =
+    let last = c.in-Some.ensures.last in
+    record {
+      after = omega (arith, last.0);
+      ahead = omega (arith, last.1);
+      near = omega (arith, last.0);
+      within = omega arith;
+      grows = omega arith;
+      cost = omega arith;
+      copies = last.3;
+      missed = times_missed c.args.set.now c.args.count c.args.text.now c.args.from c.loop-start.start c.in-Some.place (omega (arith, last.0)) (omega (arith, last.1)) last.2 c.loop-start.invariant.missed;
+    }
+
+pub returns-clause-first : goal.returns-clause-first
+returns-clause-first c =
+    times_none c.args.set.now c.args.count c.args.text.now c.args.from c.loop-start.start (omega arith) c.loop-start.invariant.missed

@@ -1,0 +1,33 @@
+use Rattle.std.proofs.Common.{◌≡◌, ◌-◌, subst, arith}
+use Rattle.sedmarks.specs.Spans.{no_copy}
+use Rattle.sedmarks.specs.FarAhead.{Repeated}
+use Rattle.sedneedles.proofs.TimesLemmas.{repeated_more}
+use Rattle.sedneedles.proofs.times.last_outside.Goals as goal
+
+pub loop-place-init : goal.loop-place-init
+loop-place-init c = record {
+  grows = omega arith;
+  cost = omega arith;
+  low = omega arith;
+  copies = no_copy;
+}
+
+pub loop-place-preserved : goal.loop-place-preserved
+loop-place-preserved c = record {
+  grows = omega arith;
+  cost = omega arith;
+  low = omega arith;
+  copies = repeated_more c.args.set.now c.args.text.now (c.loop-place.place - 1) c.loop-place.place c.args.to c.byte-byte.result c.has.result
+      (omega arith) c.byte-byte.ensures.byte c.has.ensures.is (cc) c.loop-place.invariant.copies;
+}
+
+pub returns-clause-last : goal.returns-clause-last
+returns-clause-last c =
+    let end : c.loop-place.place ≡ c.args.from = omega arith in
+    subst (λ v. Repeated c.args.set.now c.args.text.now v c.args.to) end c.loop-place.invariant.copies
+
+pub returns-clause-cost : goal.returns-clause-cost
+returns-clause-cost c = (
+  omega arith,
+  omega arith,
+)

@@ -1,0 +1,11 @@
+use Rattle.std.proofs.Common.{◌+◌, ◌≤◌}
+use Rattle.sedmarks.specs.FarAhead.{Repeated}
+use Rattle.sedneedles.proofs.times.last_outside.Given as goal
+
+abbrev pub invariant-loop-place : goal.invariant-loop-place
+invariant-loop-place l = record {
+  grows : l.initial.steps ≤ l.steps;
+  cost : l.steps + l.place ≤ l.initial.steps + l.to;
+  low : l.from ≤ l.place;
+  copies : Repeated l.set l.text l.place l.to;
+}

@@ -1,0 +1,46 @@
+-- Private to the proofs: no contract of a public item cites what stands here.
+-- Up to three bytes, one of which is sought.
+use Rattle.std.specs.Prelude.{◌≡◌, ◌⊎◌, ℕ, ◌<◌, ◌≤◌, ◌↔◌, List, length, slice_get, slice_index, Option, Some, None}
+use Rattle.sedmarks.specs.Bytes.{AreBytes}
+use Rattle.sedmarks.specs.Beginnings.{CanBegin, EitherHas}
+use Rattle.sedmarks.specs.declared.beginnings.Begins.{Begins}
+use Rattle.sedmarks.specs.declared.beginnings.Either.{Either}
+use Rattle.sedneedles.specs.declared.few.Few.{Few}
+use Rattle.sedneedles.specs.declared.few.Few.TheVariants.{One, Two, Three}
+
+-- the byte is one of the few
+abbrev pub HasFew : Few → ℕ → Type 0
+HasFew (One a) c = c ≡ a
+HasFew (Two a b) c = (c ≡ a) ⊎ (c ≡ b)
+HasFew (Three a b d) c = (c ≡ a) ⊎ ((c ≡ b) ⊎ (c ≡ d))
+
+-- of 32 lanes those are 0 in which such a byte stands
+abbrev pub HasZeros : (ℕ → Type 0) → List ℕ → List ℕ → Type 0
+HasZeros P lanes zeros = (length zeros ≡ 32) × ((k : ℕ) → k < 32 → P (slice_index lanes k) → slice_index zeros k ≡ 0)
+
+-- one of the few stands at the place
+abbrev pub FewAt : Few → List ℕ → ℕ → Type 0
+FewAt few w i = (c : ℕ) × (slice_get w i ≡ Some c) × HasFew few c
+
+-- the first place from p on at which one of the few stands
+abbrev pub FirstFew : Few → List ℕ → ℕ → Option ℕ → Type 0
+FirstFew few w p None = (k : ℕ) → p ≤ k → FewAt few w k → ⊥
+FirstFew few w p (Some k) = (p ≤ k) × FewAt few w k × ((h : ℕ) → p ≤ h → h < k → FewAt few w h → ⊥)
+
+-- one of those gathered so far
+abbrev pub Gathered : Option Few → ℕ → Type 0
+Gathered None c = ⊥
+Gathered (Some few) c = HasFew few c
+
+-- each byte is in one of the sets just where it is one of the few
+abbrev pub AreMembers : Either → Few → Type 0
+AreMembers sets few = (c : ℕ) → c < 256 → HasFew few c ↔ EitherHas sets c
+
+-- what begins so begins with one of the few
+abbrev pub IsFewOf : Begins → Few → Type 0
+IsFewOf begins few = (w : List ℕ) → AreBytes w → (i : ℕ) → CanBegin begins w i → FewAt few w i
+
+-- the same, where they are known
+abbrev pub FewOf : Begins → Option Few → Type 0
+FewOf begins None = Unit {0}
+FewOf begins (Some few) = IsFewOf begins few

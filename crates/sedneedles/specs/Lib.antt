@@ -1,0 +1,7 @@
+pub mod Needed
+pub mod Times
+pub mod Word
+pub mod Choice
+pub mod Openings
+pub mod Few
+pub mod Rare

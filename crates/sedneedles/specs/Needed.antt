@@ -1,0 +1,81 @@
+-- Private to the proofs: no contract of a public item cites what stands here.
+-- Literals that the spans of an expression hold.
+use Rattle.std.specs.Prelude.{◌≡◌, ℕ, ◌+◌, ◌-◌, ◌<◌, ◌≤◌, ◌↔◌, Bool, List, length, Option, Some, None, IsTrue}
+use Rattle.memchr.specs.Find.{OccursAt}
+use Rattle.sedre.specs.Tree.{Tree}
+use Rattle.sedre.specs.declared.types.Node.{Node}
+use Rattle.sedmarks.specs.Spans.{Spans, NotFound, IsIn}
+use Rattle.sedmarks.specs.Reach.{At}
+use Rattle.sedmarks.specs.Search.{NoneIn}
+use Rattle.sedmarks.specs.Beginnings.{CanBegin}
+use Rattle.sedmarks.specs.declared.beginnings.Begins.TheVariants.{WithSet}
+use Rattle.sedneedles.specs.declared.needed.Link.{Link}
+use Rattle.sedneedles.specs.declared.needed.Link.TheVariants.{OneOf, Last, Inner, Other}
+use Rattle.sedneedles.specs.declared.needed.Literal.{Literal}
+use Rattle.sedneedles.specs.declared.needed.Needed.{Needed}
+
+-- the spans of the node x are of one byte of the set
+abbrev pub IsOfSet : List Node → ℕ → List Bool → Type 0
+IsOfSet nodes x s = (w : List ℕ) (i j : ℕ) → At nodes w x i j ↔ (CanBegin (WithSet s) w i × (j ≡ i + 1))
+
+-- the spans of the node x are those that begin so
+abbrev pub LinksTo : List Node → ℕ → Link → Type 0
+LinksTo nodes x (OneOf s y) = (y < x) × ((w : List ℕ) (i j : ℕ) → At nodes w x i j ↔ (CanBegin (WithSet s) w i × At nodes w y (i + 1) j))
+LinksTo nodes x (Last s) = IsOfSet nodes x s
+LinksTo nodes x (Inner y) = (y < x) × ((w : List ℕ) (i j : ℕ) → At nodes w x i j ↔ At nodes w y i j)
+LinksTo nodes x Other = Unit {0}
+
+-- the node y is spanned from i to j, or nothing is left where there is none
+abbrev pub GoesOnAs : List Node → List ℕ → ℕ → ℕ → Option ℕ → Type 0
+GoesOnAs nodes w i j None = i ≡ j
+GoesOnAs nodes w i j (Some y) = At nodes w y i j
+
+-- the spans of the node x are those that begin with the bytes, and go on after them as those of the node y
+abbrev pub BeginsAs : List Node → ℕ → List ℕ → ℕ → Type 0
+BeginsAs nodes x bytes y = (w : List ℕ) (i j : ℕ) → i ≤ length w → At nodes w x i j ↔ (OccursAt w bytes i × At nodes w y (i + length bytes) j)
+
+-- the spans of the node x are those that begin with the literal, and go on after it as the spans of the rest
+abbrev pub IsLiteral : List Node → ℕ → Literal → Type 0
+IsLiteral nodes x l = (w : List ℕ) (i j : ℕ) → i ≤ length w → At nodes w x i j ↔ (OccursAt w l.bytes.items i × GoesOnAs nodes w (i + length l.bytes.items) j l.rest)
+
+-- the byte is the only one of the set
+abbrev pub IsSole : List Bool → ℕ → Type 0
+IsSole s byte = ((c : ℕ) → IsIn c s → c ≡ byte) × IsIn byte s
+
+-- the last place from p on at which the literal stands and ends by q, if there is one
+abbrev pub LastLiteral : List ℕ → List ℕ → ℕ → ℕ → Option ℕ → Type 0
+LastLiteral w literal p q None = (k : ℕ) → p ≤ k → k + length literal ≤ q → OccursAt w literal k → ⊥
+LastLiteral w literal p q (Some k) = (p ≤ k) × (k + length literal ≤ q) × OccursAt w literal k × ((h : ℕ) → k < h → h + length literal ≤ q → OccursAt w literal h → ⊥)
+
+-- the rest, if there is one, is the node or stands before it
+abbrev pub IsUpTo : ℕ → Option ℕ → Type 0
+IsUpTo x None = Unit {0}
+IsUpTo x (Some y) = y ≤ x
+
+-- each span of the node x holds the literal
+abbrev pub AllHold : List Node → ℕ → List ℕ → Type 0
+AllHold nodes x literal = (w : List ℕ) (i j : ℕ) → i ≤ length w → At nodes w x i j → (k : ℕ) × (i ≤ k) × OccursAt w literal k
+
+-- each span of the node x ends with one of the node y
+abbrev pub AllEndWith : List Node → ℕ → ℕ → Type 0
+AllEndWith nodes x y = (w : List ℕ) (i j : ℕ) → i ≤ length w → At nodes w x i j → (k : ℕ) × (i ≤ k) × (k ≤ length w) × At nodes w y k j
+
+-- each span of the expression holds the literal, at its beginning where it leads
+abbrev pub IsNeeded : Tree → Option Needed → Type 0
+IsNeeded e None = Unit {0}
+IsNeeded e (Some n) = (w : List ℕ) (i j : ℕ) → i ≤ length w → Spans e w i j → (k : ℕ) × (i ≤ k) × (IsTrue n.leads → k ≡ i) × OccursAt w n.finder k
+
+-- the first place from p on at which the literal stands, if there is one
+abbrev pub FirstLiteral : List ℕ → List ℕ → ℕ → Option ℕ → Type 0
+FirstLiteral w literal p None = (k : ℕ) → p ≤ k → OccursAt w literal k → ⊥
+FirstLiteral w literal p (Some k) = (p ≤ k) × OccursAt w literal k × ((h : ℕ) → p ≤ h → h < k → OccursAt w literal h → ⊥)
+
+-- how many bytes are passed from p to the end of the literal of m bytes, or to the end n of the text
+abbrev pub passed_to : ℕ → ℕ → ℕ → Option ℕ → ℕ
+passed_to n p m None = n - p
+passed_to n p m (Some k) = k + m - p
+
+-- the first place from p on at which a match can begin
+abbrev pub Narrowed : Tree → List ℕ → ℕ → Option ℕ → Type 0
+Narrowed e w p None = NotFound e w p
+Narrowed e w p (Some q) = (p ≤ q) × (q ≤ length w) × NoneIn e w p q

@@ -1,0 +1,66 @@
+-- Private to the proofs: no contract of a public item cites what stands here.
+-- Few bytes of which one stands at a fixed distance after the beginning of every match.
+use Rattle.std.specs.Prelude.{ℕ, ◌+◌, ◌<◌, ◌≤◌, Bool, List, Option, Some, None}
+use Rattle.sedre.specs.Tree.{Tree}
+use Rattle.sedre.specs.declared.types.Node.{Node}
+use Rattle.sedmarks.specs.Spans.{Spans}
+use Rattle.sedmarks.specs.Reach.{At}
+use Rattle.sedneedles.specs.Few.{FewAt}
+use Rattle.sedmarks.specs.Bytes.{AreBytes}
+use Rattle.sedmarks.specs.Beginnings.{CanBegin}
+use Rattle.sedmarks.specs.declared.beginnings.Begins.TheVariants.{WithSet}
+use Rattle.sedneedles.specs.declared.rare.Fixed.{Fixed}
+use Rattle.sedneedles.specs.declared.rare.Rare.{Rare}
+
+-- one of the bytes stands so far after the place
+abbrev pub StandsAt : Fixed → List ℕ → ℕ → Type 0
+StandsAt f w i = FewAt f.few w (i + f.offset)
+
+-- the same, where they are known
+abbrev pub HeldAt : Option Fixed → List ℕ → ℕ → Type 0
+HeldAt None w i = Unit {0}
+HeldAt (Some f) w i = StandsAt f w i
+
+-- what is sought and what is held stand after the place
+abbrev pub RareAt : Rare → List ℕ → ℕ → Type 0
+RareAt r w i = StandsAt r.sought w i × HeldAt r.held w i
+
+-- the first place from p on after which one of the bytes stands
+abbrev pub FirstFixed : Fixed → List ℕ → ℕ → Option ℕ → Type 0
+FirstFixed f w p None = (k : ℕ) → p ≤ k → StandsAt f w k → ⊥
+FirstFixed f w p (Some k) = (p ≤ k) × StandsAt f w k × ((h : ℕ) → p ≤ h → h < k → StandsAt f w h → ⊥)
+
+-- after no place from p up to but not including q both stand
+abbrev pub ApartIn : Fixed → Fixed → List ℕ → ℕ → ℕ → Type 0
+ApartIn f g w p q = (h : ℕ) → p ≤ h → h < q → StandsAt f w h → StandsAt g w h → ⊥
+
+-- after no place from p up to but not including q all of it stands
+abbrev pub RareNowhere : Rare → List ℕ → ℕ → ℕ → Type 0
+RareNowhere r w p q = (h : ℕ) → p ≤ h → h < q → RareAt r w h → ⊥
+
+-- the first place from p on after which all of it stands
+abbrev pub FirstRare : Rare → List ℕ → ℕ → Option ℕ → Type 0
+FirstRare r w p None = (k : ℕ) → p ≤ k → RareAt r w k → ⊥
+FirstRare r w p (Some k) = (p ≤ k) × RareAt r w k × RareNowhere r w p k
+
+-- one of the bytes stands so far after the beginning of each span of the expression
+abbrev pub AllStand : Tree → Fixed → Type 0
+AllStand e f = (w : List ℕ) → AreBytes w → (i j : ℕ) → Spans e w i j → StandsAt f w i
+
+-- the same, where they are known
+abbrev pub AllHeld : Tree → Option Fixed → Type 0
+AllHeld e None = Unit {0}
+AllHeld e (Some f) = AllStand e f
+
+-- a byte of the set stands so far after the beginning of each span of the expression
+abbrev pub AllHave : Tree → ℕ → List Bool → Type 0
+AllHave e offset s = (w : List ℕ) (i j : ℕ) → Spans e w i j → CanBegin (WithSet s) w (i + offset)
+
+-- what is sought and what is held stand after the beginning of each span of the expression, where they are known
+abbrev pub AllRare : Tree → Option Rare → Type 0
+AllRare e None = Unit {0}
+AllRare e (Some r) = AllStand e r.sought × AllHeld e r.held
+
+-- a byte of the set stands second in each span of the node x
+abbrev pub AllSecond : List Node → ℕ → List Bool → Type 0
+AllSecond nodes x s = (w : List ℕ) (i j : ℕ) → At nodes w x i j → CanBegin (WithSet s) w (i + 1)

@@ -1,0 +1,422 @@
+//! Few bytes of which one stands at a fixed distance after the beginning of every match: the rarest are sought, the
+//! next rarest are held against what stands there, and after them the nodes that come first in a match.
+ghost use Rattle.std.specs.Prelude.{◌≡◌, ℕ, ◌+◌, ◌*◌, ◌^◌, ◌<◌, ◌≤◌, ◌↔◌, ◌⊎◌, Some, length, IfSome, IsTrue};
+ghost use Rattle.sedre.specs.Arena.{tree, tree_at};
+ghost use Rattle.sedre.specs.Tree.{Tree};
+ghost use Rattle.sedmarks.specs.Bytes.{looked_at};
+ghost use Rattle.sedneedles.specs.Rare.{StandsAt, HeldAt, FirstFixed, FirstRare, RareNowhere, AllStand, AllHave, AllHeld, AllRare, AllSecond};
+ghost use Rattle.sedneedles.specs.Few.{HasFew};
+ghost use Rattle.sedmarks.specs.Spans.{IsIn};
+ghost use Rattle.sedmarks.specs.Beginnings.{AllBegin};
+ghost use Rattle.sedmarks.specs.Search.{Sought, sought_to};
+ghost use Rattle.sedmarks.specs.Nodes.{IsNode};
+ghost use Rattle.sedmarks.specs.Costs.{Pays};
+ghost use Rattle.sedre.specs.Steps.{Takes};
+
+use crate::few::{Few, few_in, few_of, members_of};
+use crate::lookups::{find_few, pass_apart};
+use crate::needed::{Link, link_of};
+use sedmarks::ahead::{Lead, look_ahead};
+use sedmarks::beginnings::{Begins, Either, next_start};
+use sedmarks::counted::{Text, are_bytes};
+use sedre::{ByteSet, Expr, Node, Steps};
+
+/// How many bytes a table tells in the time of one look ahead.
+const FAR: usize = 24;
+
+/// How many looks ahead more are made where two bytes are known to stand at each such place.
+const SPARE: usize = 4;
+
+/// How often bytes stand in a thousand that are sought one by one in less time than by vectors.
+const RARE: usize = 21;
+
+/// How many bytes after its beginning a match is followed.
+const MAX_OFFSET: usize = 32;
+
+/// How often each letter stands in a thousand bytes of ordinary text, that is prose, logs and programs.
+const LETTERS: [u8; 26] = [
+    65, 12, 30, 33, 95, 18, 16, 30, 60, 2, 7, 35, 22, 60, 60, 22, 1, 55, 55, 70, 25, 8, 12, 3, 12,
+    1,
+];
+
+/// How often the byte stands in a thousand bytes of ordinary text.
+fn weight(byte: u8) -> usize
+    ensures { result ≤ 255 }
+{
+    match byte {
+        b' ' => 150,
+        b'a'..=b'z' => LETTERS[(byte - b'a') as usize] as usize,
+        b'0'..=b'9' => 12,
+        b'A'..=b'Z' => 4,
+        b'!'..=b'~' => 6,
+        _ => 1,
+    }
+}
+
+/// A few bytes of which one stands at a fixed distance after the beginning of every match.
+#[derive(Clone, Copy)]
+pub struct Fixed {
+    /// The distance.
+    pub offset: usize,
+    /// The bytes.
+    pub few: Few,
+}
+
+impl Fixed {
+    /// How often they stand in a thousand bytes of ordinary text.
+    fn weight(&self) -> usize {
+        match self.few {
+            Few::One(first) => weight(first),
+            Few::Two(first, second) => weight(first) + weight(second),
+            Few::Three(first, second, third) => weight(first) + weight(second) + weight(third),
+        }
+    }
+
+    /// Whether one of them stands so far after the place. Counts one look.
+    fn stands(&self, text: &Text, place: usize, steps: &mut Steps) -> bool
+        requires place { place ≤ length text.now }
+        ensures stands { IsTrue result ↔ StandsAt self.now text.now place }
+        ensures cost { Takes steps.old steps.new 1 }
+    {
+        if self.offset < text.len() - place {
+            let byte = text.byte(place + self.offset, steps);
+            self.few.has(byte)
+        } else {
+            false
+        }
+    }
+
+    /// The first place from `from` on after which one of them stands so far.
+    fn find(&self, text: &Text, from: usize, steps: &mut Steps) -> Option<usize>
+        requires from { from ≤ length text.now }
+        ensures first { FirstFixed self.now text.now from result }
+        ensures cost { Takes steps.old steps.new (looked_at (length text.now) from result) }
+    {
+        if self.offset > text.len() - from {
+            return None;
+        }
+        match find_few(text, &self.few, from + self.offset, steps) {
+            None => None,
+            Some(place) => Some(place - self.offset),
+        }
+    }
+}
+
+/// Whether the bytes are so rare that they are sought one by one in less time than by a table.
+pub fn are_rare(few: &Few) -> bool {
+    let first = Fixed {
+        offset: 0,
+        few: *few,
+    };
+    first.weight() <= RARE
+}
+
+/// What stands after the beginning of every match.
+#[derive(Clone, Copy)]
+pub struct Rare {
+    /// The rarest bytes, which are sought.
+    pub sought: Fixed,
+    /// The next rarest, which are held against what stands there.
+    pub held: Option<Fixed>,
+    /// Whether those sought are so frequent that vectors pass them over in less time.
+    pub often: bool,
+}
+
+impl Rare {
+    /// Whether what is held stands where it does in a match that begins at the place. Counts one look.
+    fn holds(&self, text: &Text, place: usize, steps: &mut Steps) -> bool
+        requires place { place ≤ length text.now }
+        ensures holds { IsTrue result ↔ HeldAt self.now.held text.now place }
+        ensures cost { Takes steps.old steps.new 1 }
+    {
+        match &self.held {
+            None => true,
+            Some(held) => held.stands(text, place, steps),
+        }
+    }
+
+    /// How far from `from` on vectors tell that a match begins nowhere.
+    fn pass(&self, text: &Text, from: usize, steps: &mut Steps) -> usize
+        requires from { from ≤ length text.now }
+        ensures after { from ≤ result }
+        ensures within { result ≤ length text.now }
+        ensures missed { RareNowhere self.now text.now from result }
+        ensures cost { Pays steps.old steps.new (2 * result) (2 * from) }
+    {
+        if !self.often {
+            return from;
+        }
+        match &self.held {
+            None => from,
+            Some(held) => pass_apart(text, &self.sought, held, from, steps),
+        }
+    }
+
+    /// The first place from `from` on at which a match can begin as far as these bytes tell, one by one.
+    fn find_near(&self, text: &Text, from: usize, steps: &mut Steps) -> Option<usize>
+        requires from { from ≤ length text.now }
+        ensures first { FirstRare self.now text.now from result }
+        ensures cost { Takes steps.old steps.new (2 * looked_at (length text.now) from result) }
+    {
+        let mut place = from;
+        while let Some(start) = self.sought.find(text, place, steps) {
+            if self.holds(text, start, steps) {
+                return Some(start);
+            }
+            place = text.after(start, 1);
+        }
+        None
+    }
+
+    /// The same, vectors first.
+    fn find(&self, text: &Text, from: usize, steps: &mut Steps) -> Option<usize>
+        requires from { from ≤ length text.now }
+        ensures first { FirstRare self.now text.now from result }
+        ensures lies { IfSome result (λ k. k < length text.now) }
+        ensures cost { Takes steps.old steps.new (2 * looked_at (length text.now) from result) }
+    {
+        let place = self.pass(text, from, steps);
+        self.find_near(text, place, steps)
+    }
+
+    /// Whether one look ahead more than these is paid for by the time that was saved where so many bytes were passed.
+    fn is_worth(&self, passed: usize, looks: usize) -> bool {
+        // At the place where a search begins a literal was mostly found before, which a table tells in less time.
+        let spare = if passed > 0 && self.held.is_some() {
+            SPARE
+        } else {
+            0
+        };
+        looks < passed / FAR + spare
+    }
+}
+
+/// The rarer of what was held and one more.
+fn rarer(held: Option<Fixed>, more: Fixed) -> Fixed
+    ensures { (e : Tree) → AllHeld e held → AllStand e more → AllStand e result }
+{
+    match held {
+        Some(held) => if held.weight() <= more.weight() {
+            held
+        } else {
+            more
+        },
+        None => more,
+    }
+}
+
+/// The two rarest of these and one more.
+fn with_fixed(rare: Option<Rare>, more: Fixed) -> Rare
+    ensures { (e : Tree) → AllRare e rare → AllStand e more → AllRare e (Some result) }
+{
+    match rare {
+        None => Rare {
+            sought: more,
+            held: None,
+            often: false,
+        },
+        Some(rare) => if more.weight() < rare.sought.weight() {
+            Rare {
+                sought: more,
+                held: Some(rare.sought),
+                often: more.weight() > RARE,
+            }
+        } else {
+            Rare {
+                sought: rare.sought,
+                held: Some(rarer(rare.held, more)),
+                often: rare.sought.weight() > RARE,
+            }
+        },
+    }
+}
+
+/// The same where a byte of the set stands so far after the beginning of every match: sets of many bytes are left out.
+fn with_set(rare: Option<Rare>, offset: usize, set: &ByteSet) -> Option<Rare>
+    ensures { (e : Tree) → AllRare e rare → AllHave e offset set.now → AllRare e result }
+{
+    match members_of(set) {
+        None => rare,
+        Some(few) => Some(with_fixed(rare, Fixed { offset, few })),
+    }
+}
+
+/// The rarest bytes that stand after the beginning of every span of a node, as long as it is a concatenation of sets.
+fn rare_from(expr: &Expr, from: usize, steps: &mut Steps) -> Option<Rare>
+    requires inside { IsNode expr.now.nodes from }
+    ensures rare { AllRare (tree_at expr.now.nodes from) result }
+    ensures cost { Takes steps.old steps.new 131074 }
+{
+    let mut rare = None;
+    let mut offset = 0usize;
+    let mut index = from;
+    while offset < MAX_OFFSET {
+        match link_of(expr, index, steps) {
+            Link::OneOf(set, next) => {
+                rare = with_set(rare, offset, &set);
+                offset += 1;
+                index = next;
+            }
+            Link::Last(set) => return with_set(rare, offset, &set),
+            Link::Inner(part) => index = part,
+            Link::Other => return rare,
+        }
+    }
+    rare
+}
+
+/// The bytes with which every match begins, where they are few.
+fn rare_first(begins: &Begins) -> Option<Rare>
+    ensures { (e : Tree) → AllBegin e begins.now → AllRare e result }
+{
+    match few_of(begins) {
+        None => None,
+        Some(few) => Some(Rare {
+            sought: Fixed { offset: 0, few },
+            held: None,
+            often: false,
+        }),
+    }
+}
+
+/// The set of which a byte stands second in every span of the node, if there is one.
+fn second_set(expr: &Expr, index: usize, steps: &mut Steps) -> Option<ByteSet>
+    requires inside { index < length expr.now.nodes }
+    ensures second { IfSome result (λ s. AllSecond expr.now.nodes index s) }
+    ensures cost { Takes steps.old steps.new 4 }
+{
+    match link_of(expr, index, steps) {
+        Link::OneOf(_, next) => match link_of(expr, next, steps) {
+            Link::OneOf(set, _) => Some(set),
+            Link::Last(set) => Some(set),
+            _ => None,
+        },
+        _ => None,
+    }
+}
+
+/// The bytes that stand second in every match, where there are two alternatives and these bytes are few.
+fn second_of_two(expr: &Expr, steps: &mut Steps) -> Option<Fixed>
+    ensures second { AllHeld (tree expr.now) result }
+    ensures cost { Takes steps.old steps.new 9 }
+{
+    let root = expr.root().index();
+    match expr.look(expr.id(root), steps) {
+        Node::Alt(a, b) => {
+            let first = second_set(expr, a.index(), steps)?;
+            let second = second_set(expr, b.index(), steps)?;
+            let few = few_of_two(first, second)?;
+            Some(Fixed { offset: 1, few })
+        }
+        _ => None,
+    }
+}
+
+/// The members of two sets, where they are few.
+fn few_of_two(first: ByteSet, second: ByteSet) -> Option<Few>
+    ensures { IfSome result (λ f. (c : ℕ) → c < 256 → HasFew f c ↔ (IsIn c first ⊎ IsIn c second)) }
+{
+    few_in(&Either {
+        first,
+        second,
+        third: first,
+        fourth: second,
+    })
+}
+
+/// The same with what is held too.
+fn with_held(rare: Option<Rare>, held: Option<Fixed>) -> Option<Rare>
+    ensures { (e : Tree) → AllRare e rare → AllHeld e held → AllRare e result }
+{
+    match rare {
+        None => None,
+        Some(rare) => Some(Rare {
+            sought: rare.sought,
+            held,
+            often: held.is_some() && rare.sought.weight() > RARE,
+        }),
+    }
+}
+
+/// The rarest bytes that stand after the beginning of every match, where they are few.
+pub fn rare_of(expr: &Expr, begins: &Begins, steps: &mut Steps) -> Option<Rare>
+    requires begins { AllBegin (tree expr.now) begins.now }
+    ensures rare { AllRare (tree expr.now) result }
+    ensures cost { Takes steps.old steps.new 131083 }
+{
+    let root = expr.root().index();
+    match rare_from(expr, root, steps) {
+        Some(rare) => Some(rare),
+        None => {
+            let held = second_of_two(expr, steps);
+            with_held(rare_first(begins), held)
+        }
+    }
+}
+
+/// Whether looks ahead are within what a search is allowed, for so many nodes and bytes.
+fn is_large(nodes: usize, bytes: usize) -> bool
+    ensures { IsTrue result → (2 ≤ nodes) × (8 ≤ bytes) }
+{
+    nodes >= 2 && bytes >= 8
+}
+
+/// The first place from `from` on at which a match can begin, by its rarest bytes and, as long as that is worth it, by
+/// what comes first in it.
+fn rare_place(
+    expr: &Expr,
+    rare: &Rare,
+    text: &Text,
+    from: usize,
+    steps: &mut Steps,
+) -> Option<(usize, Lead)>
+    requires from { from ≤ length text.now }
+    requires rare { AllRare (tree expr.now) (Some rare.now) }
+    ensures sought { Sought (tree expr.now) text.now from result }
+    ensures cost { let m = length expr.now.nodes in let n = length text.now in
+        Pays steps.old steps.new (8 * m * sought_to n result + m * n + 1) (8 * m * from) }
+{
+    let large = is_large(expr.nodes(), text.len());
+    are_bytes(text);
+    let mut place = from;
+    let mut looks = 0usize;
+    while let Some(start) = rare.find(text, place, steps) {
+        if !large || !rare.is_worth(start.saturating_sub(from), looks) {
+            return Some((start, Lead::Unknown));
+        }
+        match look_ahead(expr, text, start, steps) {
+            Lead::Nowhere => {
+                place = start + 1;
+                looks = looks.saturating_add(1);
+            }
+            lead => return Some((start, lead)),
+        }
+    }
+    None
+}
+
+/// The first place from `from` on at which a match can begin, and what a look ahead tells of it.
+pub fn first_place(
+    expr: &Expr,
+    begins: &Begins,
+    rare: &Option<Rare>,
+    text: &Text,
+    from: usize,
+    steps: &mut Steps,
+) -> Option<(usize, Lead)>
+    requires some { 0 < length expr.now.nodes }
+    requires from { from ≤ length text.now }
+    requires begins { AllBegin (tree expr.now) begins.now }
+    requires rare { AllRare (tree expr.now) rare.now }
+    ensures sought { Sought (tree expr.now) text.now from result }
+    ensures cost { let m = length expr.now.nodes in let n = length text.now in
+        Pays steps.old steps.new (8 * m * sought_to n result + m * n + 1) (8 * m * from) }
+{
+    match rare {
+        Some(rare) => rare_place(expr, rare, text, from, steps),
+        None => match next_start(begins, text, from, steps) {
+            None => None,
+            Some(start) => Some((start, Lead::Unknown)),
+        },
+    }
+}
