@@ -16,7 +16,7 @@ fn main(rt: HostRuntime) -> Result<()> {
     rt.stdin().read_to_end(&mut input)?;
     let mut is_by_cycles = false;
     for text in env::args(&rt)?.skip(1) {
-        if !is_by_cycles && text.as_bytes() == b"--" {
+        if !is_by_cycles && text.as_str() == "--" {
             is_by_cycles = true;
         } else if is_by_cycles {
             match by_cycles::run(rt.alloc(), text.as_bytes(), input.as_slice()) {
