@@ -46,18 +46,18 @@ inside : (bs : List ℕ) (k b : ℕ) → k < run_of Name bs → slice_get bs k �
 inside [] k b h e x = omega (arith, h)
 inside (c ∷ bs) k b h e x = inside_by (belongs Name c) c bs (run_of Name bs) refl (inside bs) k b h e x
 
-behind_by : (t : Bool) (c b : ℕ) (bs : List ℕ) (n : ℕ) → belongs Name c ≡ t → (slice_get bs n ≡ Some b → EndsLabel b) →
+end_after_by : (t : Bool) (c b : ℕ) (bs : List ℕ) (n : ℕ) → belongs Name c ≡ t → (slice_get bs n ≡ Some b → EndsLabel b) →
     slice_get (c ∷ bs) (if t then suc n else 0) ≡ Some b → EndsLabel b
-behind_by true c b bs n is more e = more e
-behind_by false c b bs n is more e =
+end_after_by true c b bs n is more e = more e
+end_after_by false c b bs n is more e =
     let f : ◌≡◌ {A = Option ℕ} (Some c) (Some b) = e in
     let same : c ≡ b = cc in
     let g : (is_blank c || c == 10 || c == 59 || c == 125) ≡ true = not-false (is_blank c || c == 10 || c == 59 || c == 125) is in
     rw (← same) (ends_test c g)
 
-behind : (bs : List ℕ) (b : ℕ) → slice_get bs (run_of Name bs) ≡ Some b → EndsLabel b
-behind [] b e = let f : ◌≡◌ {A = Option ℕ} None (Some b) = e in absurd (cc)
-behind (c ∷ bs) b e = behind_by (belongs Name c) c b bs (run_of Name bs) refl (behind bs b) e
+end_after : (bs : List ℕ) (b : ℕ) → slice_get bs (run_of Name bs) ≡ Some b → EndsLabel b
+end_after [] b e = let f : ◌≡◌ {A = Option ℕ} None (Some b) = e in absurd (cc)
+end_after (c ∷ bs) b e = end_after_by (belongs Name c) c b bs (run_of Name bs) refl (end_after bs b) e
 
 within_by : (t : Bool) (n m : ℕ) → n ≤ m → (if t then suc n else 0) ≤ suc m
 within_by true n m h = omega (arith, h)
@@ -77,5 +77,5 @@ label_ends script from = (
   λ low. (let h = run_within (drop from script) in omega (arith, h, length-drop from script, low)),
   (λ at b low high e x. let f : from + (at - from) ≡ at = omega (arith, low) in
       inside (drop from script) (at - from) b (omega (arith, low, high)) (get_drop script from (at - from) ∙ (ap (slice_get script) f ∙ e)) x),
-  (λ b e. behind (drop from script) b (get_drop script from (run_of Name (drop from script)) ∙ e)),
+  (λ b e. end_after (drop from script) b (get_drop script from (run_of Name (drop from script)) ∙ e)),
 )

@@ -77,9 +77,9 @@ all_listed place (b ∷ bs) p =
 
 -- ---- the whole list
 
-behind : (before xs : List ℕ) (b : ℕ) → drop (length before + 1) (before ++ b ∷ xs) ≡ xs
-behind [] xs b = refl
-behind (a ∷ before) xs b = let e : suc (length before) + 1 ≡ suc (length before + 1) = omega arith in rw e (behind before xs b)
+drop_past : (before xs : List ℕ) (b : ℕ) → drop (length before + 1) (before ++ b ∷ xs) ≡ xs
+drop_past [] xs b = refl
+drop_past (a ∷ before) xs b = let e : suc (length before) + 1 ≡ suc (length before + 1) = omega arith in rw e (drop_past before xs b)
 
 abbrev Found : Type 0
 Found = Result (ByteSet × ℕ) ExprFault
@@ -89,7 +89,7 @@ whole at bytes = judged false (is_negated bytes) at (listed (items_from None (at
 
 of_text : (before xs : List ℕ) → list_at false None (before ++ 91 ∷ xs) (length before) ≡ whole (length before) xs
 unfolding list_at
-of_text before xs = ap (whole (length before)) (behind before xs 91)
+of_text before xs = ap (whole (length before)) (drop_past before xs 91)
 
 judged_by : (negated : Bool) (at place : ℕ) (bs : List ℕ) (found : Items) → ArePlain bs → found ≡ (placed place bs, Some (place + length bs + 1)) →
     judged false negated at (listed found.0) found.1 ≡ Ok (matched false negated (set_of (λ c. stands_among c bs)), place + length bs + 1)

@@ -24,9 +24,9 @@ each_opening zero k below = absurd (omega arith)
 each_opening (suc n) zero below = (openings n, refl)
 each_opening (suc n) (suc k) below = each_opening n k (omega arith)
 
-none_behind : (n : ℕ) → drop n (openings n) ≡ []
-none_behind zero = refl
-none_behind (suc n) = none_behind n
+none_after : (n : ℕ) → drop n (openings n) ≡ []
+none_after zero = refl
+none_after (suc n) = none_after n
 
 opening_first : (rest : List ℕ) → symbol Extended None (40 ∷ rest) ≡ Some (Opening, 1)
 opening_first [] = refl
@@ -61,7 +61,7 @@ many_open n most =
       cut = cut_at text (suc n) 0 (suc n) None (omega arith) (each_opening (suc n));
       opened = suc n;
       balanced = all_open (suc n) 0 ∙ ap (λ (k : ℕ). Some k) (omega arith);
-      row = unclosed (ends_at text (last_of None (items_of (suc n))) (suc n) (none_behind (suc n)));
+      row = unclosed (ends_at text (last_of None (items_of (suc n))) (suc n) (none_after (suc n)));
     })
 
 hundred_thousand_open : ExprFaulty Extended None (replicate 100000 40) 65536 100000 OpenGroup

@@ -135,7 +135,7 @@ all_of_many n some = record {
   reports = up_to_b n some;
 }
 
--- A b alone is found behind them, however many they are.
+-- A b alone is found after them, however many they are.
 
 b_reads : ReadsAs Extended false None (codes "b") b 0
 unfolding outcome rest_of item_at
@@ -148,8 +148,8 @@ not_before n h k before s =
     let within : false ≡ true = subst (λ v. IsIn v (only 98)) there s.2 in
     absurd cc
 
-b_behind_many : (n : ℕ) → Finds Extended (codes "b") (with_b n) 0 (n, n + 1) []
-b_behind_many n = record {
+b_after_many : (n : ℕ) → Finds Extended (codes "b") (with_b n) 0 (n, n + 1) []
+b_after_many n = record {
   tree = b;
   count = 0;
   reads_so = b_reads;
@@ -170,5 +170,5 @@ nothing_in_forty = nothing_in_many 40 0
 all_of_forty : Finds Extended (codes "(a*)*b") (replicate 40 97 ++ 98 ∷ []) 0 (0, 41) (Some (0, 40) ∷ [])
 all_of_forty = all_of_many 40 (omega arith)
 
-b_behind_a_thousand : Finds Extended (codes "b") (replicate 1000 97 ++ 98 ∷ []) 0 (1000, 1001) []
-b_behind_a_thousand = b_behind_many 1000
+b_after_a_thousand : Finds Extended (codes "b") (replicate 1000 97 ++ 98 ∷ []) 0 (1000, 1001) []
+b_after_a_thousand = b_after_many 1000

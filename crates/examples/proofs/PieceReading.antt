@@ -15,7 +15,7 @@ escaped_read : (d b : ℕ) (p : Piece) (rest : List ℕ) (ps : List Piece) → e
     pieces_from d false (92 ∷ b ∷ rest) ≡ p ∷ ps
 escaped_read d b p rest ps e h = rw e (rw (no_escape (b == 92)) (ap (λ (x : List Piece). p ∷ x) h))
 
--- a byte that is written behind a backslash
+-- a byte that is written after a backslash
 pub special : (d b : ℕ) → (b == d || b == 92 || b == 38 || b == 10) ≡ true → (48 ≤ d → d ≤ 57 → ⊥) → escaped_piece d b ≡ Some (literal b)
 special d b h other = by_delimiter (b == d) refl h
   where

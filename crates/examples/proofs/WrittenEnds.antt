@@ -16,7 +16,7 @@ past_plain : (breaks : Bool) (d at b : ℕ) (rest : List ℕ) → (b == 10) ≡ 
     string_end breaks d false at (b ∷ rest) ≡ string_end breaks d false (suc at) rest
 past_plain breaks d at b rest e f g = rw e (rw f (rw g refl))
 
--- a byte behind a backslash
+-- a byte after a backslash
 past_escaped : (breaks : Bool) (d at b : ℕ) (rest : List ℕ) → (d ≡ 92 → ⊥) → (b == 10 && not (breaks && true)) ≡ false →
     string_end breaks d false at (92 ∷ b ∷ rest) ≡ string_end breaks d false (suc (suc at)) rest
 past_escaped breaks d at b rest other e = rw (ne_eqb 92 d (λ x. other (sym x))) (rw e refl)

@@ -1,4 +1,4 @@
--- Bytes behind backslashes, in texts and in strings between delimiters (XCU sed, "Editing Commands in sed").
+-- Bytes after backslashes, in texts and in strings between delimiters (XCU sed, "Editing Commands in sed").
 use Rattle.std.specs.Prelude.{◌≡◌, ◌≤◌, ◌<◌, ℕ, suc, List, [], ◌∷◌, Some, if◌then◌else◌, ◌==◌, ◌%◌, slice_get}
 use Rattle.sedscript.specs.Bytes.{bytes_between}
 

@@ -77,7 +77,7 @@ pub(crate) fn check_read(names: &[Vec<u8>], options: &[Vec<u8>], report: &mut Re
     let mut rest = names;
     for option in options {
         if let Some((name, _)) = file_of(option.as_slice(), b"r:") {
-            match behind(rest, name) {
+            match after(rest, name) {
                 Some(others) => rest = others,
                 None => report.tell("the script reads no such file, or in another order"),
             }
@@ -86,7 +86,7 @@ pub(crate) fn check_read(names: &[Vec<u8>], options: &[Vec<u8>], report: &mut Re
 }
 
 /// The names after this one.
-fn behind<'a>(names: &'a [Vec<u8>], wanted: &[u8]) -> Option<&'a [Vec<u8>]> {
+fn after<'a>(names: &'a [Vec<u8>], wanted: &[u8]) -> Option<&'a [Vec<u8>]> {
     for k in 0..names.len() {
         if names[k].as_slice() == wanted {
             return Some(&names[k + 1..]);

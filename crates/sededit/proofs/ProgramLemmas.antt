@@ -1,16 +1,13 @@
 -- From the end of an edit to the status of the program.
-use Rattle.std.proofs.Common.{◌≡◌, ◌∙◌, ◌+◌, ◌<◌, ◌∷◌, ◌++◌, ℕ, Bool, true, false, List, [], Option, Result, Ok, take, map, length, get_or, refl, sym, ap, arith}
+use Rattle.std.proofs.Common.{◌≡◌, ◌∙◌, ◌+◌, ◌<◌, ◌∷◌, ◌++◌, ℕ, Bool, true, false, List, [], Option, take, map, length, get_or, refl, sym, ap, arith}
 use Rattle.std.proofs.lemmas.List.{map_more, take-map, take_all}
 use Rattle.clap.specs.Words.{Text, kind_of, takes}
 use Rattle.clap.specs.declared.error.Error.{Error}
 use Rattle.clap.specs.declared.error.kind.ErrorKind.TheVariants.{DisplayHelp}
-use Rattle.sedspace.specs.Failures.{Rose}
 use Rattle.sedengine.specs.Devices.{Gained}
 use Rattle.sedengine.specs.Move.{to_sink}
-use Rattle.sedengine.specs.declared.ends.Ended.{Ended}
-use Rattle.sedengine.specs.declared.ends.Ended.TheVariants.{InputBroken, OutputBroken}
 use Rattle.sededit.specs.CommandLine.{IsRefusal, sed_command}
-use Rattle.sededit.specs.Program.{AsksHelp, HasFailed}
+use Rattle.sededit.specs.Program.{AsksHelp}
 use Rattle.sededit.specs.Sinks.{Creates, CreatesFirst}
 use Rattle.sededit.specs.declared.asked.Refused.{Refused}
 use Rattle.sededit.specs.declared.asked.Refused.TheVariants.{NoMemory, Words}
@@ -30,14 +27,6 @@ begun_whole old new text gained = (length text, rw (take_all (length text) text 
 -- files of all these names are the first ones of them
 pub all_first : (old new names : List (List ℕ)) → Creates old new names → CreatesFirst old new names
 all_first old new names all = (length names, rw (take_all (length names) names (omega arith)) all)
-
--- the device that an answered end names has failed
-pub has_failed : {E : Type 0} (source_old source_new : ℕ) (sinks_old sinks_new : ℕ → ℕ) (r : Result Ended E) (end : Ended) → r ≡ Ok end →
-    (r ≡ Ok InputBroken → Rose source_old source_new) → ((k : ℕ) → r ≡ Ok (OutputBroken k) → Rose (sinks_old k) (sinks_new k)) →
-    HasFailed source_old source_new sinks_old sinks_new end
-has_failed source_old source_new sinks_old sinks_new r InputBroken is input failed = input is
-has_failed source_old source_new sinks_old sinks_new r (OutputBroken k) is input failed = failed k is
-has_failed source_old source_new sinks_old sinks_new r _ is input failed = tt
 
 not_true : (b : Bool) → (b ≡ true → ⊥) → b ≡ false
 not_true true h = absurd (h refl)

@@ -1,17 +1,17 @@
 -- From the end of an edit to the status of the program.
-use Rattle.std.proofs.Common.{◌≡◌, ◌∙◌, ◌≤◌, ◌⊎◌, inl, inr, ℕ, Bool, true, false, List, Option, Some, None, Result, Ok, arith}
+use Rattle.std.proofs.Common.{◌≡◌, ◌∙◌, ◌≤◌, ◌⊎◌, inl, inr, ℕ, Bool, true, false, List, Option, Some, None, Result, Ok, Err, arith}
 use Rattle.sedspace.specs.Failures.{Rose}
 use Rattle.sedscript.specs.Script.{Program}
 use Rattle.sedengine.specs.Limits.{Limits}
 use Rattle.sedengine.specs.State.{State, Setting}
-use Rattle.sedengine.specs.Devices.{Gained}
+use Rattle.sedengine.specs.Devices.{FailedSink, Gained}
 use Rattle.sedengine.specs.Ends.{WholeOrCut}
 use Rattle.sedengine.specs.declared.ends.Ended.{Ended}
-use Rattle.sedengine.specs.declared.ends.Ended.TheVariants.{InputBroken, OutputBroken}
+use Rattle.sedengine.specs.declared.ends.Ended.TheVariants.{Done, InputBroken, OutputBroken}
 use Rattle.std.specs.Option.{option_map}
 use Rattle.sededit.specs.Joined.{joined}
 use Rattle.sededit.specs.Opening.{KeepsFiles, WereRefused, contents}
-use Rattle.sededit.specs.Program.{HasFailed, StopsEarly, WritesAll, WritesBeginning}
+use Rattle.sededit.specs.Program.{HasFailed, SinkFailed, StopsEarly, WritesAll, WritesBeginning}
 
 -- what sinks gained stands where they hold the same afterwards
 pub Gained-same : (old mid new : ℕ → Option (List ℕ)) (out : List (ℕ × ℕ)) → ((k : ℕ) → new k ≡ mid k) → Gained old mid out → Gained old new out
@@ -32,11 +32,19 @@ Rose-more a b c h more = omega (arith, h, more)
 
 -- the device that an answered end names has failed, also after a flush
 pub has_failed : {E : Type 0} (input_old input_new : ℕ) (old mid new : ℕ → ℕ) (r : Result Ended E) (end : Ended) → r ≡ Ok end →
-    (r ≡ Ok InputBroken → Rose input_old input_new) → ((k : ℕ) → r ≡ Ok (OutputBroken k) → Rose (old k) (mid k)) → ((k : ℕ) → mid k ≤ new k) →
+    (r ≡ Ok InputBroken → Rose input_old input_new) → FailedSink old mid (Err end) → ((k : ℕ) → mid k ≤ new k) →
     HasFailed input_old input_new old new end
 has_failed input_old input_new old mid new r InputBroken is input failed more = input is
-has_failed input_old input_new old mid new r (OutputBroken k) is input failed more = Rose-more _ _ _ (failed k is) (more k)
+has_failed input_old input_new old mid new r (OutputBroken k) is input failed more = Rose-more _ _ _ failed (more k)
 has_failed input_old input_new old mid new r _ is input failed more = tt
+
+-- a sink that failed after others had not has failed since
+pub sink_failed : (old mid new : ℕ → ℕ) → ((k : ℕ) → mid k ≡ old k) → SinkFailed mid new → SinkFailed old new
+sink_failed old mid new same (k, rose) = (k, rw (← same k) rose)
+
+-- no sink has failed in a run that came to the ordinary end
+pub none_failed : (old new : ℕ → ℕ) (end : Ended) → end ≡ Done → FailedSink old new (Err end) → (k : ℕ) → new k ≡ old k
+none_failed old new end is failed = let all : FailedSink old new (Err Done) = rw is at failed in all
 
 -- what a truth value says of refused openings
 pub none_refused : (b : Bool) (old new : ℕ) → b ≡ false → WereRefused b old new → new ≡ old
@@ -91,11 +99,11 @@ failed-from i0 i1 i n0 n1 n InputBroken is same h = rw (← is) h
 failed-from i0 i1 i n0 n1 n (OutputBroken k) is same h = rw (← same k) h
 failed-from i0 i1 i n0 n1 n _ is same h = tt
 
-pub cause-from : (l : Limits) (p : Program) (W : Type 0) (f0 f1 : Option (List (Option (List ℕ)))) (t0 t1 s0 s1 new : ℕ → Option (List ℕ)) (i0 i1 i : ℕ) (n0 n1 n : ℕ → ℕ) →
+pub cause-from : (l : Limits) (p : Program) (f0 f1 : Option (List (Option (List ℕ)))) (t0 t1 s0 s1 new : ℕ → Option (List ℕ)) (i0 i1 i : ℕ) (n0 n1 n : ℕ → ℕ) →
     Ready f0 f1 t0 t1 s0 s1 → i1 ≡ i0 → ((k : ℕ) → n1 k ≡ n0 k) →
-    StopsEarly l p (all_joined f1) t1 (Gained s1 new) (HasFailed i1 i n1 n) ⊎ (WritesAll p (all_joined f1) t1 (Gained s1 new) × W) →
-    StopsEarly l p (all_joined f0) t0 (Gained s0 new) (HasFailed i0 i n0 n) ⊎ (WritesAll p (all_joined f0) t0 (Gained s0 new) × W)
-cause-from l p W f0 f1 t0 t1 s0 s1 new i0 i1 i n0 n1 n r is same (inl h) = inl (
+    StopsEarly l p (all_joined f1) t1 (Gained s1 new) (HasFailed i1 i n1 n) ⊎ (WritesAll p (all_joined f1) t1 (Gained s1 new) × SinkFailed n1 n) →
+    StopsEarly l p (all_joined f0) t0 (Gained s0 new) (HasFailed i0 i n0 n) ⊎ (WritesAll p (all_joined f0) t0 (Gained s0 new) × SinkFailed n0 n)
+cause-from l p f0 f1 t0 t1 s0 s1 new i0 i1 i n0 n1 n r is same (inl h) = inl (
   h.0,
   h.1,
   failed-from i0 i1 i n0 n1 n h.0 is same h.2,
@@ -103,4 +111,4 @@ cause-from l p W f0 f1 t0 t1 s0 s1 new i0 i1 i n0 n1 n r is same (inl h) = inl (
       let w = h.3 bytes (told f0 f1 bytes r.kept known) files (λ k. r.same_texts k ∙ tells k) in
       (w.0, WholeOrCut-from _ _ _ s0 s1 new _ _ _ r.same_sinks w.1),
 )
-cause-from l p W f0 f1 t0 t1 s0 s1 new i0 i1 i n0 n1 n r is same (inr h) = inr (WritesAll-from p f0 f1 t0 t1 s0 s1 new r h.0, h.1)
+cause-from l p f0 f1 t0 t1 s0 s1 new i0 i1 i n0 n1 n r is same (inr h) = inr (WritesAll-from p f0 f1 t0 t1 s0 s1 new r h.0, sink_failed n0 n1 n same h.1)

@@ -22,7 +22,7 @@ pub record Files : Type 0 where
   pub failures : ℕ
   pub refusals : ℕ
 
--- the name of the standard input, `-` (XCU sed, Operands)
+-- the name of the standard input, `-` (this project's own)
 abbrev pub dash : List ℕ
 dash = 45 ∷ []
 

@@ -42,7 +42,7 @@ GivesScript files l nodes p =
     (whole : List ℕ) × MakesText files [] (map given l.parts.items) whole
     × ((q : Program) × Means whole (kind_with l.extended) nodes q × (p ≡ record q { quiet = l.quiet || q.quiet }))
 
--- the names of the input files; without operands the standard input (XCU sed, "Operands")
+-- the names of the input files; without operands the standard input (XCU sed, "Operands"), under its name
 abbrev pub or_standard : List (List ℕ) → List (List ℕ)
 or_standard [] = dash ∷ []
 or_standard names = names
@@ -103,14 +103,10 @@ StopsEarly limits p input texts gained failed =
 abbrev pub SinkFailed : (ℕ → ℕ) → (ℕ → ℕ) → Type 0
 SinkFailed old new = (k : ℕ) × Rose (old k) (new k)
 
--- some sink has failed
-abbrev pub HasFailures : (ℕ → ℕ) → Type 0
-HasFailures failures = (k : ℕ) × (0 < failures k)
-
--- clap doesn't take the words, since they ask for help
+-- clap doesn't take the words, since they ask for help (this project's own)
 abbrev pub AsksHelp : List Text → Type 0
 AsksHelp words = (takes sed_command words ≡ false) × IsAmong DisplayHelp (fault_of sed_command words)
 
--- the sinks have gained a text, all of it for sink 0. Which text help is, clap alone says
+-- the sinks have gained a text, all of it for sink 0 (this project's own). Which text help is, clap alone says
 abbrev pub WritesHelp : (List (ℕ × ℕ) → Type 0) → Type 0
 WritesHelp gained = (text : List ℕ) × gained (to_sink 0 text)

@@ -5,7 +5,7 @@ ghost use Rattle.std.specs.Io.KnownBytes.{Keeps};
 ghost use Rattle.sedspace.specs.Failures.{Rose};
 ghost use Rattle.sedscript.specs.Script.{Faulty, Means};
 ghost use Rattle.sedscript.specs.declared.types.ScriptFault.{ScriptFault};
-ghost use Rattle.sedengine.specs.Devices.{Gained, GainedWithin, SameSinks};
+ghost use Rattle.sedengine.specs.Devices.{FailedSink, Gained, GainedWithin, SameSinks};
 ghost use Rattle.sedengine.specs.Run.{TellsFiles, setting_of};
 ghost use Rattle.sededit.specs.Editing.{Edits, GainsAll, GainsBeginning, nothing_before, start_over};
 
@@ -17,7 +17,7 @@ use std::alloc::{AllocError, Global};
 /// Reads the script that a text means (XCU sed, "Extended Description").
 ///
 /// `kind` chooses basic or extended expressions, and `nodes` is the most nodes that one may have, with what it repeats
-/// written out, 1 to 65,536. The crate `own_limits` is an example.
+/// written out, 1 to 65,536. `own_limits.rt` of the crate `hosts` is an example.
 ///
 /// # Errors
 /// The first fault of the text, with the place of its byte, counted from 0; or `NO_MEMORY` where a request for memory was
@@ -34,11 +34,15 @@ pub fn script(alloc: Global, text: &[u8], kind: Kind, nodes: usize) -> Result<Sc
     sedscript::read(alloc, text, kind, nodes)
 }
 
-/// Runs a script over the source's bytes, to the end of the run, and answers how it ended. Sink 0 is the standard output,
-/// sink 1 the first of the script's `wfiles` and so on; text 0 is the first of its `rfiles`.
+/// Runs a script over the source's bytes, to the end of the run, and answers how it ended (XCU sed, "Extended
+/// Description").
+///
+/// Sink 0 is the standard output, sink 1 the first of the script's `wfiles` and so on: there is a sink for each. Text 0 is
+/// the first of its `rfiles`. The script's expressions have at most `limits.nodes()` nodes, as where `script` read it with
+/// that number.
 ///
 /// Whatever the input, what the engine holds and what each sink gains stay within the limits. What was written is never
-/// taken back, however the run ends. The crate `own_limits` is an example.
+/// taken back, however the run ends. `own_limits.rt` of the crate `hosts` is an example.
 ///
 /// # Errors
 /// `AllocError` where a request for memory was refused. Nothing was read or written then.
@@ -68,10 +72,9 @@ pub fn edit<R: ByteSource, O: Outputs, T: Texts>(
         (files : ℕ → List ℕ) → TellsFiles (T.text texts.old) files →
         GainsAll (setting_of script files) (start_over script bytes)
         (Gained (O.contents outputs.old) (O.contents outputs.new))) }
-    // A device that the end names has failed, whether it tells its bytes or not.
+    // A device that the end names has failed, whether it tells its bytes or not, and no sink that it doesn't name.
     ensures input { result ≡ Ok Ended.InputBroken → Rose (R.failures source.old) (R.failures source.new) }
-    ensures failed { (k : ℕ) → result ≡ Ok (Ended.OutputBroken k) →
-        Rose (O.failures outputs.old k) (O.failures outputs.new k) }
+    ensures failed { IfOk result (λ end. FailedSink (O.failures outputs.old) (O.failures outputs.new) (Err end)) }
     ensures same_sinks { SameSinks O.count O.names outputs.old outputs.new }
     ensures same_reference { R.reference source.new ≡ R.reference source.old }
     // The texts are only read.

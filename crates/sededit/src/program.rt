@@ -6,7 +6,7 @@ ghost use Rattle.sedengine.specs.Devices.{Gained};
 ghost use Rattle.sedengine.specs.Move.{to_sink};
 ghost use Rattle.clap.specs.Words.{kind_of};
 ghost use Rattle.sededit.specs.MemoryFiles.{dash};
-ghost use Rattle.sededit.specs.Program.{AsksHelp, HasFailed, HasFailures, Runs, RunsLine, SinkFailed, StopsEarly, WritesAll, WritesBeginning};
+ghost use Rattle.sededit.specs.Program.{AsksHelp, HasFailed, Runs, RunsLine, SinkFailed, StopsEarly, WritesAll, WritesBeginning};
 ghost use Rattle.sededit.specs.Program.{WritesHelp, or_standard, texts_of};
 ghost use Rattle.sededit.specs.Sinks.{Creates, CreatesFirst, CreatesUpTo};
 
@@ -84,7 +84,7 @@ pub fn command<S: AsStr, I: Inputs, O: Sinks, N: Names, E: Write>(
         (λ p input texts. StopsEarly limits p input texts (Gained (O.contents sinks.old) (O.contents sinks.new))
         (HasFailed (I.failures inputs.old) (I.failures inputs.new) (O.failures sinks.old) (O.failures sinks.new))
         ⊎ (WritesAll p input texts (Gained (O.contents sinks.old) (O.contents sinks.new))
-        × HasFailures (O.failures sinks.new)))
+        × SinkFailed (O.failures sinks.old) (O.failures sinks.new)))
         ⊎ (AsksHelp (map S.text words.now) × SinkFailed (O.failures sinks.old) (O.failures sinks.new)) }
     // A refusal writes nothing, and of the files that the script writes it leaves the first ones created, if any.
     ensures refused { result ≡ REFUSED → (k : ℕ) → O.contents sinks.new k ≡ O.contents sinks.old k }
@@ -132,7 +132,7 @@ fn run_line<I: Inputs, O: Sinks, N: Names, E: Write>(
         (λ p input texts. StopsEarly limits p input texts (Gained (O.contents sinks.old) (O.contents sinks.new))
         (HasFailed (I.failures inputs.old) (I.failures inputs.new) (O.failures sinks.old) (O.failures sinks.new))
         ⊎ (WritesAll p input texts (Gained (O.contents sinks.old) (O.contents sinks.new))
-        × HasFailures (O.failures sinks.new))) }
+        × SinkFailed (O.failures sinks.old) (O.failures sinks.new))) }
     ensures refused { result ≡ REFUSED → (k : ℕ) → O.contents sinks.new k ≡ O.contents sinks.old k }
     ensures created { result ≡ REFUSED → (O.names sinks.new ≡ O.names sinks.old)
         ⊎ RunsLine (I.text inputs.old) (I.ahead inputs.old) (N.file names.old) (N.text names.old) limits.nodes line.now

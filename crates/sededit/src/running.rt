@@ -4,7 +4,7 @@ ghost use Rattle.std.specs.String.{string_bytes};
 ghost use Rattle.sedspace.specs.Failures.{Rose};
 ghost use Rattle.sedengine.specs.Devices.{Gained};
 ghost use Rattle.sededit.specs.Joining.{joined_files, left};
-ghost use Rattle.sededit.specs.Program.{HasFailed, HasFailures, StopsEarly, WritesAll, WritesBeginning};
+ghost use Rattle.sededit.specs.Program.{HasFailed, SinkFailed, StopsEarly, WritesAll, WritesBeginning};
 
 use crate::edit;
 use crate::inputs::Inputs;
@@ -14,7 +14,7 @@ use crate::sinks::Sinks;
 use sedengine::{Ended, Limits};
 use sedscript::Script;
 use sedspace::Texts;
-use std::alloc::Global;
+use std::alloc::{AllocError, Global};
 use std::io::Write;
 
 /// The script ran over the whole input, or help was asked for and written.
@@ -60,7 +60,7 @@ fn finish<O: Sinks, E: Write>(end: Ended, has_missed: bool, sinks: &mut O, error
     ensures whole { result ≡ SUCCESS → (end ≡ Ended.Done) × (has_missed ≡ false) }
     ensures missed { result ≡ MISSED → (end ≡ Ended.Done) × (has_missed ≡ true) }
     ensures stopped { result ≡ STOPPED → (end ≢ Ended.Done) ⊎ ((end ≡ Ended.Done)
-        × HasFailures (O.failures sinks.new)) }
+        × SinkFailed (O.failures sinks.old) (O.failures sinks.new)) }
     ensures failures { (k : ℕ) → O.failures sinks.old k ≤ O.failures sinks.new k }
     ensures contents { (k : ℕ) → O.contents sinks.new k ≡ O.contents sinks.old k }
     ensures names { O.names sinks.new ≡ O.names sinks.old }
@@ -101,14 +101,15 @@ fn run_joined<I: Inputs, O: Sinks, T: Texts, E: Write>(
         (O.failures sinks.old) (O.failures sinks.new))
         ⊎ (WritesAll script (left I.current I.ahead joined.old)
         (T.text texts.old) (Gained (O.contents sinks.old) (O.contents sinks.new))
-        × HasFailures (O.failures sinks.new)) }
+        × SinkFailed (O.failures sinks.old) (O.failures sinks.new)) }
     ensures refused { result ≡ REFUSED → sinks.new ≡ sinks.old }
     ensures names { O.names sinks.new ≡ O.names sinks.old }
     ensures same_reference { joined.new.start ∷ I.reference joined.new.inputs
         ≡ joined.old.start ∷ I.reference joined.old.inputs }
 {
-    let Ok(end) = edit(alloc, script, limits, &mut *joined, sinks, texts) else {
-        return out_of_memory(errors);
+    let end = match edit(alloc, script, limits, &mut *joined, sinks, texts) {
+        Ok(end) => end,
+        Err(AllocError) => return out_of_memory(errors),
     };
     say_missed(&*joined, names, errors);
     let has_missed = joined.has_missed();
@@ -144,7 +145,7 @@ pub(crate) fn run<I: Inputs, O: Sinks, T: Texts, E: Write>(
         (HasFailed (I.failures inputs.old) (I.failures inputs.new) (O.failures sinks.old) (O.failures sinks.new))
         ⊎ (WritesAll script (joined_files I.ahead inputs.old (map string_bytes names.now))
         (T.text texts.old) (Gained (O.contents sinks.old) (O.contents sinks.new))
-        × HasFailures (O.failures sinks.new)) }
+        × SinkFailed (O.failures sinks.old) (O.failures sinks.new)) }
     ensures refused { result ≡ REFUSED → sinks.new ≡ sinks.old }
     ensures names { O.names sinks.new ≡ O.names sinks.old }
 {

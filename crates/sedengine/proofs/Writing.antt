@@ -22,8 +22,7 @@ slice_get-append_add (x ∷ xs) ys n = rw suc-add (slice_get-append_add xs ys n)
 FailedSink-then : (a b c : ℕ → ℕ) (r : Result Unit Ended) → ((k : ℕ) → b k ≡ a k) → FailedSink b c r → FailedSink a c r
 FailedSink-then a b c (Ok u) h i = λ k. i k ∙ h k
 FailedSink-then a b c (Err (OutputBroken k)) h i = let e = h k in rw e at i
-FailedSink-then a b c (Err (OutputFull k)) h i = λ j. i j ∙ h j
-FailedSink-then a b c (Err other) h i = tt
+FailedSink-then a b c (Err other) h i = λ k. i k ∙ h k
 
 -- one call after another
 pub Delivers-then : {O : Type 0} (tally : O → Tally) (count : O → ℕ) (a b c : O) (r : Result Unit Ended) → Delivers tally count a b (Ok tt) → Delivers tally count b c r → Delivers tally count a c r
@@ -62,8 +61,7 @@ Puts-cut old new s n bytes end named more sent = let due = slice_get-to_sink s n
 
 unwritten : (f : ℕ → ℕ) (end : Ended) → NoSinkFailed {T = Unit {0}} (Err end) → FailedSink f f (Err end)
 unwritten f (OutputBroken k) h = absurd h
-unwritten f (OutputFull k) h = absurd h
-unwritten f other h = tt
+unwritten f other h = λ k. refl
 
 unfilled : (t : Tally) (end : Ended) → NoSinkFailed {T = Unit {0}} (Err end) → FullSink t (Err end)
 unfilled t (OutputFull k) h = absurd h

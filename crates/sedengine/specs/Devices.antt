@@ -31,12 +31,10 @@ pub record GainedWithin (most : Option ℕ) (before : ℕ → ℕ) (old new : �
   pub within : IfSome most (λ n. (k : ℕ) → before k + length (part k out) ≤ n)
   pub full : FillsSink most before out r
 
--- No sink has failed where the run goes on or a sink is full, and one that an end names as broken has.
+-- A sink that an end names as broken has failed; where the run goes on, and at any other end, none has.
 abbrev pub FailedSink : (ℕ → ℕ) → (ℕ → ℕ) → Result Unit Ended → Type 0
-FailedSink old new (Ok u) = (k : ℕ) → new k ≡ old k
 FailedSink old new (Err (OutputBroken k)) = Rose (old k) (new k)
-FailedSink old new (Err (OutputFull k)) = (j : ℕ) → new j ≡ old j
-FailedSink old new (Err _) = Unit {0}
+FailedSink old new other = (k : ℕ) → new k ≡ old k
 
 -- The source hasn't failed where the run goes on, and has where an end says so.
 abbrev pub FailedSource : {T : Type 0} → ℕ → ℕ → Result T Ended → Type 0

@@ -128,11 +128,11 @@ impl Engine {
             Ending self.old.limits (setting self.old files) (at_lines self.old ls)
             (Sends self.old self.new (O.contents outputs.old) (O.contents outputs.new) (Err result))
             (R.remaining lines.old.source) (R.remaining lines.new.source) self.new.state result) }
-        // The device that the end names has failed in this run.
+        // The device that the end names has failed in this run, and no sink that it doesn't name.
         ensures input { result ≡ Ended.InputBroken → IsNone self.old.ended → lines.old.fault ≡ None →
             Rose (R.failures lines.old.source) (R.failures lines.new.source) }
-        ensures output { (k : ℕ) → result ≡ Ended.OutputBroken k → IsNone self.old.ended →
-            Rose (O.failures outputs.old k) (O.failures outputs.new k) }
+        ensures output { IsNone self.old.ended →
+            FailedSink (O.failures outputs.old) (O.failures outputs.new) (Err result) }
         ensures ended { self.new.ended ≡ Some result }
         ensures again { IfSome self.old.ended (λ end. (result ≡ end) × (self.new ≡ self.old)
             × (lines.new ≡ lines.old) × (outputs.new ≡ outputs.old) × (texts.new ≡ texts.old)) }

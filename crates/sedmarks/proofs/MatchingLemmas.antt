@@ -217,42 +217,42 @@ unfolding found
 found-is e w p fits = found_from-is e w (length w + 1 - p) p (omega arith)
 
 -- what is spanned after the text is spanned at each place
-Copies-behind : (R : ℕ → ℕ → Type 0) (h : ℕ) → (j i : ℕ) → ((k : ℕ) → R i k → k ≡ i) → Copies R j i → j ≡ i
-Copies-behind R h j i still no_copy = refl
-Copies-behind R h j i still (one_more _ k lt r rest) = let same = still k r in absurd (omega arith)
+Copies-past : (R : ℕ → ℕ → Type 0) (h : ℕ) → (j i : ℕ) → ((k : ℕ) → R i k → k ≡ i) → Copies R j i → j ≡ i
+Copies-past R h j i still no_copy = refl
+Copies-past R h j i still (one_more _ k lt r rest) = let same = still k r in absurd (omega arith)
 
-behind-still : (e : Tree) (w : List ℕ) (i k : ℕ) → length w < i → Spans e w i k → k ≡ i
-behind-still empty w i k high s = sym s
-behind-still (set has) w i k high s = let within = slice_get_within w i s.0 s.1 in absurd (omega arith)
-behind-still begin w i k high s = let at = s.0 in absurd (omega arith)
-behind-still end w i k high s = let at = s.0 in absurd (omega arith)
-behind-still (seq a b) w i k high s =
-    let left : s.0 ≡ i = behind-still a w i s.0 high s.1 in
-    let right : k ≡ s.0 = behind-still b w s.0 k (omega arith) s.2 in
+past-still : (e : Tree) (w : List ℕ) (i k : ℕ) → length w < i → Spans e w i k → k ≡ i
+past-still empty w i k high s = sym s
+past-still (set has) w i k high s = let within = slice_get_within w i s.0 s.1 in absurd (omega arith)
+past-still begin w i k high s = let at = s.0 in absurd (omega arith)
+past-still end w i k high s = let at = s.0 in absurd (omega arith)
+past-still (seq a b) w i k high s =
+    let left : s.0 ≡ i = past-still a w i s.0 high s.1 in
+    let right : k ≡ s.0 = past-still b w s.0 k (omega arith) s.2 in
     right ∙ left
-behind-still (alt a b) w i k high s = ⊎_elim (behind-still a w i k high) (behind-still b w i k high) s
-behind-still (group n a) w i k high s = behind-still a w i k high s
-behind-still (star a first) w i k high s = Copies-behind (Spans a w) i k i (λ l r. behind-still a w i l high r) s
-behind-still (opt a first) w i k high s = ⊎_elim (λ (e : i ≡ k). sym e) (behind-still a w i k high) s
+past-still (alt a b) w i k high s = ⊎_elim (past-still a w i k high) (past-still b w i k high) s
+past-still (group n a) w i k high s = past-still a w i k high s
+past-still (star a first) w i k high s = Copies-past (Spans a w) i k i (λ l r. past-still a w i l high r) s
+past-still (opt a first) w i k high s = ⊎_elim (λ (e : i ≡ k). sym e) (past-still a w i k high) s
 
-behind-everywhere : (e : Tree) (w : List ℕ) (i k : ℕ) → length w < i → Spans e w i k → (h : ℕ) → Spans e w h h
-behind-everywhere empty w i k high s h = refl
-behind-everywhere (set has) w i k high s h = let within = slice_get_within w i s.0 s.1 in absurd (omega arith)
-behind-everywhere begin w i k high s h = let at = s.0 in absurd (omega arith)
-behind-everywhere end w i k high s h = let at = s.0 in absurd (omega arith)
-behind-everywhere (seq a b) w i k high s h =
-    let left : s.0 ≡ i = behind-still a w i s.0 high s.1 in
-    (h, behind-everywhere a w i s.0 high s.1 h, behind-everywhere b w s.0 k (omega arith) s.2 h)
-behind-everywhere (alt a b) w i k high s h = ⊎_elim (λ (l : Spans a w i k). inl (behind-everywhere a w i k high l h)) (λ (r : Spans b w i k). inr (behind-everywhere b w i k high r h)) s
-behind-everywhere (group n a) w i k high s h = behind-everywhere a w i k high s h
-behind-everywhere (star a first) w i k high s h = no_copy
-behind-everywhere (opt a first) w i k high s h = inl refl
+past-everywhere : (e : Tree) (w : List ℕ) (i k : ℕ) → length w < i → Spans e w i k → (h : ℕ) → Spans e w h h
+past-everywhere empty w i k high s h = refl
+past-everywhere (set has) w i k high s h = let within = slice_get_within w i s.0 s.1 in absurd (omega arith)
+past-everywhere begin w i k high s h = let at = s.0 in absurd (omega arith)
+past-everywhere end w i k high s h = let at = s.0 in absurd (omega arith)
+past-everywhere (seq a b) w i k high s h =
+    let left : s.0 ≡ i = past-still a w i s.0 high s.1 in
+    (h, past-everywhere a w i s.0 high s.1 h, past-everywhere b w s.0 k (omega arith) s.2 h)
+past-everywhere (alt a b) w i k high s h = ⊎_elim (λ (l : Spans a w i k). inl (past-everywhere a w i k high l h)) (λ (r : Spans b w i k). inr (past-everywhere b w i k high r h)) s
+past-everywhere (group n a) w i k high s h = past-everywhere a w i k high s h
+past-everywhere (star a first) w i k high s h = no_copy
+past-everywhere (opt a first) w i k high s h = inl refl
 
 -- a match that begins in the text or after it begins in the text
 pub Found-within : (e : Tree) (w : List ℕ) (p i j : ℕ) → p ≤ length w → Found e w p i j → i ≤ length w
 Found-within e w p i j fits f =
     ⊎_elim
-    (λ (high : length w < i). absurd (f.leftmost p p (omega arith) (omega arith) (behind-everywhere e w i j high f.spans p)))
+    (λ (high : length w < i). absurd (f.leftmost p p (omega arith) (omega arith) (past-everywhere e w i j high f.spans p)))
     (λ (low : i ≤ length w). low)
     (cases_lt (length w) i)
 

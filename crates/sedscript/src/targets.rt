@@ -65,7 +65,7 @@ pub fn counted(n: usize, item: Item) -> usize
 }
 
 /// The number of commands before this item, given the number up to it and with it.
-fn uncounted(n: usize, item: Item) -> usize
+fn number_before(n: usize, item: Item) -> usize
     requires { Rattle.sedscript.specs.Targets.leaves item.function ≡ true → 1 ≤ n }
     ensures { n ≡ counted result item }
 {
@@ -143,7 +143,7 @@ fn ends_of(alloc: Global, items: &Items, commands: usize) -> Result<Vec<Option<u
     'items: while k > 0 {
         k -= 1;
         let item = items.get(k);
-        n = uncounted(n, item);
+        n = number_before(n, item);
         let end = pass_back(&mut unopened, n, item.function)?;
         blocks = put_end(&mut ends, blocks, item.function, end);
     }

@@ -1,5 +1,4 @@
-use Rattle.std.proofs.Common.{rules, ◌≡◌}
-use Rattle.sedengine.specs.declared.ends.Ended.TheVariants.{OutputBroken}
+use Rattle.std.proofs.Common.{rules}
 use Rattle.sededit.proofs.EditLemmas.{Edits-run, Gains-all, Gains-beginning}
 use Rattle.sededit.proofs.editing.edit.Goals as goal
 
@@ -18,8 +17,3 @@ pub returns-clause-whole : goal.returns-clause-whole
 returns-clause-whole g c is x known files told =
     let (t, over, sent) = Gains-all _ _ _ _ _ _ _ (search rules) (returns-clause-ending g c x known files told) in
     (t, over, sent.gained)
-
-pub returns-clause-failed : goal.returns-clause-failed
-returns-clause-failed g c k is =
-    let end : c.run-ended.result ≡ OutputBroken k = cc in
-    c.run-ended.ensures.output k end (search rules)

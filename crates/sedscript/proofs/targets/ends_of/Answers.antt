@@ -18,18 +18,18 @@ items-preserved c =
     let ends : drop c.items.blocks c.items.ends.items ≡ ends_in c.items.n (drop (k + 1) items) = c.items.invariant.ends ∙ ap (λ (z : ℕ). ends_in c.items.n (drop z items)) back in
     record {
       within = omega arith;
-      counted = counted_back items k c.items.n c.uncounted-n.result i c.get-item.ensures.is counted c.uncounted-n.ensures;
+      counted = counted_back items k c.items.n c.number_before-n.result i c.get-item.ensures.is counted c.number_before-n.ensures;
       blocks = blocks_back items k c.items.blocks c.put_end-blocks.result i c.get-item.ensures.is blocks c.put_end-blocks.ensures.blocks;
       few = c.put_end-blocks.ensures.few;
       ends = c.put_end-blocks.ensures.ends
-          ∙ ends_step items k c.items.n c.uncounted-n.result i c.in_ok-end.end (drop c.items.blocks c.items.ends.items) c.get-item.ensures.is c.uncounted-n.ensures ends
+          ∙ ends_step items k c.items.n c.number_before-n.result i c.in_ok-end.end (drop c.items.blocks c.items.ends.items) c.get-item.ensures.is c.number_before-n.ensures ends
           (c.in_ok-end.ensures.end (unopened c.items.n (drop (k + 1) items)) stack);
       stack = c.in_ok-end.ensures.ends (unopened c.items.n (drop (k + 1) items)) stack
-          ∙ ap reversed (unopened_step items k c.items.n c.uncounted-n.result i c.get-item.ensures.is c.uncounted-n.ensures);
+          ∙ ap reversed (unopened_step items k c.items.n c.number_before-n.result i c.get-item.ensures.is c.number_before-n.ensures);
     }
 
-pub uncounted-n-requires : goal.uncounted-n-requires
-uncounted-n-requires c =
+pub number_before-n-requires : goal.number_before-n-requires
+number_before-n-requires c =
     let k : ℕ = c.items.k - 1 in
     let back : c.items.k ≡ k + 1 = omega arith in
     counted_some c.args.items.now k c.items.n c.get-item.result c.get-item.ensures.is (c.items.invariant.counted ∙ ap (λ (z : ℕ). commands_in (take z c.args.items.now)) back)
