@@ -1,4 +1,4 @@
-use Rattle.std.proofs.Common.{Ok, ap, inl, inr, refl}
+use Rattle.std.proofs.Common.{Ok, ap, inl, inr, refl, rules}
 use Rattle.sedengine.proofs.Metering.{Cause-as}
 use Rattle.sededit.proofs.RunLemmas.{WholeOrCut-same, WritesAll-same, WritesBeginning-same, has_failed, none_failed, none_refused, sink_failed, some_refused}
 use Rattle.sededit.proofs.running.run_joined.Goals as goal
@@ -35,3 +35,9 @@ returns-clause-cause g c is =
       )
       | inr flushed ↦ inr (WritesAll-same c.args.script _ _ _ _ _ same (e.whole (ap Ok flushed.0)), sink_failed _ _ _ (none_failed _ _ _ flushed.0 e.failed) flushed.1)
     ]
+
+pub returns-in-Err-clause-stopped : goal.returns-in-Err-clause-stopped
+returns-in-Err-clause-stopped g c = search rules
+
+pub returns-in-Err-clause-cause : goal.returns-in-Err-clause-cause
+returns-in-Err-clause-cause g c = search rules
