@@ -57,7 +57,7 @@ flushes s rest [] = quietly (then_do rest s)
 flushes s rest (text bytes ∷ queue) = writing (line_to 0 bytes) (record s { queue = queue; tasks = flush ∷ rest })
 flushes s rest (file k ∷ queue) = quietly (record s { queue = queue; tasks = copy k 0 ∷ flush ∷ rest })
 
--- a file's bytes are written as they are
+-- a file's bytes are written as they are: no newline is added after the last one (this project's own)
 abbrev pub copies : State → List Task → ℕ → ℕ → Option ℕ → Option Move
 copies s rest k o None = quietly (then_do rest s)
 copies s rest k o (Some b) = writing ((0, b) ∷ []) (record s { tasks = copy k (o + 1) ∷ rest; turns = s.turns + 1 })
@@ -141,7 +141,8 @@ acts g s tells (Append k) = quietly (queueing (text (text_of (slice_get g.texts 
 -- `b`: "Branch to the ':' command verb bearing the label"
 acts g s tells (Branch target) = quietly (then_do (do_at target ∷ []) s)
 -- `c`: "Delete the pattern space. With a 0 or 1 address or at the end of a 2-address range, place text on the output
--- and start the next cycle." The next cycle starts within a range too (this project's own).
+-- and start the next cycle." The next cycle starts within a range too, and before it starts, here as after `d` and `D`, what
+-- waits in the queue is written (this project's own).
 acts g s tells (Change k) =
     writing (if tells then line_to 0 (text_of (slice_get g.texts k)) else [])
     (record s { pattern = []; tasks = flush ∷ begin ∷ [] })
@@ -169,7 +170,8 @@ acts g s tells Exchange = quietly (record s { pattern = s.hold; hold = s.pattern
 acts g s tells listing = writing (to_sink 0 (listed s.pattern)) s
 -- `n`: "Write the pattern space to standard output if the default output has not been suppressed, and replace the pattern
 -- space with the next line of input, less its terminating <newline>. If there is no next line of input, the n command verb
--- shall branch to the end of the script and quit without starting a new cycle."
+-- shall branch to the end of the script and quit without starting a new cycle." There the pattern space is written once
+-- (this project's own).
 acts g s tells NextLine = quietly (
     if none_left s.lines then then_do (print_pattern ∷ flush ∷ []) s
     else then_do (print_pattern ∷ flush ∷ empty_pattern ∷ fetch ∷ s.tasks) s)
@@ -225,7 +227,8 @@ reached s k choice = record s {
   turns = s.turns + 1;
 }
 
--- whether `c` writes its text: without a range, at a range's end, and with `!` (the last is this project's own)
+-- whether `c` writes its text: without a range, at a range's end, and with `!`. So a range that is open where the input
+-- ends writes none (this and the case of `!` are this project's own)
 abbrev pub tells_at : Command → Bool → Bool
 tells_at c end = is_none c.second || end || c.negate
 
@@ -245,6 +248,7 @@ reach g s k (Some c) = do
 abbrev pub first_task : Setting → State → List Task → Option Move
 first_task g s [] = None
 first_task g s (begin ∷ rest) = begins s s.lines
+-- no line is read, so that what `t` asks for stays (this project's own)
 first_task g s (rebegin ∷ rest) = quietly (record s { tasks = do_at 0 ∷ []; turns = s.turns + 1 })
 first_task g s (do_at k ∷ rest) = reach g s k (slice_get g.commands k)
 first_task g s (print_pattern ∷ rest) = writing (if g.quiet then [] else line_to 0 s.pattern) (then_do rest s)

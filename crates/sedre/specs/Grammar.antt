@@ -82,7 +82,7 @@ pub data Row (kind : Kind) (folded : Bool) (delimiter : Option ℕ) (text : List
   bad : {is : List Item} {opened to place : ℕ} {reason : Reason} →
       item_at kind folded delimiter text (last_of None is) to ≡ Bad (record { place = place; reason = reason }) →
       Row kind folded delimiter text max_nodes is opened to place reason
-  -- a group closes where none is open
+  -- a group closes where none is open (in an extended expression this project's own)
   stray : {is : List Item} {to next : ℕ} →
       item_at kind folded delimiter text (last_of None is) to ≡ Is Close next →
       Row kind folded delimiter text max_nodes is 0 to to StrayClose

@@ -28,8 +28,8 @@ is_first (Some Open) = true
 is_first (Some Bar) = true
 is_first before = false
 
--- whether a repetition may follow: after an anchor none may (XBD 9.3.6, 9.4.6, 9.4.9), and after another repetition one
--- may (this project's own)
+-- whether a repetition may follow: after an anchor none may (XBD 9.3.6, 9.4.6, 9.4.9; after `$` this project's own), and
+-- after another repetition one may (this project's own)
 abbrev pub is_repeatable : Option Item → Bool
 is_repeatable (Some (Byte members)) = true
 is_repeatable (Some Close) = true
@@ -50,7 +50,8 @@ ends_alternative next = false
 abbrev pub fault : ℕ → Reason → Here
 fault place reason = Bad (record { place = place; reason = reason })
 
--- a repetition of what stands before, or else NothingToRepeat (for all repetitions but * this project's own)
+-- a repetition of what stands before, or else NothingToRepeat (for all repetitions but *, and for * after `$`, this
+-- project's own)
 abbrev pub repeats : Bool → (at : ℕ) → Here → Here
 repeats true at repeat = repeat
 repeats false at repeat = fault at NothingToRepeat
@@ -69,8 +70,8 @@ star_item Basic true at next = Is (Repeat 0 None) next
 star_item Basic false at next = Is (Byte (only 42)) next
 star_item Extended may at next = repeats may at (Is (Repeat 0 None) next)
 
--- where something stands before it, ? repeats; directly after a repetition of an extended expression it is left out by
--- name
+-- where something stands before it, ? repeats; directly after a repetition of an extended expression it is refused (this
+-- project's own)
 abbrev pub question_item : Kind → (may repeated : Bool) → (at next : ℕ) → Here
 question_item Basic may repeated at next = repeats may at (Is (Repeat 0 (Some 1)) next)
 question_item Extended may repeated at next = repeats (may && not repeated) at (Is (Repeat 0 (Some 1)) next)

@@ -30,7 +30,8 @@ any_byte = set_of (λ c. not (c == 0))
 abbrev pub union : List Bool → List Bool → List Bool
 union these those = set_of (λ c. has these c || has those c)
 
--- the letter that differs from a byte in its case alone, or the byte itself where there is none
+-- the letter that differs from a byte in its case alone, or the byte itself where there is none, in ASCII, for the flag `I`
+-- (this project's own)
 abbrev pub other_case : ℕ → ℕ
 other_case c = if between 65 90 c then c + 32 else if between 97 122 c then c - 32 else c
 

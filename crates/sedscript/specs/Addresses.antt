@@ -38,6 +38,7 @@ abbrev pub past_flag : List ℕ → ℕ → ℕ
 past_flag text at = if folds_at text at then at + 1 else at
 
 -- the empty regular expression, up to a place. It has no number, and takes no flag
+-- (this project's own)
 abbrev pub empty_match : List ℕ → ℕ → ℕ → Result Addressed ScriptFault
 empty_match text count at = if folds_at text at then fault FlagOnEmpty at else found (Some (Match None)) at count
 

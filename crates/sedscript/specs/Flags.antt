@@ -28,7 +28,7 @@ with_number f at digits =
     if is_some f.number then fault RepeatedFlag at else numbered f at (with_digits (Some 0) digits)
 
 -- the flags with the one of a byte at a place: `g`, `p` or `I` (this project's own), and none twice (this project's own).
--- `I` may not stand where the regular expression is empty
+-- `I` may not stand where the regular expression is empty (this project's own)
 abbrev pub with_flag : (empty : Bool) → Flags → ℕ → ℕ → Result Flags ScriptFault
 with_flag empty f at b =
     if b == 103

@@ -90,7 +90,8 @@ label_of text place from =
 abbrev pub branch_of : List ℕ → BranchUse → ℕ → Result (Function × ℕ) ScriptFault
 branch_of text u from = ended text (Branch u from (past Name text from)) (past Name text from)
 
--- where the name of a file begins and ends, from the place after its letter on: blanks are passed over, and it goes up to
+-- where the name of a file begins and ends, from the place after its letter on: blanks are passed over, where there are any
+-- (that none are needed is this project's own), and it goes up to
 -- the newline, so that blanks at its end, semicolons and closing braces belong to it. None where it is empty
 unfoldable pub name_from : List ℕ → ℕ → Option (ℕ × ℕ)
 name_from text at =

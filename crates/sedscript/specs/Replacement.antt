@@ -21,7 +21,7 @@ is_letter b = (nat_le 65 b && nat_le b 90) || (nat_le 97 b && nat_le b 122)
 -- what this byte stands for where it is escaped. The delimiter stands for itself, whatever byte it is; 0 for the
 -- whole match (this project's own), and another digit for that group of it; `n` for a newline, `t` for a tab (this
 -- project's own); a newline for itself, as do other bytes that are neither letters nor digits (this
--- project's own). Other letters are refused
+-- project's own). Other letters are refused (this project's own)
 abbrev pub escaped_piece : ℕ → ℕ → Option Piece
 escaped_piece delimiter b =
     if b == delimiter then Some (literal b)
@@ -60,7 +60,7 @@ abbrev pub exceeds : Option ℕ → ℕ → Bool
 exceeds None k = false
 exceeds (Some limit) k = nat_lt limit k
 
--- what is wrong with a piece, or with an escape that stands for none, at a place
+-- what is wrong with a piece, or with an escape that stands for none, at a place (this project's own)
 abbrev pub piece_fault : Option ℕ → ℕ → Option Piece → Option ScriptFault
 piece_fault limit place None = Some (record { place = place; reason = BadEscape })
 piece_fault limit place (Some (literal b)) = None

@@ -67,7 +67,7 @@ abbrev pub fault_if : Bool → Reason → ℕ → Option ScriptFault
 fault_if wrong reason place = then_some wrong (record { place = place; reason = reason })
 
 -- what is wrong with a function at a place among all items: those before it with so many open blocks, and those
--- after it
+-- after it. That a label may not stand twice is this project's own
 abbrev pub target_fault_at : List ℕ → List Item → List Item → ℕ → List Item → ℕ → Function → Option ScriptFault
 target_fault_at text all before depth after place Open = fault_if (is_none (block_end before after)) OpenBlock place
 target_fault_at text all before depth after place Close = fault_if (depth == 0) StrayClose place
