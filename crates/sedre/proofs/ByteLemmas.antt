@@ -76,6 +76,24 @@ union_is these those both s o is_s is_o bits =
     ∙ ap (λ b. b || eqb (bit_at (slice_index_or those (c / 64) 0) (c % 64)) 1) (sym (has-set_of_words these c lt) ∙ ap (λ l. has l c) is_s)
     ∙ ap (λ b. has s c || b) (sym (has-set_of_words those c lt) ∙ ap (λ l. has l c) is_o))
 
+length-set_of_words : (words : List ℕ) → length (set_of_words words) ≡ 256
+unfolding set_of_words
+length-set_of_words words = length-set_of (is_set words)
+
+no_byte_past : (words : List ℕ) (s : List Bool) (c : ℕ) → set_of_words words ≡ s → 256 ≤ c → has s c ≡ false
+no_byte_past words s c is past = get_or-eq_default s false (omega (arith, length-set_of_words words, ap length is))
+
+pub union_members : (these those : List ℕ) (s o both : List Bool) → set_of_words these ≡ s → set_of_words those ≡ o → both ≡ union s o →
+    (c : ℕ) → has both c ≡ (has s c || has o c)
+union_members these those s o both is_s is_o is c =
+    ap (λ l. has l c) is
+    ∙ ⊎_elim
+    (λ (lt : c < 256). has-set_of (λ b. has s b || has o b) c lt)
+    (λ (past : 256 ≤ c).
+    get_or-eq_default (union s o) false (omega (arith, length-set_of (λ b. has s b || has o b)))
+    ∙ sym (ap (λ b. b || has o c) (no_byte_past these s c is_s past) ∙ no_byte_past those o c is_o past))
+    (cases_lt c 256)
+
 pub complement_is : (words turned : List ℕ) (s : List Bool) → set_of_words words ≡ s →
     ((place k : ℕ) → place < 4 → k < 64 → bit_at (slice_index_or turned place 0) k ≡ 1 - bit_at (slice_index_or words place 0) k) →
     set_of_words turned ≡ complement s

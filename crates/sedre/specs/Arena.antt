@@ -18,22 +18,13 @@ IsPart (Alt a b) c = (a.index ≡ c) ⊎ (b.index ≡ c)
 IsPart (Group k a) c = a.index ≡ c
 IsPart (Star a first) c = a.index ≡ c
 IsPart (Opt a first) c = a.index ≡ c
-IsPart Empty c = ⊥
-IsPart (Set s) c = ⊥
-IsPart Begin c = ⊥
-IsPart End c = ⊥
+IsPart other c = ⊥
 
 -- its two parts are not the same
 abbrev pub HasTwoParts : Node → Type 0
 HasTwoParts (Seq a b) = a.index ≢ b.index
 HasTwoParts (Alt a b) = a.index ≢ b.index
-HasTwoParts Empty = Unit {0}
-HasTwoParts (Set s) = Unit {0}
-HasTwoParts Begin = Unit {0}
-HasTwoParts End = Unit {0}
-HasTwoParts (Group k a) = Unit {0}
-HasTwoParts (Star a first) = Unit {0}
-HasTwoParts (Opt a first) = Unit {0}
+HasTwoParts other = Unit {0}
 
 -- the parts of a node have smaller indices, and each node but the last is a part of one node, once
 pub record IsArena (nodes : List Node) : Type 0 where

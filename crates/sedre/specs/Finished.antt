@@ -3,21 +3,18 @@
 use Rattle.std.specs.Prelude.{◌≡◌, ◌≤◌, ◌<◌, ◌⊎◌, ℕ, length}
 use Rattle.sedre.specs.declared.types.Reason.TheVariants.{TooDeep, TooManyNodes}
 use Rattle.sedre.specs.declared.types.ExprFault.{ExprFault}
-use Rattle.sedre.specs.Tree.{Tree, empty, set, begin, end, seq, alt, group, star, opt, size, depth}
+use Rattle.sedre.specs.Tree.{Tree, seq, alt, group, star, opt, size, depth}
 use Rattle.sedre.specs.Arena.{Written, tree}
 use Rattle.sedre.specs.Stacks.{State, whole}
 
 -- each group of the tree has a number from 1 to the bound
 abbrev pub Numbered : ℕ → Tree → Type 0
-Numbered most empty = Unit {0}
-Numbered most (set members) = Unit {0}
-Numbered most begin = Unit {0}
-Numbered most end = Unit {0}
 Numbered most (seq a b) = Numbered most a × Numbered most b
 Numbered most (alt a b) = Numbered most a × Numbered most b
 Numbered most (group k a) = (1 ≤ k) × (k ≤ most) × Numbered most a
 Numbered most (star a first) = Numbered most a
 Numbered most (opt a first) = Numbered most a
+Numbered most other = Unit {0}
 
 -- the expression is what the state stands for
 pub record IsFinished (s : State) (limit : ℕ) (e : Written) : Type 0 where

@@ -54,14 +54,10 @@ last_of before (i ∷ is) = last_of (Some i) is
 -- how many groups are open after the items, where each closing has its opening
 abbrev pub open_groups : ℕ → List Item → Option ℕ
 open_groups n [] = Some n
-open_groups n (Byte members ∷ is) = open_groups n is
 open_groups n (Open ∷ is) = open_groups (suc n) is
 open_groups zero (Close ∷ is) = None
 open_groups (suc n) (Close ∷ is) = open_groups n is
-open_groups n (Bar ∷ is) = open_groups n is
-open_groups n (Repeat least most ∷ is) = open_groups n is
-open_groups n (AtBegin ∷ is) = open_groups n is
-open_groups n (AtEnd ∷ is) = open_groups n is
+open_groups n (other ∷ is) = open_groups n is
 
 -- the text reads as this expression with so many groups, where case counts or is folded (this project's own)
 pub record ReadsAs (kind : Kind) (folded : Bool) (delimiter : Option ℕ) (text : List ℕ) (e : Tree) (groups : ℕ) :

@@ -2,14 +2,11 @@
 use Rattle.std.specs.Prelude.{ℕ, ◌+◌, ◌*◌, ◌-◌, List, [], ◌∷◌, drop, take, Bool, false, not, ◌&&◌, ◌||◌, Option, Some}
 use Rattle.std.specs.Prelude.{None, if◌then◌else◌, nat_lt, nat_le, ◌==◌}
 use Rattle.std.specs.List.{prefix_len}
-use Rattle.sedre.specs.Sets.{between}
+use Rattle.sedre.specs.Classes.{is_digit}
 use Rattle.sedre.specs.Brackets.{is_delimiter}
 use Rattle.sedre.specs.declared.types.Kind.{Kind}
 use Rattle.sedre.specs.declared.types.Kind.TheVariants.{Basic, Extended}
 use Rattle.sedre.specs.declared.intervals.Interval.{Interval}
-
-abbrev pub is_digit : ℕ → Bool
-is_digit c = between 48 57 c
 
 -- a decimal number, from what its first digits make
 abbrev pub decimal : ℕ → List ℕ → ℕ

@@ -46,11 +46,7 @@ FitsShape sets x shape.Begin left right = Unit {0}
 FitsShape sets x shape.End left right = Unit {0}
 FitsShape sets x shape.Seq left right = (left ≤ x) × (right ≤ x)
 FitsShape sets x shape.Alt left right = (left ≤ x) × (right ≤ x)
-FitsShape sets x shape.Group left right = right ≤ x
-FitsShape sets x shape.FirstStar left right = right ≤ x
-FitsShape sets x shape.Star left right = right ≤ x
-FitsShape sets x shape.FirstOpt left right = right ≤ x
-FitsShape sets x shape.Opt left right = right ≤ x
+FitsShape sets x other left right = right ≤ x
 
 abbrev pub Fits : List (List Bool) → ℕ → Entry → Type 0
 Fits sets x e = FitsShape sets x e.shape e.left e.right
@@ -88,15 +84,8 @@ numbered numbers set = get_by (slice_cmp nat_cmp (words_of set)) numbers
 
 -- the number is that of the node's set
 abbrev pub HasNumber : List (List Bool) → ℕ → Node → Type 0
-HasNumber sets number node.Empty = Unit {0}
 HasNumber sets number (node.Set set) = slice_get sets number ≡ Some set
-HasNumber sets number node.Begin = Unit {0}
-HasNumber sets number node.End = Unit {0}
-HasNumber sets number (node.Seq a b) = Unit {0}
-HasNumber sets number (node.Alt a b) = Unit {0}
-HasNumber sets number (node.Group k a) = Unit {0}
-HasNumber sets number (node.Star a first) = Unit {0}
-HasNumber sets number (node.Opt a first) = Unit {0}
+HasNumber sets number other = Unit {0}
 
 -- sets are only added
 abbrev pub Grows : List (List Bool) → List (List Bool) → Type 0
@@ -104,15 +93,12 @@ Grows old new = (more : List (List Bool)) × (new ≡ old ++ more)
 
 -- the node's parts stand before the index x
 abbrev pub PartsBelow : ℕ → Node → Type 0
-PartsBelow x node.Empty = Unit {0}
-PartsBelow x (node.Set set) = Unit {0}
-PartsBelow x node.Begin = Unit {0}
-PartsBelow x node.End = Unit {0}
 PartsBelow x (node.Seq a b) = (a.index < x) × (b.index < x)
 PartsBelow x (node.Alt a b) = (a.index < x) × (b.index < x)
 PartsBelow x (node.Group k a) = a.index < x
 PartsBelow x (node.Star a first) = a.index < x
 PartsBelow x (node.Opt a first) = a.index < x
+PartsBelow x other = Unit {0}
 
 -- the same node with its parts so many places further on
 abbrev pub shifted : ℕ → Node → Node

@@ -141,7 +141,7 @@ abbrev pub LastBecomes : (Tree → Tree) → Stack → Stack → Type 0
 LastBecomes f old new =
     (limit : ℕ) (ts : List Tree) (a : Tree) → Stored limit old (ts ++ a ∷ []) → Stored limit new (ts ++ f a ∷ [])
 
--- the trees from one on became one
+-- the trees from the given number on became one
 abbrev pub Joins : ℕ → (List Tree → Tree) → Stack → Stack → Type 0
 Joins from f old new =
     (limit : ℕ) (ts ps : List Tree) → length ts ≡ from → Stored limit old (ts ++ ps) →
@@ -196,15 +196,11 @@ pub record Represents (limit : ℕ) (b : Builder) (s : State) : Type 0 where
 
 -- the item may stand here
 abbrev pub CanTake : Item → State → Type 0
-CanTake (Byte members) s = Unit {0}
-CanTake Open s = Unit {0}
 CanTake Close s = s.below ≢ []
-CanTake Bar s = Unit {0}
 CanTake (Repeat least most) s = (s.top.pieces ≢ []) × IsInterval least most
-CanTake AtBegin s = Unit {0}
-CanTake AtEnd s = Unit {0}
+CanTake other s = Unit {0}
 
 -- one item more was read
-abbrev pub Takes : Item → Builder → Builder → Type 0
-Takes item old new =
+abbrev pub TakesItem : Item → Builder → Builder → Type 0
+TakesItem item old new =
     (limit : ℕ) (s : State) → Represents limit old s → CanTake item s → Represents limit new (step item s)

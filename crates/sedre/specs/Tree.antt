@@ -21,15 +21,12 @@ pub data Tree : Type 0 where
 
 -- how many nodes it has
 abbrev pub size : Tree → ℕ
-size empty = 1
-size (set members) = 1
-size begin = 1
-size end = 1
 size (seq a b) = 1 + size a + size b
 size (alt a b) = 1 + size a + size b
 size (group k a) = 1 + size a
 size (star a first) = 1 + size a
 size (opt a first) = 1 + size a
+size other = 1
 
 -- how deep it nests: a group and a repetition add one, an alternation adds one for all its alternatives together (this
 -- project's own)

@@ -8,7 +8,7 @@ use Rattle.std.proofs.lemmas.Nat.Bits.{bit_at-suc, bit_at_lowest, bit_at-lt}
 use Rattle.std.proofs.Common.{pow-suc}
 use Rattle.std.proofs.lemmas.List.FromFn.{get_or-map-range_with_len}
 use Rattle.sedre.specs.Sets.{set_of, has}
-use Rattle.sedre.specs.Words.{is_set, set_of_words, AreWords, number, word_at, words_of}
+use Rattle.sedre.specs.Words.{is_set, set_of_words, AreWords, from_bits, word_at, words_of}
 
 pub has-set_of : (test : ℕ → Bool) (c : ℕ) → c < 256 → has (set_of test) c ≡ test c
 unfolding set_of
@@ -19,13 +19,13 @@ one_or_none zero lt = refl
 one_or_none (suc zero) lt = refl
 one_or_none (suc (suc x)) lt = absurd (omega arith)
 
-number-bits : (n w : ℕ) (bit : ℕ → Bool) → w < 2 ^ n → ((k : ℕ) → k < n → bit k ≡ eqb (bit_at w k) 1) → number bit n ≡ w
-unfolding number
-number-bits zero w bit small same = omega arith
-number-bits (suc n) w bit small same =
+from_bits-is : (n w : ℕ) (bit : ℕ → Bool) → w < 2 ^ n → ((k : ℕ) → k < n → bit k ≡ eqb (bit_at w k) 1) → from_bits bit n ≡ w
+unfolding from_bits
+from_bits-is zero w bit small same = omega arith
+from_bits-is (suc n) w bit small same =
     let half : w / 2 < 2 ^ n = omega (arith, pow-suc 2 n) in
-    let rest : number (λ k. bit (suc k)) n ≡ w / 2 =
-    number-bits n (w / 2) (λ k. bit (suc k)) half
+    let rest : from_bits (λ k. bit (suc k)) n ≡ w / 2 =
+    from_bits-is n (w / 2) (λ k. bit (suc k)) half
     (λ k lt. same (suc k) (omega arith) ∙ ap (λ x. eqb x 1) (bit_at-suc w k)) in
     let low : (if bit 0 then 1 else 0) ≡ w % 2 =
     ap (λ (b : Bool). if b then 1 else 0) (same 0 (omega arith)) ∙ one_or_none (bit_at w 0) (bit_at-lt w 0)
@@ -46,7 +46,7 @@ word_at-set_of_words : (words : List ℕ) (word place from : ℕ) → slice_inde
     from ≡ 64 * place → place < 4 → word < 2 ^ 64 → word_at (set_of_words words) from ≡ word
 unfolding set_of_words word_at
 word_at-set_of_words words word place from there is inside small =
-    number-bits 64 word (λ k. has (set_of (is_set words)) (from + k)) small
+    from_bits-is 64 word (λ k. has (set_of (is_set words)) (from + k)) small
     (λ k lt. has-set_of (is_set words) (from + k) (omega arith) ∙ is_set-at words word place from k there is lt)
 
 four : (a b c d a' b' c' d' : ℕ) → a ≡ a' → b ≡ b' → c ≡ c' → d ≡ d' → (a ∷ b ∷ c ∷ d ∷ []) ≡ (a' ∷ b' ∷ c' ∷ d' ∷ [])
@@ -54,10 +54,6 @@ four a b c d a' b' c' d' ea eb ec ed = cc
 
 pub words_of-set_of_words : (words : List ℕ) → AreWords words → words_of (set_of_words words) ≡ words
 unfolding words_of
-words_of-set_of_words [] are = absurd are
-words_of-set_of_words (a ∷ []) are = absurd are
-words_of-set_of_words (a ∷ b ∷ []) are = absurd are
-words_of-set_of_words (a ∷ b ∷ c ∷ []) are = absurd are
 words_of-set_of_words (a ∷ b ∷ c ∷ d ∷ []) are =
     let words : List ℕ = a ∷ b ∷ c ∷ d ∷ [] in
     four (word_at (set_of_words words) 0) (word_at (set_of_words words) 64)
@@ -66,4 +62,4 @@ words_of-set_of_words (a ∷ b ∷ c ∷ d ∷ []) are =
     (word_at-set_of_words words b 1 64 refl refl (omega arith) are.1)
     (word_at-set_of_words words c 2 128 refl refl (omega arith) are.2)
     (word_at-set_of_words words d 3 192 refl refl (omega arith) are.3)
-words_of-set_of_words (a ∷ b ∷ c ∷ d ∷ e ∷ rest) are = absurd are
+words_of-set_of_words other are = absurd are

@@ -15,21 +15,17 @@ set_of_words words = set_of (is_set words)
 
 -- four words
 abbrev pub AreWords : List ℕ → Type 0
-AreWords [] = ⊥
-AreWords (a ∷ []) = ⊥
-AreWords (a ∷ b ∷ []) = ⊥
-AreWords (a ∷ b ∷ c ∷ []) = ⊥
 AreWords (a ∷ b ∷ c ∷ d ∷ []) = (a < 2 ^ 64) × (b < 2 ^ 64) × (c < 2 ^ 64) × (d < 2 ^ 64)
-AreWords (a ∷ b ∷ c ∷ d ∷ e ∷ rest) = ⊥
+AreWords other = ⊥
 
 -- the number whose lowest bits are the first n truth values
-unfoldable pub number : (ℕ → Bool) → ℕ → ℕ
-number bit zero = 0
-number bit (suc n) = (if bit 0 then 1 else 0) + 2 * number (λ k. bit (suc k)) n
+unfoldable pub from_bits : (ℕ → Bool) → ℕ → ℕ
+from_bits bit zero = 0
+from_bits bit (suc n) = (if bit 0 then 1 else 0) + 2 * from_bits (λ k. bit (suc k)) n
 
 -- the word of a set for the 64 bytes from one on
 unfoldable pub word_at : List Bool → ℕ → ℕ
-word_at set from = number (λ k. has set (from + k)) 64
+word_at set from = from_bits (λ k. has set (from + k)) 64
 
 unfoldable pub words_of : List Bool → List ℕ
 words_of set = word_at set 0 ∷ word_at set 64 ∷ word_at set 128 ∷ word_at set 192 ∷ []

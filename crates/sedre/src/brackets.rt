@@ -148,8 +148,8 @@ fn matched(folded: bool, negated: bool, set: ByteSet) -> ByteSet
 /// # Errors
 ///
 /// The first fault from the left: a list or a form that isn't closed, at the list's `[`; an unknown
-/// class or a form of more than one byte, at the form's `[`; a range that is none, at the first byte
-/// of its first item.
+/// class or a form of more than one byte, at the form's `[`; an invalid range, at the first byte of its
+/// first item.
 pub fn list_at(
     folded: bool,
     delimiter: Option<u8>,

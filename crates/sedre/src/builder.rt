@@ -19,7 +19,7 @@ pub struct Builder {
 impl Builder {
     ghost use Rattle.sedre.specs.Tree.{Tree};
     ghost use Rattle.sedre.specs.Repeats.{IsInterval};
-    ghost use Rattle.sedre.specs.Stacks.{Represents, State, Takes, start, CanTake, Stored, IsLeaf, with_piece, whole};
+    ghost use Rattle.sedre.specs.Stacks.{Represents, State, TakesItem, start, CanTake, Stored, IsLeaf, with_piece, whole};
 
     /// Nothing was read. The limit is one more than the nodes allowed.
     pub fn new(alloc: Global, limit: usize) -> Self
@@ -48,7 +48,7 @@ impl Builder {
 
     fn open(&mut self) -> Result<(), AllocError>
         requires { self.old.opened < usize.MAX }
-        ensures state { OnOk result (Takes Item.Open self.old self.new) }
+        ensures state { OnOk result (TakesItem Item.Open self.old self.new) }
         ensures opened { OnOk result (self.new.opened ≤ self.old.opened + 1) }
     {
         self.below.push(self.top)?;
@@ -63,7 +63,7 @@ impl Builder {
 
     fn bar(&mut self) -> Result<(), AllocError>
         requires { self.old.top.pieces ≤ vec_len self.old.stack.parts }
-        ensures state { OnOk result (Takes Item.Bar self.old self.new) }
+        ensures state { OnOk result (TakesItem Item.Bar self.old self.new) }
         ensures opened { OnOk result (self.new.opened ≤ self.old.opened + 1) }
     {
         self.stack.concatenate(self.top.pieces)?;
@@ -75,7 +75,7 @@ impl Builder {
         requires pieces { self.old.top.pieces ≤ vec_len self.old.stack.parts }
         requires alternatives { self.old.top.alternatives ≤ self.old.top.pieces }
         requires opened { 0 < vec_len self.old.below }
-        ensures state { OnOk result (Takes Item.Close self.old self.new) }
+        ensures state { OnOk result (TakesItem Item.Close self.old self.new) }
         ensures opened { OnOk result (self.new.opened ≤ self.old.opened + 1) }
     {
         self.stack.concatenate(self.top.pieces)?;
@@ -88,17 +88,17 @@ impl Builder {
     fn repeat(&mut self, least: u8, most: Option<u8>) -> Result<(), AllocError>
         requires some { 1 ≤ vec_len self.old.stack.parts }
         requires order { IsInterval least most }
-        ensures state { OnOk result (Takes (Item.Repeat least most) self.old self.new) }
+        ensures state { OnOk result (TakesItem (Item.Repeat least most) self.old self.new) }
         ensures opened { OnOk result (self.new.opened ≤ self.old.opened + 1) }
     {
         self.stack.repeat(least, most)
     }
 
-    /// One item more.
+    /// Reads one more item.
     pub fn take(&mut self, item: Item) -> Result<(), AllocError>
         requires some { (limit : ℕ) × (s : State) × Represents limit self.old s × CanTake item s }
         requires room { self.old.opened < usize.MAX }
-        ensures state { OnOk result (Takes item self.old self.new) }
+        ensures state { OnOk result (TakesItem item self.old self.new) }
         ensures opened { OnOk result (self.new.opened ≤ self.old.opened + 1) }
     {
         match item {

@@ -99,7 +99,7 @@ impl ByteSet {
         self.words[at] = set_bit(self.words[at], b % 64);
     }
 
-    /// The set's only member; None where it has none or several.
+    /// The set's only member; `None` unless it has exactly one.
     pub fn sole(&self) -> Option<u8>
         ensures member { IfSome result (λ b. (c : ℕ) → IsTrue (slice_index_or self.now c false) → c ≡ b) }
         ensures is { MatchOption result ((b : ℕ) → b < 256 → self.now ≡ only b → ⊥) (λ b. self.now ≡ only b) }
@@ -127,8 +127,9 @@ impl ByteSet {
     }
 
     /// The bytes of either set.
-    pub(crate) fn union(&self, other: &ByteSet) -> Self
-        ensures { result ≡ union self.now other.now }
+    pub fn union(&self, other: &ByteSet) -> Self
+        ensures is { result ≡ union self.now other.now }
+        ensures members { (b : ℕ) → has result b ≡ (has self.now b || has other.now b) }
     {
         let [a, b, c, d] = self.words;
         let [e, f, g, h] = other.words;

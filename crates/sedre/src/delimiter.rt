@@ -9,7 +9,7 @@ use crate::brackets::list_end;
 /// after a backslash nor in a bracket expression. None where a newline or the end of the text comes first,
 /// and where `at` is past the text. The delimiter is neither a backslash nor a newline.
 ///
-/// What a bracket expression is follows its own rules, so `[[:x]/` has no end; faults in one are not told
+/// Bracket expressions are read by their own rules, so `[[:x]/` has no end; faults in them are not reported
 /// here. A `[` that is the delimiter ends the expression.
 pub fn delimited(text: &[u8], at: usize, delimiter: u8) -> Option<usize>
     requires not_backslash { delimiter ≢ 92 }

@@ -2,7 +2,8 @@
 ghost use Rattle.std.specs.Prelude.{◌≡◌, ◌≤◌, ◌+◌, min, length, take, drop, IfSome, Some};
 ghost use Rattle.std.specs.List.{prefix_len};
 ghost use Rattle.std.specs.Bool.{OnTrue};
-ghost use Rattle.sedre.specs.Intervals.{is_digit, decimal, numeral, begins, closes, closing_width, limit, interval};
+ghost use Rattle.sedre.specs.Classes.{is_digit};
+ghost use Rattle.sedre.specs.Intervals.{decimal, numeral, begins, closes, closing_width, limit, interval};
 
 use crate::types::Kind;
 
@@ -73,7 +74,7 @@ fn closing_width(kind: Kind) -> usize
     }
 }
 
-/// What follows the comma: the closing, or a limit that is no less and the closing.
+/// What follows the comma: the closing, or a limit of at least the first number and then the closing.
 fn limit(
     kind: Kind,
     delimiter: Option<u8>,

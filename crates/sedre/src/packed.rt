@@ -213,7 +213,7 @@ fn add(
     Ok(())
 }
 
-/// Adds the entries from one on once more.
+/// Adds the entries from number `from` on once more.
 fn add_again(entries: &mut Vec<Entry>, from: usize) -> Result<(), AllocError>
     ensures fits { (sets : List (List Bool)) → FitFrom sets 0 entries.old.items → FitFrom sets 0 entries.new.items }
     ensures entries { OnOk result (entries.new.items ≡ entries.old.items ++ drop from entries.old.items) }
@@ -258,7 +258,7 @@ impl Packed {
         }
     }
 
-    /// The same nodes once more. To those, others can be added too; sets are then not sought among the old ones.
+    /// A copy of the nodes, to which others can be added; their sets aren't sought among those of the copy.
     pub fn copy(&self, alloc: Global) -> Result<Packed, AllocError>
         ensures { IfOk result (λ p. p ≡ self.now) }
     {
@@ -299,7 +299,7 @@ impl Packed {
         add(&mut self.entries, &mut self.sets, &mut self.numbers, node)
     }
 
-    /// Adds the last nodes once more, the parts of each so many places further on.
+    /// Adds the last `count` nodes once more, the parts of each `count` places further on.
     pub fn copy_last(&mut self, count: usize) -> Result<(), AllocError>
         ensures { OnOk result (count ≤ length self.old →
             self.new ≡ self.old ++ map (shifted count) (drop (length self.old - count) self.old)) }
@@ -308,7 +308,7 @@ impl Packed {
         add_again(&mut self.entries, from)
     }
 
-    /// Leaves no more than so many nodes.
+    /// Keeps the first `count` nodes, or all where there are fewer.
     pub fn truncate(&mut self, count: usize)
         ensures { self.new ≡ take count self.old }
     {

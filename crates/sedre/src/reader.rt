@@ -119,7 +119,7 @@ fn read_with(
 
 /// Reads a text as an expression, or answers its first fault.
 ///
-/// With a delimiter, a backslash and the delimiter are the delimiter as a literal. Conditions: `max_nodes` is 1 to
+/// With a delimiter, a backslash and the delimiter stand for the delimiter as a literal. Conditions: `max_nodes` is 1 to
 /// 65,536, the delimiter is neither backslash nor newline. E14 at 0 is answered only where a request for memory was
 /// refused.
 pub fn read(

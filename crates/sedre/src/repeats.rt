@@ -19,7 +19,7 @@ impl Stack {
     ghost use Rattle.sedre.specs.Repeats.{copies, optional, repetition, IsInterval};
     ghost use Rattle.sedre.specs.Stacks.{Stored, LastBecomes};
 
-    /// Puts so many copies of the last tree after it.
+    /// Puts `count` copies of the last tree after it.
     fn copies(&mut self, count: usize) -> Result<(), AllocError>
         requires { 1 ≤ vec_len self.old.parts }
         ensures trees { OnOk result ((limit : ℕ) (ts : List Tree) (a : Tree) → Stored limit self.old (ts ++ a ∷ []) →
@@ -32,7 +32,7 @@ impl Stack {
         Ok(())
     }
 
-    /// Makes of the last trees, one more than so many, optional copies each of which holds the next.
+    /// Makes optional copies, each of which holds the next, of the last `count + 1` trees.
     fn nest(&mut self, count: usize, first: bool) -> Result<(), AllocError>
         requires { count + 1 ≤ vec_len self.old.parts }
         ensures trees { OnOk result ((limit : ℕ) (ts : List Tree) (a : Tree) →
@@ -72,7 +72,7 @@ impl Stack {
         self.concatenate(from)
     }
 
-    /// Repeats the last tree, at least so often and at most so often more.
+    /// Repeats the last tree at least `least` times, and at most `more` times more.
     fn repeat_within(&mut self, least: usize, more: usize) -> Result<(), AllocError>
         requires some { 1 ≤ vec_len self.old.parts }
         requires more { 1 ≤ more }
@@ -96,7 +96,7 @@ impl Stack {
         self.leaf(Node::Empty)
     }
 
-    /// Repeats the last tree, at least and at most so often.
+    /// Repeats the last tree at least `least` times, and at most `most` times where that is given.
     pub fn repeat(&mut self, least: u8, most: Option<u8>) -> Result<(), AllocError>
         requires some { 1 ≤ vec_len self.old.parts }
         requires order { IsInterval least most }

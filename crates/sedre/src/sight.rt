@@ -9,8 +9,8 @@ use crate::table::Expr;
 use crate::types::{Node, NodeId};
 use std::marker::Model;
 
-/// An expression as it is, or mirrored: what the mirrored one matches is what it matches itself, read from the last
-/// byte to the first. No second table is kept: each node is mirrored where it is looked at.
+/// An expression as it is, or mirrored: the mirrored one matches the same texts, read from the last byte to the first.
+/// No second table is kept: each node is mirrored when it is looked at.
 #[derive(Drop)]
 pub struct Nodes<'a> {
     expr: &'a Expr,
@@ -73,7 +73,7 @@ impl<'a> Nodes<'a> {
         self.expr.id(index)
     }
 
-    /// The node itself, which counts one step. Condition: the index is below `nodes()`.
+    /// The node itself; the look counts one step. Condition: the index is below `nodes()`.
     pub fn look(&self, id: NodeId, steps: &mut Steps) -> Node
         requires inside { id.index < length self.now.nodes }
         ensures node { slice_get self.now.nodes id.index ≡ Some result }

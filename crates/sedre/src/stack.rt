@@ -35,7 +35,7 @@ fn deeper(a: usize) -> usize
     if a < 600 { a + 1 } else { 601 }
 }
 
-/// The root of a tree whose nodes end there.
+/// The root of a tree whose nodes end at `end`.
 fn root_at(end: usize) -> NodeId
     ensures { result.index ≡ end - 1 }
 {
@@ -201,7 +201,7 @@ impl Stack {
         self.nodes.truncate(base);
     }
 
-    /// Joins the trees from one on, which are some.
+    /// Joins the trees from number `from` on, of which there is at least one.
     pub fn join_all(&mut self, from: usize, alternatives: bool) -> Result<(), AllocError>
         requires { from < vec_len self.old.parts }
         ensures trees { OnOk result (Joins from (chain alternatives) self.old self.new) }
@@ -213,7 +213,7 @@ impl Stack {
         Ok(())
     }
 
-    /// Makes a concatenation of the trees from one on.
+    /// Makes a concatenation of the trees from number `from` on.
     pub fn concatenate(&mut self, from: usize) -> Result<(), AllocError>
         requires { from ≤ vec_len self.old.parts }
         ensures trees { OnOk result (Joins from concatenation self.old self.new) }
@@ -226,7 +226,7 @@ impl Stack {
         }
     }
 
-    /// Makes an alternation of the trees from one on, which are some.
+    /// Makes an alternation of the trees from number `from` on, of which there is at least one.
     pub fn alternate(&mut self, from: usize) -> Result<(), AllocError>
         requires { from < vec_len self.old.parts }
         ensures trees { OnOk result (Joins from alternation self.old self.new) }

@@ -4,7 +4,7 @@ ghost use Rattle.sedre.specs.Steps.{Takes, Counted};
 
 use std::marker::Model;
 
-/// How many steps were taken. A count that comes to the largest `u128` stays there.
+/// How many steps were taken. A count that reaches the largest `u128` stays there.
 #[derive(Drop)]
 pub struct Steps {
     count: u128,
@@ -33,7 +33,7 @@ impl Steps {
         self.count
     }
 
-    /// Counts so many steps more.
+    /// Counts `n` more steps.
     pub fn add(&mut self, n: usize)
         ensures cost { Takes self.old self.new n }
         ensures counts { Counted self.old self.new n }
@@ -41,7 +41,7 @@ impl Steps {
         self.count = self.count.saturating_add(n as u128);
     }
 
-    /// Counts so many times `each` steps more, of which there may be more than a `usize` holds.
+    /// Counts `times * each` more steps; the product may exceed a `usize`.
     pub fn add_times(&mut self, times: usize, each: usize)
         ensures cost { Takes self.old self.new (times * each) }
         ensures counts { Counted self.old self.new (times * each) }

@@ -5,7 +5,7 @@ ghost use Rattle.sedre.specs.Symbols.{alone, escaped, escaped_literal, symbol};
 use crate::syntax::Symbol;
 use crate::types::{Kind, Reason};
 
-/// What a byte means that no backslash stands before.
+/// What a byte means when no backslash stands before it.
 fn alone(kind: Kind, b: u8) -> Symbol
     ensures { result ≡ alone kind b }
 {

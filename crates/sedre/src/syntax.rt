@@ -32,7 +32,7 @@ pub enum Item {
     Close,
     /// parts two alternatives
     Bar,
-    /// repeats the piece before it, at least and at most so often
+    /// repeats the piece before it: at least, and at most, this many times
     Repeat(u8, Option<u8>),
     /// the anchor `^`
     AtBegin,

@@ -11,8 +11,8 @@ use crate::types::{Node, NodeId};
 use std::alloc::{AllocError, Global};
 use std::marker::Model;
 
-/// An expression written out. A node's parts have smaller indices than the node, and each node but the root, which is
-/// the last one, is a part of exactly one node, once.
+/// An expression whose intervals are written out as copies. The parts of a node have smaller indices than the node.
+/// The root is the last node; each other node is a part of exactly one node, once.
 #[derive(Drop)]
 pub struct Expr {
     nodes: Packed,
@@ -38,7 +38,7 @@ impl Expr {
         Expr { nodes, groups }
     }
 
-    /// The same expression once more. Fails only where a request for memory was refused.
+    /// A copy of the expression. It fails only where a request for memory was refused.
     pub fn copy(&self, alloc: Global) -> Result<Expr, AllocError>
         ensures { IfOk result (λ e. e ≡ self.now) }
     {
@@ -48,7 +48,7 @@ impl Expr {
         })
     }
 
-    /// How many nodes it has: those of the expression written out.
+    /// How many nodes it has, intervals written out.
     pub fn nodes(&self) -> usize
         ensures value { result ≡ length self.now.nodes }
         ensures arena { IsArena self.now.nodes }
@@ -84,7 +84,7 @@ impl Expr {
         NodeId { index }
     }
 
-    /// The node itself, which counts one step. Condition: the index is below `nodes()`.
+    /// The node itself; the look counts one step. Condition: the index is below `nodes()`.
     pub fn look(&self, id: NodeId, steps: &mut Steps) -> Node
         requires inside { id.index < length self.now.nodes }
         ensures node { slice_get self.now.nodes id.index ≡ Some result }

@@ -22,15 +22,15 @@ pub enum Reason {
     UnknownClass,
     /// E3: more than one byte stands in `[.` or `[=`
     LongCollating,
-    /// E4: the ends of a range are no ends of one
+    /// E4: a range is invalid: one of its ends can't be one, or they stand in the wrong order
     BadRange,
     /// E5: a group isn't closed
     OpenGroup,
     /// E6: a closing stands where no group is open
     StrayClose,
-    /// E7: an interval is no interval
+    /// E7: an interval is malformed
     BadInterval,
-    /// E8: nothing stands there that could be repeated
+    /// E8: nothing stands before a repetition that it could repeat
     NothingToRepeat,
     /// E9: a backslash is the last byte
     LastBackslash,
@@ -121,7 +121,7 @@ impl NodeId {
     }
 }
 
-/// A node of an expression that is written out.
+/// A node of an expression whose intervals are written out as copies.
 #[derive(Clone, Copy)]
 pub enum Node {
     /// the null string
@@ -138,7 +138,7 @@ pub enum Node {
     Alt(NodeId, NodeId),
     /// a group and its number, from 1
     Group(usize, NodeId),
-    /// any number of copies; the mark says that it is no rest of a repetition with copies before it
+    /// any number of copies; the mark says that no copy of the same repetition stands before it
     Star(NodeId, bool),
     /// at most one copy; the mark as for `Star`
     Opt(NodeId, bool),

@@ -26,12 +26,12 @@ loop-place-preserved c = record {
   after = omega (arith, c.in_ok-members.ensures.after);
   low = omega (arith, c.in_ok-members.ensures.after);
   inside = omega (arith, c.in_ok-members.ensures.after);
-  normal = rw c.union-set.ensures (union_none c.loop-place.set c.in_ok-members.members);
+  normal = rw c.union-set.ensures.is (union_none c.loop-place.set c.in_ok-members.members);
   whole =
       list_more c.args.delimiter c.args.text.now c.args.folded c.is_negated-negated.result c.args.at c.items_start-start.result c.loop-place.place c.in_ok-members.next c.loop-place.set c.in_ok-members.members
       (list_at c.args.folded c.args.delimiter c.args.text.now c.args.at) c.loop-place.invariant.whole (omega arith) (sym c.is_closing.ensures ∙ c.if-is_closing.false)
       (sym c.members_at.ensures.is ∙ c.in_ok-members.was) c.loop-place.invariant.low (omega (arith, c.in_ok-members.ensures.after))
-      ∙ ap (λ s. list_from c.args.delimiter c.args.text.now c.args.folded c.is_negated-negated.result c.args.at c.items_start-start.result c.in_ok-members.next s) (sym c.union-set.ensures);
+      ∙ ap (λ s. list_from c.args.delimiter c.args.text.now c.args.folded c.is_negated-negated.result c.args.at c.items_start-start.result c.in_ok-members.next s) (sym c.union-set.ensures.is);
 }
 
 pub returns-clause-is : goal.returns-clause-is

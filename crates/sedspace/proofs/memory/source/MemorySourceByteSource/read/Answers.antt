@@ -1,4 +1,4 @@
-use Rattle.std.proofs.Common.{◌≡◌, ◌≤◌, ◌+◌, ◌-◌, ap, ◌∙◌, arith, take, drop, length, length-append, length-drop, length-take}
+use Rattle.std.proofs.Common.{rules, ◌≡◌, ◌≤◌, ◌+◌, ◌-◌, ap, ◌∙◌, arith, take, drop, length, length-append, length-drop, length-take}
 use Rattle.std.proofs.lemmas.List.{drop_all}
 use Rattle.sedspace.proofs.MemoryLemmas.{read_front}
 use Rattle.sedspace.proofs.memory.source.MemorySourceByteSource.read.Goals as goal
@@ -16,3 +16,6 @@ returns-clause-bytes c =
           let past : length s.bytes.items ≤ s.taken + n = omega (arith, end.past, c.min-count.ensures, none, some, len, length-append c.copy_from_slice.new.self (drop n c.args.buf.now), length-drop n c.args.buf.now) in
           drop_all (s.taken + n) s.bytes.items past,
     )
+
+pub returns-then-eq-clause-failed : goal.returns-then-eq-clause-failed
+returns-then-eq-clause-failed c = search rules
