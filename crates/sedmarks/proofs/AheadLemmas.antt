@@ -1,5 +1,5 @@
 -- What comes first in a span of a node, and what is left after it.
-use Rattle.std.proofs.Common.{◌≡◌, ℕ, ◌<◌, ◌↔◌, List, length, Some, refl, subst, inl, inr, ⊎_elim}
+use Rattle.std.proofs.Common.{◌≡◌, ℕ, ◌<◌, ◌≤◌, ◌↔◌, List, length, Some, refl, subst, arith, inl, inr, ⊎_elim}
 use Rattle.std.specs.Prelude.{slice_get}
 use Rattle.sedre.specs.Tree.{Tree}
 use Rattle.sedre.specs.Arena.{IsArena, tree_at, tree_of}
@@ -10,7 +10,7 @@ use Rattle.sedmarks.specs.Spans.{Spans}
 use Rattle.sedmarks.specs.Reach.{At}
 use Rattle.sedmarks.specs.Ahead.{LeadsTo}
 use Rattle.sedmarks.specs.declared.ahead.Lead.{Lead}
-use Rattle.sedmarks.specs.declared.ahead.Lead.TheVariants.{Nowhere, To, Unknown}
+use Rattle.sedmarks.specs.declared.ahead.Lead.TheVariants.{Nowhere, To, Longest, Unknown}
 use Rattle.sedmarks.proofs.ReachLemmas.{open_at, close_at}
 
 -- where the spans of a node end, whatever its parts are
@@ -21,7 +21,12 @@ Leads w node i lead = (part : ℕ → Tree) → LeadsTo (length w) (Spans (tree_
 pub leads_alike : (n : ℕ) (These Those : ℕ → Type 0) → ((j : ℕ) → These j ↔ Those j) → (lead : Lead) → LeadsTo n Those lead → LeadsTo n These lead
 leads_alike n These Those same Nowhere none = λ j h. none j ((same j).0 h)
 leads_alike n These Those same (To k) one = (one.0, λ j. (λ h. (one.1 j).0 ((same j).0 h), λ e. (same j).1 ((one.1 j).1 e)))
+leads_alike n These Those same (Longest k) one = (one.0, (same k).1 one.1, λ j h. one.2 j ((same j).0 h))
 leads_alike n These Those same Unknown u = tt
+
+-- where all spans end, the longest does
+pub one_longest : (n k : ℕ) (Ends : ℕ → Type 0) → LeadsTo n Ends (To k) → LeadsTo n Ends (Longest k)
+one_longest n k Ends one = (one.0, (one.1 k).1 refl, λ j h. let same : j ≡ k = (one.1 j).0 h in omega (arith, same))
 
 module _ (nodes : List Node) (arena : IsArena nodes) (w : List ℕ) (x i : ℕ) where
   -- a node without parts

@@ -1,16 +1,16 @@
 -- How the spans of a node begin, by the part that stands first in it.
-use Rattle.std.proofs.Common.{◌≡◌, ℕ, ◌+◌, ◌<◌, ◌≤◌, Bool, false, List, Some, None, IsTrue, refl, sym, ◌∙◌, subst, inl, ⊎_elim, arith, ◌⊎◌, ◌↔◌, inr, ap, Option}
-use Rattle.std.proofs.lemmas.Bool.{both_ways, cases_lt}
-use Rattle.sedmarks.specs.declared.beginnings.Begins.TheVariants.{WithSet, WithEither}
-use Rattle.sedmarks.specs.declared.beginnings.Either.{Either}
+use Rattle.std.proofs.Common.{◌≡◌, ℕ, ◌+◌, ◌<◌, ◌≤◌, Bool, false, List, Some, None, IsTrue, refl, sym, ◌∙◌, subst, inl, ⊎_elim, arith, ◌⊎◌, ◌||◌, inr, ap, Option}
+use Rattle.std.proofs.lemmas.Bool.{both_ways, cases_lt, or_left, or_right}
+use Rattle.sedmarks.specs.declared.beginnings.Begins.TheVariants.{WithSet}
 use Rattle.sedmarks.specs.Spans.{IsIn}
 use Rattle.std.proofs.lemmas.Option.{none-some}
 use Rattle.std.specs.Prelude.{slice_get, slice_index_or}
 use Rattle.sedre.specs.Arena.{IsArena}
+use Rattle.sedre.specs.Sets.{has}
 use Rattle.sedre.specs.declared.types.Node.{Node}
 use Rattle.sedre.specs.declared.types.Node.TheVariants.{Empty, Set, Begin, End, Seq, Alt, Group, Star, Opt}
 use Rattle.sedmarks.specs.Reach.{At}
-use Rattle.sedmarks.specs.Beginnings.{CanBegin, left_part, LeafBegins, AllAt, IsLeaf, EitherHas, with_set, alternatives}
+use Rattle.sedmarks.specs.Beginnings.{CanBegin, left_part, LeafBegins, AllAt, IsLeaf, alternatives}
 use Rattle.sedmarks.specs.declared.beginnings.Begins.{Begins}
 use Rattle.sedmarks.proofs.ReachLemmas.{open_at}
 
@@ -77,38 +77,13 @@ member_step members w from place byte has is value not_in missed i low high can 
     both_ways has not_in (value ∙ subst (λ b. IsTrue (slice_index_or members b false)) one can.2))
     (cases_lt i place)
 
--- one more byte that is in none of the sets
-pub either_step : (sets : Either) (w : List ℕ) (from place byte : ℕ) (has : Bool) →
-    slice_get w place ≡ Some byte → (IsTrue has ↔ EitherHas sets byte) → has ≡ false →
-    ((i : ℕ) → from ≤ i → i < place → CanBegin (WithEither sets) w i → ⊥) →
-    (i : ℕ) → from ≤ i → i < place + 1 → CanBegin (WithEither sets) w i → ⊥
-either_step sets w from place byte has is tells not_in missed i low high can =
-    ⊎_elim
-    (λ (lt : i < place). missed i low lt can)
-    (λ (ge : place ≤ i).
-    let same : i ≡ place = omega arith in
-    let there : slice_get w place ≡ Some can.0 = subst (λ p. slice_get w p ≡ Some can.0) same can.1 in
-    let one : can.0 ≡ byte = cc in
-    both_ways has not_in (tells.1 (subst (EitherHas sets) one can.2)))
-    (cases_lt i place)
+-- what begins with a byte of one of two sets begins with one of both
+module _ (these those both : List Bool) (members : (b : ℕ) → has both b ≡ (has these b || has those b)) (w : List ℕ) (i : ℕ) where
+  pub begins_left : CanBegin (WithSet these) w i → CanBegin (WithSet both) w i
+  begins_left can = (can.0, can.1, members can.0 ∙ or_left (has these can.0) (has those can.0) can.2)
 
--- a set more keeps the members, where the fourth was the first
-pub with_keeps : (e : Either) (s : List Bool) → e.fourth ≡ e.first → (w : List ℕ) (i : ℕ) → CanBegin (WithEither e) w i → CanBegin (WithEither (with_set e s)) w i
-with_keeps e s same w i can = (
-  can.0,
-  can.1,
-  ⊎_elim (λ (h : IsIn can.0 e.first). inl h)
-      (λ (h : IsIn can.0 e.second ⊎ (IsIn can.0 e.third ⊎ IsIn can.0 e.fourth)).
-      ⊎_elim (λ (k : IsIn can.0 e.second). inr (inr (inl k)))
-      (λ (k : IsIn can.0 e.third ⊎ IsIn can.0 e.fourth).
-      ⊎_elim (λ (m : IsIn can.0 e.third). inr (inr (inr m)))
-      (λ (m : IsIn can.0 e.fourth). inl (subst (IsIn can.0) same m)) k) h)
-      can.2,
-)
-
--- and has those of the set
-pub with_adds : (e : Either) (s : List Bool) (w : List ℕ) (i : ℕ) → CanBegin (WithSet s) w i → CanBegin (WithEither (with_set e s)) w i
-with_adds e s w i can = (can.0, can.1, inr (inl can.2))
+  pub begins_right : CanBegin (WithSet those) w i → CanBegin (WithSet both) w i
+  begins_right can = (can.0, can.1, members can.0 ∙ or_right (has these can.0) (has those can.0) can.2)
 
 same_left : (a b l r : ℕ) → ◌≡◌ {A = Option (ℕ × ℕ)} (Some (a, b)) (Some (l, r)) → a ≡ l
 same_left a b l r e = let same : ◌≡◌ {A = ℕ × ℕ} (a, b) (l, r) = cc in ap (λ (v : ℕ × ℕ). v.0) same

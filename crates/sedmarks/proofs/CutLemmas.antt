@@ -8,7 +8,7 @@ use Rattle.sedre.specs.declared.types.Node.TheVariants.{Set}
 use Rattle.sedmarks.specs.Spans.{Copies, no_copy, one_more}
 use Rattle.sedmarks.specs.Caps.{LastCut, LastCopy, only, then}
 use Rattle.sedmarks.specs.Reach.{At}
-use Rattle.sedmarks.specs.FarAhead.{NoneBefore}
+use Rattle.sedmarks.specs.RunsAhead.{NoneBefore}
 use Rattle.sedmarks.proofs.ReachLemmas.{open_at}
 use Rattle.sedmarks.proofs.SpanLemmas.{Spans-forward, Copies-forward}
 

@@ -5,7 +5,7 @@ pub mod MatchingLemmas
 pub mod WorkLemmas
 pub mod TailLemmas
 pub mod AheadLemmas
-pub mod FarLemmas
+pub mod RunLemmas
 pub mod CostLemmas
 pub mod SweepLemmas
 pub mod RegionLemmas

@@ -9,7 +9,7 @@ use Rattle.sedmarks.specs.Spans.{Copies, no_copy, one_more, Spans, Found, NotFou
 use Rattle.sedmarks.specs.Caps.{Groups, Caps, forget, LastCut, LastCopy, only, then}
 use Rattle.sedmarks.specs.Cuts.{GreatestBelow}
 use Rattle.sedmarks.specs.Reach.{Longest}
-use Rattle.sedmarks.specs.Matching.{any, greatest, copies, passes, spans, longest, first_of, found_from, found, or_else, cut, first_copy, last_start, caps, report, SpansLaw, FoundLaw, NotFoundLaw, SomeFoundLaw, OneCapsLaw, CapsLaw, ReportLaw}
+use Rattle.sedmarks.specs.Matching.{any, greatest, copies, takes, spans, longest, first_of, found_from, found, or_else, cut, first_copy, last_start, caps, report, SpansLaw, FoundLaw, NotFoundLaw, SomeFoundLaw, OneCapsLaw, CapsLaw, ReportLaw}
 use Rattle.sedmarks.specs.Caps.{no_groups}
 use Rattle.sedmarks.proofs.SpanLemmas.{Copies-forward, Spans-forward, Spans-within}
 use Rattle.sedmarks.proofs.CapsLemmas.{Caps-unique}
@@ -129,9 +129,9 @@ module _ (step : ℕ → ℕ → Bool) (R : ℕ → ℕ → Type 0) (each : (i k
 any-true : (test : ℕ → Bool) (n : ℕ) (P : ℕ → Type 0) → ((k : ℕ) → test k ≡ true → P k) → any test n ≡ true → (k : ℕ) × P k
 any-true test n P each h = let k = any-some test n h in (k.0, each k.0 k.2)
 
-passes-some : (has : List Bool) (byte : Option ℕ) → passes has byte ≡ true → (b : ℕ) × (byte ≡ Some b) × (slice_index_or has b false ≡ true)
-passes-some has None h = absurd (true≢false (sym h))
-passes-some has (Some b) h = (b, refl, h)
+takes-some : (has : List Bool) (byte : Option ℕ) → takes byte has ≡ true → (b : ℕ) × (byte ≡ Some b) × (slice_index_or has b false ≡ true)
+takes-some has None h = absurd (true≢false (sym h))
+takes-some has (Some b) h = (b, refl, h)
 
 -- a test of two parts
 both-iff : (x y : Bool) (P Q : Type 0) → (IsTrue x ↔ P) → (IsTrue y ↔ Q) → IsTrue (x && y) ↔ (P × Q)
@@ -153,10 +153,10 @@ pub spans-iff : SpansLaw
 unfolding spans
 spans-iff empty w i j = equal-iff i j
 spans-iff (set has) w i j = (
-  λ h. let both = and_parts (passes has (slice_get w i)) (eqb j (i + 1)) h in
-      let byte = passes-some has (slice_get w i) both.0 in
+  λ h. let both = and_parts (takes (slice_get w i) has) (eqb j (i + 1)) h in
+      let byte = takes-some has (slice_get w i) both.0 in
       (byte.0, byte.1, byte.2, eqb-true j (i + 1) both.1),
-  λ h. and_from (passes has (slice_get w i)) (eqb j (i + 1)) (ap (passes has) h.1 ∙ h.2) (eq-eqb j (i + 1) h.3),
+  λ h. and_from (takes (slice_get w i) has) (eqb j (i + 1)) (ap (λ b. takes b has) h.1 ∙ h.2) (eq-eqb j (i + 1) h.3),
 )
 spans-iff begin w i j = both-iff (eqb i 0) (eqb j 0) (i ≡ 0) (j ≡ 0) (equal-iff i 0) (equal-iff j 0)
 spans-iff end w i j = both-iff (eqb i (length w)) (eqb j (length w)) (i ≡ length w) (j ≡ length w) (equal-iff i (length w)) (equal-iff j (length w))

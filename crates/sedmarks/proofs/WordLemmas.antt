@@ -2,10 +2,11 @@
 use Rattle.std.proofs.Common.{◌≡◌, ◌≢◌, ℕ, zero, suc, ◌*◌, ◌+◌, ◌/◌, ◌%◌, ◌<◌, ◌≤◌, Bool, false, List, [], ◌∷◌, length, refl, sym, ap, ◌∙◌, ◌⊎◌, ⊎_elim, inl, inr, subst, mul-le-mul_left, arith}
 use Rattle.std.specs.Prelude.{eqb, slice_index_or, slice_set, replicate}
 use Rattle.std.specs.Int.{bit_at}
+use Rattle.sedre.specs.Words.{is_set}
 use Rattle.std.proofs.lemmas.Bool.{cases_eq, cases_lt}
 use Rattle.std.proofs.lemmas.List.{get_or-set_same, get_or-set_other}
 use Rattle.std.proofs.lemmas.Nat.Bits.{bit_at-zero}
-use Rattle.sedmarks.specs.Words.{table, is_marked, marks_of, row_at, rows_from, rows_of, row_of}
+use Rattle.sedmarks.specs.Words.{table, marks_of, row_at, rows_from, rows_of, row_of}
 
 length-table : (f : ℕ → Bool) (n : ℕ) → length (table f n) ≡ n
 unfolding table
@@ -44,23 +45,23 @@ table-none f (suc n) none =
 
 pub length-marks_of : (words : List ℕ) (n : ℕ) → length (marks_of words n) ≡ n
 unfolding marks_of
-length-marks_of words n = length-table (is_marked words) n
+length-marks_of words n = length-table (is_set words) n
 
 pub marks_of-get : (words : List ℕ) (n i word : ℕ) → i < n → word ≡ slice_index_or words (i / 64) 0 → eqb (bit_at word (i % 64)) 1 ≡ slice_index_or (marks_of words n) i false
-unfolding marks_of is_marked
-marks_of-get words n i word lt is = ap (λ v. eqb (bit_at v (i % 64)) 1) is ∙ sym (table-get (is_marked words) n i lt)
+unfolding marks_of is_set
+marks_of-get words n i word lt is = ap (λ v. eqb (bit_at v (i % 64)) 1) is ∙ sym (table-get (is_set words) n i lt)
 
-zero_unmarked : (words : List ℕ) (i : ℕ) → slice_index_or words (i / 64) 0 ≡ 0 → is_marked words i ≡ false
-unfolding is_marked
+zero_unmarked : (words : List ℕ) (i : ℕ) → slice_index_or words (i / 64) 0 ≡ 0 → is_set words i ≡ false
+unfolding is_set
 zero_unmarked words i is = ap (λ v. eqb (bit_at v (i % 64)) 1) is ∙ ap (λ v. eqb v 1) (bit_at-zero (i % 64))
 
 pub marks_of-clear : (words : List ℕ) (n i : ℕ) → i < n → slice_index_or words (i / 64) 0 ≡ 0 → slice_index_or (marks_of words n) i false ≡ false
 unfolding marks_of
-marks_of-clear words n i lt is = table-get (is_marked words) n i lt ∙ zero_unmarked words i is
+marks_of-clear words n i lt is = table-get (is_set words) n i lt ∙ zero_unmarked words i is
 
 pub marks_of-none : (words : List ℕ) (n : ℕ) → ((k : ℕ) → slice_index_or words k 0 ≡ 0) → marks_of words n ≡ replicate n false
 unfolding marks_of
-marks_of-none words n none = table-none (is_marked words) n (λ k lt. zero_unmarked words k (none (k / 64)))
+marks_of-none words n none = table-none (is_set words) n (λ k lt. zero_unmarked words k (none (k / 64)))
 
 pub zeros : (m k : ℕ) → slice_index_or (replicate {A = ℕ} m 0) k 0 ≡ 0
 zeros zero k = refl
@@ -70,10 +71,10 @@ zeros (suc m) (suc k) = zeros m k
 pub marks_of-set : (words after : List ℕ) (n i old word : ℕ) (v : Bool) → n ≤ 64 * length words → i < n → old ≡ slice_index_or words (i / 64) 0 →
     after ≡ slice_set words (i / 64) word → eqb (bit_at word (i % 64)) 1 ≡ v → ((b : ℕ) → b < 64 → b ≢ i % 64 → bit_at word b ≡ bit_at old b) →
     marks_of after n ≡ slice_set (marks_of words n) i v
-unfolding marks_of is_marked
+unfolding marks_of is_set
 marks_of-set words after n i old word v room lt is is_after same other =
     let inside : i / 64 < length words = omega arith in
-    table-set (is_marked words) (is_marked after) n i v lt
+    table-set (is_set words) (is_set after) n i v lt
     (ap (λ (l : List ℕ). eqb (bit_at (slice_index_or l (i / 64) 0) (i % 64)) 1) is_after
     ∙ ap (λ x. eqb (bit_at x (i % 64)) 1) (get_or-set_same words (i / 64) word 0 inside) ∙ same)
     (λ k low apart.
@@ -101,7 +102,7 @@ marks_of-new words m n is = marks_of-none words n (λ k. ap (λ (l : List ℕ). 
 -- a mark of a row
 pub length-row_at : (words : List ℕ) (width marks q : ℕ) → length (row_at words width marks q) ≡ marks
 unfolding row_at
-length-row_at words width marks q = length-table (λ k. is_marked words (64 * (width * q) + k)) marks
+length-row_at words width marks q = length-table (λ k. is_set words (64 * (width * q) + k)) marks
 
 length-rows_from : (words : List ℕ) (width marks q n : ℕ) → length (rows_from words width marks q n) ≡ n
 unfolding rows_from
@@ -133,8 +134,8 @@ row_inside width rows q c len lt low there =
     omega (arith, mul-le-mul_left width up, low, there)
 
 -- the same words, wherever they stand, have the same marks
-marked_same : (words other : List ℕ) (base i : ℕ) → slice_index_or words (base + i / 64) 0 ≡ slice_index_or other (i / 64) 0 → is_marked words (64 * base + i) ≡ is_marked other i
-unfolding is_marked
+marked_same : (words other : List ℕ) (base i : ℕ) → slice_index_or words (base + i / 64) 0 ≡ slice_index_or other (i / 64) 0 → is_set words (64 * base + i) ≡ is_set other i
+unfolding is_set
 marked_same words other base i same =
     let q : (64 * base + i) / 64 ≡ base + i / 64 = omega arith in
     let k : (64 * base + i) % 64 ≡ i % 64 = omega arith in
@@ -147,12 +148,12 @@ pub row_agrees : (words other : List ℕ) (width marks n q count : ℕ) → coun
     (i : ℕ) → i < count → slice_index_or (row_at words width marks q) i false ≡ slice_index_or (marks_of other n) i false
 unfolding row_at marks_of
 row_agrees words other width marks n q count low high same i lt =
-    table-get (λ k. is_marked words (64 * (width * q) + k)) marks i (omega arith)
+    table-get (λ k. is_set words (64 * (width * q) + k)) marks i (omega arith)
     ∙ marked_same words other (width * q) i (same (i / 64) (omega arith) (omega arith))
-    ∙ sym (table-get (is_marked other) n i (omega arith))
+    ∙ sym (table-get (is_set other) n i (omega arith))
 
-marked_kept : (words after : List ℕ) (i : ℕ) → slice_index_or after (i / 64) 0 ≡ slice_index_or words (i / 64) 0 → is_marked after i ≡ is_marked words i
-unfolding is_marked
+marked_kept : (words after : List ℕ) (i : ℕ) → slice_index_or after (i / 64) 0 ≡ slice_index_or words (i / 64) 0 → is_set after i ≡ is_set words i
+unfolding is_set
 marked_kept words after i same = ap (λ v. eqb (bit_at v (i % 64)) 1) same
 
 -- a row whose words are the same is the same
@@ -160,7 +161,7 @@ pub row_kept : (words after : List ℕ) (width marks q : ℕ) → marks ≤ 64 *
     ((k : ℕ) → k < width → slice_index_or after (width * q + k) 0 ≡ slice_index_or words (width * q + k) 0) → row_at after width marks q ≡ row_at words width marks q
 unfolding row_at
 row_kept words after width marks q low same =
-    table-same (λ k. is_marked after (64 * (width * q) + k)) (λ k. is_marked words (64 * (width * q) + k)) marks
+    table-same (λ k. is_set after (64 * (width * q) + k)) (λ k. is_set words (64 * (width * q) + k)) marks
     (λ i lt.
     let place : (64 * (width * q) + i) / 64 ≡ width * q + i / 64 = omega arith in
     marked_kept words after (64 * (width * q) + i)

@@ -1,10 +1,12 @@
 -- Private to the proofs: no contract of a public item cites what stands here.
 -- What comes first in a match.
-use Rattle.std.specs.Prelude.{Bool, true, false, ◌≡◌, ℕ, ◌<◌, ◌≤◌, ◌↔◌, List, length}
+use Rattle.std.specs.Prelude.{Bool, true, false, ◌≡◌, ℕ, ◌+◌, ◌<◌, ◌≤◌, ◌↔◌, List, length}
 use Rattle.sedre.specs.declared.types.Node.{Node}
 use Rattle.sedmarks.specs.Reach.{At}
 use Rattle.sedmarks.specs.declared.ahead.Lead.{Lead}
-use Rattle.sedmarks.specs.declared.ahead.Lead.TheVariants.{Nowhere, To, Unknown}
+use Rattle.sedmarks.specs.declared.ahead.Lead.TheVariants.{Nowhere, To, Longest, Unknown}
+use Rattle.sedmarks.specs.declared.ahead.Depth.{Depth}
+use Rattle.sedmarks.specs.declared.ahead.Depth.TheVariants.{Parts, Runs}
 use Rattle.sedmarks.specs.declared.ahead.Rest.{Rest}
 use Rattle.sedmarks.specs.declared.ahead.Rest.TheVariants.{Part, End}
 
@@ -12,6 +14,7 @@ use Rattle.sedmarks.specs.declared.ahead.Rest.TheVariants.{Part, End}
 abbrev pub LeadsTo : ℕ → (ℕ → Type 0) → Lead → Type 0
 LeadsTo n Ends Nowhere = (j : ℕ) → Ends j → ⊥
 LeadsTo n Ends (To k) = (k ≤ n) × ((j : ℕ) → Ends j ↔ (j ≡ k))
+LeadsTo n Ends (Longest k) = (k ≤ n) × Ends k × ((j : ℕ) → Ends j → j ≤ k)
 LeadsTo n Ends Unknown = Unit {0}
 
 -- an anchor's span ends where it begins, if it holds there
@@ -28,3 +31,8 @@ GoesOn nodes w Ends (End lead) = LeadsTo (length w) Ends lead
 abbrev pub IsBelow : ℕ → ℕ → Rest → Type 0
 IsBelow x n (Part y i) = (y < x) × (i ≤ n)
 IsBelow x n (End lead) = Unit {0}
+
+-- the steps of a look for each part, in a text of n bytes
+abbrev pub part_cost : Depth → ℕ → ℕ
+part_cost Parts n = 7
+part_cost Runs n = n + 8

@@ -3,27 +3,17 @@
 use Rattle.std.specs.Prelude.{Bool, ◌⊎◌, ◌≡◌, ℕ, ◌+◌, ◌<◌, ◌≤◌, List, length, slice_get, Option, Some, None}
 use Rattle.sedre.specs.Tree.{Tree}
 use Rattle.sedre.specs.declared.types.Node.{Node}
-use Rattle.sedre.specs.declared.types.Node.TheVariants.{Empty, Set, Begin, End, Seq, Alt, Group, Star, Opt}
+use Rattle.sedre.specs.declared.types.Node.TheVariants.{Set, Begin, Seq, Alt, Group}
 use Rattle.sedmarks.specs.Spans.{Spans, IsIn}
 use Rattle.sedmarks.specs.declared.beginnings.Begins.{Begins}
-use Rattle.sedmarks.specs.declared.beginnings.Begins.TheVariants.{Anyhow, AtStart, WithByte, WithSet, WithEither}
-use Rattle.sedmarks.specs.declared.beginnings.Either.{Either}
+use Rattle.sedmarks.specs.declared.beginnings.Begins.TheVariants.{Anyhow, AtStart, WithByte, WithSet}
 use Rattle.sedmarks.specs.Reach.{At}
-
--- the byte is in one of the sets
-abbrev pub EitherHas : Either → ℕ → Type 0
-EitherHas e b = IsIn b e.first ⊎ (IsIn b e.second ⊎ (IsIn b e.third ⊎ IsIn b e.fourth))
-
--- the sets with one more, in place of the fourth
-abbrev pub with_set : Either → List Bool → Either
-with_set e s = record { first = e.first; second = s; third = e.second; fourth = e.third }
 
 -- a span that begins so can begin at the place
 abbrev pub CanBegin : Begins → List ℕ → ℕ → Type 0
 CanBegin Anyhow w i = Unit {0}
 CanBegin AtStart w i = i ≡ 0
 CanBegin (WithByte b) w i = slice_get w i ≡ Some b
-CanBegin (WithEither e) w i = (b : ℕ) × (slice_get w i ≡ Some b) × EitherHas e b
 CanBegin (WithSet s) w i = (b : ℕ) × (slice_get w i ≡ Some b) × IsIn b s
 
 -- all spans of the expression begin so
@@ -46,27 +36,17 @@ skip_cost n (Some start) = start + 1
 
 -- the part with which every span of the node begins
 abbrev pub left_part : Node → Option ℕ
-left_part Empty = None
-left_part (Set s) = None
-left_part Begin = None
-left_part End = None
 left_part (Seq a b) = Some a.index
-left_part (Alt a b) = None
 left_part (Group k a) = Some a.index
-left_part (Star a first) = None
-left_part (Opt a first) = None
+left_part other = None
 
 -- all spans of the node, which has no such part, begin so
 abbrev pub LeafBegins : Node → Begins → Type 0
-LeafBegins Empty begins = (w : List ℕ) (i : ℕ) → CanBegin begins w i
 LeafBegins (Set s) begins = (w : List ℕ) (i : ℕ) → CanBegin (WithSet s) w i → CanBegin begins w i
 LeafBegins Begin begins = (w : List ℕ) (i : ℕ) → CanBegin AtStart w i → CanBegin begins w i
-LeafBegins End begins = (w : List ℕ) (i : ℕ) → CanBegin begins w i
 LeafBegins (Seq a b) begins = Unit {0}
-LeafBegins (Alt a b) begins = (w : List ℕ) (i : ℕ) → CanBegin begins w i
 LeafBegins (Group k a) begins = Unit {0}
-LeafBegins (Star a first) begins = (w : List ℕ) (i : ℕ) → CanBegin begins w i
-LeafBegins (Opt a first) begins = (w : List ℕ) (i : ℕ) → CanBegin begins w i
+LeafBegins other begins = (w : List ℕ) (i : ℕ) → CanBegin begins w i
 
 -- the node, which has no left part, is spanned first where the node x is
 abbrev pub IsLeaf : List Node → ℕ → Node → Type 0
@@ -74,12 +54,5 @@ IsLeaf nodes x node = (y : ℕ) × (slice_get nodes y ≡ Some node) × (y ≤ x
 
 -- the two alternatives of a node
 abbrev pub alternatives : Node → Option (ℕ × ℕ)
-alternatives Empty = None
-alternatives (Set s) = None
-alternatives Begin = None
-alternatives End = None
-alternatives (Seq a b) = None
 alternatives (Alt a b) = Some (a.index, b.index)
-alternatives (Group k a) = None
-alternatives (Star a first) = None
-alternatives (Opt a first) = None
+alternatives other = None

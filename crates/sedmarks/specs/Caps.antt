@@ -1,7 +1,7 @@
 -- Which span each group of a match has. XBD 9.1 leaves open what repeated groups and empty copies report: which copy is
 -- the last, and which groups are forgotten, is this project's own.
 use Rattle.std.specs.Prelude.{◌≡◌, ℕ, ◌<◌, ◌≤◌, ◌⊎◌, List, replicate, slice_set, Option, Some, None, IsTrue}
-use Rattle.sedre.specs.Tree.{Tree, empty, set, begin, end, seq, alt, group, star, opt}
+use Rattle.sedre.specs.Tree.{Tree, seq, alt, group, star, opt}
 use Rattle.sedmarks.specs.Spans.{Copies, Spans}
 
 -- entry k is the span of group k; a group without an entry of its own is not kept
@@ -10,15 +10,12 @@ Groups = List (Option (ℕ × ℕ))
 
 -- the groups inside the expression have no span
 abbrev pub forget : Tree → Groups → Groups
-forget empty g = g
-forget (set has) g = g
-forget begin g = g
-forget end g = g
 forget (seq a b) g = forget b (forget a g)
 forget (alt a b) g = forget b (forget a g)
 forget (group k a) g = forget a (slice_set g k None)
 forget (star a first) g = forget a g
 forget (opt a first) g = forget a g
+forget other g = g
 
 -- k is the greatest place up to which A leads from i, and from which B leads to j
 pub record LastCut (A B : ℕ → ℕ → Type 0) (i j k : ℕ) : Type 0 where
@@ -34,10 +31,6 @@ pub data LastCopy (R : ℕ → ℕ → Type 0) (j : ℕ) : ℕ → ℕ → Type 
 
 -- the expression matches i..j, and takes the groups from old to new
 abbrev pub Caps : Tree → List ℕ → ℕ → ℕ → Groups → Groups → Type 0
-Caps empty w i j old new = new ≡ old
-Caps (set has) w i j old new = new ≡ old
-Caps begin w i j old new = new ≡ old
-Caps end w i j old new = new ≡ old
 Caps (seq a b) w i j old new =
     (k : ℕ) × LastCut (Spans a w) (Spans b w) i j k × ((mid : Groups) × Caps a w i k old mid × Caps b w k j mid new)
 Caps (alt a b) w i j old new =
@@ -52,6 +45,7 @@ Caps (opt a first) w i j old new =
     ((i < j) × Caps a w i j (forget a old) new)
     ⊎ (((i ≡ j) × IsTrue first × Spans a w i i × Caps a w i i (forget a old) new)
     ⊎ ((i ≡ j) × ((IsTrue first → Spans a w i i → ⊥) × (new ≡ old))))
+Caps other w i j old new = new ≡ old
 
 -- before a match no group has a span
 abbrev pub no_groups : Groups

@@ -15,7 +15,7 @@ pub mod Places
 pub mod States
 pub mod Beginnings
 pub mod Ahead
-pub mod FarAhead
+pub mod RunsAhead
 pub mod Search
 pub mod Cuts
 pub mod Work

@@ -20,14 +20,14 @@ copies zero step i j = eqb i j
 copies (suc n) step i j = eqb i j || any (λ k. ltb i k && (step i k && copies n step k j)) (j + 1)
 
 -- the byte, if there is one, is in the set
-abbrev pub passes : List Bool → Option ℕ → Bool
-passes members None = false
-passes members (Some byte) = slice_index_or members byte false
+abbrev pub takes : Option ℕ → List Bool → Bool
+takes None members = false
+takes (Some byte) members = slice_index_or members byte false
 
 -- the expression matches i..j
 unfoldable pub spans : Tree → List ℕ → ℕ → ℕ → Bool
 spans empty w i j = eqb i j
-spans (set members) w i j = passes members (slice_get w i) && eqb j (i + 1)
+spans (set members) w i j = takes (slice_get w i) members && eqb j (i + 1)
 spans begin w i j = eqb i 0 && eqb j 0
 spans end w i j = eqb i (length w) && eqb j (length w)
 spans (seq a b) w i j = any (λ k. spans a w i k && spans b w k j) (j + 1)
@@ -72,10 +72,6 @@ last_start (suc n) step i j = cond (ltb (first_copy step i j) j) (last_start n s
 
 -- the groups after a match of i..j
 unfoldable pub caps : Tree → List ℕ → ℕ → ℕ → Groups → Groups
-caps empty w i j old = old
-caps (set has) w i j old = old
-caps begin w i j old = old
-caps end w i j old = old
 caps (seq a b) w i j old = caps b w (cut (spans a w) (spans b w) i j) j (caps a w i (cut (spans a w) (spans b w) i j) old)
 caps (alt a b) w i j old = cond (spans a w i j) (caps a w i j old) (caps b w i j old)
 caps (group k a) w i j old = slice_set (caps a w i j (forget (group k a) old)) k (Some (i, j))
@@ -85,6 +81,7 @@ caps (star a first) w i j old =
 caps (opt a first) w i j old =
     cond (ltb i j) (caps a w i j (forget a old))
     (cond (first && spans a w i i) (caps a w i i (forget a old)) old)
+caps other w i j old = old
 
 -- the groups of a match of i..j as they are reported
 unfoldable pub report : Tree → List ℕ → ℕ → ℕ → Groups

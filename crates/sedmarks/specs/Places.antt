@@ -2,8 +2,8 @@
 -- Places of a text as far as an expression tells them apart, and what a pass tells of one.
 use Rattle.std.specs.Prelude.{◌≡◌, ℕ, ◌+◌, ◌≤◌, Bool, true, false, ◌↔◌, List, length, slice_get, slice_index_or, Option, Some, IsTrue}
 use Rattle.sedre.specs.declared.types.Node.{Node}
-use Rattle.sedre.specs.declared.types.Node.TheVariants.{Empty, Set, Begin, End, Seq, Alt, Group, Star, Opt}
-use Rattle.sedmarks.specs.Local.{takes}
+use Rattle.sedre.specs.declared.types.Node.TheVariants.{Set}
+use Rattle.sedmarks.specs.Matching.{takes}
 
 -- the three places stand in this order
 abbrev pub InOrder : ℕ → ℕ → ℕ → Type 0
@@ -19,12 +19,5 @@ ComesAfter nodes w place row byte = (i x : ℕ) (members : List Bool) → i + 1 
 
 -- the node takes a byte
 abbrev pub takes_any : Node → Bool
-takes_any Empty = false
 takes_any (Set s) = true
-takes_any Begin = false
-takes_any End = false
-takes_any (Seq a b) = false
-takes_any (Alt a b) = false
-takes_any (Group k a) = false
-takes_any (Star a first) = false
-takes_any (Opt a first) = false
+takes_any other = false

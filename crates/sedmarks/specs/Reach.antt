@@ -7,8 +7,8 @@ use Rattle.sedre.specs.Arena.{tree_at, IsPart}
 use Rattle.sedre.specs.declared.types.Node.{Node}
 use Rattle.sedre.specs.declared.types.NodeId.{NodeId}
 use Rattle.sedmarks.specs.declared.passes.Starts.{Starts}
-use Rattle.sedmarks.specs.Local.{takes}
-use Rattle.sedre.specs.declared.types.Node.TheVariants.{Empty, Set, Begin, End, Seq, Alt, Group, Star, Opt}
+use Rattle.sedmarks.specs.Matching.{takes}
+use Rattle.sedre.specs.declared.types.Node.TheVariants.{Set, Seq, Alt, Group, Star, Opt}
 
 -- c is a part that begins where the node does
 abbrev pub BeginsWith : Node → ℕ → Type 0
@@ -17,10 +17,7 @@ BeginsWith (Alt a b) c = (a.index ≡ c) ⊎ (b.index ≡ c)
 BeginsWith (Group k a) c = a.index ≡ c
 BeginsWith (Star a first) c = a.index ≡ c
 BeginsWith (Opt a first) c = a.index ≡ c
-BeginsWith Empty c = ⊥
-BeginsWith (Set s) c = ⊥
-BeginsWith Begin c = ⊥
-BeginsWith End c = ⊥
+BeginsWith other c = ⊥
 
 -- the node x matches i..j
 abbrev pub At : List Node → List ℕ → ℕ → ℕ → ℕ → Type 0

@@ -2,7 +2,7 @@
 -- What is left to do while the groups of a match are decided.
 use Rattle.std.specs.Prelude.{◌≡◌, ℕ, ◌+◌, ◌-◌, ◌*◌, ◌<◌, ◌≤◌, Bool, true, false, if◌then◌else◌, List, [], ◌∷◌, ◌++◌, length, slice_get, slice_set, Some, None}
 use Rattle.sedre.specs.Arena.{IsArena, tree_at}
-use Rattle.sedre.specs.Tree.{Tree, empty, set, begin, end, seq, alt, group, star, opt, size}
+use Rattle.sedre.specs.Tree.{Tree, seq, alt, group, star, opt, size}
 use Rattle.sedre.specs.declared.types.Node.{Node}
 use Rattle.sedre.specs.declared.types.NodeId.{NodeId}
 use Rattle.sedre.specs.declared.types.Node.TheVariants.{Empty, Set, Begin, End, Seq, Alt, Group, Star, Opt}
@@ -49,39 +49,22 @@ InRange n (x ∷ xs) = (x < n) × InRange n xs
 
 -- the parts of a node, the left one first
 abbrev pub parts_of : Node → List ℕ
-parts_of Empty = []
-parts_of (Set s) = []
-parts_of Begin = []
-parts_of End = []
 parts_of (Seq a b) = a.index ∷ b.index ∷ []
 parts_of (Alt a b) = a.index ∷ b.index ∷ []
 parts_of (Group k a) = a.index ∷ []
 parts_of (Star a first) = a.index ∷ []
 parts_of (Opt a first) = a.index ∷ []
+parts_of other = []
 
 -- the node's own group is forgotten
 abbrev pub forget_node : Node → Groups → Groups
-forget_node Empty g = g
-forget_node (Set s) g = g
-forget_node Begin g = g
-forget_node End g = g
-forget_node (Seq a b) g = g
-forget_node (Alt a b) g = g
 forget_node (Group k a) g = slice_set g k None
-forget_node (Star a first) g = g
-forget_node (Opt a first) g = g
+forget_node other g = g
 
 -- the node is a group
 abbrev pub is_group : Node → Bool
-is_group Empty = false
-is_group (Set s) = false
-is_group Begin = false
-is_group End = false
-is_group (Seq a b) = false
-is_group (Alt a b) = false
 is_group (Group k a) = true
-is_group (Star a first) = false
-is_group (Opt a first) = false
+is_group other = false
 
 -- whether any of the groups has a span
 abbrev pub has_span : Groups → Bool
@@ -91,15 +74,12 @@ has_span (Some span ∷ gs) = true
 
 -- there is no group in the tree
 abbrev pub NoGroups : Tree → Type 0
-NoGroups empty = Unit {0}
-NoGroups (set has) = Unit {0}
-NoGroups begin = Unit {0}
-NoGroups end = Unit {0}
 NoGroups (seq a b) = NoGroups a × NoGroups b
 NoGroups (alt a b) = NoGroups a × NoGroups b
 NoGroups (group k a) = ⊥
 NoGroups (star a first) = NoGroups a
 NoGroups (opt a first) = NoGroups a
+NoGroups other = Unit {0}
 
 -- no group stands within another
 abbrev pub AreFlat : List Node → Type 0
@@ -122,15 +102,12 @@ LeavesLess nodes w tasks old rest new = ((f : Groups) → Run nodes w rest new f
 
 -- how many nodes of a tree have parts
 abbrev pub inner : Tree → ℕ
-inner empty = 0
-inner (set has) = 0
-inner begin = 0
-inner end = 0
 inner (seq a b) = 1 + (inner a + inner b)
 inner (alt a b) = 1 + (inner a + inner b)
 inner (group k a) = 1 + inner a
 inner (star a first) = 1 + inner a
 inner (opt a first) = 1 + inner a
+inner other = 0
 
 -- of all nodes to be entered
 abbrev pub inners : List Node → List Task → ℕ
@@ -150,11 +127,7 @@ node_cost cost Empty = 0
 node_cost cost (Set s) = 0
 node_cost cost Begin = 0
 node_cost cost End = 0
-node_cost cost (Seq a b) = cost
-node_cost cost (Alt a b) = cost
-node_cost cost (Group k a) = cost
-node_cost cost (Star a first) = cost
-node_cost cost (Opt a first) = cost
+node_cost cost other = cost
 
 -- the groups inside are forgotten, if it is to be done
 abbrev pub forget_if : Bool → Tree → Groups → Groups

@@ -1,17 +1,20 @@
 //! What the nodes that come first in a match tell of the matches that begin at a place.
 //!
 //! A concatenation is followed from part to part as long as each is a set, an anchor or the null string: so far a match
-//! goes one way only. Most places at which none begins are told by one or two of these parts.
-ghost use Rattle.std.specs.Prelude.{◌≡◌, ℕ, ◌+◌, ◌*◌, ◌^◌, ◌<◌, ◌≤◌, length, slice_get, Some, IsTrue};
+//! goes one way only. Most places at which none begins are told by one or two of these parts. Where the
+//! longest match is asked for, the look goes on over runs of single bytes (`runs_ahead`).
+ghost use Rattle.std.specs.Prelude.{◌≡◌, ℕ, ◌+◌, ◌*◌, ◌^◌, ◌<◌, ◌≤◌, length, slice_get, Some, IfSome, IsTrue};
 ghost use Rattle.sedre.specs.Arena.{IsArena, tree, tree_of};
 ghost use Rattle.sedre.specs.declared.types.Node.TheVariants.{Seq};
 ghost use Rattle.sedre.specs.Tree.{Tree, set as a_set};
 ghost use Rattle.sedmarks.specs.Spans.{Spans};
 ghost use Rattle.sedmarks.specs.Reach.{At};
-ghost use Rattle.sedmarks.specs.Ahead.{LeadsTo, anchor_lead, GoesOn, IsBelow};
+ghost use Rattle.sedmarks.specs.Ahead.{LeadsTo, anchor_lead, GoesOn, IsBelow, part_cost};
+ghost use Rattle.sedmarks.specs.declared.ahead.Lead.TheVariants.{Longest};
 ghost use Rattle.sedre.specs.Steps.{Takes};
 
 use crate::counted::Text;
+use crate::runs_ahead::rest_after_run;
 use sedre::{ByteSet, Expr, Node, NodeId, Steps};
 
 /// Where the spans end that begin at a place.
@@ -21,8 +24,19 @@ pub enum Lead {
     Nowhere,
     /// There is one, which ends at this place.
     To(usize),
+    /// The longest ends at this place.
+    Longest(usize),
     /// That isn't known.
     Unknown,
+}
+
+/// How far a look ahead goes.
+#[derive(Clone, Copy)]
+pub enum Depth {
+    /// Over parts that match one way only.
+    Parts,
+    /// Over runs of single bytes as well.
+    Runs,
 }
 
 /// Where the spans of a set end that begin at the place.
@@ -97,7 +111,7 @@ pub fn rest_of_seq(
     match node_lead(first, text, place, steps) {
         Lead::Nowhere => Rest::End(Lead::Nowhere),
         Lead::To(end) => Rest::Part(b.index(), end),
-        Lead::Unknown => Rest::End(Lead::Unknown),
+        _ => Rest::End(Lead::Unknown),
     }
 }
 
@@ -179,25 +193,85 @@ pub fn look_ahead(expr: &Expr, text: &Text, place: usize, steps: &mut Steps) -> 
     ensures cost { Takes steps.old steps.new (7 * length expr.now.nodes) }
 {
     let root = expr.root().index();
-    lead_from(expr, root, text, place, steps)
+    lead_from(expr, root, text, place, Depth::Parts, steps)
 }
 
-/// The same of the spans of a node.
-pub fn lead_from(expr: &Expr, root: usize, text: &Text, place: usize, steps: &mut Steps) -> Lead
+/// The same, where runs of single bytes are looked at as well.
+pub fn look_far(expr: &Expr, text: &Text, place: usize, steps: &mut Steps) -> Lead
+    requires place { place ≤ length text.now }
+    ensures leads { LeadsTo (length text.now) (Spans (tree expr.now) text.now place) result }
+    ensures cost { Takes steps.old steps.new ((length text.now + 8) * length expr.now.nodes) }
+{
+    let root = expr.root().index();
+    lead_from(expr, root, text, place, Depth::Runs, steps)
+}
+
+/// What is left after the first part of the node at the index, by a look of this depth.
+#[inline(always)]
+fn rest_by(
+    expr: &Expr,
+    index: usize,
+    text: &Text,
+    place: usize,
+    depth: Depth,
+    steps: &mut Steps,
+) -> Rest
+    requires inside { index < length expr.now.nodes }
+    requires place { place ≤ length text.now }
+    ensures goes { GoesOn expr.now.nodes text.now (At expr.now.nodes text.now index place) result }
+    ensures below { IsBelow index (length text.now) result }
+    ensures cost { Takes steps.old steps.new (part_cost depth (length text.now)) }
+{
+    match depth {
+        Depth::Parts => rest_after(expr, index, text, place, steps),
+        Depth::Runs => rest_after_run(expr, index, text, place, steps),
+    }
+}
+
+/// Where the spans of a node end that begin at the place, as far as a look of this depth tells.
+pub fn lead_from(
+    expr: &Expr,
+    root: usize,
+    text: &Text,
+    place: usize,
+    depth: Depth,
+    steps: &mut Steps,
+) -> Lead
     requires root { root < length expr.now.nodes }
     requires place { place ≤ length text.now }
     ensures leads { LeadsTo (length text.now) (At expr.now.nodes text.now root place) result }
-    ensures cost { Takes steps.old steps.new (7 * length expr.now.nodes) }
+    ensures cost { Takes steps.old steps.new (part_cost depth (length text.now) * length expr.now.nodes) }
 {
     let mut index = root;
     let mut at = place;
     loop {
-        match rest_after(expr, index, text, at, steps) {
+        match rest_by(expr, index, text, at, depth, steps) {
             Rest::Part(part, from) => {
                 index = part;
                 at = from;
             }
             Rest::End(lead) => return lead,
         }
+    }
+}
+
+/// Where the longest span of a node ends that begins at the place, if what comes first in it and runs of single bytes
+/// tell it.
+pub fn longest_ahead(
+    expr: &Expr,
+    root: usize,
+    text: &Text,
+    place: usize,
+    steps: &mut Steps,
+) -> Option<usize>
+    requires root { root < length expr.now.nodes }
+    requires place { place ≤ length text.now }
+    ensures longest { IfSome result (λ k. LeadsTo (length text.now) (At expr.now.nodes text.now root place) (Longest k)) }
+    ensures cost { Takes steps.old steps.new ((length text.now + 8) * length expr.now.nodes) }
+{
+    match lead_from(expr, root, text, place, Depth::Runs, steps) {
+        Lead::To(end) => Some(end),
+        Lead::Longest(end) => Some(end),
+        _ => None,
     }
 }

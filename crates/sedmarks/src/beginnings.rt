@@ -1,9 +1,9 @@
 //! From which places a match can begin at all, so that the others are passed over.
 ghost use Rattle.std.specs.Prelude.{◌≡◌, ◌+◌, ◌*◌, ◌^◌, ◌<◌, ◌≤◌, ◌↔◌, length, IfSome, IsTrue};
 ghost use Rattle.sedre.specs.Arena.{IsArena, tree};
-ghost use Rattle.sedmarks.specs.declared.beginnings.Begins.TheVariants.{WithSet, WithEither};
+ghost use Rattle.sedmarks.specs.declared.beginnings.Begins.TheVariants.{WithSet};
 ghost use Rattle.sedmarks.specs.Beginnings.{AllBegin, AllAt, CanBegin, NextStart, skip_cost, left_part, LeafBegins, IsLeaf};
-ghost use Rattle.sedmarks.specs.Beginnings.{EitherHas, with_set, alternatives};
+ghost use Rattle.sedmarks.specs.Beginnings.{alternatives};
 ghost use Rattle.sedmarks.specs.Costs.{Pays};
 ghost use Rattle.sedre.specs.Steps.{Takes};
 
@@ -11,43 +11,6 @@ use crate::counted::Text;
 use crate::members::find_member;
 use crate::passes::takes_byte;
 use sedre::{ByteSet, Expr, Node, Steps};
-
-/// Up to four sets, the last ones the same as the first where there are fewer.
-#[derive(Clone, Copy)]
-pub struct Either {
-    /// The first of them.
-    pub first: ByteSet,
-    /// The second.
-    pub second: ByteSet,
-    /// The third.
-    pub third: ByteSet,
-    /// The fourth.
-    pub fourth: ByteSet,
-}
-
-impl Either {
-    /// Whether the byte is in one of the sets.
-    pub fn has(&self, byte: u8) -> bool
-        ensures { IsTrue result ↔ EitherHas self.now byte }
-    {
-        self.first.has(byte)
-            || self.second.has(byte)
-            || self.third.has(byte)
-            || self.fourth.has(byte)
-    }
-
-    /// The sets with one more, in place of the fourth.
-    fn with(&self, set: ByteSet) -> Either
-        ensures { result ≡ with_set self.now set }
-    {
-        Either {
-            first: self.first,
-            second: set,
-            third: self.second,
-            fourth: self.third,
-        }
-    }
-}
 
 /// How every span of an expression begins.
 #[derive(Clone, Copy)]
@@ -60,8 +23,6 @@ pub enum Begins {
     WithByte(u8),
     /// With a byte of this set.
     WithSet(ByteSet),
-    /// With a byte of one of these sets.
-    WithEither(Either),
 }
 
 /// The part with which every span of a node begins, if the node has one.
@@ -138,12 +99,7 @@ fn begins_either(expr: &Expr, left: usize, right: usize, steps: &mut Steps) -> B
     let Some(set) = first_set(expr, left, steps) else {
         return Begins::Anyhow;
     };
-    let mut sets = Either {
-        first: set,
-        second: set,
-        third: set,
-        fourth: set,
-    };
+    let mut members = set;
     let mut rest = right;
     for _turn in 1..4usize {
         let node = expr.look(expr.id(rest), steps);
@@ -152,14 +108,14 @@ fn begins_either(expr: &Expr, left: usize, right: usize, steps: &mut Steps) -> B
                 let Some(set) = first_set(expr, part, steps) else {
                     return Begins::Anyhow;
                 };
-                sets = sets.with(set);
+                members = members.union(&set);
                 rest = next;
             }
             None => {
                 let Some(set) = first_set(expr, rest, steps) else {
                     return Begins::Anyhow;
                 };
-                return Begins::WithEither(sets.with(set));
+                return Begins::WithSet(members.union(&set));
             }
         }
     }
@@ -180,21 +136,6 @@ pub fn how_begins(expr: &Expr, steps: &mut Steps) -> Begins
     }
 }
 
-/// The first place from `from` on whose byte is in one of the sets. Counts one look for each byte.
-fn find_either(sets: &Either, text: &Text, from: usize, steps: &mut Steps) -> Option<usize>
-    requires from { from ≤ length text.now }
-    ensures next { NextStart (WithEither sets.now) text.now from result }
-    ensures cost { Pays steps.old steps.new (skip_cost (length text.now) result) from }
-{
-    for at in from..text.len() {
-        let byte = text.byte(at, steps);
-        if sets.has(byte) {
-            return Some(at);
-        }
-    }
-    None
-}
-
 /// The first place from `from` on at which a match can begin.
 pub fn next_start(begins: &Begins, text: &Text, from: usize, steps: &mut Steps) -> Option<usize>
     requires from { from ≤ length text.now }
@@ -206,6 +147,5 @@ pub fn next_start(begins: &Begins, text: &Text, from: usize, steps: &mut Steps) 
         Begins::AtStart => if from == 0 { Some(0) } else { None },
         Begins::WithByte(byte) => text.find_byte(*byte, from, steps),
         Begins::WithSet(set) => find_member(text, set, from, steps),
-        Begins::WithEither(sets) => find_either(sets, text, from, steps),
     }
 }

@@ -46,7 +46,7 @@ impl<'a> Text<'a> {
         self.bytes.len()
     }
 
-    /// The place so many bytes after another, no further than one after the text's end.
+    /// The place `count` bytes after `place`, at most one past the text's end.
     #[inline(always)]
     pub fn after(&self, place: usize, count: usize) -> usize
         requires { place + count ≤ length self.now + 1 }
@@ -117,7 +117,7 @@ pub fn uncounted<'a>(text: &Text<'a>) -> &'a [u8]
     text.bytes
 }
 
-/// For proofs: a text is of bytes.
+/// For proofs: each element of a text is below 256.
 pub fn are_bytes(text: &Text)
     ensures { AreBytes text.now }
 {
@@ -241,7 +241,7 @@ impl Model for Marks {
 }
 
 impl Marks {
-    /// So many marks, none of them set. Fails only where a request for memory was refused.
+    /// `len` marks, none of them set. Fails only where a request for memory was refused.
     pub fn new(alloc: Global, len: usize) -> Result<Marks, AllocError>
         ensures { IfOk result (λ m. m ≡ replicate len false) }
     {

@@ -11,10 +11,10 @@ ghost use Rattle.sedmarks.specs.Caps.{LastCut};
 ghost use Rattle.sedmarks.specs.Cuts.{GreatestBelow, LastCopyIn, LeastFrom, Repeats, TellStarts};
 ghost use Rattle.sedre.specs.Steps.{Takes};
 
-use crate::ahead::{Lead, lead_from};
+use crate::ahead::{Depth, Lead, lead_from, longest_ahead};
 use crate::counted::{Bytes, Marks, Text};
-use crate::far_ahead::{Far, far_from, none_before};
 use crate::passes::Here;
+use crate::runs_ahead::none_before;
 use crate::scratch::Sets;
 use crate::search::{advance_from, advance_seen};
 use sedre::{Expr, Node, Nodes, Steps};
@@ -35,10 +35,10 @@ pub fn reaches(
     ensures spans { IsTrue result ↔ At expr.now.nodes text.now root start stop }
     ensures cost { Takes steps.old steps.new (28 * length expr.now.nodes * (length text.now + 1)) }
 {
-    match lead_from(expr, root, text, start, steps) {
+    match lead_from(expr, root, text, start, Depth::Parts, steps) {
         Lead::Nowhere => false,
         Lead::To(end) => end == stop,
-        Lead::Unknown => reaches_by_pass(expr, root, text, start, stop, sets, steps),
+        _ => reaches_by_pass(expr, root, text, start, stop, sets, steps),
     }
 }
 
@@ -180,13 +180,13 @@ fn far_cut(
     ensures cost { let m = length expr.now.nodes in let n = length text.now in
         Takes steps.old steps.new ((n + 8) * m + 3 + n) }
 {
-    match far_from(expr, left, text, start, steps) {
-        Far::To(end) => if none_before(expr, right, text, start, end, steps) {
+    match longest_ahead(expr, left, text, start, steps) {
+        Some(end) => if none_before(expr, right, text, start, end, steps) {
             Some(end)
         } else {
             None
         },
-        _ => None,
+        None => None,
     }
 }
 
@@ -216,10 +216,10 @@ fn cut_at_sight(
     if let Node::Set(_) = expr.look(expr.id(right), steps) {
         return Some(stop - 1);
     }
-    match lead_from(expr, left, text, start, steps) {
+    match lead_from(expr, left, text, start, Depth::Parts, steps) {
         Lead::Nowhere => None,
         Lead::To(end) => Some(end),
-        Lead::Unknown => far_cut(expr, left, right, text, start, stop, steps),
+        _ => far_cut(expr, left, right, text, start, stop, steps),
     }
 }
 
@@ -438,7 +438,7 @@ fn copy_at_sight(
 {
     let mut copy = start;
     'copies: loop {
-        let Far::To(end) = far_from(expr, root, text, copy, steps) else {
+        let Some(end) = longest_ahead(expr, root, text, copy, steps) else {
             return None;
         };
         if end == stop {

@@ -33,17 +33,6 @@ pub enum Split {
     Two(bool, Task, Task),
 }
 
-/// Pushes onto a stack that has room.
-fn put(stack: &mut Vec<usize>, x: usize)
-    requires { vec_len stack.old < vec_capacity stack.old }
-    ensures items { stack.new.items ≡ stack.old.items ++ x ∷ [] }
-    ensures room { vec_capacity stack.old ≤ vec_capacity stack.new }
-{
-    if stack.push(x).is_err() {
-        unreachable!()
-    }
-}
-
 /// Pushes the parts of a node, the left one last.
 fn put_parts(node: &Node, stack: &mut Vec<usize>)
     requires { vec_len stack.old + 2 ≤ vec_capacity stack.old }
@@ -53,10 +42,10 @@ fn put_parts(node: &Node, stack: &mut Vec<usize>)
     match node {
         Node::Empty | Node::Set(_) | Node::Begin | Node::End => {}
         Node::Seq(a, b) | Node::Alt(a, b) => {
-            put(stack, b.index());
-            put(stack, a.index());
+            stack.push_reserved(b.index());
+            stack.push_reserved(a.index());
         }
-        Node::Group(_, a) | Node::Star(a, _) | Node::Opt(a, _) => put(stack, a.index()),
+        Node::Group(_, a) | Node::Star(a, _) | Node::Opt(a, _) => stack.push_reserved(a.index()),
     }
 }
 
@@ -87,7 +76,7 @@ fn forget_inside(
     ensures room { vec_capacity stack.old ≤ vec_capacity stack.new }
     ensures cost { Takes steps.old steps.new (size (tree_at expr.now.nodes root)) }
 {
-    put(stack, root);
+    stack.push_reserved(root);
     while let Some(x) = stack.pop() {
         let node = expr.look(expr.id(x), steps);
         put_parts(&node, stack);
@@ -112,7 +101,7 @@ fn has_group(expr: &Expr, root: usize, stack: &mut Vec<usize>, steps: &mut Steps
     ensures room { vec_capacity stack.old ≤ vec_capacity stack.new }
     ensures cost { Takes steps.old steps.new (size (tree_at expr.now.nodes root)) }
 {
-    put(stack, root);
+    stack.push_reserved(root);
     while let Some(x) = stack.pop() {
         let node = expr.look(expr.id(x), steps);
         if is_group(&node) {
@@ -269,17 +258,6 @@ fn split_node(
     }
 }
 
-/// Pushes a task onto a stack that has room.
-fn put_task(tasks: &mut Vec<Task>, task: Task)
-    requires { vec_len tasks.old < vec_capacity tasks.old }
-    ensures items { tasks.new.items ≡ tasks.old.items ++ task ∷ [] }
-    ensures room { vec_capacity tasks.old ≤ vec_capacity tasks.new }
-{
-    if tasks.push(task).is_err() {
-        unreachable!()
-    }
-}
-
 /// Pushes the tasks of a split, the first one last.
 fn put_split(split: &Split, tasks: &mut Vec<Task>)
     requires { vec_len tasks.old + 2 ≤ vec_capacity tasks.old }
@@ -288,10 +266,10 @@ fn put_split(split: &Split, tasks: &mut Vec<Task>)
 {
     match split {
         Split::Done => {}
-        Split::One(_, first) => put_task(tasks, *first),
+        Split::One(_, first) => tasks.push_reserved(*first),
         Split::Two(_, first, second) => {
-            put_task(tasks, *second);
-            put_task(tasks, *first);
+            tasks.push_reserved(*second);
+            tasks.push_reserved(*first);
         }
     }
 }
@@ -416,14 +394,14 @@ pub fn decide(
     ensures cost { let m = length expr.now.nodes in let n = length text.now in
         Pays steps.old steps.new ((46 * m * (n + 1) * (n + 1) + 1 + m) * m + 3 * m) ((46 * m * (n + 1) * (n + 1) + 1 + m)) }
 {
-    put_task(&mut plan.tasks, Task::Enter(root, start, stop));
+    plan.tasks.push_reserved(Task::Enter(root, start, stop));
     while let Some(task) = plan.tasks.pop() {
         work(expr, flat, &task, text, groups, plan, sets, places, steps);
     }
 }
 
-/// The groups of the match `start..stop` of a whole expression, which may be known to have no group within another. Entry 0
-/// is the whole match.
+/// The groups of the match `start..stop` of a whole expression. Entry 0 is the whole match. `flat` says that no group of the
+/// expression stands within another.
 pub fn report(
     expr: &Expr,
     flat: bool,

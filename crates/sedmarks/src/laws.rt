@@ -1,12 +1,12 @@
 //! The computed match is the one that the relations tell.
 ghost use Rattle.sedmarks.specs.Matching.{SpansLaw, FoundLaw, NotFoundLaw, SomeFoundLaw, OneCapsLaw, CapsLaw, ReportLaw};
 
-/// An expression spans a part of a text just where the computed test says so.
+/// An expression spans a part of a text exactly where the computed test says so.
 pub fn spans_law()
     ensures { SpansLaw }
 {}
 
-/// The match found by trying all places is the leftmost-longest one, and none is found just where there is none.
+/// The match found by trying all places is the leftmost-longest one, and none is found exactly where there is none.
 pub fn found_law()
     ensures some { FoundLaw }
     ensures none { NotFoundLaw }

@@ -40,7 +40,7 @@ impl Found {
     }
 }
 
-/// The leftmost-longest match that begins at `from` or later, with its groups. None just where there is none.
+/// The leftmost-longest match that begins at `from` or later, with its groups. `None` exactly where there is no match.
 ///
 /// It takes no memory, and its steps are bounded whatever the expression; None costs steps in proportion to the
 /// text.

@@ -1,6 +1,6 @@
 //! Bytes of a set in a text: the first one from a place on, and how far a run of them goes, by calls that count.
 ghost use Rattle.std.specs.Prelude.{◌≡◌, ◌<◌, ◌≤◌, length, slice_get, Some, IfSome};
-ghost use Rattle.sedmarks.specs.FarAhead.{IsRun};
+ghost use Rattle.sedmarks.specs.RunsAhead.{IsRun};
 ghost use Rattle.sedmarks.specs.Beginnings.{CanBegin, NextStart, skip_cost};
 ghost use Rattle.sedmarks.specs.declared.beginnings.Begins.TheVariants.{WithSet};
 ghost use Rattle.sedmarks.specs.Costs.{Pays};

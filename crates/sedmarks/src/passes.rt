@@ -6,7 +6,9 @@ ghost use Rattle.std.specs.Prelude.{◌≡◌, ℕ, false, List, ◌+◌, ◌-�
 ghost use Rattle.std.specs.Prelude.{length, slice_index_or, slice_get, Some, IsTrue};
 ghost use Rattle.sedre.specs.Arena.{IsArena};
 ghost use Rattle.sedmarks.specs.Nodes.{IsNode};
-ghost use Rattle.sedmarks.specs.Local.{PartsBelow, takes_next, null_of, end_of, enter_parts, takes};
+ghost use Rattle.sedre.specs.Packed.{PartsBelow};
+ghost use Rattle.sedmarks.specs.Local.{takes_next, null_of, end_of, enter_parts};
+ghost use Rattle.sedmarks.specs.Matching.{takes};
 ghost use Rattle.sedmarks.specs.Reach.{IsStart, SetsFrom, SomeSpan, OpenAt};
 ghost use Rattle.sedmarks.specs.Reach.{TellNull, TellEntered, TellEnded, TellBegun};
 ghost use Rattle.sedmarks.specs.Places.{IsPlace, ComesAfter};

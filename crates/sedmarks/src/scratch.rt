@@ -97,7 +97,7 @@ pub fn new_sets(alloc: Global) -> Result<Sets, AllocError> {
     })
 }
 
-/// Empty lists with room for what an expression of so many nodes gives to do.
+/// Empty lists with room for what an expression of `nodes` nodes gives to do.
 fn new_plan(alloc: Global, nodes: usize) -> Result<Plan, AllocError>
     requires { nodes ≤ 65536 }
     ensures { IfOk result (λ p. FitsWork nodes p) }

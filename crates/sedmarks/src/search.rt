@@ -17,10 +17,9 @@ ghost use Rattle.sedmarks.specs.Answer.{SpanAnswer};
 ghost use Rattle.sedmarks.specs.Costs.{Pays};
 ghost use Rattle.sedre.specs.Steps.{Takes};
 
-use crate::ahead::{Lead, look_ahead};
+use crate::ahead::{Lead, look_ahead, look_far};
 use crate::beginnings::{Begins, how_begins, next_start};
 use crate::counted::{Bytes, Text};
-use crate::far_ahead::{Far, look_far};
 use crate::passes::{Here, Starts, advance};
 use crate::region::{Region, earliest};
 use crate::scratch::Sets;
@@ -51,7 +50,7 @@ fn advance_forwards(
     advance(&nodes, root, &bytes, starts, place, sets, steps)
 }
 
-/// The same in a pass over nodes and bytes seen from either end.
+/// Brings the marks of a pass over nodes and bytes seen from either end to the next place.
 pub fn advance_seen(
     nodes: &Nodes,
     root: usize,
@@ -147,9 +146,10 @@ fn longest_from(
     match lead {
         Lead::To(end) => Some(end),
         _ => match look_far(expr, text, start, steps) {
-            Far::Nowhere => None,
-            Far::To(end) => Some(end),
-            Far::Unknown => longest_at(expr, text, start, sets, steps),
+            Lead::Nowhere => None,
+            Lead::To(end) => Some(end),
+            Lead::Longest(end) => Some(end),
+            Lead::Unknown => longest_at(expr, text, start, sets, steps),
         },
     }
 }
@@ -247,7 +247,7 @@ fn sweep(
     Swept::Miss(text.len())
 }
 
-/// The better of a place at which a match ends, if it does, and the best before.
+/// `place` if a match ends there, and `best` if not.
 pub fn better(best: Option<usize>, place: usize, matched: bool) -> Option<usize>
     ensures longest { (e : Tree) (w : List ℕ) (i : ℕ) → (IsTrue matched ↔ Spans e w i place) →
         LongestBelow e w i place best → LongestBelow e w i (place + 1) result }

@@ -16,7 +16,7 @@ use Rattle.sedneedles.specs.Few.{HasFew, FirstFew}
 use Rattle.sedmarks.specs.Bytes.{AreBytes}
 use Rattle.sedneedles.specs.Needed.{IsLiteral, GoesOnAs, FirstLiteral, LastLiteral}
 use Rattle.sedmarks.specs.Reach.{At}
-use Rattle.sedmarks.specs.FarAhead.{Repeated, AllRepeat}
+use Rattle.sedmarks.specs.RunsAhead.{Repeated, AllRepeat}
 use Rattle.sedmatch.specs.Between.{Parted, AreOutside, IsClear, PartedAt, PartedSpans, AllParted, GoesClear, ClearTo, LastTail, PartedEnd, CanPart, PartedNowhere, FirstParted}
 use Rattle.sedmarks.proofs.SpanLemmas.{Copies-forward}
 use Rattle.sedneedles.proofs.FewLemmas.{few_inside}

@@ -11,7 +11,7 @@ use Rattle.sedre.specs.Tree.{Tree}
 use Rattle.sedmarks.specs.Cuts.{LeastFrom}
 use Rattle.sedmarks.specs.Spans.{Found, NotFound, Copies, no_copy, one_more}
 use Rattle.sedmarks.specs.declared.passes.Starts.{Starts}
-use Rattle.sedmarks.specs.Local.{takes}
+use Rattle.sedmarks.specs.Matching.{takes}
 use Rattle.sedmarks.specs.Reach.{At, BeginsWith, IsStart, one_start, Enters, at_root, with_whole, after_left, again, OpenAt, SomeSpan, TellBegun, Longest, LongestBelow}
 use Rattle.sedmatch.specs.Meet.{MeetsBelow, GoesOn, GoesOnFrom, BeginsAt, KeptStarts, MarkTells, met_to, end_to}
 use Rattle.sedmarks.specs.Search.{starts_to}

@@ -20,14 +20,14 @@ use Rattle.sedneedles.specs.Needed.{IsLiteral, GoesOnAs, FirstLiteral}
 use Rattle.sedneedles.specs.declared.needed.Literal.{Literal}
 use Rattle.sedneedles.specs.Word.{WordSpans, AllWord}
 use Rattle.sedneedles.specs.Choice.{AllChoice, FirstChoice}
-use Rattle.sedmarks.specs.FarAhead.{Repeated, AllRepeat, IsRun}
+use Rattle.sedmarks.specs.RunsAhead.{Repeated, AllRepeat, IsRun}
 use Rattle.sedmatch.specs.Sight.{IsFirst, StartsWith, SightSpans, IsSight, CanStart, FirstWith, FirstStart, EndsAt}
 use Rattle.sedmatch.specs.declared.sight.First.{First}
 use Rattle.sedmatch.specs.declared.sight.First.TheVariants.{Among, Member}
 use Rattle.sedmatch.specs.declared.sight.Sight.{Sight}
 use Rattle.sedmatch.specs.declared.sight.Sight.TheVariants.{One, Run, Led, Trail, Times, Between, Word, Choice}
 use Rattle.sedmarks.proofs.ReachLemmas.{open_at, close_at}
-use Rattle.sedmarks.proofs.FarLemmas.{run_far}
+use Rattle.sedmarks.proofs.RunLemmas.{run_longest}
 use Rattle.sedneedles.proofs.TimesLemmas.{repeated_within}
 use Rattle.sedmarks.proofs.SpanLemmas.{Copies-forward}
 
@@ -156,10 +156,10 @@ pub end_one : (first : First) (w : List ℕ) (i : ℕ) → StartsWith first w i 
 end_one first w i starts = ((starts, refl), (let inside = starts_inside first w i starts in omega arith), λ k h. omega (arith, h.1))
 
 pub end_run : (members : List Bool) (w : List ℕ) (i k : ℕ) → IsRun members w i k → EndsAt (Run members) w i k
-end_run members w i k run = let far = run_far members w i k run in (far.1, far.0, far.2)
+end_run members w i k run = let far = run_longest members w i k run in (far.1, far.0, far.2)
 
 pub end_led : (first : First) (members : List Bool) (w : List ℕ) (i k : ℕ) → StartsWith first w i → IsRun members w (i + 1) k → EndsAt (Led first members) w i k
-end_led first members w i k starts run = let far = run_far members w (i + 1) k run in ((starts, far.1), far.0, λ j h. far.2 j h.1)
+end_led first members w i k starts run = let far = run_longest members w (i + 1) k run in ((starts, far.1), far.0, λ j h. far.2 j h.1)
 
 pub end_times : (members : List Bool) (count : ℕ) (w : List ℕ) (i : ℕ) → i ≤ length w → CanStart (Times members count) w i → EndsAt (Times members count) w i (i + count)
 end_times members count w i within can = ((can, refl), repeated_within members w i (i + count) within can, λ k h. omega (arith, h.1))

@@ -10,7 +10,7 @@ use Rattle.sedre.specs.declared.types.Node.{Node}
 use Rattle.sedre.specs.declared.types.Node.TheVariants.{Set}
 use Rattle.sedmarks.specs.declared.passes.Starts.{Starts}
 use Rattle.sedmarks.specs.declared.states.Ends.{Ends}
-use Rattle.sedmarks.specs.Local.{takes}
+use Rattle.sedmarks.specs.Matching.{takes}
 use Rattle.sedmarks.specs.Words.{AgreeBelow, row_of}
 use Rattle.sedmarks.specs.Reach.{Marked, Below, IsStart, Enters, TellEntered}
 use Rattle.sedmarks.specs.Places.{ComesAfter}

@@ -4,14 +4,14 @@ use Rattle.std.specs.Prelude.{slice_get, slice_index_or}
 use Rattle.std.proofs.lemmas.Bool.{cases_lt}
 use Rattle.sedre.specs.Tree.{set}
 use Rattle.sedmarks.specs.Spans.{Spans}
-use Rattle.sedmarks.specs.FarAhead.{Repeated, IsRun}
+use Rattle.sedmarks.specs.RunsAhead.{Repeated, IsRun}
 use Rattle.sedmatch.specs.Sight.{IsFirst, StartsWith, CanStart, FirstWith, FirstStart, EndsAt}
 use Rattle.sedmatch.specs.declared.sight.First.{First}
 use Rattle.sedmatch.specs.declared.sight.Sight.TheVariants.{Trail}
 use Rattle.sedmatch.specs.Trail.{RunBegins, LastWith}
 use Rattle.sedmarks.proofs.SpanLemmas.{Copies-forward}
 use Rattle.sedneedles.proofs.TimesLemmas.{repeated_cut, repeated_in}
-use Rattle.sedmarks.proofs.FarLemmas.{in_run, run_forward}
+use Rattle.sedmarks.proofs.RunLemmas.{in_run, run_forward}
 use Rattle.sedmarks.proofs.BeginningLemmas.{member_step}
 use Rattle.sedmatch.proofs.SightLemmas.{starts_inside}
 

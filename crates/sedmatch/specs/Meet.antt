@@ -8,7 +8,7 @@ use Rattle.sedre.specs.declared.types.Node.{Node}
 use Rattle.sedre.specs.declared.types.Node.TheVariants.{Set}
 use Rattle.sedmarks.specs.declared.passes.Starts.{Starts}
 use Rattle.sedmatch.specs.declared.meet.BackPass.{BackPass}
-use Rattle.sedmarks.specs.Local.{takes}
+use Rattle.sedmarks.specs.Matching.{takes}
 use Rattle.sedmarks.specs.Words.{row_of}
 use Rattle.sedmarks.specs.Reach.{At, IsStart, TellBegun, TellEntered, SomeSpan}
 use Rattle.sedmarks.specs.Search.{starts_to}

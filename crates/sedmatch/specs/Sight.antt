@@ -4,7 +4,7 @@ use Rattle.std.specs.Prelude.{◌≡◌, ℕ, ◌+◌, ◌<◌, ◌≤◌, ◌�
 use Rattle.memchr.specs.Find.{OccursAt}
 use Rattle.sedre.specs.Tree.{Tree}
 use Rattle.sedmarks.specs.Spans.{Spans, IsIn}
-use Rattle.sedmarks.specs.FarAhead.{Repeated}
+use Rattle.sedmarks.specs.RunsAhead.{Repeated}
 use Rattle.sedneedles.specs.Times.{HasTimes}
 use Rattle.sedmatch.specs.Between.{PartedSpans, CanPart}
 use Rattle.sedneedles.specs.Word.{WordSpans}

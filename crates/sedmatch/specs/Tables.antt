@@ -9,7 +9,7 @@ use Rattle.sedmatch.specs.declared.classes.Classes.{Classes}
 use Rattle.sedmatch.specs.declared.tables.Table.{Table}
 use Rattle.sedmatch.specs.declared.tables.Next.{Next}
 use Rattle.sedmatch.specs.declared.tables.Next.TheVariants.{To, Full}
-use Rattle.sedmarks.specs.Local.{takes}
+use Rattle.sedmarks.specs.Matching.{takes}
 use Rattle.sedmarks.specs.Reach.{IsStart, SomeSpan}
 use Rattle.sedmarks.specs.Words.{AgreeBelow, row_of}
 use Rattle.sedmarks.specs.States.{IsAt}

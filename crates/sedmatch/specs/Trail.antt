@@ -1,7 +1,7 @@
 -- Private to the proofs: no contract of a public item cites what stands here.
 -- A run of bytes of a set and one byte after it.
 use Rattle.std.specs.Prelude.{ℕ, ◌<◌, ◌≤◌, Bool, List, Option, Some, None}
-use Rattle.sedmarks.specs.FarAhead.{Repeated}
+use Rattle.sedmarks.specs.RunsAhead.{Repeated}
 use Rattle.sedmatch.specs.Sight.{StartsWith}
 use Rattle.sedmatch.specs.declared.sight.First.{First}
 

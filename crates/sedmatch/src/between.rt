@@ -12,7 +12,7 @@ ghost use Rattle.sedre.specs.Steps.{Takes};
 use crate::backwards::find_last;
 use memchr::memmem::{Finder, FinderRev};
 use sedmarks::counted::Text;
-use sedmarks::far_ahead::star_set;
+use sedmarks::runs_ahead::star_set;
 use sedneedles::few::{Few, with_byte};
 use sedneedles::lookups::{find_few, find_literal};
 use sedneedles::needed::{Literal, literal_from};

@@ -380,7 +380,7 @@ fn last_by(
     }
 }
 
-/// Where the first match ends, in a text as it is, and the marks there.
+/// Where the first match ends, in a text read forwards, and the marks there.
 pub fn first_end_in(
     expr: &Expr,
     root: usize,
@@ -403,7 +403,7 @@ pub fn first_end_in(
     first_end(&nodes, root, &bytes, from, table, sets, steps)
 }
 
-/// Up to where matches can end, in a text as it is.
+/// Up to where matches can end, in a text read forwards.
 fn bound_in(
     expr: &Expr,
     root: usize,

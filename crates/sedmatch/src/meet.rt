@@ -59,7 +59,7 @@ fn root_of(most: usize) -> usize
     32768
 }
 
-/// Room for texts of at most so many bytes and expressions of at most so many nodes.
+/// Room for texts of at most `max_text` bytes and expressions of at most `max_nodes` nodes.
 pub fn new_back_pass(
     alloc: Global,
     max_text: usize,

@@ -368,7 +368,7 @@ pub fn longest_to(
     }
 }
 
-/// The end of the longest match that begins at `start`, in a text as it is.
+/// The end of the longest match that begins at `start`, in a text read forwards.
 pub fn longest_in(
     expr: &Expr,
     root: usize,
@@ -475,8 +475,8 @@ impl TableMatcher {
         TableMatcher::with_states(alloc, expr, STATES)
     }
 
-    /// The same with tables of at most so many states, 64 or fewer. The answers are the same for each number, 0
-    /// included: fewer states take less room, and more time where an expression comes to more.
+    /// Makes a matcher whose tables hold at most `states` states, 0 to 64. The answers don't depend on the number: fewer
+    /// states take less room, and more time for an expression that reaches more of them.
     pub fn with_states(
         alloc: Global,
         expr: &Expr,
@@ -582,7 +582,7 @@ impl TableMatcher {
         )
     }
 
-    /// The leftmost-longest match that begins at `from` or later, with its groups. None just where there is none.
+    /// The leftmost-longest match that begins at `from` or later, with its groups. `None` exactly where there is no match.
     pub fn find(
         &mut self,
         text: &Text,

@@ -115,7 +115,7 @@ fn classes_of(alloc: Global, expr: &Expr) -> Result<Classes, AllocError>
     find_classes(alloc, &nodes)
 }
 
-/// Empty tables for the expression, of so many states each at most.
+/// Empty tables for the expression, of at most `states` states each.
 pub fn new_tables(
     alloc: Global,
     expr: &Expr,

@@ -19,10 +19,10 @@ use crate::between::{Between, between_of};
 use crate::trail::{trail_end, trail_start};
 use crate::word::{Word, word_of};
 use sedmarks::counted::{Text, are_bytes};
-use sedmarks::far_ahead::star_set;
 use sedmarks::groups::report;
 use sedmarks::matcher::Found;
 use sedmarks::members::{find_member, run_end};
+use sedmarks::runs_ahead::star_set;
 use sedmarks::scratch::Scratch;
 use sedneedles::choice::{Choice, choice_of};
 use sedneedles::few::{Few, members_of};
@@ -63,7 +63,7 @@ pub enum Sight {
     Led(First, ByteSet),
     /// Bytes of the set, any number of them, and one byte.
     Trail(ByteSet, First),
-    /// So many bytes of the set.
+    /// As many bytes of the set as the number says.
     Times(ByteSet, usize),
     /// A literal, bytes of a set, and another literal.
     Between(Between),

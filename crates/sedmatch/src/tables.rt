@@ -368,7 +368,7 @@ fn fill(
     }
 }
 
-/// What comes after a state and a byte, after so many bytes that were passed by filled cells.
+/// The state that follows `state` at `byte`. `passed` bytes were passed by filled cells before.
 #[inline(always)]
 pub fn go(
     expr: &Nodes,
@@ -471,8 +471,8 @@ pub(crate) fn add_looks(bytes: &Tally, steps: &mut Steps)
     steps.add(bytes.count());
 }
 
-/// Follows filled cells as far as no match ends: to a place, or to one before it at which the byte has no such
-/// cell.
+/// Follows filled cells to `to`, or to the first place before it at which a match ends or the byte's cell isn't
+/// filled.
 pub fn follow_to(
     expr: &Nodes,
     root: usize,
@@ -539,7 +539,7 @@ pub fn follow(
     follow_to(expr, root, table, text, state, from, text.len(), steps)
 }
 
-/// Goes on as long as a filled cell leads from a state to itself, up to a place at most, if matches end at the state.
+/// Passes the bytes whose filled cell leads from `state` to itself, up to `to`: none, unless matches end at the state.
 pub fn stay(
     expr: &Nodes,
     root: usize,
@@ -566,7 +566,7 @@ pub fn stay(
     stay_on(expr, root, table, text, state, from, to, steps)
 }
 
-/// The same at a state at which matches end.
+/// Passes the bytes whose filled cell leads from `state`, at which matches end, to itself, up to `to`.
 pub fn stay_on(
     expr: &Nodes,
     root: usize,
@@ -654,8 +654,8 @@ fn new_index(alloc: Global, states: usize) -> Result<Vec<u8>, AllocError>
     vec![in alloc; 0; SLOTS * states + 1]
 }
 
-/// An empty table with room for so many states, for fewer where there are many classes of bytes, and for none where
-/// those are more than suits the expression.
+/// An empty table with room for at most `states` states: fewer where there are many classes of bytes, and none where
+/// there are too many for the expression.
 pub fn new_table(
     alloc: Global,
     expr: &Nodes,

@@ -36,7 +36,7 @@ fn new_word(alloc: Global, bytes: &[u8]) -> Result<Word, AllocError>
     })
 }
 
-/// The literal that the matches are, where it has two bytes or more. A single byte is sought faster as one.
+/// The literal that every match is, where it has two bytes or more. A single byte is sought faster as one.
 pub fn word_of(alloc: Global, expr: &Expr, steps: &mut Steps) -> Result<Option<Word>, AllocError>
     ensures word { IfOk result (λ r. IfSome r (λ w. AllWord expr.now.nodes (length expr.now.nodes - 1) w)) }
     ensures cost { Takes steps.old steps.new 131074 }

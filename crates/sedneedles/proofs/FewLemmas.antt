@@ -5,11 +5,10 @@ use Rattle.std.proofs.lemmas.Bool.{eqb-true, eq-eqb, or_left, or_right, or_cases
 use Rattle.std.proofs.lemmas.List.{take_rest, get_or-drop}
 use Rattle.std.proofs.lemmas.Option.{slice_get_within, get_or_from_slice_get, slice_get-get_or}
 use Rattle.memchr.specs.Find.{Passes, IsFirstByte, is_byte, is_byte2, is_byte3}
+use Rattle.sedre.specs.Sets.{has}
 use Rattle.sedmarks.specs.Spans.{IsIn}
 use Rattle.sedmarks.specs.Bytes.{looked_at}
-use Rattle.sedmarks.specs.Beginnings.{EitherHas}
-use Rattle.sedmarks.specs.declared.beginnings.Begins.TheVariants.{WithByte, WithSet, WithEither}
-use Rattle.sedmarks.specs.declared.beginnings.Either.{Either}
+use Rattle.sedmarks.specs.declared.beginnings.Begins.TheVariants.{WithByte, WithSet}
 use Rattle.sedneedles.specs.Few.{HasFew, FewAt, FirstFew, Gathered, AreMembers, IsFewOf, FewOf}
 use Rattle.sedneedles.specs.declared.few.Few.{Few}
 use Rattle.sedneedles.specs.declared.few.Few.TheVariants.{One, Two, Three}
@@ -102,20 +101,20 @@ pub few_looked : (few : Few) (w : List ℕ) (p s0 s1 : ℕ) (r : Option ℕ) →
 few_looked few w p s0 s1 None from none cost = omega (arith, cost)
 few_looked few w p s0 s1 (Some k) from first cost = let inside = few_inside few w k first.1 in omega (arith, first.0, inside, cost)
 
--- the members of sets among the first bytes are those gathered
-abbrev pub AllGathered : Either → ℕ → Option Few → Type 0
-AllGathered sets n few = (c : ℕ) → Gathered few c ↔ ((c < n) × EitherHas sets c)
+-- the members of a set among the first bytes are those gathered
+abbrev pub AllGathered : List Bool → ℕ → Option Few → Type 0
+AllGathered set n few = (c : ℕ) → Gathered few c ↔ ((c < n) × IsIn c set)
 
-pub gather_none : (sets : Either) → AllGathered sets 0 None
-gather_none sets c = ((λ h. absurd h), (λ h. absurd (omega (arith, h.0))))
+pub gather_none : (set : List Bool) → AllGathered set 0 None
+gather_none set c = ((λ h. absurd h), (λ h. absurd (omega (arith, h.0))))
 
-module _ (sets : Either) (n byte : ℕ) (few : Option Few) (same : byte ≡ n) (before : AllGathered sets n few) where
-  pub gather_more : (f : Few) → EitherHas sets byte → ((c : ℕ) → HasFew f c ↔ (Gathered few c ⊎ (c ≡ byte))) → AllGathered sets (n + 1) (Some f)
+module _ (set : List Bool) (n byte : ℕ) (few : Option Few) (same : byte ≡ n) (before : AllGathered set n few) where
+  pub gather_more : (f : Few) → IsIn byte set → ((c : ℕ) → HasFew f c ↔ (Gathered few c ⊎ (c ≡ byte))) → AllGathered set (n + 1) (Some f)
   gather_more f has joins c = (
     (λ h.
         ⊎_elim
         (λ (old : Gathered few c). let is = (before c).0 old in (omega (arith, is.0), is.1))
-        (λ (new : c ≡ byte). (omega arith, subst (EitherHas sets) (sym new) has))
+        (λ (new : c ≡ byte). (omega arith, subst (λ b. IsIn b set) (sym new) has))
         ((joins c).0 h)),
     (λ h.
         ⊎_elim
@@ -124,44 +123,37 @@ module _ (sets : Either) (n byte : ℕ) (few : Option Few) (same : byte ≡ n) (
         (cases_lt c n)),
   )
 
-  pub gather_same : (EitherHas sets byte → ⊥) → AllGathered sets (n + 1) few
+  pub gather_same : (IsIn byte set → ⊥) → AllGathered set (n + 1) few
   gather_same lacks c = (
     (λ h. let is = (before c).0 h in (omega (arith, is.0), is.1)),
     (λ h.
         ⊎_elim
         (λ (lt : c < n). (before c).1 (lt, h.1))
-        (λ (ge : n ≤ c). absurd (lacks (subst (EitherHas sets) (omega (arith, h.0)) h.1)))
+        (λ (ge : n ≤ c). absurd (lacks (subst (λ b. IsIn b set) (omega (arith, h.0)) h.1)))
         (cases_lt c n)),
   )
 
-pub gather_all : (sets : Either) (few : Option Few) → AllGathered sets 256 few → IfSome few (AreMembers sets)
-gather_all sets None all = tt
-gather_all sets (Some few) all = λ c small. ((λ h. ((all c).0 h).1), (λ h. (all c).1 (small, h)))
-
--- one set in place of four
-abbrev pub four_times : List Bool → Either
-four_times s = record { first = s; second = s; third = s; fourth = s }
-
-one_set : (s : List Bool) (c : ℕ) → EitherHas (four_times s) c ↔ IsIn c s
-one_set s c = (
-  (λ h.
-      ⊎_elim (λ (first : IsIn c s). first)
-      (λ (more : IsIn c s ⊎ (IsIn c s ⊎ IsIn c s)). ⊎_elim (λ (second : IsIn c s). second) (λ (last : IsIn c s ⊎ IsIn c s). ⊎_elim (λ (third : IsIn c s). third) (λ (fourth : IsIn c s). fourth) last) more) h),
-  (λ h. inl h),
-)
-
-pub set_members : (s : List Bool) (r : Option Few) → IfSome r (AreMembers (four_times s)) → IfSome r (λ f. (c : ℕ) → c < 256 → HasFew f c ↔ IsIn c s)
-set_members s None are = tt
-set_members s (Some few) are = λ c small. ((λ h. (one_set s c).0 ((are c small).0 h)), (λ h. (are c small).1 ((one_set s c).1 h)))
+pub gather_all : (set : List Bool) (few : Option Few) → AllGathered set 256 few → IfSome few (AreMembers set)
+gather_all set None all = tt
+gather_all set (Some few) all = λ c small. ((λ h. ((all c).0 h).1), (λ h. (all c).1 (small, h)))
 
 -- what begins so begins with one of the few
 pub few_byte : (b : ℕ) → IsFewOf (WithByte b) (One b)
 few_byte b w bytes i can = (b, can, refl)
 
-pub few_sets : (s : Either) (r : Option Few) → IfSome r (AreMembers s) → FewOf (WithEither s) r
-few_sets s None are = tt
-few_sets s (Some few) are = λ w bytes i can. (can.0, can.1, (are can.0 (bytes i can.0 can.1)).1 can.2)
-
-pub few_set : (s : List Bool) (r : Option Few) → IfSome r (λ f. (c : ℕ) → c < 256 → HasFew f c ↔ IsIn c s) → FewOf (WithSet s) r
+pub few_set : (s : List Bool) (r : Option Few) → IfSome r (AreMembers s) → FewOf (WithSet s) r
 few_set s None are = tt
 few_set s (Some few) are = λ w bytes i can. (can.0, can.1, (are can.0 (bytes i can.0 can.1)).1 can.2)
+
+-- the few of two sets
+pub few_of_both : (these those both : List Bool) → ((b : ℕ) → has both b ≡ (has these b || has those b)) → (r : Option Few) → IfSome r (AreMembers both) →
+    IfSome r (λ f. (c : ℕ) → c < 256 → HasFew f c ↔ (IsIn c these ⊎ IsIn c those))
+few_of_both these those both members None are = tt
+few_of_both these those both members (Some few) are = λ c small. (
+  (λ h. or_cases (has these c) (has those c) (sym (members c) ∙ (are c small).0 h)),
+  (λ h.
+      (are c small).1
+      (members c
+      ∙ ⊎_elim (λ (l : IsIn c these). or_left (has these c) (has those c) l)
+      (λ (r : IsIn c those). or_right (has these c) (has those c) r) h)),
+)

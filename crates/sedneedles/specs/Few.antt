@@ -1,10 +1,10 @@
 -- Private to the proofs: no contract of a public item cites what stands here.
 -- Up to three bytes, one of which is sought.
-use Rattle.std.specs.Prelude.{◌≡◌, ◌⊎◌, ℕ, ◌<◌, ◌≤◌, ◌↔◌, List, length, slice_get, slice_index, Option, Some, None}
+use Rattle.std.specs.Prelude.{Bool, ◌≡◌, ◌⊎◌, ℕ, ◌<◌, ◌≤◌, ◌↔◌, List, length, slice_get, slice_index, Option, Some, None}
 use Rattle.sedmarks.specs.Bytes.{AreBytes}
-use Rattle.sedmarks.specs.Beginnings.{CanBegin, EitherHas}
+use Rattle.sedmarks.specs.Spans.{IsIn}
+use Rattle.sedmarks.specs.Beginnings.{CanBegin}
 use Rattle.sedmarks.specs.declared.beginnings.Begins.{Begins}
-use Rattle.sedmarks.specs.declared.beginnings.Either.{Either}
 use Rattle.sedneedles.specs.declared.few.Few.{Few}
 use Rattle.sedneedles.specs.declared.few.Few.TheVariants.{One, Two, Three}
 
@@ -32,9 +32,9 @@ abbrev pub Gathered : Option Few → ℕ → Type 0
 Gathered None c = ⊥
 Gathered (Some few) c = HasFew few c
 
--- each byte is in one of the sets just where it is one of the few
-abbrev pub AreMembers : Either → Few → Type 0
-AreMembers sets few = (c : ℕ) → c < 256 → HasFew few c ↔ EitherHas sets c
+-- the few are the members of the set
+abbrev pub AreMembers : List Bool → Few → Type 0
+AreMembers set few = (c : ℕ) → c < 256 → HasFew few c ↔ IsIn c set
 
 -- what begins so begins with one of the few
 abbrev pub IsFewOf : Begins → Few → Type 0

@@ -49,7 +49,7 @@ fn last_apart(bytes: &[u8], first: &Fixed, second: &Fixed, reach: usize, place: 
     last + LANES
 }
 
-/// A place such that from `from` up to it the two stand together nowhere, as far as whole vectors tell.
+/// A place before which, from `from` on, the two never stand together; only whole vectors are looked at.
 pub fn apart_to(bytes: &[u8], first: &Fixed, second: &Fixed, from: usize) -> usize
     requires from { from ≤ length bytes.now }
     ensures after { from ≤ result }

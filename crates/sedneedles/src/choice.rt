@@ -26,10 +26,10 @@ use std::marker::Model;
 /// The most literals of a choice.
 const MAX_LITERALS: usize = 8;
 
-/// The most bytes that they have together.
+/// The most bytes that the literals of a choice have together.
 pub const MAX_BYTES: usize = 20;
 
-/// One of the literals.
+/// A literal of a choice.
 #[derive(Drop)]
 pub struct Alternative {
     bytes: Vec<u8>,
@@ -125,7 +125,7 @@ fn branches_of(expr: &Expr, index: usize, steps: &mut Steps) -> Branches
     }
 }
 
-/// The literal that the spans of the node are, where it has a byte or more, and at most so many.
+/// The literal that the spans of the node are, where it has a byte or more, and at most `most`.
 fn literal_at(
     alloc: Global,
     expr: &Expr,

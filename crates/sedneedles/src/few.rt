@@ -1,11 +1,10 @@
 //! Up to three bytes, one of which is sought.
 ghost use Rattle.std.specs.Prelude.{◌≡◌, ℕ, ◌<◌, ◌↔◌, ◌⊎◌, IfSome, IsTrue};
-ghost use Rattle.sedmarks.specs.Spans.{IsIn};
 ghost use Rattle.sedneedles.specs.Few.{FewOf, AreMembers, Gathered, HasFew, HasZeros, FirstFew};
 ghost use Rattle.sedneedles.specs.declared.few.Few.TheVariants.{Two, Three};
 
 use memchr::{memchr, memchr2, memchr3};
-use sedmarks::beginnings::{Begins, Either};
+use sedmarks::beginnings::Begins;
 use sedre::ByteSet;
 use std::simd::prelude::*;
 
@@ -92,29 +91,17 @@ pub fn with_byte(few: Option<Few>, byte: u8) -> Option<Few>
     }
 }
 
-/// The members of the sets, where there are one to three in all.
-pub fn few_in(sets: &Either) -> Option<Few>
-    ensures { IfSome result (AreMembers sets.now) }
+/// The members of the set, where it has one to three.
+pub fn members_of(set: &ByteSet) -> Option<Few>
+    ensures { IfSome result (AreMembers set.now) }
 {
     let mut few = None;
     for byte in 0..256usize {
-        if sets.has(byte as u8) {
+        if set.has(byte as u8) {
             few = Some(with_byte(few, byte as u8)?);
         }
     }
     few
-}
-
-/// The members of the set, where it has one to three.
-pub fn members_of(set: &ByteSet) -> Option<Few>
-    ensures { IfSome result (λ f. (c : ℕ) → c < 256 → HasFew f c ↔ IsIn c set.now) }
-{
-    few_in(&Either {
-        first: *set,
-        second: *set,
-        third: *set,
-        fourth: *set,
-    })
 }
 
 /// The bytes with which a match begins, where they are few.
@@ -124,7 +111,6 @@ pub fn few_of(begins: &Begins) -> Option<Few>
     match begins {
         Begins::WithByte(byte) => Some(Few::One(*byte)),
         Begins::WithSet(set) => members_of(set),
-        Begins::WithEither(sets) => few_in(sets),
         _ => None,
     }
 }

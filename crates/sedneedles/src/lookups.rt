@@ -113,7 +113,7 @@ pub fn find_choice(
     }
 }
 
-/// The same by the two bytes with which each begins.
+/// The first place at which one of the literals stands, sought by the two bytes with which each begins.
 /// Counts two looks and the most bytes of all literals for each byte from `from` to that place, or to the end where there
 /// is none.
 pub fn find_opened(

@@ -23,7 +23,7 @@ pub struct Opening {
     pub second: u8,
 }
 
-/// The first two bytes of each of the literals, where each has so many.
+/// The first two bytes of each of the literals, where each has two or more.
 pub fn openings_of(
     alloc: Global,
     literals: &[Alternative],

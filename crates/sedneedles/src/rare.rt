@@ -13,11 +13,11 @@ ghost use Rattle.sedmarks.specs.Nodes.{IsNode};
 ghost use Rattle.sedmarks.specs.Costs.{Pays};
 ghost use Rattle.sedre.specs.Steps.{Takes};
 
-use crate::few::{Few, few_in, few_of, members_of};
+use crate::few::{Few, few_of, members_of};
 use crate::lookups::{find_few, pass_apart};
 use crate::needed::{Link, link_of};
 use sedmarks::ahead::{Lead, look_ahead};
-use sedmarks::beginnings::{Begins, Either, next_start};
+use sedmarks::beginnings::{Begins, next_start};
 use sedmarks::counted::{Text, are_bytes};
 use sedre::{ByteSet, Expr, Node, Steps};
 
@@ -316,12 +316,7 @@ fn second_of_two(expr: &Expr, steps: &mut Steps) -> Option<Fixed>
 fn few_of_two(first: ByteSet, second: ByteSet) -> Option<Few>
     ensures { IfSome result (λ f. (c : ℕ) → c < 256 → HasFew f c ↔ (IsIn c first ⊎ IsIn c second)) }
 {
-    few_in(&Either {
-        first,
-        second,
-        third: first,
-        fourth: second,
-    })
+    members_of(&first.union(&second))
 }
 
 /// The same with what is held too.

@@ -26,7 +26,7 @@ impl Model for Rows {
 }
 
 impl Rows {
-    /// So many rows of so many marks.
+    /// `count` rows of `marks` marks.
     pub fn new(alloc: Global, count: usize, marks: usize) -> Result<Rows, AllocError>
         requires few { count ≤ 65536 }
         requires short { marks ≤ 65536 }

@@ -1,7 +1,7 @@
 use Rattle.std.proofs.Common.{◌≡◌, ℕ, ◌+◌, ◌*◌, ◌<◌, ◌≤◌, ◌⊎◌, List, length}
 use Rattle.sedmarks.specs.Reach.{At}
 use Rattle.sedmarks.specs.Beginnings.{AllAt, CanBegin}
-use Rattle.sedmarks.specs.declared.beginnings.Begins.TheVariants.{WithEither}
+use Rattle.sedmarks.specs.declared.beginnings.Begins.TheVariants.{WithSet}
 use Rattle.sedmarks.proofs.beginnings.begins_either.Given as goal
 
 abbrev pub invariant-loop-turn : goal.invariant-loop-turn
@@ -9,9 +9,6 @@ invariant-loop-turn l = record {
   inside : l.rest < length l.expr.nodes;
   grows : l.initial.steps ≤ l.steps;
   cost : l.steps + 2 * length l.expr.nodes ≤ l.initial.steps + 2 * length l.expr.nodes * l._turn;
-  second : l._turn ≤ 1 → l.sets.second ≡ l.sets.first;
-  third : l._turn ≤ 2 → l.sets.third ≡ l.sets.first;
-  fourth : l._turn ≤ 3 → l.sets.fourth ≡ l.sets.first;
-  left : AllAt l.expr.nodes l.left (WithEither l.sets);
-  right : (w : List ℕ) (i j : ℕ) → At l.expr.nodes w l.right i j → CanBegin (WithEither l.sets) w i ⊎ ((k : ℕ) × At l.expr.nodes w l.rest i k);
+  left : AllAt l.expr.nodes l.left (WithSet l.members);
+  right : (w : List ℕ) (i j : ℕ) → At l.expr.nodes w l.right i j → CanBegin (WithSet l.members) w i ⊎ ((k : ℕ) × At l.expr.nodes w l.rest i k);
 }

@@ -13,11 +13,11 @@ loop-task-init c =
     let nodes = c.args.expr.now.nodes in
     let w = c.args.text.now in
     let first : Task = Enter c.args.root c.args.start c.args.stop in
-    let begun : reverse c.put_task.new.tasks.items ≡ first ∷ [] =
-    ap reverse (c.put_task.ensures.items ∙ ap (λ (xs : List Task). xs ++ (first ∷ [])) c.requires.plan.0) in
-    let weight : weights nodes (reverse c.put_task.new.tasks.items) ≡ weights nodes (first ∷ []) = ap (weights nodes) begun in
+    let begun : reverse c.push_reserved.new.self.items ≡ first ∷ [] =
+    ap reverse (c.push_reserved.ensures.items ∙ ap (λ (xs : List Task). xs ++ (first ∷ [])) c.requires.plan.0) in
+    let weight : weights nodes (reverse c.push_reserved.new.self.items) ≡ weights nodes (first ∷ []) = ap (weights nodes) begun in
     let small = c.requires.sizes c.args.root c.requires.root in
-    let low : weights nodes (reverse c.put_task.new.tasks.items) ≤ 2 * length nodes = omega (arith, weight, small) in
+    let low : weights nodes (reverse c.push_reserved.new.self.items) ≤ 2 * length nodes = omega (arith, weight, small) in
     record {
       places = refl;
       stack_empty = c.requires.plan.1;
@@ -26,7 +26,7 @@ loop-task-init c =
       ready = subst (λ ts. IsReady nodes w ts) (sym begun) (c.requires.root, c.requires.order.0, c.requires.order.1, c.requires.spans, tt);
       grows = omega arith;
       cost = decide_start nodes (46 * length nodes * (length w + 1) * (length w + 1) + 1 + length nodes) (length nodes) c.args.steps.now c.args.root c.args.start c.args.stop
-          (reverse c.put_task.new.tasks.items) begun small;
+          (reverse c.push_reserved.new.self.items) begun small;
       less = low;
       caps = λ f run.
           let one : Run nodes w (first ∷ []) c.args.groups.now f = subst (λ ts. Run nodes w ts c.args.groups.now f) begun run in

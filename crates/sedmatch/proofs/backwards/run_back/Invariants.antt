@@ -1,5 +1,5 @@
 use Rattle.std.proofs.Common.{◌≤◌}
-use Rattle.sedmarks.specs.FarAhead.{Repeated}
+use Rattle.sedmarks.specs.RunsAhead.{Repeated}
 use Rattle.sedmatch.proofs.backwards.run_back.Given as goal
 
 abbrev pub invariant-loop-place : goal.invariant-loop-place

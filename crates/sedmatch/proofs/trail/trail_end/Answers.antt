@@ -1,5 +1,5 @@
 use Rattle.std.proofs.Common.{◌≡◌, ◌+◌, length, min, arith}
-use Rattle.sedmarks.proofs.FarLemmas.{run_forward}
+use Rattle.sedmarks.proofs.RunLemmas.{run_forward}
 use Rattle.sedmatch.proofs.TrailLemmas.{trail_last, trail_some}
 use Rattle.sedmatch.proofs.trail.trail_end.Goals as goal
 

@@ -1,5 +1,5 @@
 use Rattle.std.proofs.Common.{ℕ, ◌+◌, ◌-◌, ◌<◌, ◌≤◌, length}
-use Rattle.sedmarks.specs.FarAhead.{Repeated}
+use Rattle.sedmarks.specs.RunsAhead.{Repeated}
 use Rattle.sedneedles.proofs.times.find_times.Given as goal
 
 abbrev pub invariant-loop-start : goal.invariant-loop-start

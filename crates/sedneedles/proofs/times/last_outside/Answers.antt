@@ -1,6 +1,6 @@
 use Rattle.std.proofs.Common.{◌≡◌, ◌-◌, subst, arith}
 use Rattle.sedmarks.specs.Spans.{no_copy}
-use Rattle.sedmarks.specs.FarAhead.{Repeated}
+use Rattle.sedmarks.specs.RunsAhead.{Repeated}
 use Rattle.sedneedles.proofs.TimesLemmas.{repeated_more}
 use Rattle.sedneedles.proofs.times.last_outside.Goals as goal
 
