@@ -91,19 +91,7 @@ MayAct n (Some a) = ActionWithin n a
 
 simple_within : (n : Sizes) (s : Simple) → ActionWithin n (simple_action s)
 simple_within n Delete = tt
-simple_within n LineNumber = tt
-simple_within n Print = tt
-simple_within n Quit = tt
-simple_within n PrintFirst = tt
-simple_within n CopyHold = tt
-simple_within n AppendHold = tt
-simple_within n Hold = tt
-simple_within n HoldMore = tt
-simple_within n Exchange = tt
-simple_within n NextLine = tt
-simple_within n AppendNext = tt
-simple_within n DeleteFirst = tt
-simple_within n ListSpace = tt
+simple_within n other = tt
 
 text_within : (n : Sizes) (k : ℕ) (u : TextUse) → k < n.texts → ActionWithin n (text_action u k)
 text_within n k Append h = h

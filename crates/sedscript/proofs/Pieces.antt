@@ -25,28 +25,28 @@ pub part_added : (old mid new : List Part) (part : Part) (run bytes : List ℕ) 
 part_added old mid new part run bytes p e grown is none =
     ap (λ (z : List ℕ). pieces_with new z) none ∙ (append-nil (pieces_in new) ∙ (ap pieces_in grown ∙ (pieces_append mid (part ∷ []) ∙ (ap (λ (z : List Piece). z ++ pieces_in (part ∷ [])) e ∙ ap (λ (z : List Piece). pieces_with old run ++ z) is))))
 
--- a digit's group is at most 9
+-- a digit's group is from 1 to 9, since 0 is the whole match
 abbrev OfPiece : ℕ → Option Piece → Type 0
 OfPiece n None = Unit {0}
 OfPiece n (Some (literal b)) = Unit {0}
 OfPiece n (Some whole) = Unit {0}
-OfPiece n (Some (group k)) = k ≤ n
+OfPiece n (Some (group k)) = (1 ≤ k) × (k ≤ n)
 
-if_within : (n : ℕ) (t : Bool) (x y : Option Piece) → (t ≡ true → OfPiece n x) → OfPiece n y → OfPiece n (if t then x else y)
+if_within : (n : ℕ) (t : Bool) (x y : Option Piece) → (t ≡ true → OfPiece n x) → (t ≡ false → OfPiece n y) → OfPiece n (if t then x else y)
 if_within n true x y h g = h refl
-if_within n false x y h g = g
+if_within n false x y h g = g refl
 
-digit_within : (b : ℕ) → is_digit b ≡ true → b - 48 ≤ 9
-digit_within b h = grind (arith, nat_tests)
+digit_within : (b : ℕ) → (b == 48) ≡ false → is_digit b ≡ true → (1 ≤ b - 48) × (b - 48 ≤ 9)
+digit_within b n h = (grind (arith, nat_tests), grind (arith, nat_tests))
 
 escaped_within : (d b : ℕ) → OfPiece 9 (escaped_piece d b)
 escaped_within d b =
     if_within 9 (b == d) _ _ (λ _. tt)
-    (if_within 9 (b == 48) _ _ (λ _. tt)
-    (if_within 9 (is_digit b) _ _ (digit_within b)
-    (if_within 9 (b == 110) _ _ (λ _. tt)
-    (if_within 9 (b == 116) _ _ (λ _. tt)
-    (if_within 9 (is_letter b) _ _ (λ _. tt) tt)))))
+    (λ _. if_within 9 (b == 48) _ _ (λ _. tt)
+    (λ n. if_within 9 (is_digit b) _ _ (digit_within b n)
+    (λ _. if_within 9 (b == 110) _ _ (λ _. tt)
+    (λ _. if_within 9 (b == 116) _ _ (λ _. tt)
+    (λ _. if_within 9 (is_letter b) _ _ (λ _. tt) (λ _. tt))))))
 
 plain_within : (t : Bool) (b : ℕ) → OfPiece 9 (Some (if t then whole else literal b))
 plain_within true b = tt
@@ -54,13 +54,13 @@ plain_within false b = tt
 
 piece_within : (d : ℕ) (escaped : Bool) (b : ℕ) → OfPiece 9 (piece_of d escaped b)
 piece_within d true b = escaped_within d b
-piece_within d false b = if_within 9 (b == 92) _ _ (λ _. tt) (plain_within (b == 38) b)
+piece_within d false b = if_within 9 (b == 92) _ _ (λ _. tt) (λ _. plain_within (b == 38) b)
 
 with_within : (n : ℕ) (o : Option Piece) (ps : List Piece) → OfPiece n o → GroupsWithin n ps → GroupsWithin n (with_piece o ps)
 with_within n None ps h g = g
 with_within n (Some (literal b)) ps h g = g
 with_within n (Some whole) ps h g = g
-with_within n (Some (group k)) ps h g = (h, g)
+with_within n (Some (group k)) ps h g = (h.0, h.1, g)
 
 from_within : (d : ℕ) (escaped : Bool) (bs : List ℕ) → GroupsWithin 9 (pieces_from d escaped bs)
 from_within d escaped [] = tt

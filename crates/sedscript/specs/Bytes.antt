@@ -1,16 +1,14 @@
 -- Places of a text, counted from 0.
-use Rattle.std.specs.Prelude.{ℕ, suc, ◌+◌, ◌*◌, ◌-◌, ◌^◌, List, [], ◌∷◌, drop, take, Bool, false, not, ◌&&◌, ◌||◌}
-use Rattle.std.specs.Prelude.{Option, Some, None, if◌then◌else◌, nat_lt, nat_le, ◌==◌}
+use Rattle.std.specs.Prelude.{ℕ, suc, ◌+◌, ◌*◌, ◌-◌, ◌^◌, List, [], ◌∷◌, drop, take, Bool, false, not, ◌||◌}
+use Rattle.std.specs.Prelude.{Option, Some, None, if◌then◌else◌, nat_lt, ◌==◌}
 use Rattle.sedscript.specs.declared.bytes.Sort.{Sort}
 use Rattle.sedscript.specs.declared.bytes.Sort.TheVariants.{Blank, Separator, Bang, Digit, Name, Line}
+-- a decimal digit
+pub use Rattle.sedre.specs.Classes.{is_digit}
 
 -- a space or a tab (XBD 7.3.1, blank)
 abbrev pub is_blank : ℕ → Bool
 is_blank b = b == 32 || b == 9
-
--- a decimal digit
-abbrev pub is_digit : ℕ → Bool
-is_digit b = nat_le 48 b && nat_le b 57
 
 -- whether a byte is of the sort. Blanks, newlines and semicolons stand between commands
 -- (XCU sed, "Extended Description"). A label ends at a newline or a semicolon, and at a blank or a closing brace too

@@ -4,11 +4,8 @@ use Rattle.sedre.specs.Arena.{Written}
 use Rattle.sedscript.specs.declared.types.Address.{Address}
 use Rattle.sedscript.specs.declared.types.Address.TheVariants.{Line, Last, Match}
 use Rattle.sedscript.specs.declared.types.Action.{Action}
-use Rattle.sedscript.specs.declared.types.Action.TheVariants.{Block, Branch, Change, Delete, Insert, Print, Quit}
-use Rattle.sedscript.specs.declared.types.Action.TheVariants.{LineNumber, Substitute, Test, Transliterate}
-use Rattle.sedscript.specs.declared.types.Action.TheVariants.{AppendHold, CopyHold, Exchange, Hold, HoldMore, PrintFirst}
-use Rattle.sedscript.specs.declared.types.Action.TheVariants.{Append, AppendNext, DeleteFirst, NextLine, ReadFile}
-use Rattle.sedscript.specs.declared.types.Action.TheVariants.{List as ListSpace, WriteFile}
+use Rattle.sedscript.specs.declared.types.Action.TheVariants.{Block, Branch, Test, Append, Change, Insert, Substitute}
+use Rattle.sedscript.specs.declared.types.Action.TheVariants.{Transliterate, ReadFile, WriteFile}
 use Rattle.sedscript.specs.declared.types.Command.{Command}
 use Rattle.sedscript.specs.declared.substitution.Substitution.{Substitution}
 use Rattle.sedscript.specs.Script.{Program}
@@ -63,20 +60,7 @@ ActionWithin n (Substitute k) = k < n.substitutions
 ActionWithin n (Transliterate k) = k < n.tables
 ActionWithin n (ReadFile k) = k < n.rfiles
 ActionWithin n (WriteFile sink) = sink ≤ n.wfiles
-ActionWithin n Delete = Unit {0}
-ActionWithin n Print = Unit {0}
-ActionWithin n Quit = Unit {0}
-ActionWithin n LineNumber = Unit {0}
-ActionWithin n PrintFirst = Unit {0}
-ActionWithin n CopyHold = Unit {0}
-ActionWithin n AppendHold = Unit {0}
-ActionWithin n Hold = Unit {0}
-ActionWithin n HoldMore = Unit {0}
-ActionWithin n Exchange = Unit {0}
-ActionWithin n AppendNext = Unit {0}
-ActionWithin n DeleteFirst = Unit {0}
-ActionWithin n ListSpace = Unit {0}
-ActionWithin n NextLine = Unit {0}
+ActionWithin n other = Unit {0}
 
 pub record CommandWithin (n : Sizes) (c : Command) : Type 0 where
   pub first : AddressWithin n.expressions c.first

@@ -1,6 +1,6 @@
 -- Replacements (XCU sed, "Editing Commands in sed": `s`).
-use Rattle.std.specs.Prelude.{ℕ, suc, ◌-◌, ◌≤◌, List, [], ◌∷◌, ◌++◌, map, Bool, true, false, ◌&&◌, ◌||◌, Option}
-use Rattle.std.specs.Prelude.{Some, None, if◌then◌else◌, nat_lt, nat_le, ◌==◌}
+use Rattle.std.specs.Prelude.{ℕ, suc, ◌-◌, ◌≤◌, List, [], ◌∷◌, ◌++◌, map, Bool, true, false, Option}
+use Rattle.std.specs.Prelude.{Some, None, if◌then◌else◌, nat_lt, ◌==◌}
 use Rattle.std.specs.Option.{option_or}
 use Rattle.sedscript.specs.declared.types.ScriptFault.{ScriptFault}
 use Rattle.sedscript.specs.declared.types.Reason.TheVariants.{BadEscape, GroupAbsent}
@@ -9,14 +9,13 @@ use Rattle.sedscript.specs.declared.substitution.Part.TheVariants.{Literal, Whol
 use Rattle.sedscript.specs.Bytes.{is_digit}
 use Rattle.sedscript.specs.Strings.{escapes}
 use Rattle.sedscript.specs.Targets.{fault_if}
+-- an ASCII letter
+pub use Rattle.sedre.specs.Symbols.{is_letter}
 -- what a replacement is made of
 pub use Rattle.sedscript.specs.declared.substitution.Piece.{Piece}
 -- a byte, the whole match, and what a group of it has
 pub use Rattle.sedscript.specs.declared.substitution.Piece.TheVariants.{Literal as literal, Whole as whole}
 pub use Rattle.sedscript.specs.declared.substitution.Piece.TheVariants.{Group as group}
-
-abbrev pub is_letter : ℕ → Bool
-is_letter b = (nat_le 65 b && nat_le b 90) || (nat_le 97 b && nat_le b 122)
 
 -- what this byte stands for where it is escaped. The delimiter stands for itself, whatever byte it is; 0 for the
 -- whole match (this project's own), and another digit for that group of it; `n` for a newline, `t` for a tab (this
@@ -85,9 +84,9 @@ pieces_in (Literal bytes ∷ ps) = map literal bytes.items ++ pieces_in ps
 pieces_in (Whole ∷ ps) = whole ∷ pieces_in ps
 pieces_in (Group k ∷ ps) = group k ∷ pieces_in ps
 
--- no piece is of a group above this number
+-- each piece of a group is of one from 1 to this number
 abbrev pub GroupsWithin : ℕ → List Piece → Type 0
 GroupsWithin n [] = Unit {0}
 GroupsWithin n (literal b ∷ ps) = GroupsWithin n ps
 GroupsWithin n (whole ∷ ps) = GroupsWithin n ps
-GroupsWithin n (group k ∷ ps) = (k ≤ n) × GroupsWithin n ps
+GroupsWithin n (group k ∷ ps) = (1 ≤ k) × (k ≤ n) × GroupsWithin n ps

@@ -24,13 +24,11 @@ pub fn own_delimiter(b: Option<u8>) -> Option<u8>
     ensures some { IfSome result (λ d. b ≡ Some d) }
     ensures may { IfSome result (λ d. (d ≢ 92) × (d ≢ 10)) }
 {
-    match b {
-        None => None,
-        Some(b) => if b == b'\\' || b == b'\n' {
-            None
-        } else {
-            Some(b)
-        },
+    let b = b?;
+    if b == b'\\' || b == b'\n' {
+        None
+    } else {
+        Some(b)
     }
 }
 

@@ -239,10 +239,8 @@ fn sink_of<'a>(text: &'a [u8], files: &Files<'a>, name: Option<(usize, usize)>) 
     ensures { (items : List Item) →
         FilesAre text.now items files.now → result ≡ sink_of text.now items name }
 {
-    match name {
-        None => None,
-        Some((from, to)) => Some(files.number(FileUse::Write, bytes_between(text, from, to))),
-    }
+    let (from, to) = name?;
+    Some(files.number(FileUse::Write, bytes_between(text, from, to)))
 }
 
 /// The substitution of an `s`.

@@ -9,7 +9,7 @@ ghost use Rattle.sedscript.specs.declared.types.ScriptFault.{ScriptFault};
 
 use sedre::laws::reads_as_one;
 
-/// What means a script has no fault.
+/// A text that means a script has no fault.
 pub fn no_fault()
     ensures { (text : List ℕ) (kind : Kind) (max_nodes : ℕ) (s : Program) (f : ScriptFault) →
         Means text kind max_nodes s → Faulty text kind max_nodes f → ⊥ }
@@ -17,7 +17,7 @@ pub fn no_fault()
     reads_as_one();
 }
 
-/// A text has one first fault at most.
+/// A text has at most one first fault.
 pub fn one_fault()
     ensures { (text : List ℕ) (kind : Kind) (max_nodes : ℕ) (f g : ScriptFault) →
         Faulty text kind max_nodes f → Faulty text kind max_nodes g → f ≡ g }

@@ -73,7 +73,7 @@ pub fn verb_of(letter: u8) -> Option<Verb>
     }
 }
 
-/// The most addresses of a function.
+/// The most addresses that a function takes.
 pub fn most_addresses(verb: Verb) -> usize
     ensures { result ≡ most_addresses verb }
 {

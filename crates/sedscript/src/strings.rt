@@ -14,7 +14,7 @@ pub fn escapes(escaped: bool, b: u8) -> bool
     b == b'\\' && !escaped
 }
 
-/// Where the string that begins at a place ends: at a delimiter; None where a newline or the end comes first.
+/// Where the string that begins at a place ends: at a delimiter; `None` where a newline or the end comes first.
 /// Where it `breaks`, a newline after a backslash belongs to it.
 pub fn string_end(text: &[u8], breaks: bool, delimiter: u8, from: usize) -> Option<usize>
     requires { from ≤ length text.now }

@@ -12,7 +12,7 @@ pub enum Part {
     Literal(Vec<u8>),
     /// `&` (or `\0`): the matched text.
     Whole,
-    /// `\1` to `\9`: what this group of the match has.
+    /// `\1` to `\9`: what this group of the match holds.
     Group(usize),
 }
 
@@ -23,11 +23,11 @@ pub enum Piece {
     Literal(u8),
     /// The matched text.
     Whole,
-    /// What this group of the match has.
+    /// What this group of the match holds.
     Group(usize),
 }
 
-/// What stands for an occurrence that is replaced. Contracts see its pieces.
+/// What an occurrence is replaced by. Contracts see its pieces.
 #[derive(Drop)]
 pub struct Replacement {
     parts: Vec<Part>,
@@ -69,7 +69,7 @@ impl Replacement {
 pub struct Substitution {
     /// The script's regular expression of this number, counted from 0. None stands for the empty RE, the one last used.
     pub expression: Option<usize>,
-    /// What stands for an occurrence.
+    /// What an occurrence is replaced by.
     pub replacement: Replacement,
     /// The first occurrence that is replaced, counted from 1.
     pub number: u64,

@@ -250,10 +250,7 @@ pub fn targets_of<'a>(
 fn number(label: Option<FirstLabel>) -> Option<usize>
     ensures { result ≡ number label }
 {
-    match label {
-        None => None,
-        Some(first) => Some(first.number),
-    }
+    Some(label?.number)
 }
 
 /// Whether the first item with a label stands before an index.

@@ -25,7 +25,8 @@ pub enum Action {
     Append(usize),
     /// `N`: appends a newline and the next line to the pattern space.
     AppendNext,
-    /// `{`: where it isn't selected, goes to the command of this number, which stands after the closing brace.
+    /// `{`: where the pattern space isn't selected, goes to the command of this number, the one after the closing
+    /// brace.
     Block(usize),
     /// `b`: goes to the command of this number. The number of commands is the end of the script.
     Branch(usize),
@@ -68,7 +69,7 @@ pub enum Action {
     /// `t`: goes to the command of this number if a substitution was made. The number of commands is the end of the
     /// script.
     Test(usize),
-    /// `y`: replaces bytes by the script's table of this number, counted from 0.
+    /// `y`: replaces bytes as the script's table of this number says, counted from 0.
     Transliterate(usize),
     /// `w`: writes the pattern space to the sink of this number: 0 is the standard output, and the files that are
     /// written follow from 1 on.
@@ -88,12 +89,12 @@ pub struct Command {
     pub action: Action,
 }
 
-/// Why a text is no script.
+/// Why a text isn't a script, S1 to S23.
 #[derive(Clone, Copy, Debug, PartialEq, Eq)]
 pub enum Reason {
     /// S1: no function stands where one is expected.
     UnknownCommand,
-    /// S2: the function takes fewer addresses.
+    /// S2: the function has more addresses than it takes.
     TooManyAddresses,
     /// S3: a line's number isn't from 1 to 2^64 - 1, or no second address stands after a comma.
     BadAddress,
@@ -103,7 +104,7 @@ pub enum Reason {
     OpenDelimiter,
     /// S6: this byte can't be a delimiter.
     BadDelimiter,
-    /// S7: this byte is no flag of `s`.
+    /// S7: this byte isn't a flag of `s`.
     UnknownFlag,
     /// S8: a flag of `s` stands a second time.
     RepeatedFlag,
@@ -203,7 +204,7 @@ impl Reason {
     }
 }
 
-/// A fault, and the place of the byte at which it is told, counted from 0.
+/// A fault, and the place of the byte at which it is reported, counted from 0.
 #[derive(Clone, Copy, Debug, PartialEq, Eq)]
 pub struct ScriptFault {
     /// A place in the text, at most its length.
