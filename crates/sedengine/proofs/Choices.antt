@@ -10,7 +10,7 @@ use Rattle.sedscript.specs.declared.types.Address.{Address}
 use Rattle.sedscript.specs.declared.types.Address.TheVariants.{Line, Last, Match}
 use Rattle.sedscript.specs.declared.types.Command.{Command}
 use Rattle.sedengine.specs.Select.{Current, Answer, Choice, answer, on_idle, on_active, of_addresses, negated, selects, ends_at_once}
-use Rattle.sedengine.specs.Choose.{deciding, deciding_in, decides, chosen, chosen_idle, chosen_active, as_choice, is_over, turned, yes_by_number, Answers, Judges}
+use Rattle.sedengine.specs.Choose.{deciding, deciding_in, decides, choice_by_match, chosen_idle, chosen_active, as_choice, is_over, turned, yes_by_number, Answers, Judges}
 use Rattle.sedengine.specs.Ends.{is_dollar}
 use Rattle.sedengine.specs.declared.ends.Ended.{Ended}
 use Rattle.sedengine.specs.declared.ends.Ended.TheVariants.{Done, PatternFull, HoldFull, QueueFull, TurnsSpent, NoPrevious, InputBroken, OutputBroken, OutputFull}
@@ -24,7 +24,7 @@ finds_as expressions k e v w b inside is same found_as =
 
 -- the choice that follows from the answer of the address that decides
 abbrev follows : Current → Bool → Option Address → Option Address → Answer → Option Choice
-follows c active first second a = Some (as_choice (chosen first second active c.number a.yes) a.used)
+follows c active first second a = Some (as_choice (choice_by_match first second active c.number a.yes) a.used)
 
 ext : {A B : Type 0} (o : Option A) (f g : A → Option B) → ((a : A) → f a ≡ g a) → option_and_then f o ≡ option_and_then g o
 ext {A} {B} None f g h = refl
@@ -69,7 +69,7 @@ of_addresses-as c false (Some first) (Some second) = on_idle-as c first second
 
 -- with the answer of the address that decides
 pub selects_some : (c : Current) (active : Bool) (command : Command) (matched : Bool) (used : Option ℕ) → decides c (deciding command.first command.second active c.number) ≡ Some (record { yes = matched; used = used }) →
-    selects c active command ≡ Some (as_choice (turned command.negate (chosen command.first command.second active c.number matched)) used)
+    selects c active command ≡ Some (as_choice (turned command.negate (choice_by_match command.first command.second active c.number matched)) used)
 unfolding selects
 selects_some c active command matched used h =
     ap (λ o. option_and_then (λ choice. Some (negated command.negate choice)) o) (of_addresses-as c active command.first command.second ∙ ap (λ o. option_and_then (follows c active command.first command.second) o) h)
@@ -127,7 +127,7 @@ judges_err c a active command number used (OutputBroken k) same_active same h = 
 judges_err c a active command number used (OutputFull k) same_active same h = h
 
 pub judges_ok : (c : Current) (a active : Bool) (command : Command) (matched : Bool) (number : ℕ) (used used' : Option ℕ) (choice : Chosen) → a ≡ active → number ≡ c.number → used' ≡ used →
-    choice ≡ turned command.negate (chosen command.first command.second a number matched) → decides c (deciding command.first command.second a c.number) ≡ Some (record { yes = matched; used = used }) →
+    choice ≡ turned command.negate (choice_by_match command.first command.second a number matched) → decides c (deciding command.first command.second a c.number) ≡ Some (record { yes = matched; used = used }) →
     selects c active command ≡ Some (as_choice choice used')
 judges_ok c a active command matched number used used' choice same_active same_number same_used is h =
     rw (is, same_used, same_number, ← same_active) (selects_some c a command matched used h)

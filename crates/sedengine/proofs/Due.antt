@@ -13,10 +13,10 @@ use Rattle.sedspace.specs.Spaces.{Contents}
 use Rattle.sedspace.specs.declared.errors.Full.{Full}
 use Rattle.sedengine.specs.Substitute.{Match, chosen, next_occurrence, occurrences, put_for, replaced_from}
 use Rattle.sedengine.specs.Run.{match_at, search_for}
-use Rattle.sedengine.specs.Replacing.{Appends, GroupsOf, LiesAfter, Replaces, Skips, has_group, with_groups}
-use Rattle.sedengine.specs.Replacing.{occurrence, occurrences_after, pending}
+use Rattle.sedengine.specs.SubstituteParts.{Appends, GroupsOf, LiesAfter, Replaces, Skips, has_group, with_groups}
+use Rattle.sedengine.specs.SubstituteParts.{occurrence, occurrences_after, pending}
 use Rattle.sedengine.proofs.Occurrences.{after_is}
-use Rattle.sedengine.proofs.Replacements.{put_same}
+use Rattle.sedengine.proofs.PieceLemmas.{put_same}
 
 -- bytes are appended as a space does it
 pub appended : (old new : Contents) (bytes given : List ℕ) (r : Result Unit Full) → given ≡ bytes →

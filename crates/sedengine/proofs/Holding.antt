@@ -16,7 +16,7 @@ use Rattle.sedengine.specs.declared.ends.Ended.TheVariants.{PatternFull, HoldFul
 use Rattle.sedengine.proofs.Moves.{stopped_here}
 use Rattle.sedengine.proofs.Tasks.{fits_of}
 use Rattle.sedengine.proofs.Acts.{acts_leading}
-use Rattle.sedengine.proofs.Substituting.{reached_line}
+use Rattle.sedengine.proofs.SubstituteMoves.{reached_line}
 
 taken : (b : ℕ) (bs : List ℕ) (n : ℕ) → take (1 + n) (b ∷ bs) ≡ b ∷ take n bs
 taken b bs n = let more : 1 + n ≡ suc n = omega arith in rw more refl

@@ -12,7 +12,7 @@ pub mod Queueing
 pub mod Ending
 pub mod NextLines
 pub mod Deleting
-pub mod Substituting
+pub mod SubstituteMoves
 pub mod Fitting
 pub mod Filling
 pub mod Tried
@@ -20,7 +20,7 @@ pub mod Choices
 pub mod Acts
 pub mod Holding
 pub mod Occurrences
-pub mod Replacements
+pub mod PieceLemmas
 pub mod Due
 pub mod ListingLemmas
 pub mod ListingLines

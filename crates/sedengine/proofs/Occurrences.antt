@@ -7,12 +7,12 @@ use Rattle.std.proofs.Math.Seq.{drop-nil}
 use Rattle.std.proofs.lemmas.Bool.Decides.{nat_tests}
 use Rattle.sedre.specs.Arena.{Written, tree}
 use Rattle.sedmatch.specs.Matching.{found}
-use Rattle.sedmatch.specs.Occurrences.{next_span, unless_null_at}
+use Rattle.sedmatch.specs.Occurrences.{EndsWithin, next_span, unless_null_at}
 use Rattle.sedmatch.proofs.MatchingLemmas.{found-iff, Found-within}
 use Rattle.sedmatch.proofs.SpanLemmas.{Spans-forward, Spans-within}
 use Rattle.sedengine.specs.Substitute.{Match, unless_empty_at, next_occurrence, with_rest, occurrences_from}
 use Rattle.sedengine.specs.Run.{match_at, search_for}
-use Rattle.sedengine.specs.Replacing.{EndsIn, LiesAfter, Skips, occurrence, occurrences_after, pending}
+use Rattle.sedengine.specs.SubstituteParts.{LiesAfter, Skips, occurrence, occurrences_after, pending}
 
 -- a match lies in the text, after the place from which it is sought
 pub found_lies : (e : Written) (w : List ℕ) (p i j : ℕ) → p ≤ length w → found (tree e) w p ≡ Some (i, j) →
@@ -123,7 +123,7 @@ from_some sought n most last m o fits some is =
     ∙ ap (λ (ms : List Match). m ∷ ms) (enough sought n o most (n - m.end) m.end fits some (omega arith))
 
 -- the occurrences after a place are the one that comes next and those after it
-pub after_is : (e : Written) (w : List ℕ) (last : Option ℕ) (r : Option (ℕ × ℕ)) → EndsIn (length w) last →
+pub after_is : (e : Written) (w : List ℕ) (last : Option ℕ) (r : Option (ℕ × ℕ)) → EndsWithin (length w) last →
     match_at e w r ≡ next_occurrence (search_for (Some e) w) (length w) last →
     occurrences_after e w last ≡ pending e w true r
 after_is e w None None fits is = from_none (search_for (Some e) w) (length w) (length w + 1) None (sym is)
@@ -146,7 +146,7 @@ drop_more ms k count more none =
 
 -- fewer occurrences are there than are to be skipped
 pub skips_none : (e : Written) (w : List ℕ) (last : Option ℕ) (k count : ℕ) (skipped : Option (Option ℕ)) →
-    skipped ≡ None → k ≤ count → EndsIn (length w) last →
+    skipped ≡ None → k ≤ count → EndsWithin (length w) last →
     drop k (occurrences_after e w None) ≡ occurrences_after e w last →
     match_at e w None ≡ next_occurrence (search_for (Some e) w) (length w) last → Skips e w count skipped
 skips_none e w last k count None none more fits skipped is =
@@ -154,7 +154,7 @@ skips_none e w last k count None none more fits skipped is =
 skips_none e w last k count (Some place) none more fits skipped is = let never : Some place ≡ None = none in cc
 
 -- one more is skipped
-pub skips_one : (e : Written) (w : List ℕ) (last : Option ℕ) (k : ℕ) (span : ℕ × ℕ) → EndsIn (length w) last →
+pub skips_one : (e : Written) (w : List ℕ) (last : Option ℕ) (k : ℕ) (span : ℕ × ℕ) → EndsWithin (length w) last →
     drop k (occurrences_after e w None) ≡ occurrences_after e w last →
     match_at e w (Some span) ≡ next_occurrence (search_for (Some e) w) (length w) last →
     drop (k + 1) (occurrences_after e w None) ≡ occurrences_after e w (Some span.1)

@@ -4,13 +4,13 @@ use Rattle.std.specs.Prelude.{option_and_then}
 use Rattle.std.specs.Option.{option_or}
 use Rattle.std.proofs.lemmas.Option.{slice_get_read}
 use Rattle.sedre.specs.Arena.{Written}
-use Rattle.sedscript.specs.Ranges.{AddressWithin}
+use Rattle.sedscript.specs.Ranges.{AddressWithin, IsOneOf}
 use Rattle.sedscript.specs.declared.types.Address.TheVariants.{Match}
 use Rattle.sedscript.specs.declared.substitution.Substitution.{Substitution}
 use Rattle.sedspace.specs.declared.errors.Full.{Full}
 use Rattle.sedengine.specs.Choose.{current}
-use Rattle.sedengine.specs.Inside.{run_of, IsRun, IsOneOf}
-use Rattle.sedengine.specs.Replacing.{Replaces}
+use Rattle.sedengine.specs.Inside.{run_of, IsRun}
+use Rattle.sedengine.specs.SubstituteParts.{Replaces}
 use Rattle.sedengine.specs.Run.{Run, finds_in, search_for, search_in}
 use Rattle.sedengine.specs.Select.{Answer, answer, stands_for}
 use Rattle.sedengine.specs.Substitute.{chosen, occurrences}

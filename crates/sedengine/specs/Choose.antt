@@ -41,14 +41,14 @@ chosen_active (Line n) number matched =
 chosen_active Last number matched = record { yes = true; end = matched; active = not matched }
 chosen_active (Match e) number matched = record { yes = true; end = matched; active = not matched }
 
-abbrev pub chosen_in : Address → Bool → ℕ → Bool → Chosen
-chosen_in second active number matched = if active then chosen_active second number matched else chosen_idle second number matched
+abbrev pub choice_in_range : Address → Bool → ℕ → Bool → Chosen
+choice_in_range second active number matched = if active then chosen_active second number matched else chosen_idle second number matched
 
 -- the choice, by whether the deciding address matches
-abbrev pub chosen : Option Address → Option Address → Bool → ℕ → Bool → Chosen
-chosen None second active number matched = record { yes = matched; end = false; active = active }
-chosen (Some first) None active number matched = record { yes = matched; end = false; active = active }
-chosen (Some first) (Some second) active number matched = chosen_in second active number matched
+abbrev pub choice_by_match : Option Address → Option Address → Bool → ℕ → Bool → Chosen
+choice_by_match None second active number matched = record { yes = matched; end = false; active = active }
+choice_by_match (Some first) None active number matched = record { yes = matched; end = false; active = active }
+choice_by_match (Some first) (Some second) active number matched = choice_in_range second active number matched
 
 -- `!` turns the yes alone
 abbrev pub turned : Bool → Chosen → Chosen
@@ -58,9 +58,7 @@ turned negate c = record c { yes = if negate then not c.yes else c.yes }
 abbrev pub yes_by_number : Option Address → Option Address → Bool → ℕ → Option Bool
 yes_by_number None second negate number = Some (if negate then false else true)
 yes_by_number (Some (Line n)) None negate number = Some (if negate then not (nat_eq n number) else nat_eq n number)
-yes_by_number (Some (Line n)) (Some second) negate number = None
-yes_by_number (Some Last) second negate number = None
-yes_by_number (Some (Match e)) second negate number = None
+yes_by_number other second negate number = None
 
 -- where no address decides, the answer is yes
 abbrev pub decides : Current → Option Address → Option Answer

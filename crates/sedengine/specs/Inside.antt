@@ -4,6 +4,7 @@ use Rattle.std.specs.Prelude.{◌≡◌, ℕ, ◌<◌, ◌≤◌, Bool, true, fa
 use Rattle.sedscript.specs.declared.types.Command.{Command}
 use Rattle.sedscript.specs.declared.types.Action.{Action}
 use Rattle.sedscript.specs.declared.types.Action.TheVariants.{Append, Exchange, Hold, HoldMore, ReadFile}
+use Rattle.sedscript.specs.Ranges.{IsOneOf}
 use Rattle.sedscript.specs.Script.{Program}
 use Rattle.sedengine.specs.State.{Entry, text, file, Task, begin, rebegin, do_at, print_pattern, flush}
 use Rattle.sedengine.specs.Move.{text_of}
@@ -89,11 +90,6 @@ Holds (Some c) = holds c.action ≡ true
 -- One of the commands of a script puts something into the hold space, which is empty else.
 abbrev pub FillsHold : Program → Type 0
 FillsHold p = (i : ℕ) × Holds (slice_get p.commands i)
-
--- the expression last used is one of so many
-abbrev pub IsOneOf : ℕ → Option ℕ → Type 0
-IsOneOf expressions None = Unit {0}
-IsOneOf expressions (Some k) = k < expressions
 
 pub record IsRun (a : Inside) : Type 0 where
   pub number : a.number ≤ a.turns

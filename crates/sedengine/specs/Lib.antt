@@ -19,6 +19,6 @@ pub mod Run
 pub mod Select
 pub mod State
 pub mod Steps
-pub mod Substituting
+pub mod SubstituteCalls
 pub mod Substitute
-pub mod Replacing
+pub mod SubstituteParts

@@ -35,14 +35,19 @@ pub enum Progress {
     Ended(Ended),
 }
 
-/// How much an engine holds: the bytes in its three spaces, the bytes that may be read ahead, all of which count, and the
-/// entries of the queue. The counts of what sinks have gained are left out.
+/// How much an engine holds: the bytes in its three spaces, as many bytes as may be read ahead, whether they are or not,
+/// and the entries of the queue. The counts of what sinks have gained are left out.
 #[derive(Clone, Copy, Debug, PartialEq, Eq)]
 pub struct Held {
+    /// The bytes in the pattern space.
     pub pattern: usize,
+    /// The bytes in the hold space.
     pub hold: usize,
+    /// The bytes in the build space, in which a substitution makes its text.
     pub build: usize,
+    /// The bytes that may be read ahead.
     pub look: usize,
+    /// The entries of the queue.
     pub queue: usize,
 }
 

@@ -44,6 +44,8 @@ impl Engine {
     /// Makes an engine at the start of its run. All the memory that the run takes is reserved here, with a count for each
     /// sink that the script names.
     ///
+    /// The script was read with at most `limits.nodes()` nodes for an expression.
+    ///
     /// # Errors
     /// Where a request for memory was refused.
     pub fn open(alloc: Global, script: Script, limits: Limits) -> Result<Engine, AllocError>
@@ -61,13 +63,16 @@ impl Engine {
         Ok(Engine { machine, meter })
     }
 
-    /// Runs one cycle: reads the next line, runs the script over it, and writes the pattern space. Answers whether a next
-    /// cycle is due, or how the run ended.
+    /// Runs one cycle (XCU sed, "Extended Description"): reads the next line, runs the script over it, and writes the
+    /// pattern space, unless the option `-n` suppresses that. Answers whether a next cycle is due, or how the run ended.
+    ///
+    /// Where `D` ended the cycle before and left a part of the pattern space, the script runs over that part, and no line
+    /// is read.
     ///
     /// All calls of a run get the same lines, outputs and texts. The lines read ahead as much as the limits say. Sink 0 is
-    /// the standard output, and each of the script's files to write has a sink, from sink 1 for the first of `wfiles`
-    /// on; text 0 is the first of `rfiles`. An engine whose run has ended answers the same end again, and touches no
-    /// device. The crate `by_cycles` is an example.
+    /// the standard output, and each file that the script writes has a sink, from sink 1 for the first of `wfiles` on; text
+    /// 0 is the first of `rfiles`. An engine whose run has ended answers the same end again, and touches no device. The
+    /// file `by_cycles.rt` of the crate `hosts` is an example.
     pub fn cycle<R: ByteSource, O: Outputs, T: Texts>(
         &mut self,
         lines: &mut Lines<R>,
@@ -109,7 +114,8 @@ impl Engine {
         progress
     }
 
-    /// Runs all cycles that are left, and answers how the run ended. The devices are those of `cycle`.
+    /// Runs all cycles that are left (XCU sed, "Extended Description"), and answers how the run ended. The devices are
+    /// those of `cycle`.
     ///
     /// An engine whose run has ended answers the same end again, and touches no device.
     pub fn run<R: ByteSource, O: Outputs, T: Texts>(

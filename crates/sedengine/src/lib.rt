@@ -5,11 +5,11 @@
 //! (`Move`, `Listing`, `Substitute`), which pattern spaces addresses select (`Select`), and what an end of a run means
 //! (`Ends`, `Held`, `Run`). The code makes these moves: `machine/tasks` starts and ends cycles, `machine/addresses` judges the
 //! addresses of a command, `machine/commands` acts, with a file beside it for each family: `deleting` for `c`, `d` and `D`,
-//! `holding` for `g`, `G`, `h`, `H` and `x`, `next` for `n` and `N`, `queueing` for `a` and `r`, `substituting` for `s`, `t` and
+//! `holding` for `g`, `G`, `h`, `H` and `x`, `next` for `n` and `N`, `queueing` for `a` and `r`, `replacing` for `s`, `t` and
 //! `y`. `substitute` makes the text of `s`, `listing` that of `l`, `flushing` writes the queue, and `machine/moves` goes on to
 //! the end. All of them write through `meter`, which limits what each sink gains. What a machine holds is made in
 //! `machine/parts`. `specs/Bringing`, `Calls`, `Choose`, `Flushing`, `Holding`, `Inside`, `ListingParts`, `Meters`, `Parts`,
-//! `Queueing`, `Replacing`, `Steps` and `Substituting` are private to this crate: what its calls promise one another.
+//! `Queueing`, `Steps`, `SubstituteCalls` and `SubstituteParts` are private to this crate: what its calls promise one another.
 //!
 //! Where a new command goes is told in docs/ARCHITECTURE.md.
 #![tactic(auto)]

@@ -42,7 +42,8 @@ impl Limits {
     /// * `space`: the bytes that each of the pattern space, the hold space and the build space may hold, 1 to 2^30
     /// * `queue`: the entries that wait for the end of a cycle, 0 to 2^24
     /// * `look`: the bytes that are read ahead, 1 to 2^30
-    /// * `turns`: the turns that a run may take: one for each start of a cycle, command reached and byte of a file copied
+    /// * `turns`: the turns that a run may take, one for each start of a cycle, command reached and byte of a file copied,
+    ///   0 to 2^64 - 1
     /// * `nodes`: the nodes of an expression, with what it repeats written out, 1 to 65,536
     pub fn new(space: usize, queue: usize, look: usize, turns: u64, nodes: usize) -> Option<Limits>
         ensures given { IfSome result (λ l. (l ≡ limits_of space queue look turns nodes) × AreLimits l) }
@@ -100,7 +101,7 @@ impl Limits {
         self.most_look
     }
 
-    /// The most turns that a run may take.
+    /// The most turns that a run may take, 0 to 2^64 - 1.
     pub fn turns(&self) -> u64
         ensures { result ≡ self.now.turns }
     {

@@ -20,7 +20,7 @@ mod moves;
 mod next;
 mod parts;
 mod queueing;
-mod substituting;
+mod replacing;
 mod tasks;
 
 use crate::ends::{Ended, Held, Progress};

@@ -3,7 +3,7 @@ ghost use Rattle.std.specs.Prelude.{◌≡◌, ℕ, ◌+◌, ◌*◌, ◌^◌, �
 ghost use Rattle.sedre.specs.Arena.{Written, tree};
 ghost use Rattle.sedmatch.specs.Costs.{Pays};
 ghost use Rattle.sedre.specs.Steps.{Takes};
-ghost use Rattle.sedmatch.specs.Occurrences.{KeepsRoom, RoomFor, Serves, ServesOn, owed, owed_after};
+ghost use Rattle.sedmatch.specs.Occurrences.{EndsWithin, KeepsRoom, RoomFor, Serves, ServesOn, owed, owed_after};
 ghost use Rattle.sedmatch.specs.Room.{FitInto};
 ghost use Rattle.sedmatch.specs.Matching.{report};
 ghost use Rattle.sedmatch.specs.Parts.{part_of, span_of};
@@ -12,8 +12,8 @@ ghost use Rattle.sedscript.specs.Replacement.{GroupsWithin, pieces_in};
 ghost use Rattle.sedengine.specs.Substitute.{chosen, occurrences, put_for, replaced_from};
 ghost use Rattle.sedengine.specs.Fitting.{AllFitInto, seeks_more};
 ghost use Rattle.sedengine.specs.Run.{search_for, search_in};
-ghost use Rattle.sedengine.specs.Replacing.{Appends, EndsIn, GroupsIn, GroupsOf, IsNext, LiesAfter, Replaces};
-ghost use Rattle.sedengine.specs.Replacing.{SeeksAsBefore, ServesAfter, Skips, TakesFor, has_group, owed_skipped, pending, with_groups};
+ghost use Rattle.sedengine.specs.SubstituteParts.{Appends, GroupsIn, GroupsOf, IsNext, LiesAfter, Replaces};
+ghost use Rattle.sedengine.specs.SubstituteParts.{SeeksAsBefore, ServesAfter, Skips, TakesFor, has_group, owed_skipped, pending, with_groups};
 
 use sedmatch::{Occurrences, Scratch, TableMatcher, Text};
 use sedre::Steps;
@@ -23,12 +23,12 @@ use sedspace::{Full, Space};
 /// The span of each group of an occurrence.
 type Groups = [Option<(usize, usize)>; 10];
 
-/// The substitution with the expression of number `e`: puts into `build` the text in which the occurrences that it
-/// chooses are replaced. Says whether there are any.
+/// Puts into `build` the text in which the occurrences of the expression of number `e` that a substitution chooses are
+/// replaced. Says whether there are any.
 ///
 /// All its searches together take steps in proportion to the text. Groups are decided within each occurrence, and counted
 /// apart.
-pub(crate) fn substitute_by(
+pub(crate) fn build_for_expression(
     substitution: &Substitution,
     matchers: &mut Vec<TableMatcher>,
     e: usize,
@@ -54,11 +54,11 @@ pub(crate) fn substitute_by(
     ensures cost { TakesFor matchers.old.items e (length text.now) steps.old steps.new }
 {
     let matcher = &mut matchers[e];
-    substitute(substitution, matcher, text, build, seeking, scratch, steps)
+    build_text(substitution, matcher, text, build, seeking, scratch, steps)
 }
 
-/// The same with what seeks the expression.
-fn substitute(
+/// Puts the text into `build` by going over the occurrences that `matcher` finds. Says whether any were replaced.
+fn build_text(
     substitution: &Substitution,
     matcher: &mut TableMatcher,
     text: &[u8],
@@ -101,7 +101,7 @@ fn substitute(
         return Ok(false);
     };
     build.clear();
-    replace(
+    append_replaced(
         substitution,
         matcher,
         text,
@@ -173,7 +173,7 @@ fn next_occurrence(
     scratch: &mut Scratch,
     steps: &mut Steps,
 ) -> Option<(usize, usize)>
-    requires last { EndsIn (length text.now) last }
+    requires last { EndsWithin (length text.now) last }
     requires fits { FitInto (length text.now) (length matcher.old.nodes) scratch.old }
     requires more { IfSome last (λ _. RoomFor (length text.now) (length matcher.old.nodes) seeking.old) }
     requires serves { Serves matcher.old text.now last seeking.old }
@@ -215,7 +215,7 @@ fn tell_groups(
 }
 
 /// Appends the text with the first occurrence and, with the flag `g`, all after it replaced.
-fn replace(
+fn append_replaced(
     substitution: &Substitution,
     matcher: &mut TableMatcher,
     text: &[u8],

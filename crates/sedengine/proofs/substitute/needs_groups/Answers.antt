@@ -1,5 +1,5 @@
 use Rattle.std.proofs.Common.{arith}
-use Rattle.sedengine.proofs.Replacements.{none_here}
+use Rattle.sedengine.proofs.PieceLemmas.{none_here}
 use Rattle.sedengine.proofs.substitute.needs_groups.Goals as goal
 
 pub loop-part-preserved : goal.loop-part-preserved

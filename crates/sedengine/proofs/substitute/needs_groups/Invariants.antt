@@ -1,6 +1,6 @@
 use Rattle.std.proofs.Common.{◌≡◌, drop}
 use Rattle.sedscript.specs.Replacement.{pieces_in}
-use Rattle.sedengine.specs.Replacing.{has_group}
+use Rattle.sedengine.specs.SubstituteParts.{has_group}
 use Rattle.sedengine.proofs.substitute.needs_groups.Given as goal
 
 abbrev pub invariant-loop-part : goal.invariant-loop-part

@@ -1,7 +1,7 @@
 use Rattle.std.proofs.Common.{arith}
-use Rattle.sedengine.specs.Replacing.{with_groups}
+use Rattle.sedengine.specs.SubstituteParts.{with_groups}
 use Rattle.sedengine.proofs.Due.{due_as, due_less, due_full}
-use Rattle.sedengine.proofs.Replacements.{within_next, put_next}
+use Rattle.sedengine.proofs.PieceLemmas.{within_next, put_next}
 use Rattle.sedengine.proofs.substitute.put.Goals as goal
 
 pub put_part-requires-clause-within : goal.put_part-requires-clause-within

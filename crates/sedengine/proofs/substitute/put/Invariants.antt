@@ -1,7 +1,7 @@
 use Rattle.std.proofs.Common.{◌≡◌, ◌++◌, drop}
 use Rattle.sedscript.specs.Replacement.{GroupsWithin, pieces_in}
 use Rattle.sedengine.specs.Substitute.{put_for}
-use Rattle.sedengine.specs.Replacing.{with_groups}
+use Rattle.sedengine.specs.SubstituteParts.{with_groups}
 use Rattle.sedengine.proofs.substitute.put.Given as goal
 
 abbrev pub invariant-loop-part : goal.invariant-loop-part

@@ -2,9 +2,9 @@ use Rattle.std.proofs.Common.{◌∙◌, [], ◌∷◌, sym, subst}
 use Rattle.sedscript.specs.Replacement.{pieces_in}
 use Rattle.sedscript.specs.declared.substitution.Part.{Part}
 use Rattle.sedengine.specs.Substitute.{put_for}
-use Rattle.sedengine.specs.Replacing.{Appends, with_groups}
+use Rattle.sedengine.specs.SubstituteParts.{Appends, with_groups}
 use Rattle.sedengine.proofs.Due.{appended}
-use Rattle.sedengine.proofs.Replacements.{put_bytes}
+use Rattle.sedengine.proofs.PieceLemmas.{put_bytes}
 use Rattle.sedengine.proofs.substitute.put_part.Goals as goal
 
 pub returns-in-Literal : goal.returns-in-Literal

@@ -1,13 +1,13 @@
 use Rattle.std.proofs.Common.{◌≡◌, ◌+◌, ◌*◌, ◌≤◌, length, drop, None}
-use Rattle.sedmatch.specs.Occurrences.{KeepsRoom, Serves, owed}
-use Rattle.sedengine.specs.Replacing.{EndsIn, occurrences_after}
+use Rattle.sedmatch.specs.Occurrences.{EndsWithin, KeepsRoom, Serves, owed}
+use Rattle.sedengine.specs.SubstituteParts.{occurrences_after}
 use Rattle.sedengine.proofs.substitute.skip.Given as goal
 
 abbrev pub invariant-occurrences : goal.invariant-occurrences
 invariant-occurrences l = record {
   matcher : l.matcher ≡ l.fn.matcher;
   scratch : l.scratch ≡ l.fn.scratch;
-  last : EndsIn (length l.text) l.last;
+  last : EndsWithin (length l.text) l.last;
   none : l.counter ≡ 0 → l.last ≡ None;
   kept : KeepsRoom l.fn.seeking l.seeking;
   serves : Serves l.fn.matcher l.text l.last l.seeking;

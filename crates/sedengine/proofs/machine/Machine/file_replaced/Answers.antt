@@ -1,5 +1,5 @@
 use Rattle.sedengine.specs.Meters.{Sent}
-use Rattle.sedengine.proofs.Substituting.{filed_seen}
+use Rattle.sedengine.proofs.SubstituteMoves.{filed_seen}
 use Rattle.sedengine.proofs.machine.Machine.file_replaced.Goals as goal
 
 pub returns-in-Some-clause-puts : goal.returns-in-Some-clause-puts

@@ -1,5 +1,5 @@
 use Rattle.sedengine.specs.Meters.{Sent}
-use Rattle.sedengine.proofs.Substituting.{printed_seen}
+use Rattle.sedengine.proofs.SubstituteMoves.{printed_seen}
 use Rattle.sedengine.proofs.machine.Machine.print_replaced.Goals as goal
 
 pub returns-clause-puts : goal.returns-clause-puts

@@ -1,4 +1,4 @@
-use Rattle.sedengine.proofs.Substituting.{puts_both, puts_first}
+use Rattle.sedengine.proofs.SubstituteMoves.{puts_both, puts_first}
 use Rattle.std.proofs.lemmas.Result.{err_from_is_err_and}
 use Rattle.sedengine.proofs.machine.Machine.write_replaced.Goals as goal
 

@@ -20,7 +20,7 @@ use Rattle.sedengine.specs.Meters.{Sent, Tally}
 use Rattle.sedengine.specs.Calls.{Puts}
 use Rattle.sedengine.specs.Run.{Run, at_lines, search_in, setting}
 use Rattle.sedengine.specs.Steps.{Reaches, Moves, Performs}
-use Rattle.sedengine.specs.Substituting.{Makes, ReplacesIn, same_but_replaced}
+use Rattle.sedengine.specs.SubstituteCalls.{Makes, ReplacesIn, same_but_replaced}
 use Rattle.sedengine.specs.Inside.{run_of, tasks_of, IsRun, IsEmptied}
 use Rattle.sedengine.specs.declared.machine.Machine.TheInside.{Inside}
 use Rattle.sedengine.specs.declared.place.Place.{Place}

@@ -6,29 +6,29 @@ use Rattle.sedmatch.proofs.OccurrenceLemmas.{few_places}
 use Rattle.sedengine.specs.Ends.{reaches}
 use Rattle.sedengine.specs.Run.{Run, at_lines}
 use Rattle.sedengine.proofs.Fitting.{fits_at, sought, sought_at, sought_fit}
-use Rattle.sedengine.proofs.Substituting.{makes_full, makes_none, makes_some, replaced_is_run}
-use Rattle.sedengine.proofs.machine.Machine.replace_by.Goals as goal
+use Rattle.sedengine.proofs.SubstituteMoves.{makes_full, makes_none, makes_some, replaced_is_run}
+use Rattle.sedengine.proofs.machine.Machine.replace_with_expression.Goals as goal
 
 pub invariant_of-self : goal.invariant_of-self
 invariant_of-self c =
-    let w = c.replace_in.ensures in
-    replaced_is_run c.self.inside c.replace_in.new.pattern c.replace_in.new.build c.replace_in.new.scratch c.replace_in.new.seeking c.replace_in.new.matchers c.args.e true c.self.invariant
+    let w = c.rewrite_space.ensures in
+    replaced_is_run c.self.inside c.rewrite_space.new.pattern c.rewrite_space.new.build c.rewrite_space.new.scratch c.rewrite_space.new.seeking c.rewrite_space.new.matchers c.args.e true c.self.invariant
     (ap (λ (e : Run). reaches e.state.tasks) c.self.view_is ∙ c.requires.at) (let same = ap (λ (e : Run). e.script) c.self.view_is in rw same c.requires.expression) w.spaces.0 w.spaces.2 w.spaces.1 w.same.1 w.kept w.same.0
 
 pub invariant_of-self-in-Ok-false : goal.invariant_of-self-in-Ok-false
 invariant_of-self-in-Ok-false c =
-    let w = c.replace_in.ensures in
-    replaced_is_run c.self.inside c.replace_in.new.pattern c.replace_in.new.build c.replace_in.new.scratch c.replace_in.new.seeking c.replace_in.new.matchers c.args.e c.self.inside.replaced c.self.invariant
+    let w = c.rewrite_space.ensures in
+    replaced_is_run c.self.inside c.rewrite_space.new.pattern c.rewrite_space.new.build c.rewrite_space.new.scratch c.rewrite_space.new.seeking c.rewrite_space.new.matchers c.args.e c.self.inside.replaced c.self.invariant
     (ap (λ (e : Run). reaches e.state.tasks) c.self.view_is ∙ c.requires.at) (let same = ap (λ (e : Run). e.script) c.self.view_is in rw same c.requires.expression) w.spaces.0 w.spaces.2 w.spaces.1 w.same.1 w.kept w.same.0
 
 pub invariant_of-self-in-Err : goal.invariant_of-self-in-Err
 invariant_of-self-in-Err c =
-    let w = c.replace_in.ensures in
-    replaced_is_run c.self.inside c.replace_in.new.pattern c.replace_in.new.build c.replace_in.new.scratch c.replace_in.new.seeking c.replace_in.new.matchers c.args.e c.self.inside.replaced c.self.invariant
+    let w = c.rewrite_space.ensures in
+    replaced_is_run c.self.inside c.rewrite_space.new.pattern c.rewrite_space.new.build c.rewrite_space.new.scratch c.rewrite_space.new.seeking c.rewrite_space.new.matchers c.args.e c.self.inside.replaced c.self.invariant
     (ap (λ (e : Run). reaches e.state.tasks) c.self.view_is ∙ c.requires.at) (let same = ap (λ (e : Run). e.script) c.self.view_is in rw same c.requires.expression) w.spaces.0 w.spaces.2 w.spaces.1 w.same.1 w.kept w.same.0
 
-pub replace_in-requires-clause-more : goal.replace_in-requires-clause-more
-replace_in-requires-clause-more c = λ t is more x at.
+pub rewrite_space-requires-clause-more : goal.rewrite_space-requires-clause-more
+rewrite_space-requires-clause-more c = λ t is more x at.
     let a = c.self.inside in
     let same = ap (λ (e : Run). e.script) c.self.view_is in
     let inside : c.args.e < length a.script.expressions = rw same c.requires.expression in
@@ -38,16 +38,16 @@ replace_in-requires-clause-more c = λ t is more x at.
 
 pub returns-in-Err-clause-makes : goal.returns-in-Err-clause-makes
 returns-in-Err-clause-makes c = λ t is files ls.
-    makes_full c.self.inside c.args.self.now c.self.view_is c.self.inside.matchers.items (sought c.self.inside.script.expressions c.self.inside.limits.nodes _ c.self.invariant.matchers) c.args.k c.args.e files ls t c.replace_in.new.pattern (at_lines c.args.self.now ls) c.in-Err.field-0 c.self.invariant.pattern_limit is c.in-Err.ensures.replaces
+    makes_full c.self.inside c.args.self.now c.self.view_is c.self.inside.matchers.items (sought c.self.inside.script.expressions c.self.inside.limits.nodes _ c.self.invariant.matchers) c.args.k c.args.e files ls t c.rewrite_space.new.pattern (at_lines c.args.self.now ls) c.in-Err.field-0 c.self.invariant.pattern_limit is c.in-Err.ensures.replaces
 
-pub replace_in-requires-clause-expression : goal.replace_in-requires-clause-expression
-replace_in-requires-clause-expression c =
+pub rewrite_space-requires-clause-expression : goal.rewrite_space-requires-clause-expression
+rewrite_space-requires-clause-expression c =
     let a = c.self.inside in
     let same = ap (λ (e : Run). e.script) c.self.view_is in
     sought_at a.script.expressions a.limits.nodes a.matchers.items c.args.e c.self.invariant.matchers (rw same c.requires.expression)
 
-pub replace_in-requires-clause-fit : goal.replace_in-requires-clause-fit
-replace_in-requires-clause-fit c =
+pub rewrite_space-requires-clause-fit : goal.rewrite_space-requires-clause-fit
+rewrite_space-requires-clause-fit c =
     let a = c.self.inside in
     let same = ap (λ (e : Run). e.script) c.self.view_is in
     let inside : c.args.e < length a.script.expressions = rw same c.requires.expression in
@@ -61,10 +61,10 @@ pub returns-in-Ok-true-clause-makes : goal.returns-in-Ok-true-clause-makes
 returns-in-Ok-true-clause-makes c = λ t is files ls.
     let a = c.self.inside in
     let h = rw c.in-Ok-true.field-0-test at c.in-Ok-true.ensures.replaces in
-    makes_some a c.args.self.now c.self.view_is a.matchers.items (sought a.script.expressions a.limits.nodes a.matchers.items c.self.invariant.matchers) c.args.k c.args.e files ls t c.replace_in.new.pattern is h
+    makes_some a c.args.self.now c.self.view_is a.matchers.items (sought a.script.expressions a.limits.nodes a.matchers.items c.self.invariant.matchers) c.args.k c.args.e files ls t c.rewrite_space.new.pattern is h
 
 pub returns-in-Ok-false-clause-makes : goal.returns-in-Ok-false-clause-makes
 returns-in-Ok-false-clause-makes c = λ t is files ls.
     let a = c.self.inside in
     let h = rw c.in-Ok-false.field-0-test at c.in-Ok-false.ensures.replaces in
-    makes_none a c.args.self.now c.self.view_is a.matchers.items (sought a.script.expressions a.limits.nodes a.matchers.items c.self.invariant.matchers) c.args.k c.args.e files ls t c.replace_in.new.pattern is h
+    makes_none a c.args.self.now c.self.view_is a.matchers.items (sought a.script.expressions a.limits.nodes a.matchers.items c.self.invariant.matchers) c.args.k c.args.e files ls t c.rewrite_space.new.pattern is h

@@ -2,10 +2,10 @@ use Rattle.std.proofs.Common.{◌≡◌, arith, get_or}
 use Rattle.std.proofs.lemmas.Grind.{elements}
 use Rattle.sedengine.proofs.Fitting.{fits_at}
 use Rattle.sedengine.proofs.Tried.{replaces_by}
-use Rattle.sedengine.proofs.substitute.substitute_by.Goals as goal
+use Rattle.sedengine.proofs.substitute.build_for_expression.Goals as goal
 
-pub substitute-requires-clause-fits : goal.substitute-requires-clause-fits
-substitute-requires-clause-fits c =
+pub build_text-requires-clause-fits : goal.build_text-requires-clause-fits
+build_text-requires-clause-fits c =
     let e = c.index_mut-matcher.result.now in
     let h = c.index_mut-matcher.ensures.value in
     let is : e ≡ get_or c.args.matchers.now.items c.args.e e = grind (arith, elements) in
@@ -16,5 +16,5 @@ returns-clause-replaces c =
     let e = c.index_mut-matcher.result.now in
     let h = c.index_mut-matcher.ensures.value in
     let is : e ≡ get_or c.args.matchers.now.items c.args.e e = grind (arith, elements) in
-    replaces_by c.args.matchers.now.items c.args.e e c.args.text.now c.args.substitution.now _ _ c.substitute.result
-    c.requires.expression is c.substitute.ensures.replaces
+    replaces_by c.args.matchers.now.items c.args.e e c.args.text.now c.args.substitution.now _ _ c.build_text.result
+    c.requires.expression is c.build_text.ensures.replaces

@@ -10,7 +10,7 @@ use Rattle.sedscript.specs.Replacement.{pieces_in, GroupsWithin}
 use Rattle.sedscript.specs.declared.substitution.Part.{Part}
 use Rattle.sedscript.specs.declared.substitution.Part.TheVariants.{Literal, Whole, Group}
 use Rattle.sedengine.specs.Substitute.{Match, put_for}
-use Rattle.sedengine.specs.Replacing.{has_group, with_groups}
+use Rattle.sedengine.specs.SubstituteParts.{has_group, with_groups}
 
 -- the parts from a place on are the one there and those after it
 drop_next : {A : Type 0} (xs : List A) (k : ℕ) (x : A) → k < length xs → x ≡ get_or xs k x →
@@ -57,7 +57,7 @@ within_parts : (p : Part) (ps : List Part) → GroupsWithin 9 (pieces_in (p ∷ 
     GroupsWithin 9 (pieces_in (p ∷ [])) × GroupsWithin 9 (pieces_in ps)
 within_parts (Literal bytes) ps within = (literals_alone bytes.items, literals_within bytes.items (pieces_in ps) within)
 within_parts Whole ps within = (tt, within)
-within_parts (Group k) ps within = ((within.0, tt), within.1)
+within_parts (Group k) ps within = ((within.0, within.1, tt), within.2)
 
 pub within_next : (parts : List Part) (k : ℕ) (p : Part) → k < length parts → p ≡ get_or parts k p →
     GroupsWithin 9 (pieces_in (drop k parts)) →

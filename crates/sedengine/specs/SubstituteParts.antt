@@ -5,7 +5,7 @@ use Rattle.std.specs.Prelude.{Option, Some, None, IfSome, Result, Ok, Err, if◌
 use Rattle.sedre.specs.Arena.{Written, tree}
 use Rattle.sedmatch.specs.Caps.{Groups}
 use Rattle.sedmatch.specs.Matching.{report}
-use Rattle.sedmatch.specs.Occurrences.{KeepsRoom, Serves, owed}
+use Rattle.sedmatch.specs.Occurrences.{EndsWithin, KeepsRoom, Serves, owed}
 use Rattle.sedmatch.specs.Parts.{SpanIn, span_of}
 use Rattle.sedmatch.specs.Room.{Room}
 use Rattle.sedmatch.specs.declared.occurrences.Occurrences.{Occurrences}
@@ -63,11 +63,6 @@ abbrev pub IsNext : Written → List ℕ → Option ℕ → Option (ℕ × ℕ) 
 IsNext e w last found =
     (match_at e w found ≡ next_occurrence (search_for (Some e) w) (length w) last) × IfSome found (LiesAfter (length w) last)
 
--- the place lies in a text of n bytes
-abbrev pub EndsIn : ℕ → Option ℕ → Type 0
-EndsIn n None = Unit {0}
-EndsIn n (Some q) = q ≤ n
-
 -- the occurrences after the one that ended at a place, or all
 abbrev pub occurrences_after : Written → List ℕ → Option ℕ → List Match
 occurrences_after e w None = occurrences (search_for (Some e) w) (length w)
@@ -77,7 +72,7 @@ occurrences_after e w (Some q) = occurrences_from (search_for (Some e) w) (lengt
 abbrev pub Skips : Written → List ℕ → ℕ → Option (Option ℕ) → Type 0
 Skips e w count None = drop count (occurrences_after e w None) ≡ []
 Skips e w count (Some last) =
-    (drop count (occurrences_after e w None) ≡ occurrences_after e w last) × EndsIn (length w) last
+    (drop count (occurrences_after e w None) ≡ occurrences_after e w last) × EndsWithin (length w) last
 
 -- the occurrences that are still to be replaced: the one that has the span, if there is one, and with the flag `g` all
 -- after it

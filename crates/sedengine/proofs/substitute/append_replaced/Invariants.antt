@@ -2,8 +2,8 @@ use Rattle.std.proofs.Common.{◌≡◌, ◌≤◌, ℕ, ◌+◌, ◌-◌, ◌++
 use Rattle.std.specs.Prelude.{IfSome}
 use Rattle.sedmatch.specs.Occurrences.{KeepsRoom, Serves, owed, owed_after}
 use Rattle.sedengine.specs.Substitute.{replaced_from}
-use Rattle.sedengine.specs.Replacing.{GroupsIn, GroupsOf, has_group, pending}
-use Rattle.sedengine.proofs.substitute.replace.Given as goal
+use Rattle.sedengine.specs.SubstituteParts.{GroupsIn, GroupsOf, has_group, pending}
+use Rattle.sedengine.proofs.substitute.append_replaced.Given as goal
 
 abbrev pub invariant-occurrences : goal.invariant-occurrences
 invariant-occurrences l = record {

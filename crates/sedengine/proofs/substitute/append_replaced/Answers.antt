@@ -1,9 +1,9 @@
 use Rattle.std.proofs.Common.{arith, ◌-◌, ◌∙◌, Bool, Err, ap, drop, length, refl, subst, take}
 use Rattle.std.specs.Prelude.{slice_range}
-use Rattle.sedengine.specs.Replacing.{GroupsOf, has_group}
+use Rattle.sedengine.specs.SubstituteParts.{GroupsOf, has_group}
 use Rattle.sedengine.proofs.Due.{appended, due_after, due_cut, due_full, due_next, due_rest}
 use Rattle.sedengine.proofs.Due.{lies_on, more_pending, none_pending}
-use Rattle.sedengine.proofs.substitute.replace.Goals as goal
+use Rattle.sedengine.proofs.substitute.append_replaced.Goals as goal
 
 pub returns-in_err-append-clause-appends : goal.returns-in_err-append-clause-appends
 returns-in_err-append-clause-appends c =

@@ -11,24 +11,24 @@ ghost use Rattle.sedengine.specs.Calls.{NoSinkFailed, Puts, Delivers};
 ghost use Rattle.sedre.specs.Arena.{Written};
 ghost use Rattle.sedmatch.specs.Occurrences.{KeepsRoom, RoomFor};
 ghost use Rattle.sedengine.specs.Fitting.{AllFitInto, seeks_more};
-ghost use Rattle.sedengine.specs.Replacing.{SeeksAsBefore, TakesFor};
+ghost use Rattle.sedengine.specs.SubstituteParts.{SeeksAsBefore, TakesFor};
 ghost use Rattle.sedengine.specs.Run.{at_lines, search_in, setting};
 ghost use Rattle.sedengine.specs.Steps.{KeepsRun, Performs, weight};
-ghost use Rattle.sedengine.specs.Substituting.{KeepsSpaces, Makes, ReplacesIn, same_but_replaced};
+ghost use Rattle.sedengine.specs.SubstituteCalls.{KeepsSpaces, Makes, ReplacesIn, same_but_replaced};
 
 use super::Machine;
 use crate::ends::Ended;
 use crate::meter::Sinks;
 use crate::place::Place;
-use crate::substitute::substitute_by;
+use crate::substitute::build_for_expression;
 use sedmatch::{Occurrences, Scratch, TableMatcher};
 use sedre::Steps;
 use sedscript::Script;
 use sedspace::{Full, Space};
 
-/// Makes the substitution of number `k` in the pattern space, for the expression of number `e`. Says whether anything
-/// was replaced. What it makes is made in the build space.
-fn replace_in(
+/// Replaces in the pattern space the occurrences of the expression of number `e` that the substitution of number `k`
+/// chooses. Says whether there are any. The text is made in the build space, and the two are swapped.
+fn rewrite_space(
     script: &Script,
     k: usize,
     matchers: &mut Vec<TableMatcher>,
@@ -56,7 +56,7 @@ fn replace_in(
     ensures cost { TakesFor matchers.old.items e (length pattern.old.bytes) steps.old steps.new }
 {
     let substitution = script.substitution(k);
-    let replaced = substitute_by(
+    let replaced = build_for_expression(
         substitution,
         matchers,
         e,
@@ -97,15 +97,16 @@ impl Machine {
     {
         // The engine is open from here on, so its state is known to be within the limits.
         let _ = &self.turns;
-        if self.replace(k)? {
+        if self.replace_occurrences(k)? {
             self.write_replaced(k, outputs)
         } else {
             Ok(())
         }
     }
 
-    /// Makes the substitution of number `k` in the pattern space. Says whether anything was replaced.
-    fn replace(&mut self, k: usize) -> Result<bool, Ended>
+    /// Replaces in the pattern space the occurrences that the substitution of number `k` chooses. Says whether there are
+    /// any.
+    fn replace_occurrences(&mut self, k: usize) -> Result<bool, Ended>
         requires at { reaches self.old.state.tasks ≡ true }
         requires number { k < length self.old.script.substitutions }
         ensures makes { (t : Substitution) → slice_get self.old.script.substitutions k ≡ Some t →
@@ -120,12 +121,12 @@ impl Machine {
     {
         match self.script.substitution(k).expression.or(self.used) {
             None => Err(Ended::NoPrevious(self.number)),
-            Some(e) => self.replace_by(k, e),
+            Some(e) => self.replace_with_expression(k, e),
         }
     }
 
-    /// The same for the expression of number `e`, which is then the one last used.
-    fn replace_by(&mut self, k: usize, e: usize) -> Result<bool, Ended>
+    /// Replaces those of the expression of number `e`, which is then the one last used.
+    fn replace_with_expression(&mut self, k: usize, e: usize) -> Result<bool, Ended>
         requires at { reaches self.old.state.tasks ≡ true }
         requires number { k < length self.old.script.substitutions }
         requires expression { e < length self.old.script.expressions }
@@ -144,7 +145,7 @@ impl Machine {
         // A limit is known to be within its range from its call on.
         let _ = (self.limits.nodes(), self.limits.space());
         self.used = Some(e);
-        match replace_in(
+        match rewrite_space(
             &self.script,
             k,
             &mut self.matchers,

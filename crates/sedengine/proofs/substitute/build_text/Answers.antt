@@ -1,8 +1,8 @@
 use Rattle.std.proofs.Common.{Some, None, length, arith}
 use Rattle.sedengine.proofs.Fitting.{more_of_all, more_of_later, room_later}
-use Rattle.sedengine.specs.Replacing.{pending}
+use Rattle.sedengine.specs.SubstituteParts.{pending}
 use Rattle.sedengine.proofs.Due.{chosen_is, replaces_full, replaces_made}
-use Rattle.sedengine.proofs.substitute.substitute.Goals as goal
+use Rattle.sedengine.proofs.substitute.build_text.Goals as goal
 
 pub returns-in_default-next_occurrence-clause-replaces : goal.returns-in_default-next_occurrence-clause-replaces
 returns-in_default-next_occurrence-clause-replaces c =
@@ -10,17 +10,17 @@ returns-in_default-next_occurrence-clause-replaces c =
     chosen_is c.args.matcher.now c.args.text.now s.number s.global c.in-Some.last None c.in-Some.ensures.skips
     (rw c.in-Some.ensures.same.0 at c.in_default-next_occurrence.ensures.next.0)
 
-pub returns-in_err-replace-clause-replaces : goal.returns-in_err-replace-clause-replaces
-returns-in_err-replace-clause-replaces c =
+pub returns-in_err-append_replaced-clause-replaces : goal.returns-in_err-append_replaced-clause-replaces
+returns-in_err-append_replaced-clause-replaces c =
     let s = c.args.substitution.now in
     let e = c.args.matcher.now in
     let w = c.args.text.now in
     let first = Some c.in-Some-next_occurrence.first in
     let same = chosen_is e w s.number s.global c.in-Some.last first c.in-Some.ensures.skips
     (rw c.in-Some.ensures.same.0 at c.in-Some-next_occurrence.ensures.next.0) in
-    replaces_full w s.replacement _ (pending e w s.global first) c.args.build.now c.clear.new.self c.replace.new.build
-    c.in_err-replace.field-0.0 c.from_residual.result c.from_residual.ensures.0 same (omega arith) c.clear.ensures
-    (rw (c.in-Some-next_occurrence.ensures.same.0, c.in-Some.ensures.same.0) at c.in_err-replace.ensures.appends)
+    replaces_full w s.replacement _ (pending e w s.global first) c.args.build.now c.clear.new.self c.append_replaced.new.build
+    c.in_err-append_replaced.field-0.0 c.from_residual.result c.from_residual.ensures.0 same (omega arith) c.clear.ensures
+    (rw (c.in-Some-next_occurrence.ensures.same.0, c.in-Some.ensures.same.0) at c.in_err-append_replaced.ensures.appends)
 
 pub returns-clause-replaces : goal.returns-clause-replaces
 returns-clause-replaces c =
@@ -30,8 +30,8 @@ returns-clause-replaces c =
     let first = Some c.in-Some-next_occurrence.first in
     let same = chosen_is e w s.number s.global c.in-Some.last first c.in-Some.ensures.skips
     (rw c.in-Some.ensures.same.0 at c.in-Some-next_occurrence.ensures.next.0) in
-    replaces_made w s.replacement _ (pending e w s.global first) c.args.build.now c.clear.new.self c.replace.new.build
-    same (omega arith) c.clear.ensures (rw (c.in-Some-next_occurrence.ensures.same.0, c.in-Some.ensures.same.0) at c.in_ok-replace.ensures.appends)
+    replaces_made w s.replacement _ (pending e w s.global first) c.args.build.now c.clear.new.self c.append_replaced.new.build
+    same (omega arith) c.clear.ensures (rw (c.in-Some-next_occurrence.ensures.same.0, c.in-Some.ensures.same.0) at c.in_ok-append_replaced.ensures.appends)
 
 pub skip-requires-clause-more : goal.skip-requires-clause-more
 skip-requires-clause-more c = λ some.
@@ -52,18 +52,18 @@ pub returns-in_default-next_occurrence-clause-kept : goal.returns-in_default-nex
 returns-in_default-next_occurrence-clause-kept c = λ text nodes has.
     c.in_default-next_occurrence.ensures.serves.0 text nodes (c.in-Some.ensures.serves.0 text nodes (c.begin.ensures.room text nodes has))
 
-pub replace-requires-clause-more : goal.replace-requires-clause-more
-replace-requires-clause-more c = λ all.
+pub append_replaced-requires-clause-more : goal.append_replaced-requires-clause-more
+append_replaced-requires-clause-more c = λ all.
     rw (c.in-Some-next_occurrence.ensures.same.0, c.in-Some.ensures.same.0)
     (c.in-Some-next_occurrence.ensures.serves.0 _ _ (c.in-Some.ensures.serves.0 _ _ (c.begin.ensures.room _ _
     (c.requires.more (more_of_all c.args.substitution.now all)))))
 
-pub returns-in_err-replace-clause-kept : goal.returns-in_err-replace-clause-kept
-returns-in_err-replace-clause-kept c = λ text nodes has.
-    c.in_err-replace.ensures.kept text nodes (c.in-Some-next_occurrence.ensures.serves.0 text nodes
+pub returns-in_err-append_replaced-clause-kept : goal.returns-in_err-append_replaced-clause-kept
+returns-in_err-append_replaced-clause-kept c = λ text nodes has.
+    c.in_err-append_replaced.ensures.kept text nodes (c.in-Some-next_occurrence.ensures.serves.0 text nodes
     (c.in-Some.ensures.serves.0 text nodes (c.begin.ensures.room text nodes has)))
 
 pub returns-clause-kept : goal.returns-clause-kept
 returns-clause-kept c = λ text nodes has.
-    c.in_ok-replace.ensures.kept text nodes (c.in-Some-next_occurrence.ensures.serves.0 text nodes
+    c.in_ok-append_replaced.ensures.kept text nodes (c.in-Some-next_occurrence.ensures.serves.0 text nodes
     (c.in-Some.ensures.serves.0 text nodes (c.begin.ensures.room text nodes has)))
