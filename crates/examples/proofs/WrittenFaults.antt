@@ -78,5 +78,5 @@ replacement_faultless d groups (literal b ∷ ps) at other fit there =
     past_literal (b == d || b == 92 || b == 38 || b == 10) d (Some groups) at b (written_pieces d ps) other refl (λ n. replacement_faultless d groups ps n other fit there)
 replacement_faultless d groups (whole ∷ ps) at other fit there = replacement_faultless d groups ps (suc at) other fit there
 replacement_faultless d groups (group k ∷ ps) at other fit there =
-    past_piece d (Some groups) at (48 + k) (group k) (written_pieces d ps) (group_escape d k fit.0 fit.1 other) (λ n. group_there groups n k there.0)
-    (λ n. replacement_faultless d groups ps n other fit.2 there.1)
+    past_piece d (Some groups) at (48 + k) (group k) (written_pieces d ps) (group_escape d k fit.0 fit.1 other) (λ n. group_there groups n k there.1)
+    (λ n. replacement_faultless d groups ps n other fit.2 there.2)

@@ -30,6 +30,8 @@ pub fn script(alloc: Global, text: &[u8], kind: Kind, nodes: usize) -> Result<Sc
     ensures no_fault { OnOk result ((f : ScriptFault) → Faulty text.now kind nodes f → ⊥) }
     // A fault is the first one of the text, or there was no memory.
     ensures fault { IfErr result (λ f. Faulty text.now kind nodes f ⊎ (f ≡ NO_MEMORY)) }
+    // It is told in the text or at its end.
+    ensures within { IfErr result (λ f. f.place ≤ length text.now) }
 {
     sedscript::read(alloc, text, kind, nodes)
 }
