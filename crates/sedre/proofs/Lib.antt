@@ -24,3 +24,4 @@ pub mod Holding
 pub mod Numbers
 pub mod Ended
 pub mod Folding
+pub mod Places

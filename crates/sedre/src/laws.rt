@@ -1,5 +1,5 @@
 //! Laws of the grammar of expressions, for the contracts of other crates. The calls do nothing.
-ghost use Rattle.std.specs.Prelude.{◌≡◌, ◌≤◌, ℕ, List, Bool, Option};
+ghost use Rattle.std.specs.Prelude.{◌≡◌, ◌≤◌, ℕ, List, length, Bool, Option};
 ghost use Rattle.sedre.specs.declared.types.Kind.{Kind};
 ghost use Rattle.sedre.specs.declared.types.Reason.{Reason};
 ghost use Rattle.sedre.specs.Tree.{Tree, size, depth};
@@ -26,4 +26,10 @@ pub fn one_fault()
     ensures { (kind : Kind) (delimiter : Option ℕ) (text : List ℕ) (max_nodes place more : ℕ) (reason other : Reason) →
         ExprFaulty kind delimiter text max_nodes place reason → ExprFaulty kind delimiter text max_nodes more other →
         (place ≡ more) × (reason ≡ other) }
+{}
+
+/// The place of a text's first fault is in the text or at its end.
+pub fn fault_within()
+    ensures { (kind : Kind) (delimiter : Option ℕ) (text : List ℕ) (max_nodes place : ℕ) (reason : Reason) →
+        ExprFaulty kind delimiter text max_nodes place reason → place ≤ length text }
 {}

@@ -13,3 +13,4 @@ pub mod FileTables
 pub mod Blocks
 pub mod TargetFaults
 pub mod Bounds
+pub mod Places

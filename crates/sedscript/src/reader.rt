@@ -1,6 +1,6 @@
 //! The reader of scripts.
 
-ghost use Rattle.std.specs.Prelude.{◌≡◌, ◌≤◌, ◌⊎◌, [], IfOk, IfErr, OnOk};
+ghost use Rattle.std.specs.Prelude.{◌≡◌, ◌≤◌, ◌⊎◌, [], IfOk, IfErr, OnOk, length};
 ghost use Rattle.sedscript.specs.Script.{Cut, IsEnd, Means, Faulty};
 ghost use Rattle.sedscript.specs.Answers.{IsJudged};
 ghost use Rattle.sedscript.specs.Parts.{IsNamed};
@@ -17,7 +17,7 @@ use crate::target_faults::target_fault;
 use crate::targets::{Targets, targets_of};
 use crate::types::{Kind, NO_MEMORY, ScriptFault};
 use sedre::Expr;
-use sedre::laws::reads_as_one;
+use sedre::laws::{fault_within, reads_as_one};
 use std::alloc::{AllocError, Global};
 
 /// Cuts a text into its items and regular expressions up to its end, and answers where the last item ends.
@@ -103,6 +103,24 @@ pub fn read(alloc: Global, text: &[u8], kind: Kind, max_nodes: usize) -> Result<
     // No fault is passed over.
     ensures no_fault { OnOk result ((f : ScriptFault) → Faulty text.now kind max_nodes f → ⊥) }
     // A fault is the first one of the text, or there was no memory.
+    ensures fault { IfErr result (λ f. Faulty text.now kind max_nodes f ⊎ (f ≡ NO_MEMORY)) }
+    // It is told in the text or at its end.
+    ensures within { IfErr result (λ f. f.place ≤ length text.now) }
+{
+    fault_within();
+    read_script(alloc, text, kind, max_nodes)
+}
+
+/// Reads a text as a script, or answers its first fault, wherever that is told.
+fn read_script(
+    alloc: Global,
+    text: &[u8],
+    kind: Kind,
+    max_nodes: usize,
+) -> Result<Script, ScriptFault>
+    requires nodes { (1 ≤ max_nodes) × (max_nodes ≤ 65536) }
+    ensures means { IfOk result (λ s. Means text.now kind max_nodes s) }
+    ensures no_fault { OnOk result ((f : ScriptFault) → Faulty text.now kind max_nodes f → ⊥) }
     ensures fault { IfErr result (λ f. Faulty text.now kind max_nodes f ⊎ (f ≡ NO_MEMORY)) }
 {
     reads_as_one();

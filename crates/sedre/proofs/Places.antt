@@ -1,0 +1,187 @@
+-- A fault is told in the text or at its end.
+use Rattle.std.proofs.Common.{◌≡◌, ℕ, zero, suc, ◌+◌, ◌-◌, ◌<◌, ◌≤◌, List, [], ◌∷◌, length, drop, Bool, true, false, not, ◌&&◌, ◌==◌, nat_le, if◌then◌else◌, Option, Some, None, Result, Ok, Err, IfErr, refl, ap, subst, arith, length-drop}
+use Rattle.sedre.specs.declared.types.Kind.{Kind}
+use Rattle.sedre.specs.declared.types.Kind.TheVariants.{Basic, Extended}
+use Rattle.sedre.specs.declared.types.Reason.{Reason}
+use Rattle.sedre.specs.declared.types.ExprFault.{ExprFault}
+use Rattle.sedre.specs.declared.elements.Element.{Element}
+use Rattle.sedre.specs.declared.elements.Element.TheVariants.{Plain, Delimiter, OfClass, Equivalent, Collating, Wrong, Unclosed}
+use Rattle.sedre.specs.declared.byte_set.ByteSet.{ByteSet}
+use Rattle.sedre.specs.declared.intervals.Interval.{Interval as Bounds}
+use Rattle.sedre.specs.declared.syntax.Symbol.{Symbol}
+use Rattle.sedre.specs.declared.syntax.Symbol.TheVariants.{Literal, AnyByte, Opening, Closing, Parting, Star, Plus, Question, Interval, IntervalEnd, BracketOpening, Caret, Dollar, Unknown}
+use Rattle.sedre.specs.declared.syntax.Item.{Item}
+use Rattle.sedre.specs.declared.syntax.Here.{Here}
+use Rattle.sedre.specs.declared.syntax.Here.TheVariants.{Is, Ends, Bad}
+use Rattle.sedre.specs.Brackets.{items, item, items_from, is_negated, is_dash, goes_on, Listing, single, between_ends, range_to, range, both, listed, judged, list_at}
+use Rattle.sedre.specs.Intervals.{interval}
+use Rattle.sedre.specs.Symbols.{symbol}
+use Rattle.sedre.specs.Items.{is_first, is_repeatable, is_repeat, ends_alternative, repeats, interval_item, list_item, star_item, question_item, caret_item, dollar_item, item_for, item_at}
+use Rattle.sedre.specs.Grammar.{last_of, Row, bad, stray, unclosed, deep, large, FaultyWith}
+
+-- the items of a list stand up to a place
+abbrev StandUpTo : ℕ → List (ℕ × Element) → Type 0
+StandUpTo n [] = Unit {0}
+StandUpTo n (x ∷ xs) = (x.0 ≤ n) × StandUpTo n xs
+
+up_to_if : (n : ℕ) (t : Bool) (x y : List (ℕ × Element) × Option ℕ) → StandUpTo n x.0 → StandUpTo n y.0 → StandUpTo n (if t then x else y).0
+up_to_if n true x y h g = h
+up_to_if n false x y h g = g
+
+items_up_to : (delimiter : Option ℕ) (n : ℕ) (first : Bool) (skip place : ℕ) (bs : List ℕ) → place + length bs ≤ n → StandUpTo n (items delimiter first skip place bs).0
+items_up_to delimiter n first skip place [] le = tt
+items_up_to delimiter n first (suc skip) place (b ∷ bs) le = items_up_to delimiter n first skip (place + 1) bs (omega (arith, le))
+items_up_to delimiter n first zero place (b ∷ bs) le =
+    up_to_if n (b == 93 && not first) _ _ tt
+    (omega (arith, le), items_up_to delimiter n false ((item delimiter (b ∷ bs)).1 - 1) (place + 1) bs (omega (arith, le)))
+
+from_up_to : (delimiter : Option ℕ) (n place : ℕ) (bs : List ℕ) → place + length bs ≤ n → StandUpTo n (items_from delimiter place bs).0
+from_up_to delimiter n place [] le = tt
+from_up_to delimiter n place (b ∷ bs) le =
+    up_to_if n (b == 94) _ _ (items_up_to delimiter n true 0 (place + 1) bs (omega (arith, le))) (items_up_to delimiter n true 0 place (b ∷ bs) le)
+
+-- a fault is told up to a place
+abbrev ToldUpTo : {A : Type 0} → ℕ → Result A ExprFault → Type 0
+ToldUpTo n r = IfErr r (λ f. f.place ≤ n)
+
+told_if : (n : ℕ) (t : Bool) (r s : Listing) → ToldUpTo n r → ToldUpTo n s → ToldUpTo n (if t then r else s)
+told_if n true r s h g = h
+told_if n false r s h g = g
+
+both_told : (n : ℕ) (r s : Listing) → ToldUpTo n r → ToldUpTo n s → ToldUpTo n (both r s)
+both_told n (Err f) s h g = h
+both_told n (Ok x) (Err f) h g = g
+both_told n (Ok x) (Ok y) h g = tt
+
+single_told : (n : ℕ) (x : ℕ × Element) → x.0 ≤ n → ToldUpTo n (single x)
+single_told n (place, Plain b) h = tt
+single_told n (place, Delimiter b) h = tt
+single_told n (place, OfClass class) h = tt
+single_told n (place, Equivalent b) h = tt
+single_told n (place, Collating b) h = tt
+single_told n (place, Wrong reason) h = h
+single_told n (place, Unclosed) h = tt
+
+between_told : (n place : ℕ) (first last : Option ℕ) (on : Bool) → place ≤ n → ToldUpTo n (between_ends place first last on)
+between_told n place None last on h = h
+between_told n place (Some a) None on h = h
+between_told n place (Some a) (Some b) on h = told_if n (nat_le a b && not on) _ _ tt h
+
+range_to_told : (n place : ℕ) (first : Option ℕ) (last : ℕ × Element) (on : Bool) → place ≤ n → last.0 ≤ n → ToldUpTo n (range_to place first last on)
+range_to_told n place first (at, Plain b) on h g = between_told n place first (Some b) on h
+range_to_told n place first (at, Delimiter b) on h g = between_told n place first (Some b) on h
+range_to_told n place first (at, OfClass class) on h g = between_told n place first None on h
+range_to_told n place first (at, Equivalent b) on h g = between_told n place first None on h
+range_to_told n place first (at, Collating b) on h g = between_told n place first (Some b) on h
+range_to_told n place first (at, Wrong reason) on h g = g
+range_to_told n place first (at, Unclosed) on h g = tt
+
+range_told : (n : ℕ) (first last : ℕ × Element) (on : Bool) → first.0 ≤ n → last.0 ≤ n → ToldUpTo n (range first last on)
+range_told n (place, Plain b) last on h g = range_to_told n place (Some b) last on h g
+range_told n (place, Delimiter b) last on h g = range_to_told n place (Some b) last on h g
+range_told n (place, OfClass class) last on h g = range_to_told n place None last on h g
+range_told n (place, Equivalent b) last on h g = range_to_told n place None last on h g
+range_told n (place, Collating b) last on h g = range_to_told n place (Some b) last on h g
+range_told n (place, Wrong reason) last on h g = h
+range_told n (place, Unclosed) last on h g = tt
+
+listed_told : (n : ℕ) (xs : List (ℕ × Element)) → StandUpTo n xs → ToldUpTo n (listed xs)
+listed_told n [] h = tt
+listed_told n (x ∷ []) h = both_told n (single x) (listed []) (single_told n x h.0) tt
+listed_told n (x ∷ y ∷ []) h = both_told n (single x) (listed (y ∷ [])) (single_told n x h.0) (listed_told n (y ∷ []) h.1)
+listed_told n (x ∷ y ∷ z ∷ rest) h =
+    let later : StandUpTo n (y ∷ z ∷ rest) = h.1 in
+    let last : StandUpTo n (z ∷ rest) = later.1 in
+    told_if n (is_dash y.1) _ _
+    (both_told n (range x z (goes_on rest)) (listed rest) (range_told n x z (goes_on rest) h.0 last.0) (listed_told n rest last.1))
+    (both_told n (single x) (listed (y ∷ z ∷ rest)) (single_told n x h.0) (listed_told n (y ∷ z ∷ rest) later))
+
+judged_told : (n : ℕ) (folded negated : Bool) (at : ℕ) (r : Listing) (end : Option ℕ) → at ≤ n → ToldUpTo n r → ToldUpTo n (judged folded negated at r end)
+judged_told n folded negated at (Err f) end le h = h
+judged_told n folded negated at (Ok x) None le h = le
+judged_told n folded negated at (Ok x) (Some next) le h = tt
+
+list_told : (folded : Bool) (delimiter : Option ℕ) (text : List ℕ) (at : ℕ) → at < length text → ToldUpTo (length text) (list_at folded delimiter text at)
+unfolding list_at
+list_told folded delimiter text at inside =
+    let bytes = drop (at + 1) text in
+    let found = items_from delimiter (at + 1) bytes in
+    judged_told (length text) folded (is_negated bytes) at (listed found.0) found.1 (omega (arith, inside))
+    (listed_told (length text) found.0 (from_up_to delimiter (length text) (at + 1) bytes (omega (arith, inside, length-drop (at + 1) text))))
+
+-- what stands at a place up to this one, or is told there
+abbrev HereUpTo : (n at : ℕ) → Here → Type 0
+HereUpTo n at (Is i next) = at ≤ n
+HereUpTo n at (Bad f) = f.place ≤ n
+HereUpTo n at Ends = Unit {0}
+
+repeats_here : (n at : ℕ) (may : Bool) (repeat : Here) → at ≤ n → HereUpTo n at repeat → HereUpTo n at (repeats may at repeat)
+repeats_here n at true repeat le h = h
+repeats_here n at false repeat le h = le
+
+interval_here : (n at next : ℕ) (o : Option Bounds) → at ≤ n → HereUpTo n at (interval_item o at next)
+interval_here n at next None le = le
+interval_here n at next (Some i) le = le
+
+list_here : (n at : ℕ) (r : Result (ByteSet × ℕ) ExprFault) → at ≤ n → ToldUpTo n r → HereUpTo n at (list_item r)
+list_here n at (Ok (members, next)) le h = le
+list_here n at (Err f) le h = h
+
+star_here : (n at next : ℕ) (kind : Kind) (may : Bool) → at ≤ n → HereUpTo n at (star_item kind may at next)
+star_here n at next Basic true le = le
+star_here n at next Basic false le = le
+star_here n at next Extended may le = repeats_here n at may _ le le
+
+question_here : (n at next : ℕ) (kind : Kind) (may repeated : Bool) → at ≤ n → HereUpTo n at (question_item kind may repeated at next)
+question_here n at next Basic may repeated le = repeats_here n at may _ le le
+question_here n at next Extended may repeated le = repeats_here n at (may && not repeated) _ le le
+
+caret_here : (n at next : ℕ) (kind : Kind) (first : Bool) → at ≤ n → HereUpTo n at (caret_item kind first next)
+caret_here n at next Basic true le = le
+caret_here n at next Basic false le = le
+caret_here n at next Extended first le = le
+
+dollar_here : (n at next : ℕ) (kind : Kind) (last : Bool) → at ≤ n → HereUpTo n at (dollar_item kind last next)
+dollar_here n at next Basic true le = le
+dollar_here n at next Basic false le = le
+dollar_here n at next Extended last le = le
+
+module _ (kind : Kind) (folded : Bool) (delimiter : Option ℕ) (text : List ℕ) where
+  symbol_here : (before : Option Item) (at : ℕ) (s : Option (Symbol × ℕ)) → at < length text → HereUpTo (length text) at (item_for kind folded delimiter text before at s)
+  symbol_here before at None inside = tt
+  symbol_here before at (Some (Literal b, n)) inside = omega (arith, inside)
+  symbol_here before at (Some (AnyByte, n)) inside = omega (arith, inside)
+  symbol_here before at (Some (Opening, n)) inside = omega (arith, inside)
+  symbol_here before at (Some (Closing, n)) inside = omega (arith, inside)
+  symbol_here before at (Some (Parting, n)) inside = omega (arith, inside)
+  symbol_here before at (Some (Star, n)) inside = star_here (length text) at (at + n) kind (is_repeatable before) (omega (arith, inside))
+  symbol_here before at (Some (Plus, n)) inside = repeats_here (length text) at (is_repeatable before) _ (omega (arith, inside)) (omega (arith, inside))
+  symbol_here before at (Some (Question, n)) inside = question_here (length text) at (at + n) kind (is_repeatable before) (is_repeat before) (omega (arith, inside))
+  symbol_here before at (Some (Interval, n)) inside =
+      repeats_here (length text) at (is_repeatable before) _ (omega (arith, inside))
+      (interval_here (length text) at (at + n) (interval kind delimiter (drop (at + n) text)) (omega (arith, inside)))
+  symbol_here before at (Some (IntervalEnd, n)) inside = omega (arith, inside)
+  symbol_here before at (Some (BracketOpening, n)) inside = list_here (length text) at (list_at folded delimiter text at) (omega (arith, inside)) (list_told folded delimiter text at inside)
+  symbol_here before at (Some (Caret, n)) inside = caret_here (length text) at (at + n) kind (is_first before) (omega (arith, inside))
+  symbol_here before at (Some (Dollar, n)) inside =
+      dollar_here (length text) at (at + n) kind (ends_alternative (symbol kind delimiter (drop (at + n) text))) (omega (arith, inside))
+  symbol_here before at (Some (Unknown reason, n)) inside = omega (arith, inside)
+
+  rest_here : (before : Option Item) (at : ℕ) (bs : List ℕ) → drop at text ≡ bs → HereUpTo (length text) at (item_for kind folded delimiter text before at (symbol kind delimiter bs))
+  rest_here before at [] e = tt
+  rest_here before at (b ∷ bs) e = symbol_here before at (symbol kind delimiter (b ∷ bs)) (omega (arith, length-drop at text, ap length e))
+
+  item_here : (before : Option Item) (at : ℕ) → HereUpTo (length text) at (item_at kind folded delimiter text before at)
+  unfolding item_at
+  item_here before at = rest_here before at (drop at text) refl
+
+  row_within : (max_nodes : ℕ) {is : List Item} {opened to place : ℕ} {reason : Reason} → Row kind folded delimiter text max_nodes is opened to place reason → place ≤ length text
+  row_within max_nodes (bad {is = is} {to = to} e) = subst (HereUpTo (length text) to) e (item_here (last_of None is) to)
+  row_within max_nodes (stray {is = is} {to = to} e) = subst (HereUpTo (length text) to) e (item_here (last_of None is) to)
+  row_within max_nodes (unclosed e) = omega arith
+  row_within max_nodes (deep bs e a far) = omega arith
+  row_within max_nodes (large bs e a near far) = omega arith
+
+  -- the first fault of a text is told in it or at its end
+  pub fault_within : (max_nodes : ℕ) {place : ℕ} {reason : Reason} → FaultyWith kind folded delimiter text max_nodes place reason → place ≤ length text
+  fault_within max_nodes f = row_within max_nodes f.row

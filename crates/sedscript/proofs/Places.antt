@@ -1,0 +1,622 @@
+-- A fault is told in the text or at its end.
+use Rattle.std.proofs.Common.{◌≡◌, ℕ, zero, suc, ◌+◌, ◌-◌, ◌<◌, ◌≤◌, ◌&&◌, ◌||◌, ◌==◌, Bool, true, false, not, List, [], ◌∷◌, ◌++◌, length, Option, Some, None, is_some, is_none, option_map, option_and_then, Result, Ok, Err, refl, sym, ap, subst, ◌∙◌, arith, if◌then◌else◌, slice_get, take, drop, nat_lt, length-take, length-drop, ◌⊎◌, inl, inr, IfErr}
+use Rattle.std.specs.Option.{option_or}
+use Rattle.sedre.specs.declared.types.Kind.{Kind}
+use Rattle.sedre.specs.declared.types.Reason.{Reason as ExprReason}
+use Rattle.sedre.specs.Arena.{Written}
+use Rattle.sedre.specs.Grammar.{ExprFaulty}
+use Rattle.sedre.specs.Delimited.{first_delimiter, next_place, delimiter_at}
+use Rattle.sedscript.specs.declared.bytes.Sort.{Sort}
+use Rattle.sedscript.specs.declared.bytes.Sort.TheVariants.{Blank, Name, Bang, Digit, Separator, Line}
+use Rattle.sedscript.specs.declared.types.ScriptFault.{ScriptFault}
+use Rattle.sedscript.specs.declared.types.TheConstants.{NO_MEMORY}
+use Rattle.sedscript.specs.declared.types.Reason.{Reason}
+use Rattle.sedscript.specs.declared.types.Reason.TheVariants.{UnknownCommand, TooManyAddresses, TrailingBytes, FlagOnEmpty, MissingLabel, LengthsDiffer}
+use Rattle.sedscript.specs.declared.types.Address.{Address}
+use Rattle.sedscript.specs.declared.types.Address.TheVariants.{Match}
+use Rattle.sedscript.specs.declared.items.TextUse.{TextUse}
+use Rattle.sedscript.specs.declared.items.BranchUse.{BranchUse}
+use Rattle.sedscript.specs.declared.items.FileUse.{FileUse}
+use Rattle.sedscript.specs.declared.items.Flags.{Flags}
+use Rattle.sedscript.specs.declared.items.Strings.{Strings}
+use Rattle.sedscript.specs.declared.items.Function.{Function}
+use Rattle.sedscript.specs.declared.items.Function.TheVariants.{Plain, Open, Close, Label, Branch, Text, File, Comment, Substitute, Transliterate}
+use Rattle.sedscript.specs.declared.items.Addresses.{Addresses}
+use Rattle.sedscript.specs.declared.items.Item.{Item}
+use Rattle.sedscript.specs.declared.items.Here.{Here}
+use Rattle.sedscript.specs.declared.items.Here.TheVariants.{Is, Ends}
+use Rattle.sedscript.specs.declared.letters.Verb.{Verb}
+use Rattle.sedscript.specs.declared.letters.Verb.TheVariants.{ReadsExpression, Reads}
+use Rattle.sedscript.specs.declared.letters.Shape.{Shape}
+use Rattle.sedscript.specs.declared.letters.Shape.TheVariants.{Alone, OpensBlock, ClosesBlock, Remark, NamesLabel, GoesTo, TakesText, NamesFile, TakesStrings}
+use Rattle.sedscript.specs.declared.texts.Inside.{Inside}
+use Rattle.sedscript.specs.declared.texts.Inside.TheVariants.{InLine, Escape, Due}
+use Rattle.sedscript.specs.declared.transliteration.Char.{Char}
+use Rattle.sedscript.specs.Bytes.{past, belongs, run_of, bytes_between, is_digit, is_byte, with_digits}
+use Rattle.sedscript.specs.Strings.{escapes, string_end}
+use Rattle.sedscript.specs.Letters.{verb_of, most_addresses}
+use Rattle.sedscript.specs.Functions.{fault, given, allowed, item_of, ended, may_end, stops, inside_after, text_end, ends_line, text_of, text_from, label_of, branch_of, file_of, name_from, ◌>>=◌ as ◌then◌}
+use Rattle.sedscript.specs.Replacement.{Piece, literal, whole, group, escaped_piece, exceeds, piece_fault, replacement_fault}
+use Rattle.sedscript.specs.Flags.{no_flags, numbered, with_number, with_flag, with_file, ends_flags, flags_from, folds}
+use Rattle.sedscript.specs.Transliteration.{escaped_byte, char_of, with_char, chars_from, chars_of, string_fault, is_among, repeated_in, repeated_fault, strings_fault}
+use Rattle.sedscript.specs.Between.{own_delimiter, strings_to, strings_after, substitute_strings, transliterate_strings, unless_fault, transliterate_at, flags_after, flagged, substituted}
+use Rattle.sedscript.specs.Reading.{Pattern, Reading, plainly, expression, ◌>>=◌}
+use Rattle.sedscript.specs.Addresses.{Addressed, Headed, headed, line_of, folds_at, past_flag, empty_match, match_to, match_at, own_match, address_of, address_at, with_second, second_at, after_first, addresses_at, with_bang}
+use Rattle.sedscript.specs.Items.{substitute_with, substitute_at, function_of, function_with, function_at, function_after, item_with, item_from, item_at}
+use Rattle.sedscript.specs.Expressions.{Gives, value, after_expression, Fails, own, no_expression, later}
+use Rattle.sedscript.specs.Targets.{fault_if, target_fault_at, target_fault_in, target_fault, depth_after, block_end, label_in}
+use Rattle.sedscript.specs.Script.{Cut, done, item, Faulty, early, afterwards}
+
+-- places
+
+-- a byte that is there stands before the end
+inside : (xs : List ℕ) (i x : ℕ) → slice_get xs i ≡ Some x → i < length xs
+inside [] zero x e = cc
+inside [] (suc i) x e = cc
+inside (y ∷ xs) zero x e = omega arith
+inside (y ∷ xs) (suc i) x e = let h = inside xs i x e in omega (arith, h)
+
+byte_inside : (b : ℕ) (text : List ℕ) (at : ℕ) → is_byte b (slice_get text at) ≡ true → at < length text
+byte_inside b text at e = by_byte (slice_get text at) refl e
+  where
+    by_byte : (o : Option ℕ) → slice_get text at ≡ o → is_byte b o ≡ true → at < length text
+    by_byte None f e = cc
+    by_byte (Some c) f e = inside text at c f
+
+run_short : (sort : Sort) (bs : List ℕ) → run_of sort bs ≤ length bs
+run_short sort [] = omega arith
+run_short sort (b ∷ bs) = by_sort (belongs sort b) (run_short sort bs)
+  where
+    by_sort : (t : Bool) → run_of sort bs ≤ length bs → (if t then suc (run_of sort bs) else 0) ≤ suc (length bs)
+    by_sort true h = omega (arith, h)
+    by_sort false h = omega arith
+
+past_up_to : (sort : Sort) (text : List ℕ) (at : ℕ) → at ≤ length text → past sort text at ≤ length text
+unfolding past
+past_up_to sort text at le = omega (arith, le, run_short sort (drop at text), length-drop at text)
+
+between_short : (text : List ℕ) (from to : ℕ) → from ≤ to → from + length (bytes_between text from to) ≤ to
+between_short text from to le = omega (arith, le, length-take (to - from) (drop from text))
+
+-- a place that was found stands from one place on and before another
+abbrev FoundIn : (from end : ℕ) → Option ℕ → Type 0
+FoundIn from end None = Unit {0}
+FoundIn from end (Some to) = (from ≤ to) × (to < end)
+
+found_if : (from end : ℕ) (t : Bool) (x y : Option ℕ) → FoundIn from end x → FoundIn from end y → FoundIn from end (if t then x else y)
+found_if from end true x y h g = h
+found_if from end false x y h g = g
+
+found_later : (from next end : ℕ) (o : Option ℕ) → from ≤ next → FoundIn next end o → FoundIn from end o
+found_later from next end None le h = tt
+found_later from next end (Some to) le h = (omega (arith, le, h.0), h.1)
+
+found_then : (from end : ℕ) (f : ℕ → Option ℕ) (o : Option ℕ) → ((n : ℕ) → FoundIn from end (f n)) → FoundIn from end (option_and_then f o)
+found_then from end f None h = tt
+found_then from end f (Some n) h = h n
+
+first_in : (d skip at end : ℕ) (bs : List ℕ) → at + length bs ≤ end → FoundIn at end (first_delimiter d skip at bs)
+first_in d skip at end [] le = tt
+first_in d (suc skip) at end (b ∷ bs) le =
+    found_if at end (b == 10) _ _ tt (found_later at (at + 1) end _ (omega arith) (first_in d skip (at + 1) end bs (omega (arith, le))))
+first_in d zero at end (b ∷ bs) le =
+    found_if at end (b == 10) _ _ tt
+    (found_if at end (b == d) _ _ (omega arith, omega (arith, le))
+    (found_then at end (λ next. first_delimiter d (next - (at + 1)) (at + 1) bs) (next_place d at (b ∷ bs))
+    (λ next. found_later at (at + 1) end _ (omega arith) (first_in d (next - (at + 1)) (at + 1) end bs (omega (arith, le))))))
+
+delimiter_in : (text : List ℕ) (at d : ℕ) → at ≤ length text → FoundIn at (length text) (delimiter_at text at d)
+unfolding delimiter_at
+delimiter_in text at d le = first_in d 0 at (length text) (drop at text) (omega (arith, le, length-drop at text))
+
+string_in : (breaks : Bool) (d : ℕ) (escaped : Bool) (at end : ℕ) (bs : List ℕ) → at + length bs ≤ end → FoundIn at end (string_end breaks d escaped at bs)
+string_in breaks d escaped at end [] le = tt
+string_in breaks d escaped at end (b ∷ bs) le =
+    found_if at end (b == 10 && not (breaks && escaped)) _ _ tt
+    (found_if at end escaped _ _ (found_later at (suc at) end _ (omega arith) (string_in breaks d false (suc at) end bs (omega (arith, le))))
+    (found_if at end (b == d) _ _ (omega arith, omega (arith, le))
+    (found_later at (suc at) end _ (omega arith) (string_in breaks d (b == 92) (suc at) end bs (omega (arith, le))))))
+
+text_in : (how : Inside) (at end : ℕ) (bs : List ℕ) → at + length bs < end → FoundIn at end (text_end how at bs)
+text_in InLine at end [] le = (omega arith, omega (arith, le))
+text_in Escape at end [] le = tt
+text_in Due at end [] le = tt
+text_in Escape at end (b ∷ bs) le =
+    found_later at (suc at) end (text_end (if b == 10 then Due else InLine) (suc at) bs) (omega arith) (text_in (if b == 10 then Due else InLine) (suc at) end bs (omega (arith, le)))
+text_in InLine at end (b ∷ bs) le =
+    let here : FoundIn at end (Some at) = (omega arith, omega (arith, le)) in
+    found_if at end (b == 10) (Some at) (text_end (if b == 92 then Escape else InLine) (suc at) bs) here
+    (found_later at (suc at) end (text_end (if b == 92 then Escape else InLine) (suc at) bs) (omega arith) (text_in (if b == 92 then Escape else InLine) (suc at) end bs (omega (arith, le))))
+text_in Due at end (b ∷ bs) le =
+    let here : FoundIn at end (Some at) = (omega arith, omega (arith, le)) in
+    found_if at end (b == 10) (Some at) (text_end (if b == 92 then Escape else InLine) (suc at) bs) here
+    (found_later at (suc at) end (text_end (if b == 92 then Escape else InLine) (suc at) bs) (omega arith) (text_in (if b == 92 then Escape else InLine) (suc at) end bs (omega (arith, le))))
+
+-- faults
+
+-- a fault, where there is one, is told up to a place
+abbrev FaultUpTo : ℕ → Option ScriptFault → Type 0
+FaultUpTo n None = Unit {0}
+FaultUpTo n (Some f) = f.place ≤ n
+
+fault_if_up_to : (n : ℕ) (t : Bool) (reason : Reason) (place : ℕ) → place ≤ n → FaultUpTo n (fault_if t reason place)
+fault_if_up_to n true reason place le = le
+fault_if_up_to n false reason place le = tt
+
+fault_or : (n : ℕ) (x y : Option ScriptFault) → FaultUpTo n x → FaultUpTo n y → FaultUpTo n (option_or x y)
+fault_or n None y h g = g
+fault_or n (Some f) y h g = h
+
+fault_choice : (n : ℕ) (t : Bool) (x y : Option ScriptFault) → FaultUpTo n x → FaultUpTo n y → FaultUpTo n (if t then x else y)
+fault_choice n true x y h g = h
+fault_choice n false x y h g = g
+
+piece_up_to : (n : ℕ) (limit : Option ℕ) (place : ℕ) (o : Option Piece) → place ≤ n → FaultUpTo n (piece_fault limit place o)
+piece_up_to n limit place None le = le
+piece_up_to n limit place (Some (literal b)) le = tt
+piece_up_to n limit place (Some whole) le = tt
+piece_up_to n limit place (Some (group k)) le = fault_if_up_to n (exceeds limit k) _ place le
+
+replacement_up_to : (n d : ℕ) (limit : Option ℕ) (escaped : Bool) (at : ℕ) (bs : List ℕ) → at + length bs ≤ n → FaultUpTo n (replacement_fault d limit escaped at bs)
+replacement_up_to n d limit escaped at [] le = tt
+replacement_up_to n d limit true at (b ∷ bs) le =
+    fault_or n _ _ (piece_up_to n limit (at - 1) (escaped_piece d b) (omega (arith, le))) (replacement_up_to n d limit false (suc at) bs (omega (arith, le)))
+replacement_up_to n d limit false at (b ∷ bs) le = replacement_up_to n d limit (b == 92) (suc at) bs (omega (arith, le))
+
+string_up_to : (n d : ℕ) (escaped : Bool) (at : ℕ) (bs : List ℕ) → at + length bs ≤ n → FaultUpTo n (string_fault d escaped at bs)
+string_up_to n d escaped at [] le = tt
+string_up_to n d escaped at (b ∷ bs) le =
+    fault_choice n (escaped && is_none (escaped_byte d b)) _ _ (omega (arith, le)) (string_up_to n d (escapes escaped b) (suc at) bs (omega (arith, le)))
+
+abbrev CharsUpTo : ℕ → List Char → Type 0
+CharsUpTo n [] = Unit {0}
+CharsUpTo n (c ∷ cs) = (c.place ≤ n) × CharsUpTo n cs
+
+abbrev CharUpTo : ℕ → Option Char → Type 0
+CharUpTo n None = Unit {0}
+CharUpTo n (Some c) = c.place ≤ n
+
+char_up_to : (n d : ℕ) (escaped : Bool) (at b : ℕ) → at ≤ n → CharUpTo n (char_of d escaped at b)
+char_up_to n d true at b le = by_byte (escaped_byte d b)
+  where
+    by_byte : (o : Option ℕ) → CharUpTo n (option_map (λ x. record { byte = x; place = at - 1 }) o)
+    by_byte None = tt
+    by_byte (Some x) = omega (arith, le)
+char_up_to n d false at b le = by_slash (b == 92)
+  where
+    by_slash : (t : Bool) → CharUpTo n (if t then None else Some (record { byte = b; place = at }))
+    by_slash true = tt
+    by_slash false = le
+
+with_up_to : (n : ℕ) (o : Option Char) (cs : List Char) → CharUpTo n o → CharsUpTo n cs → CharsUpTo n (with_char o cs)
+with_up_to n None cs h g = g
+with_up_to n (Some c) cs h g = (h, g)
+
+chars_up_to : (n d : ℕ) (escaped : Bool) (at : ℕ) (bs : List ℕ) → at + length bs ≤ n → CharsUpTo n (chars_from d escaped at bs)
+chars_up_to n d escaped at [] le = tt
+chars_up_to n d escaped at (b ∷ bs) le =
+    with_up_to n (char_of d escaped at b) _ (char_up_to n d escaped at b (omega (arith, le))) (chars_up_to n d (escapes escaped b) (suc at) bs (omega (arith, le)))
+
+repeated_up_to : (n : ℕ) (before : List ℕ) (cs : List Char) → CharsUpTo n cs → FaultUpTo n (repeated_fault (repeated_in before cs))
+repeated_up_to n before [] h = tt
+repeated_up_to n before (c ∷ cs) h = by_test (is_among before c.byte) (repeated_up_to n (c.byte ∷ before) cs h.1)
+  where
+    by_test : (t : Bool) → FaultUpTo n (repeated_fault (repeated_in (c.byte ∷ before) cs)) → FaultUpTo n (repeated_fault (if t then Some c.place else repeated_in (c.byte ∷ before) cs))
+    by_test true g = h.0
+    by_test false g = g
+
+strings_up_to : (text : List ℕ) (d letter from middle to n : ℕ) → letter ≤ n → from ≤ middle → middle < to → to ≤ n → FaultUpTo n (strings_fault text d letter from middle to)
+strings_up_to text d letter from middle to n low a b high =
+    fault_or n _ _ (string_up_to n d false from (bytes_between text from middle) (omega (arith, b, high, between_short text from middle a)))
+    (fault_or n _ _ (string_up_to n d false (middle + 1) (bytes_between text (middle + 1) to) (omega (arith, high, between_short text (middle + 1) to (omega (arith, b)))))
+    (fault_or n _ _ (repeated_up_to n [] (chars_of text d from middle) (chars_up_to n d false from (bytes_between text from middle) (omega (arith, b, high, between_short text from middle a))))
+    (fault_if_up_to n (not (length (chars_of text d from middle) == length (chars_of text d (middle + 1) to))) LengthsDiffer letter low)))
+
+-- what is read
+
+-- a value is as it should be, and a fault is told up to a place
+abbrev ReadUpTo : {A : Type 0} → (A → Type 0) → ℕ → Result A ScriptFault → Type 0
+ReadUpTo P n (Ok x) = P x
+ReadUpTo P n (Err f) = f.place ≤ n
+
+read_if : {A : Type 0} (P : A → Type 0) (n : ℕ) (t : Bool) (r s : Result A ScriptFault) → ReadUpTo P n r → ReadUpTo P n s → ReadUpTo P n (if t then r else s)
+read_if P n true r s h g = h
+read_if P n false r s h g = g
+
+read_then : {A B : Type 0} (P : A → Type 0) (Q : B → Type 0) (n : ℕ) (r : Result A ScriptFault) (f : A → Result B ScriptFault) → ReadUpTo P n r → ((x : A) → P x → ReadUpTo Q n (f x)) →
+    ReadUpTo Q n (◌then◌ r f)
+read_then P Q n (Ok x) f h g = g x h
+read_then P Q n (Err e) f h g = h
+
+unless_up_to : {A : Type 0} (P : A → Type 0) (n : ℕ) (o : Option ScriptFault) (r : Result A ScriptFault) → FaultUpTo n o → ReadUpTo P n r → ReadUpTo P n (unless_fault o r)
+unless_up_to P n None r h g = g
+unless_up_to P n (Some f) r h g = h
+
+-- a value of which nothing is said
+abbrev Any : {A : Type 0} → A → Type 0
+Any x = Unit {0}
+
+-- strings stand before a place
+abbrev StringsIn : ℕ → Strings → Type 0
+StringsIn n s = (s.from ≤ s.middle) × (s.middle < s.to) × (s.to < n)
+
+strings_to_read : (n d from middle : ℕ) (o : Option ℕ) → from ≤ middle → middle < n → FoundIn (middle + 1) n o → ReadUpTo (StringsIn n) n (strings_to d from middle o)
+strings_to_read n d from middle None a b h = omega (arith, b)
+strings_to_read n d from middle (Some to) a b h = (a, omega (arith, h.0), h.1)
+
+strings_after_read : (text : List ℕ) (breaks : Bool) (d place : ℕ) (o : Option ℕ) → place < length text → FoundIn (place + 1) (length text) o →
+    ReadUpTo (StringsIn (length text)) (length text) (strings_after text breaks d place o)
+strings_after_read text breaks d place None le h = omega (arith, le)
+strings_after_read text breaks d place (Some middle) le h =
+    strings_to_read (length text) d (place + 1) middle (string_end breaks d false (middle + 1) (drop (middle + 1) text)) h.0 h.1
+    (string_in breaks d false (middle + 1) (length text) (drop (middle + 1) text) (omega (arith, h.1, length-drop (middle + 1) text)))
+
+own_inside : (text : List ℕ) (place d : ℕ) → own_delimiter (slice_get text place) ≡ Some d → place < length text
+own_inside text place d e = by_byte (slice_get text place) refl e
+  where
+    by_byte : (o : Option ℕ) → slice_get text place ≡ o → own_delimiter o ≡ Some d → place < length text
+    by_byte None f e = cc
+    by_byte (Some b) f e = inside text place b f
+
+substitute_strings_read : (text : List ℕ) (place : ℕ) → place ≤ length text → ReadUpTo (StringsIn (length text)) (length text) (substitute_strings text place (own_delimiter (slice_get text place)))
+substitute_strings_read text place le = by_delimiter (own_delimiter (slice_get text place)) refl
+  where
+    by_delimiter : (o : Option ℕ) → own_delimiter (slice_get text place) ≡ o → ReadUpTo (StringsIn (length text)) (length text) (substitute_strings text place o)
+    by_delimiter None e = le
+    by_delimiter (Some d) e =
+        let there = own_inside text place d e in
+        strings_after_read text true d place (delimiter_at text (place + 1) d) there (delimiter_in text (place + 1) d (omega (arith, there)))
+
+transliterate_strings_read : (text : List ℕ) (place : ℕ) → place ≤ length text → ReadUpTo (StringsIn (length text)) (length text) (transliterate_strings text place (own_delimiter (slice_get text place)))
+transliterate_strings_read text place le = by_delimiter (own_delimiter (slice_get text place)) refl
+  where
+    by_delimiter : (o : Option ℕ) → own_delimiter (slice_get text place) ≡ o → ReadUpTo (StringsIn (length text)) (length text) (transliterate_strings text place o)
+    by_delimiter None e = le
+    by_delimiter (Some d) e =
+        let there = own_inside text place d e in
+        strings_after_read text false d place (string_end false d false (place + 1) (drop (place + 1) text)) there
+        (string_in false d false (place + 1) (length text) (drop (place + 1) text) (omega (arith, there, length-drop (place + 1) text)))
+
+-- functions
+
+-- what was read ends up to a place
+abbrev EndsUpTo : {A : Type 0} → ℕ → A × ℕ → Type 0
+EndsUpTo n found = found.1 ≤ n
+
+ended_read : (text : List ℕ) (f : Function) (at : ℕ) → at ≤ length text → ReadUpTo (EndsUpTo (length text)) (length text) (ended text f at)
+ended_read text f at le = read_if (EndsUpTo (length text)) (length text) (may_end (slice_get text (past Blank text at))) _ _ (past_up_to Blank text at le) (past_up_to Blank text at le)
+
+label_read : (text : List ℕ) (place from : ℕ) → place ≤ length text → from ≤ length text → ReadUpTo (EndsUpTo (length text)) (length text) (label_of text place from)
+label_read text place from low le =
+    read_if (EndsUpTo (length text)) (length text) (past Name text from == from) _ _ low (ended_read text (Label from (past Name text from)) (past Name text from) (past_up_to Name text from le))
+
+-- the span of a text or a name ends up to a place
+abbrev SpanUpTo : ℕ → Option (ℕ × ℕ) → Type 0
+SpanUpTo n None = Unit {0}
+SpanUpTo n (Some span) = span.1 ≤ n
+
+mapped_up_to : (from n x : ℕ) (o : Option ℕ) → FoundIn from (suc n) o → SpanUpTo n (option_map (λ to. (x, to)) o)
+mapped_up_to from n x None h = tt
+mapped_up_to from n x (Some to) h = omega (arith, h.1)
+
+right_true : (s t : Bool) → (s && t) ≡ true → t ≡ true
+right_true true t e = e
+right_true false t e = cc
+
+text_from_up_to : (text : List ℕ) (from : ℕ) → from ≤ length text → SpanUpTo (length text) (text_from text from)
+unfolding text_from
+text_from_up_to text from le = by_form (is_byte 92 (slice_get text from) && is_byte 10 (slice_get text (from + 1))) (ends_line (slice_get text from)) refl
+  where
+    by_form : (s t : Bool) → (is_byte 92 (slice_get text from) && is_byte 10 (slice_get text (from + 1))) ≡ s →
+        SpanUpTo (length text) (if s then option_map (λ to. (from + 2, to)) (text_end Due (from + 2) (drop (from + 2) text)) else if t then None else option_map (λ to. (from, to)) (text_end InLine from (drop from text)))
+    by_form true t e =
+        let there = byte_inside 10 text (from + 1) (right_true (is_byte 92 (slice_get text from)) (is_byte 10 (slice_get text (from + 1))) e) in
+        mapped_up_to (from + 2) (length text) (from + 2) (text_end Due (from + 2) (drop (from + 2) text)) (text_in Due (from + 2) (suc (length text)) (drop (from + 2) text) (omega (arith, there, length-drop (from + 2) text)))
+    by_form false true e = tt
+    by_form false false e = mapped_up_to from (length text) from (text_end InLine from (drop from text)) (text_in InLine from (suc (length text)) (drop from text) (omega (arith, le, length-drop from text)))
+
+text_read : (n place : ℕ) (u : TextUse) (o : Option (ℕ × ℕ)) → place ≤ n → SpanUpTo n o → ReadUpTo (EndsUpTo n) n (text_of u place o)
+text_read n place u None le h = le
+text_read n place u (Some span) le h = h
+
+name_up_to : (text : List ℕ) (at : ℕ) → at ≤ length text → SpanUpTo (length text) (name_from text at)
+unfolding name_from
+name_up_to text at le = by_test (past Line text (past Blank text at) == past Blank text at)
+  where
+    by_test : (t : Bool) → SpanUpTo (length text) (if t then None else Some (past Blank text at, past Line text (past Blank text at)))
+    by_test true = tt
+    by_test false = past_up_to Line text (past Blank text at) (past_up_to Blank text at le)
+
+file_read : (n place : ℕ) (u : FileUse) (o : Option (ℕ × ℕ)) → place ≤ n → SpanUpTo n o → ReadUpTo (EndsUpTo n) n (file_of u place o)
+file_read n place u None le h = le
+file_read n place u (Some name) le h = h
+
+allowed_read : (n : ℕ) (a : Addresses) (at : ℕ) (o : Option Verb) → at ≤ n → ReadUpTo Any n (allowed a at o)
+allowed_read n a at None le = le
+allowed_read n a at (Some verb) le =
+    read_if Any n (a.negate && most_addresses verb == 0) _ _ le (read_if Any n (nat_lt (most_addresses verb) (given a.first + given a.second)) _ _ le tt)
+
+transliterate_read : (text : List ℕ) (at : ℕ) → at < length text → ReadUpTo (EndsUpTo (length text)) (length text) (transliterate_at text at)
+unfolding transliterate_at
+transliterate_read text at there =
+    read_then (StringsIn (length text)) (EndsUpTo (length text)) (length text) (transliterate_strings text (at + 1) (own_delimiter (slice_get text (at + 1))))
+    (λ (s : Strings). unless_fault (strings_fault text s.delimiter at s.from s.middle s.to) (ended text (Transliterate s) (s.to + 1)))
+    (transliterate_strings_read text (at + 1) (omega (arith, there)))
+    (λ s h. unless_up_to (EndsUpTo (length text)) (length text) (strings_fault text s.delimiter at s.from s.middle s.to) (ended text (Transliterate s) (s.to + 1))
+    (strings_up_to text s.delimiter at s.from s.middle s.to (length text) (omega (arith, there)) h.0 h.1 (omega (arith, h.2)))
+    (ended_read text (Transliterate s) (s.to + 1) (omega (arith, h.2))))
+
+function_read : (text : List ℕ) (at : ℕ) (shape : Shape) → at < length text → ReadUpTo (EndsUpTo (length text)) (length text) (function_of text shape at)
+function_read text at OpensBlock there = omega (arith, there)
+function_read text at ClosesBlock there = ended_read text Close (at + 1) (omega (arith, there))
+function_read text at Remark there = past_up_to Line text (at + 1) (omega (arith, there))
+function_read text at NamesLabel there = label_read text at (past Blank text (at + 1)) (omega (arith, there)) (past_up_to Blank text (at + 1) (omega (arith, there)))
+function_read text at (GoesTo u) there =
+    ended_read text (Branch u (past Blank text (at + 1)) (past Name text (past Blank text (at + 1)))) (past Name text (past Blank text (at + 1)))
+    (past_up_to Name text (past Blank text (at + 1)) (past_up_to Blank text (at + 1) (omega (arith, there))))
+function_read text at (TakesText t) there =
+    text_read (length text) at t (text_from text (past Blank text (at + 1))) (omega (arith, there)) (text_from_up_to text (past Blank text (at + 1)) (past_up_to Blank text (at + 1) (omega (arith, there))))
+function_read text at (NamesFile u) there = file_read (length text) at u (name_from text (at + 1)) (omega (arith, there)) (name_up_to text (at + 1) (omega (arith, there)))
+function_read text at TakesStrings there = transliterate_read text at there
+function_read text at (Alone s) there = ended_read text (Plain s) (at + 1) (omega (arith, there))
+
+-- flags of `s`
+
+numbered_read : (n : ℕ) (f : Flags) (at : ℕ) (o : Option ℕ) → at ≤ n → ReadUpTo Any n (numbered f at o)
+numbered_read n f at None le = le
+numbered_read n f at (Some zero) le = le
+numbered_read n f at (Some (suc k)) le = tt
+
+number_read : (n : ℕ) (f : Flags) (at : ℕ) (digits : List ℕ) → at ≤ n → ReadUpTo Any n (with_number f at digits)
+number_read n f at digits le = read_if Any n (is_some f.number) _ _ le (numbered_read n f at (with_digits (Some 0) digits) le)
+
+flag_read : (n : ℕ) (empty : Bool) (f : Flags) (at b : ℕ) → at ≤ n → ReadUpTo Any n (with_flag empty f at b)
+flag_read n empty f at b le =
+    read_if Any n (b == 103) _ _ (read_if Any n f.global _ _ le tt)
+    (read_if Any n (b == 112) _ _ (read_if Any n f.print _ _ le tt)
+    (read_if Any n (b == 73) _ _ (read_if Any n empty _ _ le (read_if Any n f.folded _ _ le tt)) le))
+
+file_flag_read : (n : ℕ) (f : Flags) (at : ℕ) (o : Option (ℕ × ℕ)) → at ≤ n → SpanUpTo n o → ReadUpTo (EndsUpTo n) n (with_file f at o)
+file_flag_read n f at None le h = le
+file_flag_read n f at (Some name) le h = h
+
+flags_read : (text : List ℕ) (empty : Bool) (f : Flags) (skip at : ℕ) (bs : List ℕ) → at + length bs ≤ length text → ReadUpTo (EndsUpTo (length text)) (length text) (flags_from text empty f skip at bs)
+flags_read text empty f skip at [] le = omega (arith, le)
+flags_read text empty f (suc skip) at (b ∷ bs) le = flags_read text empty f skip (suc at) bs (omega (arith, le))
+flags_read text empty f zero at (b ∷ bs) le =
+    read_if (EndsUpTo (length text)) (length text) (is_digit b) _ _
+    (read_then Any (EndsUpTo (length text)) (length text) (with_number f at (b ∷ take (run_of Digit bs) bs)) (λ (g : Flags). flags_from text empty g (run_of Digit bs) (suc at) bs)
+    (number_read (length text) f at (b ∷ take (run_of Digit bs) bs) (omega (arith, le)))
+    (λ g h. flags_read text empty g (run_of Digit bs) (suc at) bs (omega (arith, le))))
+    (read_if (EndsUpTo (length text)) (length text) (ends_flags b) _ _ (omega (arith, le))
+    (read_if (EndsUpTo (length text)) (length text) (b == 119) _ _
+    (file_flag_read (length text) f at (name_from text (at + 1)) (omega (arith, le)) (name_up_to text (at + 1) (omega (arith, le))))
+    (read_then Any (EndsUpTo (length text)) (length text) (with_flag empty f at b) (λ (g : Flags). flags_from text empty g zero (suc at) bs)
+    (flag_read (length text) empty f at b (omega (arith, le)))
+    (λ g h. flags_read text empty g zero (suc at) bs (omega (arith, le))))))
+
+substituted_read : (text : List ℕ) (s : Strings) (e limit : Option ℕ) → StringsIn (length text) s → ReadUpTo (EndsUpTo (length text)) (length text) (substituted text s e limit)
+unfolding substituted
+substituted_read text s e limit h =
+    unless_up_to (EndsUpTo (length text)) (length text) (replacement_fault s.delimiter limit false (s.middle + 1) (bytes_between text (s.middle + 1) s.to)) (flagged text s e)
+    (replacement_up_to (length text) s.delimiter limit false (s.middle + 1) (bytes_between text (s.middle + 1) s.to) (omega (arith, h.2, between_short text (s.middle + 1) s.to (omega (arith, h.1)))))
+    (read_then (EndsUpTo (length text)) (EndsUpTo (length text)) (length text) (flags_after text s (not (is_some e))) (λ (found : Flags × ℕ). ended text (Substitute s e found.0) found.1)
+    (flags_read text (not (is_some e)) no_flags 0 (s.to + 1) (drop (s.to + 1) text) (omega (arith, h.2, length-drop (s.to + 1) text)))
+    (λ found g. ended_read text (Substitute s e found.0) found.1 g))
+
+-- readings
+
+-- the same of a reading, whose expressions stand up to the place
+abbrev ReadingUpTo : {A : Type 0} → (A → Type 0) → ℕ → Reading A → Type 0
+ReadingUpTo P n (plainly r) = ReadUpTo P n r
+ReadingUpTo P n (expression p k) = (p.from ≤ p.to) × (p.to ≤ n) × ((groups : ℕ) → ReadingUpTo P n (k groups))
+
+reading_if : {A : Type 0} (P : A → Type 0) (n : ℕ) (t : Bool) (r s : Reading A) → ReadingUpTo P n r → ReadingUpTo P n s → ReadingUpTo P n (if t then r else s)
+reading_if P n true r s h g = h
+reading_if P n false r s h g = g
+
+reading_then : {A B : Type 0} (P : A → Type 0) (Q : B → Type 0) (n : ℕ) (r : Reading A) (f : A → Reading B) → ReadingUpTo P n r → ((x : A) → P x → ReadingUpTo Q n (f x)) →
+    ReadingUpTo Q n (r >>= f)
+reading_then P Q n (plainly (Ok x)) f h g = g x h
+reading_then P Q n (plainly (Err e)) f h g = h
+reading_then P Q n (expression p k) f h g = (h.0, h.1, λ groups. reading_then P Q n (k groups) f (h.2 groups) g)
+
+-- what is given is as it should be
+reading_gives : {A : Type 0} (P : A → Type 0) (n : ℕ) (text : List ℕ) (kind : Kind) (m : ℕ) (r : Reading A) (es : List Written) (x : A) → Gives text kind m r es x → ReadingUpTo P n r → P x
+reading_gives P n text kind m _ _ x value h = h
+reading_gives P n text kind m _ _ x (after_expression {k = k} {es = es} e is g) h = reading_gives P n text kind m (k e.groups) es x g (h.2 e.groups)
+
+-- the first fault of an expression's text is told in it or at its end
+abbrev pub ExprFaultWithin : Type 0
+ExprFaultWithin = (kind : Kind) (delimiter : Option ℕ) (text : List ℕ) (max_nodes place : ℕ) (reason : ExprReason) → ExprFaulty kind delimiter text max_nodes place reason → place ≤ length text
+
+reading_fails : {A : Type 0} (P : A → Type 0) (text : List ℕ) (kind : Kind) (m : ℕ) (r : Reading A) (f : ScriptFault) → ExprFaultWithin → Fails text kind m r f → ReadingUpTo P (length text) r → f.place ≤ length text
+reading_fails P text kind m _ _ told own h = h
+reading_fails P text kind m _ _ told (no_expression {p = p} {f = f} bad) h =
+    let low = told kind (Some p.delimiter) (bytes_between text p.from p.to) m f.place f.reason bad in
+    omega (arith, low, h.0, h.1, between_short text p.from p.to h.0)
+reading_fails P text kind m _ f told (later {k = k} e is bad) h = reading_fails P text kind m (k e.groups) f told bad (h.2 e.groups)
+
+-- addresses
+
+abbrev AddressedUpTo : ℕ → Addressed → Type 0
+AddressedUpTo n x = x.at ≤ n
+
+abbrev HeadedUpTo : ℕ → Headed → Type 0
+HeadedUpTo n h = h.at ≤ n
+
+line_read : (n count from to : ℕ) (o : Option ℕ) → from ≤ n → to ≤ n → ReadUpTo (AddressedUpTo n) n (line_of count from to o)
+line_read n count from to None low high = low
+line_read n count from to (Some zero) low high = low
+line_read n count from to (Some (suc k)) low high = high
+
+flag_up_to : (text : List ℕ) (at : ℕ) → at ≤ length text → past_flag text at ≤ length text
+flag_up_to text at le = by_flag (folds_at text at) refl
+  where
+    by_flag : (t : Bool) → folds_at text at ≡ t → (if t then at + 1 else at) ≤ length text
+    by_flag true e = let there = byte_inside 73 text at e in omega (arith, there)
+    by_flag false e = le
+
+match_read : (text : List ℕ) (count d place : ℕ) → place < length text → ReadingUpTo (AddressedUpTo (length text)) (length text) (match_at text count d place)
+unfolding match_at
+match_read text count d place there = by_end (delimiter_at text (place + 1) d) (delimiter_in text (place + 1) d (omega (arith, there)))
+  where
+    by_end : (o : Option ℕ) → FoundIn (place + 1) (length text) o → ReadingUpTo (AddressedUpTo (length text)) (length text) (match_to text count d place o)
+    by_end None h = omega (arith, there)
+    by_end (Some to) h =
+        reading_if (AddressedUpTo (length text)) (length text) (to == place + 1) _ _
+        (read_if (AddressedUpTo (length text)) (length text) (folds_at text (to + 1)) _ _ (omega (arith, h.1)) (omega (arith, h.1)))
+        (h.0, omega (arith, h.1), λ groups. flag_up_to text (to + 1) (omega (arith, h.1)))
+
+own_read : (text : List ℕ) (count place : ℕ) → place ≤ length text → ReadingUpTo (AddressedUpTo (length text)) (length text) (own_match text count place (own_delimiter (slice_get text place)))
+own_read text count place le = by_delimiter (own_delimiter (slice_get text place)) refl
+  where
+    by_delimiter : (o : Option ℕ) → own_delimiter (slice_get text place) ≡ o → ReadingUpTo (AddressedUpTo (length text)) (length text) (own_match text count place o)
+    by_delimiter None e = le
+    by_delimiter (Some d) e = match_read text count d place (own_inside text place d e)
+
+address_read : (text : List ℕ) (count at : ℕ) → at ≤ length text → ReadingUpTo (AddressedUpTo (length text)) (length text) (address_at text count at)
+unfolding address_at
+address_read text count at le = by_byte (slice_get text at) refl
+  where
+    Told : Reading Addressed → Type 0
+    Told r = ReadingUpTo (AddressedUpTo (length text)) (length text) r
+
+    by_byte : (o : Option ℕ) → slice_get text at ≡ o → ReadingUpTo (AddressedUpTo (length text)) (length text) (address_of text count at o)
+    by_byte None e = le
+    by_byte (Some b) e =
+        let there = inside text at b e in
+        reading_if (AddressedUpTo (length text)) (length text) (is_digit b) _ _
+        (line_read (length text) count at (past Digit text at) (with_digits (Some 0) (bytes_between text at (past Digit text at))) le (past_up_to Digit text at le))
+        (reading_if (AddressedUpTo (length text)) (length text) (b == 36) _ _ (omega (arith, there))
+        (reading_if (AddressedUpTo (length text)) (length text) (b == 47) _ _ (match_read text count 47 at there)
+        (reading_if (AddressedUpTo (length text)) (length text) (b == 92) _ _ (own_read text count (at + 1) (omega (arith, there))) le)))
+
+with_second_read : (n : ℕ) (first : Address) (place : ℕ) (x : Addressed) (o : Option Address) → place ≤ n → x.at ≤ n → ReadUpTo (HeadedUpTo n) n (with_second first place x o)
+with_second_read n first place x None low le = low
+with_second_read n first place x (Some a) low le = le
+
+second_read : (text : List ℕ) (count : ℕ) (first : Address) (at : ℕ) → at ≤ length text → ReadingUpTo (HeadedUpTo (length text)) (length text) (second_at text count first at)
+unfolding second_at
+second_read text count first at le =
+    reading_then (AddressedUpTo (length text)) (HeadedUpTo (length text)) (length text) (address_at text count at) (λ (x : Addressed). plainly (with_second first at x x.address))
+    (address_read text count at le) (λ x h. with_second_read (length text) first at x x.address le h)
+
+after_read : (text : List ℕ) (count at : ℕ) (o : Option Address) → at ≤ length text → ReadingUpTo (HeadedUpTo (length text)) (length text) (after_first text count at o)
+after_read text count at None le = le
+after_read text count at (Some first) le = by_comma (is_byte 44 (slice_get text (past Blank text at))) refl
+  where
+    by_comma : (t : Bool) → is_byte 44 (slice_get text (past Blank text at)) ≡ t →
+        ReadingUpTo (HeadedUpTo (length text)) (length text) (if t then second_at text count first (past Blank text (past Blank text at + 1)) else plainly (headed (Some first) None at count))
+    by_comma true e =
+        let there = byte_inside 44 text (past Blank text at) e in
+        second_read text count first (past Blank text (past Blank text at + 1)) (past_up_to Blank text (past Blank text at + 1) (omega (arith, there)))
+    by_comma false e = le
+
+addresses_read : (text : List ℕ) (count at : ℕ) → at ≤ length text → ReadingUpTo (HeadedUpTo (length text)) (length text) (addresses_at text count at)
+unfolding addresses_at
+addresses_read text count at le =
+    reading_then (AddressedUpTo (length text)) (HeadedUpTo (length text)) (length text) (address_at text count at) (λ (x : Addressed). after_first text x.count x.at x.address)
+    (address_read text count at le) (λ x h. after_read text x.count x.at x.address h)
+
+bang_up_to : (text : List ℕ) (h : Headed) → h.at ≤ length text → (with_bang text h).at ≤ length text
+bang_up_to text h le = by_bang (is_byte 33 (slice_get text (past Blank text h.at)))
+  where
+    Of : Headed → Type 0
+    Of x = x.at ≤ length text
+
+    by_bang : (b : Bool) → Of
+        (if b then record { addresses = record { first = h.addresses.first; second = h.addresses.second; negate = true }; at = past Bang text (past Blank text h.at); count = h.count }
+        else record { addresses = h.addresses; at = past Blank text h.at; count = h.count })
+    by_bang true = past_up_to Bang text (past Blank text h.at) (past_up_to Blank text h.at le)
+    by_bang false = past_up_to Blank text h.at le
+
+-- items
+
+abbrev HereUpTo : ℕ → Here → Type 0
+HereUpTo n (Is i next) = (i.place ≤ n) × (next ≤ n)
+HereUpTo n Ends = Unit {0}
+
+substitute_read : (text : List ℕ) (count : ℕ) (s : Strings) → StringsIn (length text) s → ReadingUpTo (EndsUpTo (length text)) (length text) (substitute_with text count s)
+substitute_read text count s h =
+    reading_if (EndsUpTo (length text)) (length text) (s.middle == s.from) _ _ (substituted_read text s None None h)
+    (h.0, omega (arith, h.1, h.2), λ groups. substituted_read text s (Some count) (Some groups) h)
+
+substitute_at_read : (text : List ℕ) (count at : ℕ) → at < length text → ReadingUpTo (EndsUpTo (length text)) (length text) (substitute_at text count at)
+unfolding substitute_at
+substitute_at_read text count at there =
+    reading_then (StringsIn (length text)) (EndsUpTo (length text)) (length text) (plainly (substitute_strings text (at + 1) (own_delimiter (slice_get text (at + 1))))) (substitute_with text count)
+    (substitute_strings_read text (at + 1) (omega (arith, there))) (λ s h. substitute_read text count s h)
+
+function_with_read : (text : List ℕ) (count at : ℕ) (verb : Verb) → at < length text → ReadingUpTo (EndsUpTo (length text)) (length text) (function_with text count verb at)
+function_with_read text count at ReadsExpression there = substitute_at_read text count at there
+function_with_read text count at (Reads shape) there = function_read text at shape there
+
+function_at_read : (text : List ℕ) (count : ℕ) (a : Addresses) (at : ℕ) → at ≤ length text → ReadingUpTo (HereUpTo (length text)) (length text) (function_at text count a at)
+unfolding function_at
+function_at_read text count a at le = by_letter (slice_get text at) refl
+  where
+    by_letter : (o : Option ℕ) → slice_get text at ≡ o → ReadingUpTo (HereUpTo (length text)) (length text) (item_with text count a at o)
+    by_letter None e = le
+    by_letter (Some letter) e =
+        let there = inside text at letter e in
+        reading_then Any (HereUpTo (length text)) (length text) (plainly (allowed a at (verb_of letter)))
+        (λ (verb : Verb). function_with text count verb at >>= λ (found : Function × ℕ). plainly (Ok (item_of a at found)))
+        (allowed_read (length text) a at (verb_of letter) le)
+        (λ verb h. reading_then (EndsUpTo (length text)) (HereUpTo (length text)) (length text) (function_with text count verb at) (λ (found : Function × ℕ). plainly (Ok (item_of a at found)))
+        (function_with_read text count at verb there) (λ found g. (le, g)))
+
+item_read : (text : List ℕ) (count at : ℕ) → at ≤ length text → ReadingUpTo (HereUpTo (length text)) (length text) (item_at text count at)
+unfolding item_at
+item_read text count at le = by_byte (slice_get text (past Separator text at))
+  where
+    by_byte : (o : Option ℕ) → ReadingUpTo (HereUpTo (length text)) (length text) (item_from text count (past Separator text at) o)
+    by_byte None = tt
+    by_byte (Some b) =
+        reading_then (HeadedUpTo (length text)) (HereUpTo (length text)) (length text) (addresses_at text count (past Separator text at)) (function_after text)
+        (addresses_read text count (past Separator text at) (past_up_to Separator text at le))
+        (λ h g. function_at_read text h.count (with_bang text h).addresses (with_bang text h).at (bang_up_to text h g))
+
+abbrev ItemsUpTo : ℕ → List Item → Type 0
+ItemsUpTo n [] = Unit {0}
+ItemsUpTo n (i ∷ is) = (i.place ≤ n) × ItemsUpTo n is
+
+cut_up_to : (text : List ℕ) (kind : Kind) (m count at to : ℕ) (is : List Item) (es : List Written) → Cut text kind m count at is es to → at ≤ length text → (to ≤ length text) × ItemsUpTo (length text) is
+cut_up_to text kind m count at to _ _ done le = (le, tt)
+cut_up_to text kind m count at to _ _ (item {next = next} {i = i} {is = is} es fs read rest) le =
+    let here = reading_gives (HereUpTo (length text)) (length text) text kind m (item_at text count at) es (Is i next) read (item_read text count at le) in
+    let rest_of = cut_up_to text kind m (count + length es) next to is fs rest here.1 in
+    (rest_of.0, (here.0, rest_of.1))
+
+target_at_up_to : (n : ℕ) (text : List ℕ) (all before : List Item) (depth : ℕ) (after : List Item) (place : ℕ) (f : Function) → place ≤ n → FaultUpTo n (target_fault_at text all before depth after place f)
+target_at_up_to n text all before depth after place Open le = fault_if_up_to n (is_none (block_end before after)) _ place le
+target_at_up_to n text all before depth after place Close le = fault_if_up_to n (depth == 0) _ place le
+target_at_up_to n text all before depth after place (Label from to) le = fault_if_up_to n (is_some (label_in text (bytes_between text from to) 0 before)) _ place le
+target_at_up_to n text all before depth after place (Branch u from to) le =
+    fault_if_up_to n (not (from == to) && is_none (label_in text (bytes_between text from to) 0 all)) _ place le
+target_at_up_to n text all before depth after place (Plain s) le = tt
+target_at_up_to n text all before depth after place (Text t from to) le = tt
+target_at_up_to n text all before depth after place (File u from to) le = tt
+target_at_up_to n text all before depth after place (Substitute s e g) le = tt
+target_at_up_to n text all before depth after place (Transliterate s) le = tt
+target_at_up_to n text all before depth after place Comment le = tt
+
+target_up_to : (n : ℕ) (text : List ℕ) (all before : List Item) (depth : ℕ) (is : List Item) → ItemsUpTo n is → FaultUpTo n (target_fault_in text all before depth is)
+target_up_to n text all before depth [] h = tt
+target_up_to n text all before depth (i ∷ is) h =
+    fault_or n _ _ (target_at_up_to n text all before depth is i.place i.function h.0) (target_up_to n text all (before ++ i ∷ []) (depth_after depth i.function) is h.1)
+
+-- the first fault of a text is told in it or at its end
+pub fault_within : ExprFaultWithin → (text : List ℕ) (kind : Kind) (m : ℕ) (f : ScriptFault) → Faulty text kind m f → f.place ≤ length text
+fault_within told text kind m f (early is es to cut bad) =
+    let reached = cut_up_to text kind m 0 0 to is es cut (omega arith) in
+    reading_fails (HereUpTo (length text)) text kind m (item_at text (length es) to) f told bad (item_read text (length es) to reached.0)
+fault_within told text kind m f (afterwards is es to cut ends found) =
+    let reached = cut_up_to text kind m 0 0 to is es cut (omega arith) in
+    subst (FaultUpTo (length text)) found (target_up_to (length text) text is [] 0 is reached.1)
+
+pub read_within : {A : Type 0} → ExprFaultWithin → (text : List ℕ) (kind : Kind) (m : ℕ) (r : Result A ScriptFault) →
+    IfErr r (λ f. Faulty text kind m f ⊎ (f ≡ NO_MEMORY)) → IfErr r (λ f. f.place ≤ length text)
+read_within told text kind m (Ok s) h = tt
+read_within told text kind m (Err f) (inl bad) = fault_within told text kind m f bad
+read_within told text kind m (Err f) (inr is) = rw is (omega arith)
