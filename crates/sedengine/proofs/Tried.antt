@@ -1,16 +1,19 @@
 -- The expression that an address or a substitution tries.
-use Rattle.std.proofs.Common.{◌≡◌, ℕ, ◌<◌, Bool, List, length, get_or, Option, Some, None, Result, refl, sym, subst, ap, ◌∙◌}
+use Rattle.std.proofs.Common.{◌≡◌, ℕ, ◌+◌, ◌*◌, ◌<◌, ◌≤◌, Bool, List, length, get_or, Option, Some, None, Result, refl, sym, subst, ap, ◌∙◌}
 use Rattle.std.specs.Prelude.{option_and_then}
 use Rattle.std.specs.Option.{option_or}
 use Rattle.std.proofs.lemmas.Option.{slice_get_read}
 use Rattle.sedre.specs.Arena.{Written}
+use Rattle.sedre.specs.Steps.{Takes}
 use Rattle.sedscript.specs.Ranges.{AddressWithin, IsOneOf}
 use Rattle.sedscript.specs.declared.types.Address.TheVariants.{Match}
 use Rattle.sedscript.specs.declared.substitution.Substitution.{Substitution}
 use Rattle.sedspace.specs.declared.errors.Full.{Full}
 use Rattle.sedengine.specs.Choose.{current}
 use Rattle.sedengine.specs.Inside.{run_of, IsRun}
-use Rattle.sedengine.specs.SubstituteParts.{Replaces}
+use Rattle.std.specs.Prelude.{slice_get, slice_set}
+use Rattle.std.proofs.lemmas.List.{set-get_or}
+use Rattle.sedengine.specs.SubstituteParts.{Replaces, TakesFor}
 use Rattle.sedengine.specs.Run.{Run, finds_in, search_for, search_in}
 use Rattle.sedengine.specs.Select.{Answer, answer, stands_for}
 use Rattle.sedengine.specs.Substitute.{chosen, occurrences}
@@ -53,3 +56,20 @@ pub replaces_by : (ms : List Written) (e : ℕ) (m : Written) (w : List ℕ) (t 
 replaces_by ms e m w t limit made r inside is h =
     let P : Option Written → Type 0 = λ o. Replaces w t.replacement (chosen t.number t.global (occurrences (search_for o w) (length w))) limit made r in
     subst P (sym (slice_get_read ms (length ms) e m refl inside is)) h
+
+same_written : {x y : Written} → Some x ≡ Some y → x ≡ y
+same_written h = cc
+
+-- the matcher of a number is the one that stands there
+pub matcher_at : (ms : List Written) (e : ℕ) (m : Written) → e < length ms → m ≡ get_or ms e m → slice_get ms e ≡ Some m
+matcher_at ms e m inside is = slice_get_read ms (length ms) e m refl inside is
+
+-- what the searches of the expression of a number take
+pub takes_for : (ms : List Written) (e : ℕ) (m : Written) (n n' s t : ℕ) → slice_get ms e ≡ Some m → n ≡ n' → Takes s t (416 * length m.nodes * (n + 1)) → TakesFor ms e n' s t
+takes_for ms e m n n' s t at same h = (h.0, λ x there. let one : x ≡ m = same_written (sym there ∙ at) in rw (one, ← same) h.1)
+
+-- a matcher that is as it was leaves all as they were
+pub matchers_kept : (ms : List Written) (e : ℕ) (m m' : Written) → m ≡ get_or ms e m → m' ≡ m → slice_set ms e m' ≡ ms
+matchers_kept ms e m m' is same =
+    let P : Written → Type 0 = λ x. slice_set ms e x ≡ ms in
+    subst P (sym (same ∙ is)) (set-get_or ms e m)

@@ -23,42 +23,12 @@ use sedspace::{Full, Space};
 /// The span of each group of an occurrence.
 type Groups = [Option<(usize, usize)>; 10];
 
-/// Puts into `build` the text in which the occurrences of the expression of number `e` that a substitution chooses are
-/// replaced. Says whether there are any.
+/// Puts into `build` the text in which the occurrences that a substitution chooses of those that `matcher` finds are replaced.
+/// Says whether there are any.
 ///
 /// All its searches together take steps in proportion to the text. Groups are decided within each occurrence, and counted
 /// apart.
-pub(crate) fn build_for_expression(
-    substitution: &Substitution,
-    matchers: &mut Vec<TableMatcher>,
-    e: usize,
-    text: &[u8],
-    build: &mut Space,
-    seeking: &mut Occurrences,
-    scratch: &mut Scratch,
-    steps: &mut Steps,
-) -> Result<bool, Full>
-    requires expression { e < length matchers.old.items }
-    requires fit { AllFitInto (length text.now) matchers.old.items scratch.old }
-    requires short { length text.now ≤ build.old.limit }
-    requires number { 1 ≤ substitution.now.number }
-    requires more { IsTrue (seeks_more substitution.now) → (x : Written) → slice_get matchers.old.items e ≡ Some x →
-        RoomFor (length text.now) (length x.nodes) seeking.old }
-    ensures replaces { Replaces text.now substitution.now.replacement
-        (chosen substitution.now.number substitution.now.global
-        (occurrences (search_in matchers.old.items e text.now) (length text.now)))
-        build.old.limit build.new.bytes result }
-    ensures limit { build.new.limit ≡ build.old.limit }
-    ensures same { SeeksAsBefore matchers.old.items matchers.new.items scratch.old scratch.new }
-    ensures kept { KeepsRoom seeking.old seeking.new }
-    ensures cost { TakesFor matchers.old.items e (length text.now) steps.old steps.new }
-{
-    let matcher = &mut matchers[e];
-    build_text(substitution, matcher, text, build, seeking, scratch, steps)
-}
-
-/// Puts the text into `build` by going over the occurrences that `matcher` finds. Says whether any were replaced.
-fn build_text(
+pub(crate) fn build_text(
     substitution: &Substitution,
     matcher: &mut TableMatcher,
     text: &[u8],

@@ -20,59 +20,9 @@ use super::Machine;
 use crate::ends::Ended;
 use crate::meter::Sinks;
 use crate::place::Place;
-use crate::substitute::build_for_expression;
-use sedmatch::{Occurrences, Scratch, TableMatcher};
+use crate::substitute::build_text;
 use sedre::Steps;
-use sedscript::Script;
-use sedspace::{Full, Space};
-
-/// Replaces in the pattern space the occurrences of the expression of number `e` that the substitution of number `k`
-/// chooses. Says whether there are any. The text is made in the build space, and the two are swapped.
-fn rewrite_space(
-    script: &Script,
-    k: usize,
-    matchers: &mut Vec<TableMatcher>,
-    e: usize,
-    pattern: &mut Space,
-    build: &mut Space,
-    seeking: &mut Occurrences,
-    scratch: &mut Scratch,
-    steps: &mut Steps,
-) -> Result<bool, Full>
-    requires number { k < length script.now.substitutions }
-    requires expression { e < length matchers.old.items }
-    requires fit { AllFitInto (length pattern.old.bytes) matchers.old.items scratch.old }
-    requires limits { pattern.old.limit ≡ build.old.limit }
-    requires more { (t : Substitution) → slice_get script.now.substitutions k ≡ Some t → IsTrue (seeks_more t) →
-        (x : Written) → slice_get matchers.old.items e ≡ Some x →
-        RoomFor scratch.old.text (length x.nodes) seeking.old }
-    ensures replaces { (t : Substitution) → slice_get script.now.substitutions k ≡ Some t →
-        ReplacesIn t (chosen t.number t.global
-        (occurrences (search_in matchers.old.items e pattern.old.bytes) (length pattern.old.bytes)))
-        pattern.old pattern.new result }
-    ensures spaces { KeepsSpaces pattern.old pattern.new build.old build.new result }
-    ensures same { SeeksAsBefore matchers.old.items matchers.new.items scratch.old scratch.new }
-    ensures kept { KeepsRoom seeking.old seeking.new }
-    ensures cost { TakesFor matchers.old.items e (length pattern.old.bytes) steps.old steps.new }
-{
-    let substitution = script.substitution(k);
-    let replaced = build_for_expression(
-        substitution,
-        matchers,
-        e,
-        pattern.bytes(),
-        build,
-        seeking,
-        scratch,
-        steps,
-    )?;
-    if replaced {
-        // What a space holds is within its limit.
-        let _ = build.len();
-        pattern.swap(build);
-    }
-    Ok(replaced)
-}
+use sedspace::Full;
 
 impl Machine {
     /// The command `s`: replaces occurrences in the pattern space, and writes it as its flags `p` and `w` say if it did.
@@ -105,7 +55,7 @@ impl Machine {
     }
 
     /// Replaces in the pattern space the occurrences that the substitution of number `k` chooses. Says whether there are
-    /// any.
+    /// any. Its expression, or the one that an empty one stands for, is then the one last used.
     fn replace_occurrences(&mut self, k: usize) -> Result<bool, Ended>
         requires at { reaches self.old.state.tasks ≡ true }
         requires number { k < length self.old.script.substitutions }
@@ -119,44 +69,26 @@ impl Machine {
         ensures fits { length self.new.state.pattern ≤ self.new.limits.space }
         ensures same { self.new ≡ same_but_replaced self.old self.new.state }
     {
-        match self.script.substitution(k).expression.or(self.used) {
-            None => Err(Ended::NoPrevious(self.number)),
-            Some(e) => self.replace_with_expression(k, e),
-        }
-    }
-
-    /// Replaces those of the expression of number `e`, which is then the one last used.
-    fn replace_with_expression(&mut self, k: usize, e: usize) -> Result<bool, Ended>
-        requires at { reaches self.old.state.tasks ≡ true }
-        requires number { k < length self.old.script.substitutions }
-        requires expression { e < length self.old.script.expressions }
-        ensures makes { (t : Substitution) → slice_get self.old.script.substitutions k ≡ Some t →
-            (files : ℕ → List ℕ) (ls : List (List ℕ)) →
-            Makes self.old.limits
-            (replaces (record (at_lines self.old ls) { used = Some e }) t
-            (chosen_in (setting self.old files) t e self.old.state.pattern)) t
-            (at_lines self.old ls) (at_lines self.new ls) result }
-        ensures err { OnErr result (self.new.state.pattern ≡ self.old.state.pattern) }
-        ensures output { NoSinkFailed result }
-        ensures input { result ≡ Err Ended.InputBroken → ⊥ }
-        ensures fits { length self.new.state.pattern ≤ self.new.limits.space }
-        ensures same { self.new ≡ same_but_replaced self.old self.new.state }
-    {
+        let Some(e) = self.script.substitution(k).expression.or(self.used) else {
+            return Err(Ended::NoPrevious(self.number));
+        };
         // A limit is known to be within its range from its call on.
         let _ = (self.limits.nodes(), self.limits.space());
         self.used = Some(e);
-        match rewrite_space(
-            &self.script,
-            k,
-            &mut self.matchers,
-            e,
-            &mut self.pattern,
+        let built = build_text(
+            self.script.substitution(k),
+            &mut self.matchers[e],
+            self.pattern.bytes(),
             &mut self.build,
             &mut self.seeking,
             &mut self.scratch,
             &mut Steps::new(),
-        ) {
+        );
+        match built {
             Ok(true) => {
+                // What a space holds is within its limit.
+                let _ = self.build.len();
+                self.pattern.swap(&mut self.build);
                 self.replaced = true;
                 Ok(true)
             }

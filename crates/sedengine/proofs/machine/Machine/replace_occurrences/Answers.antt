@@ -1,8 +1,123 @@
-use Rattle.sedengine.specs.Run.{at_lines, setting}
-use Rattle.sedengine.proofs.SubstituteMoves.{makes_standing, stands}
+use Rattle.std.proofs.Common.{◌≡◌, ◌<◌, ◌≤◌, ◌∙◌, ℕ, List, Some, Ok, Err, length, ap, subst, true, false, arith, get_or, rules}
+use Rattle.std.proofs.lemmas.Grind.{elements}
+use Rattle.std.specs.Prelude.{slice_get}
+use Rattle.sedre.specs.Arena.{Written}
+use Rattle.sedscript.specs.declared.substitution.Substitution.{Substitution}
+use Rattle.sedengine.specs.Ends.{reaches}
+use Rattle.sedengine.specs.Run.{Run, at_lines, search_in}
+use Rattle.sedengine.specs.Substitute.{chosen, occurrences}
+use Rattle.sedengine.specs.SubstituteCalls.{ReplacesIn}
+use Rattle.sedengine.proofs.Fitting.{fits_at, room_within, sought, sought_at}
+use Rattle.sedengine.proofs.SubstituteMoves.{makes_full, makes_none, makes_some, replaced_is_run, stands}
+use Rattle.sedengine.proofs.Tried.{matcher_at, matchers_kept, replaces_by}
 use Rattle.sedengine.proofs.machine.Machine.replace_occurrences.Goals as goal
 
-pub returns-in-Some-clause-makes : goal.returns-in-Some-clause-makes
-returns-in-Some-clause-makes c = λ t is files ls.
-    let h = stands c.self.inside c.args.self.now c.args.k c.in-Some.e t c.substitution.result.now c.self.view_is is c.substitution.ensures.is c.in-Some.ensures in
-    makes_standing c.args.self.now.limits (setting c.args.self.now files) (at_lines c.args.self.now ls) (at_lines c.replace_with_expression.new.self ls) t c.in-Some.e _ h (c.replace_with_expression.ensures.makes t is files ls)
+pub index_mut-requires : goal.index_mut-requires
+index_mut-requires c =
+    let a = c.self.inside in
+    let inside : c.in-Some.e < length c.self.inside.script.expressions = search rules in
+    let there = sought_at a.script.expressions a.limits.nodes a.matchers.items c.in-Some.e c.self.invariant.matchers inside in
+    search (rules, there)
+
+pub build_text-built-requires-clause-fits : goal.build_text-built-requires-clause-fits
+build_text-built-requires-clause-fits c =
+    let a = c.self.inside in
+    let inside : c.in-Some.e < length c.self.inside.script.expressions = search rules in
+    let there = sought_at a.script.expressions a.limits.nodes a.matchers.items c.in-Some.e c.self.invariant.matchers inside in
+    let m = c.index_mut.result.now in
+    let h = c.index_mut.ensures.value in
+    let is_m : m ≡ get_or a.matchers.items c.in-Some.e m = grind (arith, elements) in
+    let same = ap (λ (w : List ℕ). length w) c.bytes.ensures.value in
+    let text = c.self.invariant.scratch_text (omega arith) in
+    let short = c.self.invariant.pattern in
+    (omega (arith, same, text, short), fits_at a.scratch.nodes a.matchers.items c.in-Some.e m there is_m c.self.invariant.scratch_nodes)
+
+pub build_text-built-requires-clause-more : goal.build_text-built-requires-clause-more
+build_text-built-requires-clause-more c = λ more.
+    let a = c.self.inside in
+    let inside : c.in-Some.e < length c.self.inside.script.expressions = search rules in
+    let there = sought_at a.script.expressions a.limits.nodes a.matchers.items c.in-Some.e c.self.invariant.matchers inside in
+    let m = c.index_mut.result.now in
+    let h = c.index_mut.ensures.value in
+    let is_m : m ≡ get_or a.matchers.items c.in-Some.e m = grind (arith, elements) in
+    let same = ap (λ (w : List ℕ). length w) c.bytes.ensures.value in
+    let text = c.self.invariant.scratch_text (omega arith) in
+    let short = c.self.invariant.pattern in
+    let at = subst (λ (xs : List Written). slice_get xs c.in-Some.e ≡ Some m) (sought a.script.expressions a.limits.nodes a.matchers.items c.self.invariant.matchers) (matcher_at a.matchers.items c.in-Some.e m there is_m) in
+    room_within (length c.bytes.result.now) a.limits.space (length m.nodes) (length m.nodes) a.seeking (omega (arith, same, short))
+    (omega arith) (c.self.invariant.seeking c.args.k c.substitution-2.result.now c.substitution-2.ensures.is more c.in-Some.e m at)
+
+pub invariant_of-self : goal.invariant_of-self
+invariant_of-self c =
+    let a = c.self.inside in
+    let inside : c.in-Some.e < length c.self.inside.script.expressions = search rules in
+    let there = sought_at a.script.expressions a.limits.nodes a.matchers.items c.in-Some.e c.self.invariant.matchers inside in
+    let m = c.index_mut.result.now in
+    let h = c.index_mut.ensures.value in
+    let is_m : m ≡ get_or a.matchers.items c.in-Some.e m = grind (arith, elements) in
+    replaced_is_run a _ _ _ _ _ c.in-Some.e true c.self.invariant
+    (ap (λ (e : Run). reaches e.state.tasks) c.self.view_is ∙ c.requires.at) inside (search rules) (search rules) (search rules) (search rules) c.build_text-built.ensures.kept (matchers_kept a.matchers.items c.in-Some.e m c.build_text-built.new.matcher is_m c.build_text-built.ensures.same.0)
+
+pub invariant_of-self-in-Ok-false : goal.invariant_of-self-in-Ok-false
+invariant_of-self-in-Ok-false c =
+    let a = c.self.inside in
+    let inside : c.in-Some.e < length c.self.inside.script.expressions = search rules in
+    let there = sought_at a.script.expressions a.limits.nodes a.matchers.items c.in-Some.e c.self.invariant.matchers inside in
+    let m = c.index_mut.result.now in
+    let h = c.index_mut.ensures.value in
+    let is_m : m ≡ get_or a.matchers.items c.in-Some.e m = grind (arith, elements) in
+    replaced_is_run a _ _ _ _ _ c.in-Some.e a.replaced c.self.invariant
+    (ap (λ (e : Run). reaches e.state.tasks) c.self.view_is ∙ c.requires.at) inside (search rules) (search rules) (search rules) (search rules) c.build_text-built.ensures.kept (matchers_kept a.matchers.items c.in-Some.e m c.build_text-built.new.matcher is_m c.build_text-built.ensures.same.0)
+
+pub invariant_of-self-in-Err : goal.invariant_of-self-in-Err
+invariant_of-self-in-Err c =
+    let a = c.self.inside in
+    let inside : c.in-Some.e < length c.self.inside.script.expressions = search rules in
+    let there = sought_at a.script.expressions a.limits.nodes a.matchers.items c.in-Some.e c.self.invariant.matchers inside in
+    let m = c.index_mut.result.now in
+    let h = c.index_mut.ensures.value in
+    let is_m : m ≡ get_or a.matchers.items c.in-Some.e m = grind (arith, elements) in
+    replaced_is_run a _ _ _ _ _ c.in-Some.e a.replaced c.self.invariant
+    (ap (λ (e : Run). reaches e.state.tasks) c.self.view_is ∙ c.requires.at) inside (search rules) (search rules) (search rules) (search rules) c.build_text-built.ensures.kept (matchers_kept a.matchers.items c.in-Some.e m c.build_text-built.new.matcher is_m c.build_text-built.ensures.same.0)
+
+pub returns-in-Ok-true-clause-makes : goal.returns-in-Ok-true-clause-makes
+returns-in-Ok-true-clause-makes c = λ t is files ls.
+    let a = c.self.inside in
+    let inside : c.in-Some.e < length c.self.inside.script.expressions = search rules in
+    let there = sought_at a.script.expressions a.limits.nodes a.matchers.items c.in-Some.e c.self.invariant.matchers inside in
+    let m = c.index_mut.result.now in
+    let h = c.index_mut.ensures.value in
+    let is_m : m ≡ get_or a.matchers.items c.in-Some.e m = grind (arith, elements) in
+    let st = stands a c.args.self.now c.args.k c.in-Some.e t c.substitution.result.now c.self.view_is is c.substitution.ensures.is c.in-Some.ensures in
+    let es = sought a.script.expressions a.limits.nodes a.matchers.items c.self.invariant.matchers in
+    let all = replaces_by a.matchers.items c.in-Some.e m c.bytes.result.now c.substitution-2.result.now a.build.limit c.build_text-built.new.build.bytes (Ok true) there is_m (rw c.in-Ok-true.field-0-test at c.in-Ok-true.ensures.replaces) in
+    let made : (u : Substitution) → slice_get a.script.substitutions c.args.k ≡ Some u → ReplacesIn u (chosen u.number u.global (occurrences (search_in a.matchers.items c.in-Some.e a.pattern.bytes) (length a.pattern.bytes))) a.pattern c.swap.new.self (Ok true) = search (rules, all) in
+    rw st (makes_some a c.args.self.now c.self.view_is a.matchers.items es c.args.k c.in-Some.e files ls t c.swap.new.self is made)
+
+pub returns-in-Ok-false-clause-makes : goal.returns-in-Ok-false-clause-makes
+returns-in-Ok-false-clause-makes c = λ t is files ls.
+    let a = c.self.inside in
+    let inside : c.in-Some.e < length c.self.inside.script.expressions = search rules in
+    let there = sought_at a.script.expressions a.limits.nodes a.matchers.items c.in-Some.e c.self.invariant.matchers inside in
+    let m = c.index_mut.result.now in
+    let h = c.index_mut.ensures.value in
+    let is_m : m ≡ get_or a.matchers.items c.in-Some.e m = grind (arith, elements) in
+    let st = stands a c.args.self.now c.args.k c.in-Some.e t c.substitution.result.now c.self.view_is is c.substitution.ensures.is c.in-Some.ensures in
+    let es = sought a.script.expressions a.limits.nodes a.matchers.items c.self.invariant.matchers in
+    let all = replaces_by a.matchers.items c.in-Some.e m c.bytes.result.now c.substitution-2.result.now a.build.limit c.build_text-built.new.build.bytes (Ok false) there is_m (rw c.in-Ok-false.field-0-test at c.in-Ok-false.ensures.replaces) in
+    let made : (u : Substitution) → slice_get a.script.substitutions c.args.k ≡ Some u → ReplacesIn u (chosen u.number u.global (occurrences (search_in a.matchers.items c.in-Some.e a.pattern.bytes) (length a.pattern.bytes))) a.pattern a.pattern (Ok false) = search (rules, all) in
+    rw st (makes_none a c.args.self.now c.self.view_is a.matchers.items es c.args.k c.in-Some.e files ls t a.pattern is made)
+
+pub returns-in-Err-clause-makes : goal.returns-in-Err-clause-makes
+returns-in-Err-clause-makes c = λ t is files ls.
+    let a = c.self.inside in
+    let inside : c.in-Some.e < length c.self.inside.script.expressions = search rules in
+    let there = sought_at a.script.expressions a.limits.nodes a.matchers.items c.in-Some.e c.self.invariant.matchers inside in
+    let m = c.index_mut.result.now in
+    let h = c.index_mut.ensures.value in
+    let is_m : m ≡ get_or a.matchers.items c.in-Some.e m = grind (arith, elements) in
+    let st = stands a c.args.self.now c.args.k c.in-Some.e t c.substitution.result.now c.self.view_is is c.substitution.ensures.is c.in-Some.ensures in
+    let es = sought a.script.expressions a.limits.nodes a.matchers.items c.self.invariant.matchers in
+    let all = replaces_by a.matchers.items c.in-Some.e m c.bytes.result.now c.substitution-2.result.now a.build.limit c.build_text-built.new.build.bytes (Err c.in-Err.field-0) there is_m c.in-Err.ensures.replaces in
+    let made : (u : Substitution) → slice_get a.script.substitutions c.args.k ≡ Some u → ReplacesIn u (chosen u.number u.global (occurrences (search_in a.matchers.items c.in-Some.e a.pattern.bytes) (length a.pattern.bytes))) a.pattern a.pattern (Err c.in-Err.field-0) = search (rules, all) in
+    rw st (makes_full a c.args.self.now c.self.view_is a.matchers.items es c.args.k c.in-Some.e files ls t a.pattern (at_lines c.args.self.now ls) c.in-Err.field-0 c.self.invariant.pattern_limit is made)
