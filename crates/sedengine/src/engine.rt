@@ -134,7 +134,7 @@ impl Engine {
             Ending self.old.limits (setting self.old files) (at_lines self.old ls)
             (Sends self.old self.new (O.contents outputs.old) (O.contents outputs.new) (Err result))
             (R.remaining lines.old.source) (R.remaining lines.new.source) self.new.state result) }
-        // The device that the end names has failed in this run, and no sink that it doesn't name.
+        // The device that the end names has failed in this run; where it names no broken sink, none has.
         ensures input { result ≡ Ended.InputBroken → IsNone self.old.ended → lines.old.fault ≡ None →
             Rose (R.failures lines.old.source) (R.failures lines.new.source) }
         ensures output { IsNone self.old.ended →
