@@ -1,12 +1,12 @@
 -- Which flags are read.
-use Rattle.std.proofs.Common.{◌≡◌, ℕ, zero, suc, ◌+◌, ◌-◌, ◌≤◌, ◌==◌, ◌||◌, ◌&&◌, Bool, true, false, if◌then◌else◌, List, [], ◌∷◌, take, drop, Option, Some, None, Result, Ok, Err, refl, sym, ap, ◌∙◌, arith}
+use Rattle.std.proofs.Common.{◌≡◌, ℕ, zero, suc, ◌+◌, ◌-◌, ◌≤◌, ◌==◌, ◌||◌, ◌&&◌, Bool, true, false, if◌then◌else◌, List, [], ◌∷◌, take, drop, Option, Some, None, Result, Ok, Err, refl, sym, ap, subst, ◌∙◌, arith}
 use Rattle.std.specs.Prelude.{is_some, nat_le}
+use Rattle.std.specs.List.{prefix_len, take_while}
 use Rattle.std.proofs.lemmas.Bool.{ne_eqb, eqb-true, leb-true}
-use Rattle.sedscript.specs.declared.bytes.Sort.TheVariants.{Digit}
 use Rattle.sedscript.specs.declared.types.ScriptFault.{ScriptFault}
 use Rattle.sedscript.specs.declared.types.Reason.TheVariants.{UnknownFlag, RepeatedFlag, BadNumber, MissingName, FlagOnEmpty}
 use Rattle.sedscript.specs.declared.items.Flags.{Flags}
-use Rattle.sedscript.specs.Bytes.{is_digit, run_of, with_digits, bytes_between}
+use Rattle.sedscript.specs.Bytes.{is_digit, with_digits, bytes_between}
 use Rattle.sedscript.specs.Functions.{fault, name_from, ◌>>=◌}
 use Rattle.sedscript.specs.Flags.{no_flags, ends_flags, numbered, with_number, with_flag, with_file, flags_from}
 use Rattle.examples.specs.Among.{stands_among}
@@ -150,12 +150,14 @@ Digits zero bs = Unit {0}
 Digits (suc n) [] = ⊥
 Digits (suc n) (b ∷ bs) = (b ≤ 57) × Digits n bs
 
-run_digits : (bs : List ℕ) → Digits (run_of Digit bs) bs
+run_digits : (bs : List ℕ) → Digits (prefix_len is_digit bs) bs
 run_digits [] = tt
-run_digits (b ∷ bs) = by_test (is_digit b) refl (run_of Digit bs) (run_digits bs)
+run_digits (b ∷ bs) = by_test (is_digit b) refl (prefix_len is_digit bs) (run_digits bs)
   where
-    by_test : (t : Bool) → is_digit b ≡ t → (n : ℕ) → Digits n bs → Digits (if t then suc n else 0) (b ∷ bs)
-    by_test true e n h = (digit_low b e, h)
+    by_test : (t : Bool) → is_digit b ≡ t → (n : ℕ) → Digits n bs → Digits (if t then 1 + n else 0) (b ∷ bs)
+    by_test true e n h =
+        let one : suc n ≡ 1 + n = omega arith in
+        subst (λ (m : ℕ). Digits m (b ∷ bs)) one (digit_low b e, h)
     by_test false e n h = tt
 
 then_ : (r : Result Flags ScriptFault) (next : Flags → Result (Flags × ℕ) ScriptFault) (f g : Flags) (at to b : ℕ) (bs : List ℕ) →
@@ -186,10 +188,10 @@ flags_read text empty f g (suc skip) at to [] d none e = absurd d
 flags_read text empty f g (suc skip) at to (b ∷ bs) d none e =
     read_more f f g at to b bs (told_digit f f b d.0 refl refl refl) (flags_read text empty f g skip (suc at) to bs d.1 none e)
 flags_read text empty f g zero at to (b ∷ bs) d none e =
-    by_kind (is_digit b) (ends_flags b) (b == 119) (with_number f at (b ∷ take (run_of Digit bs) bs)) (with_flag empty f at b) (name_from text (at + 1))
-    (λ h. flags_from text empty h (run_of Digit bs) (suc at) bs) (λ h. flags_from text empty h zero (suc at) bs) f g at to b bs none e
-    (λ is h x. told_number f h at b (b ∷ take (run_of Digit bs) bs) (digit_low b is) x)
-    (λ h x. flags_read text empty h g (run_of Digit bs) (suc at) to bs (run_digits bs) none x)
+    by_kind (is_digit b) (ends_flags b) (b == 119) (with_number f at (b ∷ take_while is_digit bs)) (with_flag empty f at b) (name_from text (at + 1))
+    (λ h. flags_from text empty h (prefix_len is_digit bs) (suc at) bs) (λ h. flags_from text empty h zero (suc at) bs) f g at to b bs none e
+    (λ is h x. told_number f h at b (b ∷ take_while is_digit bs) (digit_low b is) x)
+    (λ h x. flags_read text empty h g (prefix_len is_digit bs) (suc at) to bs (run_digits bs) none x)
     (λ h x. told_letter empty f h at b x)
     (λ h x. flags_read text empty h g zero (suc at) to bs tt none x)
 

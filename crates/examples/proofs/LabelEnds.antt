@@ -1,7 +1,9 @@
 -- Where a label ends.
 use Rattle.std.proofs.Common.{◌≡◌, ℕ, zero, suc, ◌+◌, ◌-◌, ◌<◌, ◌≤◌, ◌==◌, ◌⊎◌, inl, inr, ◌||◌, Bool, true, false, if◌then◌else◌, List, [], ◌∷◌, length, drop, Option, Some, None, slice_get, refl, sym, ap, ◌∙◌, arith, length-drop}
+use Rattle.std.specs.List.{prefix_len}
 use Rattle.std.proofs.lemmas.Bool.{eqb-true, or_cases, both_ways, not-false}
-use Rattle.sedscript.specs.Bytes.{past, run_of, belongs, is_blank}
+use Rattle.std.proofs.lemmas.List.Sums.{prefix_len-le-length}
+use Rattle.sedscript.specs.Bytes.{past, belongs, is_blank}
 use Rattle.sedscript.specs.declared.bytes.Sort.TheVariants.{Name}
 use Rattle.examples.specs.Labels.{EndsLabel}
 use Rattle.examples.proofs.BackslashLemmas.{get_drop}
@@ -34,7 +36,7 @@ belongs_other b h (inr (inr (inr (inr e)))) = let f : belongs Name b ≡ false =
 
 -- what a list has at its front that belongs to a label
 inside_by : (t : Bool) (c : ℕ) (bs : List ℕ) (n : ℕ) → belongs Name c ≡ t → ((k b : ℕ) → k < n → slice_get bs k ≡ Some b → EndsLabel b → ⊥) →
-    (k b : ℕ) → k < (if t then suc n else 0) → slice_get (c ∷ bs) k ≡ Some b → EndsLabel b → ⊥
+    (k b : ℕ) → k < (if t then 1 + n else 0) → slice_get (c ∷ bs) k ≡ Some b → EndsLabel b → ⊥
 inside_by false c bs n is more k b h e x = omega (arith, h)
 inside_by true c bs n is more zero b h e x =
     let f : ◌≡◌ {A = Option ℕ} (Some c) (Some b) = e in
@@ -42,30 +44,24 @@ inside_by true c bs n is more zero b h e x =
     belongs_other b (ap (belongs Name) (sym same) ∙ is) x
 inside_by true c bs n is more (suc k) b h e x = more k b (omega (arith, h)) e x
 
-inside : (bs : List ℕ) (k b : ℕ) → k < run_of Name bs → slice_get bs k ≡ Some b → EndsLabel b → ⊥
+inside : (bs : List ℕ) (k b : ℕ) → k < prefix_len (belongs Name) bs → slice_get bs k ≡ Some b → EndsLabel b → ⊥
 inside [] k b h e x = omega (arith, h)
-inside (c ∷ bs) k b h e x = inside_by (belongs Name c) c bs (run_of Name bs) refl (inside bs) k b h e x
+inside (c ∷ bs) k b h e x = inside_by (belongs Name c) c bs (prefix_len (belongs Name) bs) refl (inside bs) k b h e x
 
 end_after_by : (t : Bool) (c b : ℕ) (bs : List ℕ) (n : ℕ) → belongs Name c ≡ t → (slice_get bs n ≡ Some b → EndsLabel b) →
-    slice_get (c ∷ bs) (if t then suc n else 0) ≡ Some b → EndsLabel b
-end_after_by true c b bs n is more e = more e
+    slice_get (c ∷ bs) (if t then 1 + n else 0) ≡ Some b → EndsLabel b
+end_after_by true c b bs n is more e =
+    let one : suc n ≡ 1 + n = omega arith in
+    more (ap (slice_get (c ∷ bs)) one ∙ e)
 end_after_by false c b bs n is more e =
     let f : ◌≡◌ {A = Option ℕ} (Some c) (Some b) = e in
     let same : c ≡ b = cc in
     let g : (is_blank c || c == 10 || c == 59 || c == 125) ≡ true = not-false (is_blank c || c == 10 || c == 59 || c == 125) is in
     rw (← same) (ends_test c g)
 
-end_after : (bs : List ℕ) (b : ℕ) → slice_get bs (run_of Name bs) ≡ Some b → EndsLabel b
+end_after : (bs : List ℕ) (b : ℕ) → slice_get bs (prefix_len (belongs Name) bs) ≡ Some b → EndsLabel b
 end_after [] b e = let f : ◌≡◌ {A = Option ℕ} None (Some b) = e in absurd (cc)
-end_after (c ∷ bs) b e = end_after_by (belongs Name c) c b bs (run_of Name bs) refl (end_after bs b) e
-
-within_by : (t : Bool) (n m : ℕ) → n ≤ m → (if t then suc n else 0) ≤ suc m
-within_by true n m h = omega (arith, h)
-within_by false n m h = omega arith
-
-run_within : (bs : List ℕ) → run_of Name bs ≤ length bs
-run_within [] = omega arith
-run_within (c ∷ bs) = within_by (belongs Name c) (run_of Name bs) (length bs) (run_within bs)
+end_after (c ∷ bs) b e = end_after_by (belongs Name c) c b bs (prefix_len (belongs Name) bs) refl (end_after bs b) e
 
 pub label_ends : (script : List ℕ) (from : ℕ) →
     (from ≤ past Name script from) × (from ≤ length script → past Name script from ≤ length script)
@@ -74,8 +70,8 @@ pub label_ends : (script : List ℕ) (from : ℕ) →
 unfolding past
 label_ends script from = (
   omega arith,
-  λ low. (let h = run_within (drop from script) in omega (arith, h, length-drop from script, low)),
+  λ low. (let h = prefix_len-le-length (belongs Name) (drop from script) in omega (arith, h, length-drop from script, low)),
   (λ at b low high e x. let f : from + (at - from) ≡ at = omega (arith, low) in
       inside (drop from script) (at - from) b (omega (arith, low, high)) (get_drop script from (at - from) ∙ (ap (slice_get script) f ∙ e)) x),
-  (λ b e. end_after (drop from script) b (get_drop script from (run_of Name (drop from script)) ∙ e)),
+  (λ b e. end_after (drop from script) b (get_drop script from (prefix_len (belongs Name) (drop from script)) ∙ e)),
 )

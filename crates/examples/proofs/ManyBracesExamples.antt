@@ -1,6 +1,7 @@
 -- Examples of scripts of as many opening braces as one likes.
 use Rattle.std.proofs.Common.{◌≡◌, ℕ, zero, suc, ◌+◌, ◌<◌, ◌≤◌, false, List, [], ◌∷◌, length, drop, Some, None, Ok, refl, sym, ◌∙◌, ap, subst, arith}
 use Rattle.std.specs.Prelude.{replicate, slice_get}
+use Rattle.std.specs.List.{prefix_len}
 use Rattle.std.proofs.lemmas.Option.{slice_get_past}
 use Rattle.std.proofs.lemmas.List.{length-replicate}
 use Rattle.sedre.specs.declared.types.Kind.{Kind}
@@ -13,7 +14,7 @@ use Rattle.sedscript.specs.declared.items.Here.{Here}
 use Rattle.sedscript.specs.declared.items.Here.TheVariants.{Is}
 use Rattle.sedscript.specs.declared.items.Function.TheVariants.{Open}
 use Rattle.sedscript.specs.Addresses.{Headed, address_at, addresses_at, addresses_of, with_bang}
-use Rattle.sedscript.specs.Bytes.{belongs, run_of, past}
+use Rattle.sedscript.specs.Bytes.{belongs, past}
 use Rattle.sedscript.specs.Expressions.{Gives, value}
 use Rattle.sedscript.specs.Items.{function_at, item_at}
 use Rattle.sedscript.specs.Reading.{Reading, plainly}
@@ -40,7 +41,7 @@ each_brace (suc n) zero below = refl
 each_brace (suc n) (suc k) below = each_brace n k (omega arith)
 
 -- a place with a byte that isn't of the sort is the first one from there on
-none_of_sort : (sort : Sort) (byte : ℕ) (text : List ℕ) (at : ℕ) → belongs sort byte ≡ false → slice_get text at ≡ Some byte → run_of sort (drop at text) ≡ 0
+none_of_sort : (sort : Sort) (byte : ℕ) (text : List ℕ) (at : ℕ) → belongs sort byte ≡ false → slice_get text at ≡ Some byte → prefix_len (belongs sort) (drop at text) ≡ 0
 none_of_sort sort byte [] at other there = absurd cc
 none_of_sort sort byte (b ∷ bs) zero other there =
     let is : b ≡ byte = cc in

@@ -1,5 +1,5 @@
 -- The table of blocks.
-use Rattle.std.proofs.Common.{◌≡◌, ℕ, zero, suc, ◌+◌, ◌-◌, ◌<◌, ◌≤◌, ◌&&◌, ◌==◌, Bool, true, false, List, [], ◌∷◌, ◌++◌, length, take, drop, Option, Some, None, refl, sym, ap, ◌∙◌, arith, inl, inr, unwrap_or, if◌then◌else◌, slice_get, drop_of_length-le}
+use Rattle.std.proofs.Common.{◌≡◌, ℕ, zero, suc, ◌+◌, ◌-◌, ◌<◌, ◌≤◌, ◌&&◌, ◌==◌, Bool, true, false, List, [], ◌∷◌, ◌++◌, length, take, drop, reverse, Option, Some, None, refl, sym, ap, ◌∙◌, arith, inl, inr, unwrap_or, if◌then◌else◌, slice_get, drop_of_length-le}
 use Rattle.std.proofs.lemmas.Option.{slice_get_within}
 use Rattle.sedscript.proofs.Labels.{take_item, drop_item, counted_in}
 use Rattle.std.proofs.lemmas.Bool.Decides.{eqb_tells}
@@ -7,15 +7,11 @@ use Rattle.sedscript.specs.declared.items.Item.{Item}
 use Rattle.sedscript.specs.declared.items.Function.{Function}
 use Rattle.sedscript.specs.declared.items.Function.TheVariants.{Open, Close}
 use Rattle.sedscript.specs.Targets.{counted, commands_in, is_open, is_close, close_in, depth_after, block_end, leaves}
-use Rattle.sedscript.specs.Tables.{unopened, unopened_by, tail, first, reversed, opened, blocks_in, with_end, ends_in}
+use Rattle.sedscript.specs.Tables.{unopened, unopened_by, opened, blocks_in, with_end, ends_in}
 
-tail_get : (us : List ℕ) (d : ℕ) → slice_get us (suc d) ≡ slice_get (tail us) d
-tail_get [] d = refl
-tail_get (u ∷ us) d = refl
-
-first_get : (us : List ℕ) → slice_get us 0 ≡ first us
-first_get [] = refl
-first_get (u ∷ us) = refl
+after_first : (us : List ℕ) (d : ℕ) → slice_get us (suc d) ≡ slice_get (drop 1 us) d
+after_first [] d = refl
+after_first (u ∷ us) d = refl
 
 not_zero : (d : ℕ) → (suc d == 0) ≡ false
 not_zero d = elim (eqb_tells (suc d) 0) [ inl h ↦ absurd (omega (arith, h.1)) | inr h ↦ h.0 ]
@@ -24,7 +20,7 @@ close_step : (f : Function) (d n : ℕ) (us : List ℕ) (c : ℕ → Option ℕ)
     (if is_close f && d == 0 then Some n else c (depth_after d f)) ≡ slice_get (unopened_by n f us) d
 close_step Close zero n us c h = refl
 close_step Close (suc d) n us c h = let e : suc d - 1 ≡ d = omega arith in rw e (rw (not_zero d) (h d))
-close_step Open d n us c h = h (suc d) ∙ tail_get us d
+close_step Open d n us c h = h (suc d) ∙ after_first us d
 close_step f d n us c h = h d
 
 -- a closing brace after so many inner ones is found in the list of those that close no block
@@ -32,16 +28,13 @@ pub close_is : (d n : ℕ) (is : List Item) → close_in d n is ≡ slice_get (u
 close_is d n [] = refl
 close_is d n (i ∷ is) = close_step i.function d n (unopened (counted n i) is) (λ (e : ℕ). close_in e (counted n i) is) (λ e. close_is e (counted n i) is)
 
-pub close_first : (n : ℕ) (is : List Item) → close_in 0 n is ≡ first (unopened n is)
-close_first n is = close_is 0 n is ∙ first_get (unopened n is)
-
 -- the stack one item further back
 pub unopened_step : (items : List Item) (k n next : ℕ) (i : Item) → slice_get items k ≡ Some i → n ≡ counted next i →
     unopened_by next i.function (unopened n (drop (k + 1) items)) ≡ unopened next (drop k items)
 unopened_step items k n next i at e =
     ap (λ (m : ℕ). unopened_by next i.function (unopened m (drop (k + 1) items))) e ∙ sym (ap (unopened next) (drop_item items k i at))
 
-pub none_after : (items : List Item) (n : ℕ) → [] ≡ reversed (unopened n (drop (length items) items))
+pub none_after : (items : List Item) (n : ℕ) → [] ≡ reverse (unopened n (drop (length items) items))
 none_after items n = let e : drop (length items) items ≡ [] = drop_of_length-le items (omega arith) in rw e refl
 
 -- the table after the last item
@@ -52,16 +45,16 @@ ends_end items n ends =
 
 -- the table one item further back
 pub ends_step : (items : List Item) (k n next : ℕ) (i : Item) (end : Option ℕ) (ends : List (Option ℕ)) → slice_get items k ≡ Some i → n ≡ counted next i →
-    ends ≡ ends_in n (drop (k + 1) items) → (is_open i.function ≡ true → end ≡ first (unopened n (drop (k + 1) items))) →
+    ends ≡ ends_in n (drop (k + 1) items) → (is_open i.function ≡ true → end ≡ slice_get (unopened n (drop (k + 1) items)) 0) →
     with_end i.function end ends ≡ ends_in next (drop k items)
 ends_step items k n next i end ends at e below new =
     by_open (is_open i.function) new
     ∙ (ap (λ (m : ℕ). with_end i.function (close_in 0 m (drop (k + 1) items)) (ends_in m (drop (k + 1) items))) e
     ∙ sym (ap (ends_in next) (drop_item items k i at)))
   where
-    by_open : (b : Bool) → (b ≡ true → end ≡ first (unopened n (drop (k + 1) items))) →
+    by_open : (b : Bool) → (b ≡ true → end ≡ slice_get (unopened n (drop (k + 1) items)) 0) →
         (if b then end ∷ ends else ends) ≡ (if b then close_in 0 n (drop (k + 1) items) ∷ ends_in n (drop (k + 1) items) else ends_in n (drop (k + 1) items))
-    by_open true h = ap (λ (o : Option ℕ). o ∷ ends) (h refl ∙ sym (close_first n (drop (k + 1) items))) ∙ ap (λ (os : List (Option ℕ)). close_in 0 n (drop (k + 1) items) ∷ os) below
+    by_open true h = ap (λ (o : Option ℕ). o ∷ ends) (h refl ∙ sym (close_is 0 n (drop (k + 1) items))) ∙ ap (λ (os : List (Option ℕ)). close_in 0 n (drop (k + 1) items) ∷ os) below
     by_open false h = below
 
 open_first : (f : Function) (n : ℕ) (is : List Item) → f ≡ Open →

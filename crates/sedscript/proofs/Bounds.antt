@@ -1,6 +1,6 @@
 -- The numbers of a script are in range.
 use Rattle.std.proofs.Common.{◌≡◌, ℕ, zero, suc, ◌+◌, ◌<◌, ◌≤◌, ◌&&◌, ◌==◌, Bool, true, false, cond, not, ◌||◌, List, [], ◌∷◌, ◌++◌, length, filter_map, Option, Some, None, unwrap_or, Result, Ok, Err, IfOk, refl, sym, ap, subst, ◌∙◌, arith, if◌then◌else◌, slice_get, length-append, take, drop, is_some}
-use Rattle.std.specs.List.{position_from, cons_option}
+use Rattle.std.specs.List.{list_any, position_from, cons_option, prefix_len, take_while}
 use Rattle.std.specs.Str.{bytes_eq}
 use Rattle.std.proofs.lemmas.Slice.Eq.{bytes_eq-Decides}
 use Rattle.std.proofs.lemmas.List.FromFn.{length-map-range_with_len}
@@ -28,7 +28,7 @@ use Rattle.sedscript.specs.declared.items.Item.{Item}
 use Rattle.sedscript.specs.declared.items.Counts.{Counts}
 use Rattle.sedscript.specs.declared.items.Here.{Here}
 use Rattle.sedscript.specs.declared.items.Here.TheVariants.{Is, Ends}
-use Rattle.sedscript.specs.Bytes.{past, bytes_between, run_of, is_digit, is_byte, with_digits}
+use Rattle.sedscript.specs.Bytes.{past, bytes_between, is_digit, is_byte, with_digits}
 use Rattle.sedscript.specs.declared.items.Flags.{Flags}
 use Rattle.sedscript.specs.declared.items.Strings.{Strings}
 use Rattle.sedscript.specs.declared.types.Reason.TheVariants.{TrailingBytes, RepeatedFlag, FlagOnEmpty}
@@ -53,9 +53,8 @@ use Rattle.sedscript.specs.declared.letters.Verb.TheVariants.{ReadsExpression, R
 use Rattle.sedscript.specs.declared.letters.Shape.{Shape}
 use Rattle.sedscript.specs.declared.letters.Shape.TheVariants.{Alone, OpensBlock, ClosesBlock, Remark, NamesLabel, GoesTo, TakesText, NamesFile, TakesStrings}
 use Rattle.sedscript.specs.Files.{is_standard_output, is_file, name_in, file_at, files_in, number_in}
-use Rattle.sedscript.specs.Tables.{has}
 use Rattle.sedscript.proofs.Labels.{commands_snoc, counted_in}
-use Rattle.sedscript.proofs.FileTables.{has_distinct}
+use Rattle.sedscript.proofs.FileTables.{any_distinct}
 
 -- targets
 
@@ -377,10 +376,10 @@ flags_within text empty f zero at (b ∷ bs) h = by_digit (λ g skip. flags_with
     by_end rest true = h
     by_end rest false = by_file rest (b == 119)
 
-    by_digit : Rest → (t : Bool) → IfOk (if t then ◌then◌ (with_number f at (b ∷ take (run_of Digit bs) bs)) (λ (g : Flags). flags_from text empty g (run_of Digit bs) (suc at) bs)
+    by_digit : Rest → (t : Bool) → IfOk (if t then ◌then◌ (with_number f at (b ∷ take_while is_digit bs)) (λ (g : Flags). flags_from text empty g (prefix_len is_digit bs) (suc at) bs)
         else if ends_flags b then Ok (f, at) else if b == 119 then with_file f at (name_from text (at + 1))
         else ◌then◌ (with_flag empty f at b) (λ (g : Flags). flags_from text empty g zero (suc at) bs)) ReadWithin
-    by_digit rest true = read_on rest (run_of Digit bs) (with_number f at (b ∷ take (run_of Digit bs) bs)) (number_within f at (b ∷ take (run_of Digit bs) bs))
+    by_digit rest true = read_on rest (prefix_len is_digit bs) (with_number f at (b ∷ take_while is_digit bs)) (number_within f at (b ∷ take_while is_digit bs))
     by_digit rest false = by_end rest (ends_flags b)
 
 substituted_within : (text : List ℕ) (s : Strings) (e limit : Option ℕ) (n : ℕ) → IsOneOf n e → IfOk (substituted text s e limit) (FoundWithin n)
@@ -576,18 +575,18 @@ abbrev names_in : FileUse → List ℕ → List Item → List (List ℕ)
 names_in u text is = filter_map (λ i. file_at u text (name_in u i.function)) is
 
 -- a number among so many that are counted from the first
-number_below : (name : List ℕ) (first : ℕ) (ns : List (List ℕ)) → has name ns ≡ true → unwrap_or (position_from (bytes_eq name) first ns) 0 < first + length ns
+number_below : (name : List ℕ) (first : ℕ) (ns : List (List ℕ)) → list_any (bytes_eq name) ns ≡ true → unwrap_or (position_from (bytes_eq name) first ns) 0 < first + length ns
 number_below name first [] h = let bad : false ≡ true = h in cc
 number_below name first (n ∷ ns) h = by_same (λ h. number_below name (first + 1) ns h) (bytes_eq name n) h
   where
-    by_same : (has name ns ≡ true → unwrap_or (position_from (bytes_eq name) (first + 1) ns) 0 < first + 1 + length ns) → (b : Bool) → (b || has name ns) ≡ true →
+    by_same : (list_any (bytes_eq name) ns ≡ true → unwrap_or (position_from (bytes_eq name) (first + 1) ns) 0 < first + 1 + length ns) → (b : Bool) → (b || list_any (bytes_eq name) ns) ≡ true →
         unwrap_or (cond b (Some first) (position_from (bytes_eq name) (first + 1) ns)) 0 < first + suc (length ns)
     by_same rest true h = omega arith
     by_same rest false h = omega (arith, rest h)
 
 -- a file that a function of the items names is one of those
 file_number : (u : FileUse) (text : List ℕ) (all : List Item) (n : Sizes) (name : List ℕ) → n.rfiles ≡ length (files_in Read text all) → n.wfiles ≡ length (files_in Write text all) →
-    (is_file u name ≡ true → has name (files_in u text all) ≡ true) → FileWithin n u (number_in u text all name)
+    (is_file u name ≡ true → list_any (bytes_eq name) (files_in u text all) ≡ true) → FileWithin n u (number_in u text all name)
 file_number Read text all n name r w h = omega (arith, r, number_below name 0 (files_in Read text all) (h refl))
 file_number Write text all n name r w h = by_output (is_standard_output name) refl
   where
@@ -597,20 +596,20 @@ file_number Write text all n name r w h = by_output (is_standard_output name) re
 
 -- the items' names are among these
 abbrev Among : FileUse → List ℕ → List (List ℕ) → List Item → Type 0
-Among u text ns is = (name : List ℕ) → has name (names_in u text is) ≡ true → has name ns ≡ true
+Among u text ns is = (name : List ℕ) → list_any (bytes_eq name) (names_in u text is) ≡ true → list_any (bytes_eq name) ns ≡ true
 
 -- a name that stands at these places
-file_there : (u : FileUse) (text : List ℕ) (span : ℕ × ℕ) (rest : List (List ℕ)) → is_file u (bytes_between text span.0 span.1) ≡ true → has (bytes_between text span.0 span.1) (cons_option (file_at u text (Some span)) rest) ≡ true
+file_there : (u : FileUse) (text : List ℕ) (span : ℕ × ℕ) (rest : List (List ℕ)) → is_file u (bytes_between text span.0 span.1) ≡ true → list_any (bytes_eq (bytes_between text span.0 span.1)) (cons_option (file_at u text (Some span)) rest) ≡ true
 file_there u text span rest h =
     let name : List ℕ = bytes_between text span.0 span.1 in
-    ap (λ (b : Bool). has name (cons_option (if b then Some name else None) rest)) h
-    ∙ ap (λ (b : Bool). b || has name rest) ((bytes_eq-Decides name name).1 refl)
+    ap (λ (b : Bool). list_any (bytes_eq name) (cons_option (if b then Some name else None) rest)) h
+    ∙ ap (λ (b : Bool). b || list_any (bytes_eq name) rest) ((bytes_eq-Decides name name).1 refl)
 
-has_more : (name : List ℕ) (o : Option (List ℕ)) (rest : List (List ℕ)) → has name rest ≡ true → has name (cons_option o rest) ≡ true
-has_more name None rest h = h
-has_more name (Some n) rest h = by_same (bytes_eq name n)
+any_more : (name : List ℕ) (o : Option (List ℕ)) (rest : List (List ℕ)) → list_any (bytes_eq name) rest ≡ true → list_any (bytes_eq name) (cons_option o rest) ≡ true
+any_more name None rest h = h
+any_more name (Some n) rest h = by_same (bytes_eq name n)
   where
-    by_same : (b : Bool) → (b || has name rest) ≡ true
+    by_same : (b : Bool) → (b || list_any (bytes_eq name) rest) ≡ true
     by_same true = refl
     by_same false = h
 
@@ -622,17 +621,17 @@ files_within text all n (i ∷ is) r w a b = (
       (λ name h. a name h)
       (λ name h. b name h),
   files_within text all n is r w
-      (λ name h. a name (has_more name (file_at Read text (name_in Read i.function)) (names_in Read text is) h))
-      (λ name h. b name (has_more name (file_at Write text (name_in Write i.function)) (names_in Write text is) h)),
+      (λ name h. a name (any_more name (file_at Read text (name_in Read i.function)) (names_in Read text is) h))
+      (λ name h. b name (any_more name (file_at Write text (name_in Write i.function)) (names_in Write text is) h)),
 )
   where
-    by_flag : (o : Option (ℕ × ℕ)) → ((name : List ℕ) → has name (cons_option (file_at Write text o) (names_in Write text is)) ≡ true → has name (files_in Write text all) ≡ true) → SinkWithin n.wfiles (sink_of text all o)
+    by_flag : (o : Option (ℕ × ℕ)) → ((name : List ℕ) → list_any (bytes_eq name) (cons_option (file_at Write text o) (names_in Write text is)) ≡ true → list_any (bytes_eq name) (files_in Write text all) ≡ true) → SinkWithin n.wfiles (sink_of text all o)
     by_flag None b = tt
     by_flag (Some span) b = file_number Write text all n (bytes_between text span.0 span.1) r w (λ h. b (bytes_between text span.0 span.1) (file_there Write text span (names_in Write text is) h))
 
     by_function : (f : Function) →
-        ((name : List ℕ) → has name (cons_option (file_at Read text (name_in Read f)) (names_in Read text is)) ≡ true → has name (files_in Read text all) ≡ true) →
-        ((name : List ℕ) → has name (cons_option (file_at Write text (name_in Write f)) (names_in Write text is)) ≡ true → has name (files_in Write text all) ≡ true) →
+        ((name : List ℕ) → list_any (bytes_eq name) (cons_option (file_at Read text (name_in Read f)) (names_in Read text is)) ≡ true → list_any (bytes_eq name) (files_in Read text all) ≡ true) →
+        ((name : List ℕ) → list_any (bytes_eq name) (cons_option (file_at Write text (name_in Write f)) (names_in Write text is)) ≡ true → list_any (bytes_eq name) (files_in Write text all) ≡ true) →
         FilesWithin text all n f
     by_function (File Read from to) a b = file_number Read text all n (bytes_between text from to) r w (λ h. a (bytes_between text from to) (file_there Read text (from, to) (names_in Read text is) h))
     by_function (File Write from to) a b = file_number Write text all n (bytes_between text from to) r w (λ h. b (bytes_between text from to) (file_there Write text (from, to) (names_in Write text is) h))
@@ -650,7 +649,7 @@ means_in_range text kind m s h =
     let tables : 0 + length (tables_of text is) ≡ length s.tables = from_none _ _ (ap (λ (xs : List (List ℕ)). length xs) h.tables) in
     let files : AllFilesWithin text is (sizes_of s) is =
     files_within text is (sizes_of s) is (ap (λ (xs : List (List ℕ)). length xs) h.rfiles) (ap (λ (xs : List (List ℕ)). length xs) h.wfiles)
-    (λ name g. has_distinct name (names_in Read text is) g) (λ name g. has_distinct name (names_in Write text is) g) in
+    (λ name g. any_distinct name (names_in Read text is) g) (λ name g. any_distinct name (names_in Write text is) g) in
     let all : AllWithin (sizes_of s) s.commands =
     subst (AllWithin (sizes_of s)) (sym h.commands)
     (commands_within text is [] is none_counted (sizes_of s) (sym long) (omega (arith, long)) (texts, substitutions, tables)

@@ -1,10 +1,12 @@
 -- How the flags of `s` are read, a number or a file's name at once.
 use Rattle.std.proofs.Common.{◌≡◌, ◌≢◌, ◌⊎◌, inl, inr, ℕ, zero, suc, ◌+◌, ◌-◌, ◌<◌, ◌≤◌, List, [], ◌∷◌, length, take, drop, get_or, Result, Ok, Err, Bool, true, false, Some, None, ◌==◌, not, refl, sym, ap, subst, ◌∙◌, arith, if◌then◌else◌, drop-cons, drop-drop}
+use Rattle.std.specs.List.{prefix_len}
 use Rattle.std.proofs.lemmas.Bool.Decides.{eqb_tells}
+use Rattle.std.proofs.lemmas.List.Sums.{prefix_len-le-length}
 use Rattle.sedscript.specs.declared.bytes.Sort.TheVariants.{Blank, Digit, Line}
 use Rattle.sedscript.specs.declared.types.ScriptFault.{ScriptFault}
 use Rattle.sedscript.specs.declared.items.Flags.{Flags}
-use Rattle.sedscript.specs.Bytes.{is_digit, past, bytes_between, run_of}
+use Rattle.sedscript.specs.Bytes.{is_digit, belongs, past, bytes_between}
 use Rattle.sedscript.specs.Functions.{name_from, ◌>>=◌}
 use Rattle.sedscript.specs.Flags.{ends_flags, flags_from, with_number, with_file}
 use Rattle.sedscript.specs.Answers.{with_rest}
@@ -15,24 +17,16 @@ skipped text empty f zero at bs h = ap (λ (n : ℕ). flags_from text empty f 0 
 skipped text empty f (suc k) at [] h = absurd (omega (arith, h))
 skipped text empty f (suc k) at (b ∷ bs) h = skipped text empty f k (suc at) bs (omega (arith, h)) ∙ ap (λ (n : ℕ). flags_from text empty f 0 n (drop k bs)) (omega arith)
 
-short_if : (d : Bool) (n m : ℕ) → n ≤ m → (if d then suc n else 0) ≤ suc m
-short_if true n m h = omega (arith, h)
-short_if false n m h = omega arith
-
-run_short : (bs : List ℕ) → run_of Digit bs ≤ length bs
-run_short [] = omega arith
-run_short (b ∷ bs) = short_if (is_digit b) (run_of Digit bs) (length bs) (run_short bs)
-
 -- the flags of a number at the front
-digits_front : (text : List ℕ) (empty : Bool) (f : Flags) (at n b : ℕ) (bs : List ℕ) → is_digit b ≡ true → n ≡ run_of Digit (b ∷ bs) →
+digits_front : (text : List ℕ) (empty : Bool) (f : Flags) (at n b : ℕ) (bs : List ℕ) → is_digit b ≡ true → n ≡ prefix_len is_digit (b ∷ bs) →
     flags_from text empty f 0 at (b ∷ bs) ≡ (with_number f at (take n (b ∷ bs)) >>= λ g. flags_from text empty g 0 (at + n) (drop n (b ∷ bs)))
 digits_front text empty f at n b bs d e =
-    let long : n ≡ suc (run_of Digit bs) = e ∙ rw d refl in
+    let long : n ≡ suc (prefix_len is_digit bs) = e ∙ rw d (omega arith) in
     subst (λ (k : ℕ). flags_from text empty f 0 at (b ∷ bs) ≡ (with_number f at (take k (b ∷ bs)) >>= λ g. flags_from text empty g 0 (at + k) (drop k (b ∷ bs)))) (sym long)
-    (rw d (go (with_number f at (b ∷ take (run_of Digit bs) bs))))
+    (rw d (go (with_number f at (b ∷ take (prefix_len is_digit bs) bs))))
   where
-    go : (r : Result Flags ScriptFault) → (r >>= λ g. flags_from text empty g (run_of Digit bs) (suc at) bs) ≡ (r >>= λ g. flags_from text empty g 0 (at + suc (run_of Digit bs)) (drop (run_of Digit bs) bs))
-    go (Ok g) = skipped text empty g (run_of Digit bs) (suc at) bs (run_short bs) ∙ ap (λ (n : ℕ). flags_from text empty g 0 n (drop (run_of Digit bs) bs)) (omega arith)
+    go : (r : Result Flags ScriptFault) → (r >>= λ g. flags_from text empty g (prefix_len is_digit bs) (suc at) bs) ≡ (r >>= λ g. flags_from text empty g 0 (at + suc (prefix_len is_digit bs)) (drop (prefix_len is_digit bs) bs))
+    go (Ok g) = skipped text empty g (prefix_len is_digit bs) (suc at) bs (prefix_len-le-length is_digit bs) ∙ ap (λ (n : ℕ). flags_from text empty g 0 n (drop (prefix_len is_digit bs) bs)) (omega arith)
     go (Err x) = refl
 
 -- the flags of a number at a place, up to another
@@ -40,9 +34,10 @@ number_read : (text : List ℕ) (empty : Bool) (f : Flags) (at to d : ℕ) → a
     flags_from text empty f 0 at (drop at text) ≡ (with_number f at (bytes_between text at to) >>= λ g. flags_from text empty g 0 to (drop to text))
 unfolding past
 number_read text empty f at to d h digit e =
+    let long : to ≡ at + prefix_len is_digit (drop at text) = e in
     let front : drop at text ≡ get_or text at d ∷ drop (suc at) text = drop-cons text at d h in
-    let n : to - at ≡ run_of Digit (get_or text at d ∷ drop (suc at) text) = let same : run_of Digit (drop at text) ≡ run_of Digit (get_or text at d ∷ drop (suc at) text) = ap (run_of Digit) front in omega (arith, e, same) in
-    let back : at + (to - at) ≡ to = omega (arith, e) in
+    let n : to - at ≡ prefix_len is_digit (get_or text at d ∷ drop (suc at) text) = let same : prefix_len is_digit (drop at text) ≡ prefix_len is_digit (get_or text at d ∷ drop (suc at) text) = ap (prefix_len is_digit) front in omega (arith, long, same) in
+    let back : at + (to - at) ≡ to = omega (arith, long) in
     let rest : drop (to - at) (drop at text) ≡ drop to text = drop-drop (to - at) at text ∙ ap (λ (k : ℕ). drop k text) back in
     let whole : flags_from text empty f 0 at (drop at text) ≡ (with_number f at (take (to - at) (drop at text)) >>= λ g. flags_from text empty g 0 (at + (to - at)) (drop (to - at) (drop at text))) =
     subst (λ (l : List ℕ). flags_from text empty f 0 at l ≡ (with_number f at (take (to - at) l) >>= λ g. flags_from text empty g 0 (at + (to - at)) (drop (to - at) l))) (sym front)
@@ -62,21 +57,23 @@ number_err text digits empty f x y result at to d h digit e is r bad same =
     ∙ ap (with_rest text empty) (sym (bad ∙ ap (λ (z : ScriptFault). Err z) same)))
 
 -- flags end where a line ends
-line_ends : (text : List ℕ) (empty : Bool) (g : Flags) (to : ℕ) (bs : List ℕ) → flags_from text empty g 0 to (drop (run_of Line bs) bs) ≡ Ok (g, to)
+line_ends : (text : List ℕ) (empty : Bool) (g : Flags) (to : ℕ) (bs : List ℕ) → flags_from text empty g 0 to (drop (prefix_len (belongs Line) bs) bs) ≡ Ok (g, to)
 line_ends text empty g to [] = refl
 line_ends text empty g to (b ∷ bs) = by_newline (line_ends text empty g to bs) (eqb_tells b 10)
   where
-    by_newline : flags_from text empty g 0 to (drop (run_of Line bs) bs) ≡ Ok (g, to) → ((b == 10) ≡ true) × (b ≡ 10) ⊎ ((b == 10) ≡ false) × (b ≢ 10) →
-        flags_from text empty g 0 to (drop (if not (b == 10) then suc (run_of Line bs) else 0) (b ∷ bs)) ≡ Ok (g, to)
+    by_newline : flags_from text empty g 0 to (drop (prefix_len (belongs Line) bs) bs) ≡ Ok (g, to) → ((b == 10) ≡ true) × (b ≡ 10) ⊎ ((b == 10) ≡ false) × (b ≢ 10) →
+        flags_from text empty g 0 to (drop (if not (b == 10) then 1 + prefix_len (belongs Line) bs else 0) (b ∷ bs)) ≡ Ok (g, to)
     by_newline rest (inl h) = rw h.1 refl
-    by_newline rest (inr h) = rw h.0 rest
+    by_newline rest (inr h) =
+        let one : 1 + prefix_len (belongs Line) bs ≡ suc (prefix_len (belongs Line) bs) = omega arith in
+        rw h.0 (rw one rest)
 
 -- after the name of a file flags end
 name_ends : (text : List ℕ) (empty : Bool) (g : Flags) (from : ℕ) → flags_from text empty g 0 (past Line text from) (drop (past Line text from) text) ≡ Ok (g, past Line text from)
 unfolding past
 name_ends text empty g from =
-    ap (flags_from text empty g 0 (from + run_of Line (drop from text))) (sym (drop-drop (run_of Line (drop from text)) from text))
-    ∙ line_ends text empty g (from + run_of Line (drop from text)) (drop from text)
+    ap (flags_from text empty g 0 (from + prefix_len (belongs Line) (drop from text))) (sym (drop-drop (prefix_len (belongs Line) (drop from text)) from text))
+    ∙ line_ends text empty g (from + prefix_len (belongs Line) (drop from text)) (drop from text)
 
 -- the flags of a `w` at a place
 pub file_read : (text : List ℕ) (empty : Bool) (f : Flags) (result : Result (Flags × ℕ) ScriptFault) (at b d : ℕ) → at < length text → get_or text at d ≡ b → is_digit b ≡ false → ends_flags b ≡ false → b ≡ 119 →

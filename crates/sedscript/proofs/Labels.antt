@@ -1,5 +1,5 @@
 -- The table of labels.
-use Rattle.std.proofs.Common.{◌≡◌, ℕ, zero, suc, ◌+◌, ◌<◌, ◌≤◌, Bool, true, false, cond, List, [], ◌∷◌, ◌++◌, length, take, drop, not, drop-cons, ◌==◌, Option, Some, None, is_some, refl, sym, ap, ◌∙◌, arith, inl, inr, length-take-le, if◌then◌else◌, slice_get, Bor}
+use Rattle.std.proofs.Common.{◌≡◌, ℕ, zero, suc, ◌+◌, ◌<◌, ◌≤◌, Bool, true, false, cond, List, [], ◌∷◌, ◌++◌, length, take, drop, not, drop-cons, ◌==◌, Option, Some, None, is_some, option_map, refl, sym, ap, ◌∙◌, arith, inl, inr, length-take-le, if◌then◌else◌, slice_get, Bor}
 use Rattle.std.specs.Str.{bytes_eq}
 use Rattle.std.specs.BTreeMap.{BTreeMap, UpdatesBy}
 use Rattle.std.specs.Cmp.Lexicographic.{slice_cmp}
@@ -16,7 +16,7 @@ use Rattle.sedscript.specs.declared.items.Function.{Function}
 use Rattle.sedscript.specs.declared.items.Function.TheVariants.{Label}
 use Rattle.sedscript.specs.Bytes.{bytes_between}
 use Rattle.sedscript.specs.Targets.{is_label, counted, commands_in, label_in, leaves}
-use Rattle.sedscript.specs.Tables.{labelled, first_label, LabelsAre, is_earlier, number}
+use Rattle.sedscript.specs.Tables.{labelled, first_label, LabelsAre, is_earlier}
 
 abbrev Labels : Type 0
 Labels = BTreeMap (Bor (List ℕ)) FirstLabel
@@ -106,11 +106,11 @@ labels_step text items k n i old new at e are added = λ name.
     ∙ (sym (first_label_snoc text name 0 0 k n (take k items) i (sym long ∙ omega arith) (e ∙ omega arith))
     ∙ ap (first_label text name 0 0) (sym (take_item items k i at))))
 
-pub label_of_first : (text name : List ℕ) (k n : ℕ) (is : List Item) → label_in text name n is ≡ number (first_label text name k n is)
+pub label_of_first : (text name : List ℕ) (k n : ℕ) (is : List Item) → label_in text name n is ≡ option_map (λ (l : FirstLabel). l.number) (first_label text name k n is)
 label_of_first text name k n [] = refl
 label_of_first text name k n (i ∷ is) = by_label (is_label text name i.function) (label_in text name (counted n i) is) (first_label text name (suc k) (counted n i) is) (label_of_first text name (suc k) (counted n i) is)
   where
-    by_label : (b : Bool) (x : Option ℕ) (y : Option FirstLabel) → x ≡ number y → (if b then Some n else x) ≡ number (if b then Some (record { item = k; number = n }) else y)
+    by_label : (b : Bool) (x : Option ℕ) (y : Option FirstLabel) → x ≡ option_map (λ (l : FirstLabel). l.number) y → (if b then Some n else x) ≡ option_map (λ (l : FirstLabel). l.number) (if b then Some (record { item = k; number = n }) else y)
     by_label true x y e = refl
     by_label false x y e = e
 
@@ -166,8 +166,8 @@ label_inserted text bs from to k n f b old new is name_is u found absent = λ na
     (ap (λ (z : List ℕ). bytes_eq z name) name_is ∙ sym (ap (is_label text name) is))
 
 -- what the table says of a name
-pub label_found : (text name : List ℕ) (items : List Item) (m : Labels) (o : Option FirstLabel) → LabelsAre text items m → o ≡ labelled m name → number o ≡ label_in text name 0 items
-label_found text name items m o are is = ap number (is ∙ are name) ∙ sym (label_of_first text name 0 0 items)
+pub label_found : (text name : List ℕ) (items : List Item) (m : Labels) (o : Option FirstLabel) → LabelsAre text items m → o ≡ labelled m name → option_map (λ (l : FirstLabel). l.number) o ≡ label_in text name 0 items
+label_found text name items m o are is = ap (option_map (λ (l : FirstLabel). l.number)) (is ∙ are name) ∙ sym (label_of_first text name 0 0 items)
 
 pub label_repeated : (text name : List ℕ) (items : List Item) (m : Labels) (o : Option FirstLabel) (k : ℕ) (i : Item) → LabelsAre text items m → o ≡ labelled m name →
     slice_get items k ≡ Some i → is_label text name i.function ≡ true → is_earlier k o ≡ is_some (label_in text name 0 (take k items))

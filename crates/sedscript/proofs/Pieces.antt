@@ -1,12 +1,13 @@
 -- The pieces of parts.
 use Rattle.std.proofs.Common.{◌≡◌, ℕ, ◌-◌, ◌≤◌, List, [], ◌∷◌, ◌++◌, map, length, Option, Some, None, Bool, true, false, ◌==◌, if◌then◌else◌, refl, sym, ap, subst, ◌∙◌, append_assoc, arith, drop, drop_of_length-le, Vec, Global}
+use Rattle.std.specs.List.{cons_option}
 use Rattle.std.proofs.lemmas.List.{append-nil}
 use Rattle.std.proofs.lemmas.Bool.Decides.{nat_tests}
 use Rattle.sedscript.specs.declared.substitution.Part.{Part}
 use Rattle.sedscript.specs.declared.substitution.Part.TheVariants.{Literal, Whole, Group}
 use Rattle.sedscript.specs.Bytes.{is_digit}
 use Rattle.sedscript.specs.Strings.{escapes}
-use Rattle.sedscript.specs.Replacement.{Piece, literal, whole, group, escaped_piece, piece_of, with_piece, pieces_from, pieces_of, pieces_in, GroupsWithin, is_letter}
+use Rattle.sedscript.specs.Replacement.{Piece, literal, whole, group, escaped_piece, piece_of, pieces_from, pieces_of, pieces_in, GroupsWithin, is_letter}
 use Rattle.sedscript.specs.Answers.{pieces_with}
 
 pub pieces_append : (ps qs : List Part) → pieces_in (ps ++ qs) ≡ pieces_in ps ++ pieces_in qs
@@ -56,7 +57,7 @@ piece_within : (d : ℕ) (escaped : Bool) (b : ℕ) → OfPiece 9 (piece_of d es
 piece_within d true b = escaped_within d b
 piece_within d false b = if_within 9 (b == 92) _ _ (λ _. tt) (λ _. plain_within (b == 38) b)
 
-with_within : (n : ℕ) (o : Option Piece) (ps : List Piece) → OfPiece n o → GroupsWithin n ps → GroupsWithin n (with_piece o ps)
+with_within : (n : ℕ) (o : Option Piece) (ps : List Piece) → OfPiece n o → GroupsWithin n ps → GroupsWithin n (cons_option o ps)
 with_within n None ps h g = g
 with_within n (Some (literal b)) ps h g = g
 with_within n (Some whole) ps h g = g

@@ -1,6 +1,6 @@
 -- A fault is told in the text or at its end.
 use Rattle.std.proofs.Common.{◌≡◌, ℕ, zero, suc, ◌+◌, ◌-◌, ◌<◌, ◌≤◌, ◌&&◌, ◌||◌, ◌==◌, Bool, true, false, not, List, [], ◌∷◌, ◌++◌, length, Option, Some, None, is_some, is_none, option_map, option_and_then, Result, Ok, Err, refl, sym, ap, subst, ◌∙◌, arith, if◌then◌else◌, slice_get, take, drop, nat_lt, length-take, length-drop, ◌⊎◌, inl, inr, IfErr}
-use Rattle.std.specs.Option.{option_or}
+use Rattle.std.specs.Option.{option_len, option_or}
 use Rattle.sedre.specs.declared.types.Kind.{Kind}
 use Rattle.sedre.specs.declared.types.Reason.{Reason as ExprReason}
 use Rattle.sedre.specs.Arena.{Written}
@@ -32,13 +32,15 @@ use Rattle.sedscript.specs.declared.letters.Shape.TheVariants.{Alone, OpensBlock
 use Rattle.sedscript.specs.declared.texts.Inside.{Inside}
 use Rattle.sedscript.specs.declared.texts.Inside.TheVariants.{InLine, Escape, Due}
 use Rattle.sedscript.specs.declared.transliteration.Char.{Char}
-use Rattle.sedscript.specs.Bytes.{past, belongs, run_of, bytes_between, is_digit, is_byte, with_digits}
+use Rattle.std.specs.List.{cons_option, prefix_len, take_while}
+use Rattle.std.proofs.lemmas.List.Sums.{prefix_len-le-length}
+use Rattle.sedscript.specs.Bytes.{past, belongs, bytes_between, is_digit, is_byte, with_digits}
 use Rattle.sedscript.specs.Strings.{escapes, string_end}
 use Rattle.sedscript.specs.Letters.{verb_of, most_addresses}
-use Rattle.sedscript.specs.Functions.{fault, given, allowed, item_of, ended, may_end, stops, inside_after, text_end, ends_line, text_of, text_from, label_of, branch_of, file_of, name_from, ◌>>=◌ as ◌then◌}
+use Rattle.sedscript.specs.Functions.{fault, allowed, item_of, ended, may_end, stops, inside_after, text_end, ends_line, text_of, text_from, label_of, branch_of, file_of, name_from, ◌>>=◌ as ◌then◌}
 use Rattle.sedscript.specs.Replacement.{Piece, literal, whole, group, escaped_piece, exceeds, piece_fault, replacement_fault}
 use Rattle.sedscript.specs.Flags.{no_flags, numbered, with_number, with_flag, with_file, ends_flags, flags_from, folds}
-use Rattle.sedscript.specs.Transliteration.{escaped_byte, char_of, with_char, chars_from, chars_of, string_fault, is_among, repeated_in, repeated_fault, strings_fault}
+use Rattle.sedscript.specs.Transliteration.{escaped_byte, char_of, chars_from, chars_of, string_fault, is_among, repeated_in, repeated_fault, strings_fault}
 use Rattle.sedscript.specs.Between.{own_delimiter, strings_to, strings_after, substitute_strings, transliterate_strings, unless_fault, transliterate_at, flags_after, flagged, substituted}
 use Rattle.sedscript.specs.Reading.{Pattern, Reading, plainly, expression, ◌>>=◌}
 use Rattle.sedscript.specs.Addresses.{Addressed, Headed, headed, line_of, folds_at, past_flag, empty_match, match_to, match_at, own_match, address_of, address_at, with_second, second_at, after_first, addresses_at, with_bang}
@@ -63,17 +65,9 @@ byte_inside b text at e = by_byte (slice_get text at) refl e
     by_byte None f e = cc
     by_byte (Some c) f e = inside text at c f
 
-run_short : (sort : Sort) (bs : List ℕ) → run_of sort bs ≤ length bs
-run_short sort [] = omega arith
-run_short sort (b ∷ bs) = by_sort (belongs sort b) (run_short sort bs)
-  where
-    by_sort : (t : Bool) → run_of sort bs ≤ length bs → (if t then suc (run_of sort bs) else 0) ≤ suc (length bs)
-    by_sort true h = omega (arith, h)
-    by_sort false h = omega arith
-
 past_up_to : (sort : Sort) (text : List ℕ) (at : ℕ) → at ≤ length text → past sort text at ≤ length text
 unfolding past
-past_up_to sort text at le = omega (arith, le, run_short sort (drop at text), length-drop at text)
+past_up_to sort text at le = omega (arith, le, prefix_len-le-length (belongs sort) (drop at text), length-drop at text)
 
 between_short : (text : List ℕ) (from to : ℕ) → from ≤ to → from + length (bytes_between text from to) ≤ to
 between_short text from to le = omega (arith, le, length-take (to - from) (drop from text))
@@ -188,7 +182,7 @@ char_up_to n d false at b le = by_slash (b == 92)
     by_slash true = tt
     by_slash false = le
 
-with_up_to : (n : ℕ) (o : Option Char) (cs : List Char) → CharUpTo n o → CharsUpTo n cs → CharsUpTo n (with_char o cs)
+with_up_to : (n : ℕ) (o : Option Char) (cs : List Char) → CharUpTo n o → CharsUpTo n cs → CharsUpTo n (cons_option o cs)
 with_up_to n None cs h g = g
 with_up_to n (Some c) cs h g = (h, g)
 
@@ -334,7 +328,7 @@ file_read n place u (Some name) le h = h
 allowed_read : (n : ℕ) (a : Addresses) (at : ℕ) (o : Option Verb) → at ≤ n → ReadUpTo Any n (allowed a at o)
 allowed_read n a at None le = le
 allowed_read n a at (Some verb) le =
-    read_if Any n (a.negate && most_addresses verb == 0) _ _ le (read_if Any n (nat_lt (most_addresses verb) (given a.first + given a.second)) _ _ le tt)
+    read_if Any n (a.negate && most_addresses verb == 0) _ _ le (read_if Any n (nat_lt (most_addresses verb) (option_len a.first + option_len a.second)) _ _ le tt)
 
 transliterate_read : (text : List ℕ) (at : ℕ) → at < length text → ReadUpTo (EndsUpTo (length text)) (length text) (transliterate_at text at)
 unfolding transliterate_at
@@ -385,9 +379,9 @@ flags_read text empty f skip at [] le = omega (arith, le)
 flags_read text empty f (suc skip) at (b ∷ bs) le = flags_read text empty f skip (suc at) bs (omega (arith, le))
 flags_read text empty f zero at (b ∷ bs) le =
     read_if (EndsUpTo (length text)) (length text) (is_digit b) _ _
-    (read_then Any (EndsUpTo (length text)) (length text) (with_number f at (b ∷ take (run_of Digit bs) bs)) (λ (g : Flags). flags_from text empty g (run_of Digit bs) (suc at) bs)
-    (number_read (length text) f at (b ∷ take (run_of Digit bs) bs) (omega (arith, le)))
-    (λ g h. flags_read text empty g (run_of Digit bs) (suc at) bs (omega (arith, le))))
+    (read_then Any (EndsUpTo (length text)) (length text) (with_number f at (b ∷ take_while is_digit bs)) (λ (g : Flags). flags_from text empty g (prefix_len is_digit bs) (suc at) bs)
+    (number_read (length text) f at (b ∷ take_while is_digit bs) (omega (arith, le)))
+    (λ g h. flags_read text empty g (prefix_len is_digit bs) (suc at) bs (omega (arith, le))))
     (read_if (EndsUpTo (length text)) (length text) (ends_flags b) _ _ (omega (arith, le))
     (read_if (EndsUpTo (length text)) (length text) (b == 119) _ _
     (file_flag_read (length text) f at (name_from text (at + 1)) (omega (arith, le)) (name_up_to text (at + 1) (omega (arith, le))))

@@ -30,24 +30,25 @@ use Rattle.sedscript.specs.Expressions.{Gives, Fails, in_script}
 use Rattle.sedscript.specs.Script.{IsEnd, Judged}
 
 -- what a function answered is what reading gives, and the expressions grew by those that were read,
--- unless there was no memory
+-- unless a request for memory was refused
 abbrev pub Comes : {X A : Type 0} → List ℕ → Kind → ℕ → List Written → List Written → (X → ℕ → A) →
     Result X ScriptFault → Reading A → Type 0
 Comes text kind max_nodes old new view (Ok x) r =
     (es : List Written) × Gives text kind max_nodes r es (view x (length new)) × (new ≡ old ++ es)
 Comes text kind max_nodes old new view (Err f) r = Fails text kind max_nodes r f ⊎ (f ≡ NO_MEMORY)
 
--- the same of a script that is read
+-- what a function answered is what reading gives in the script of this source, and the expressions grew by those that
+-- were read, unless a request for memory was refused
 abbrev pub ComesFrom : {X A : Type 0} → Source → List Written → List Written → (X → ℕ → A) →
     Result X ScriptFault → Reading A → Type 0
 ComesFrom source old new view result r = Comes source.text.now source.kind source.max_nodes old new view result r
 
--- what a function answered is what this is, with a count of expressions
+-- what a function answered is this value or fault, where so many expressions stand before the place after it
 abbrev pub Agrees : {X A : Type 0} → (X → ℕ → A) → ℕ → Result X ScriptFault → Result A ScriptFault → Type 0
 Agrees view count (Ok x) r = r ≡ Ok (view x count)
 Agrees view count (Err f) r = r ≡ Err f
 
--- the answers as the definitions say them
+-- what functions answer, in the form of the definitions
 abbrev pub as_addressed : Option Address × ℕ → ℕ → Addressed
 as_addressed x n = record { address = x.0; at = x.1; count = n }
 
@@ -85,7 +86,7 @@ abbrev pub is_no_memory : ExprReason → Bool
 is_no_memory NoMemory = true
 is_no_memory _ = false
 
--- the fault of a script whose expression begins at a place and has this fault
+-- the fault of a script, where the regular expression that begins at a place has this fault
 abbrev pub fault_of : ℕ → ExprFault → ScriptFault
 fault_of from f = if is_no_memory f.reason then NO_MEMORY else in_script from f
 

@@ -1,6 +1,7 @@
 -- Places of a text, counted from 0.
-use Rattle.std.specs.Prelude.{ℕ, suc, ◌+◌, ◌*◌, ◌-◌, ◌^◌, List, [], ◌∷◌, drop, take, Bool, false, not, ◌||◌}
+use Rattle.std.specs.Prelude.{ℕ, ◌+◌, ◌*◌, ◌-◌, ◌^◌, List, drop, take, Bool, false, not, ◌||◌}
 use Rattle.std.specs.Prelude.{Option, Some, None, if◌then◌else◌, nat_lt, ◌==◌}
+use Rattle.std.specs.List.{fold, prefix_len}
 use Rattle.sedscript.specs.declared.bytes.Sort.{Sort}
 use Rattle.sedscript.specs.declared.bytes.Sort.TheVariants.{Blank, Separator, Bang, Digit, Name, Line}
 -- a decimal digit
@@ -21,30 +22,24 @@ belongs Digit b = is_digit b
 belongs Name b = not (is_blank b || b == 10 || b == 59 || b == 125)
 belongs Line b = not (b == 10)
 
--- how many bytes of the sort stand at the front
-abbrev pub run_of : Sort → List ℕ → ℕ
-run_of sort [] = 0
-run_of sort (b ∷ bs) = if belongs sort b then suc (run_of sort bs) else 0
-
--- the first place from here on with a byte that isn't of the sort, or the end
+-- the first place from here on whose byte isn't of the sort, or the end
 unfoldable pub past : Sort → List ℕ → ℕ → ℕ
-past sort text at = at + run_of sort (drop at text)
+past sort text at = at + prefix_len (belongs sort) (drop at text)
 
 -- the bytes from a place up to another
 abbrev pub bytes_between : List ℕ → ℕ → ℕ → List ℕ
 bytes_between text from to = take (to - from) (drop from text)
 
--- a number and a digit after it, as far as it is below 2 ^ 64
+-- the number with one digit more at its end, if it is below 2 ^ 64
 abbrev pub with_digit : Option ℕ → ℕ → Option ℕ
 with_digit None d = None
 with_digit (Some n) d = if nat_lt (n * 10 + (d - 48)) (2 ^ 64) then Some (n * 10 + (d - 48)) else None
 
--- a number and the digits after it, as far as it is below 2 ^ 64
+-- the number with these digits at its end, if it is below 2 ^ 64
 abbrev pub with_digits : Option ℕ → List ℕ → Option ℕ
-with_digits n [] = n
-with_digits n (d ∷ ds) = with_digits (with_digit n d) ds
+with_digits n ds = fold with_digit n ds
 
--- whether this byte stands there
+-- whether the byte that was found is this one
 abbrev pub is_byte : ℕ → Option ℕ → Bool
 is_byte b None = false
 is_byte b (Some c) = c == b

@@ -17,7 +17,7 @@ pub record IsRead (text : List ℕ) (kind : Kind) (max_nodes : ℕ) (p : Pattern
       ExprFaulty kind (Some p.delimiter) (bytes_between text p.from p.to) max_nodes place reason → ⊥
   pub fits : length e.nodes ≤ max_nodes
 
--- the fault of an expression, with its place in the script, if the expression begins at a place
+-- the fault of a script, where the regular expression that begins at a place has this fault
 abbrev pub in_script : ℕ → ExprFault → ScriptFault
 in_script from f = record { place = from + f.place; reason = Expression f }
 
@@ -28,7 +28,7 @@ pub data Gives (text : List ℕ) (kind : Kind) (max_nodes : ℕ) {A : Type 0} : 
       IsRead text kind max_nodes p e → Gives text kind max_nodes (k e.groups) es x →
       Gives text kind max_nodes (expression p k) (e ∷ es) x
 
--- the fault of what is read: that of the first text that is no expression, or the one after all of them
+-- the fault of what is read: that of the first expression that has one, or else that of what is read after them all
 pub data Fails (text : List ℕ) (kind : Kind) (max_nodes : ℕ) {A : Type 0} : Reading A → ScriptFault → Type 0 where
   own : {f : ScriptFault} → Fails text kind max_nodes (plainly (Err f)) f
   no_expression : {p : Pattern} {k : ℕ → Reading A} {f : ExprFault} →

@@ -10,7 +10,7 @@ use Rattle.sedscript.specs.declared.items.Function.TheVariants.{File, Substitute
 use Rattle.sedscript.specs.declared.items.Item.{Item}
 use Rattle.sedscript.specs.Bytes.{bytes_between}
 
--- what is written to this name goes to the standard output (this project's own)
+-- the name that stands for the standard output, where it is written to (this project's own)
 abbrev pub standard_output : List ℕ
 standard_output = codes "/dev/stdout"
 
@@ -23,14 +23,14 @@ abbrev pub is_file : FileUse → List ℕ → Bool
 is_file Read name = true
 is_file Write name = not (is_standard_output name)
 
--- where the name stands by which a function reads, or writes
+-- where the name of the file begins and ends that a function reads, or writes, if it does
 abbrev pub name_in : FileUse → Function → Option (ℕ × ℕ)
 name_in Read (File Read from to) = Some (from, to)
 name_in Write (File Write from to) = Some (from, to)
 name_in Write (Substitute s e f) = f.file
 name_in u f = None
 
--- the file whose name stands there
+-- the name that stands there, if it is a file's
 abbrev pub file_at : FileUse → List ℕ → Option (ℕ × ℕ) → Option (List ℕ)
 file_at u text None = None
 file_at u text (Some name) = if is_file u (bytes_between text name.0 name.1) then Some (bytes_between text name.0 name.1) else None

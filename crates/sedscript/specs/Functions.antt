@@ -1,6 +1,7 @@
 -- What follows the letters of all functions but `s` and `y` (XCU sed, "Editing Commands in sed").
 use Rattle.std.specs.Prelude.{ℕ, ◌+◌, List, [], ◌∷◌, suc, drop, Bool, true, false, ◌&&◌, ◌||◌, Option, Some, None}
 use Rattle.std.specs.Prelude.{if◌then◌else◌, nat_lt, ◌==◌, slice_get, Result, Ok, Err, option_map}
+use Rattle.std.specs.Option.{option_len}
 use Rattle.sedscript.specs.declared.bytes.Sort.TheVariants.{Blank, Name, Line}
 use Rattle.sedscript.specs.declared.types.ScriptFault.{ScriptFault}
 use Rattle.sedscript.specs.declared.types.Reason.{Reason}
@@ -29,13 +30,13 @@ abbrev pub ◌>>=◌ : {A B : Type 0} → Result A ScriptFault → (A → Result
 (Ok x) >>= f = f x
 (Err e) >>= f = Err e
 
--- whether a command may end before this byte: a newline, a semicolon or the end of the text,
--- a closing brace or a comment (these two, and a semicolon after a closing brace: this project's own)
+-- whether a command may end before this byte: a newline, a semicolon or the end of the text; a closing brace or a
+-- comment (these two, and a semicolon after a closing brace: this project's own)
 abbrev pub may_end : Option ℕ → Bool
 may_end None = true
 may_end (Some b) = b == 10 || b == 59 || b == 125 || b == 35
 
--- the function, where nothing but the command's end follows a place
+-- the function and the end of its command, which only blanks may stand before from a place on
 abbrev pub ended : List ℕ → Function → ℕ → Result (Function × ℕ) ScriptFault
 ended text f at =
     if may_end (slice_get text (past Blank text at)) then Ok (f, past Blank text at)
@@ -47,26 +48,27 @@ stops Escape b = false
 stops InLine b = b == 10
 stops Due b = b == 10
 
--- how far a text is read after this byte: within a line, after a backslash that escapes the next byte, or where a
--- further line has to follow
+-- where the byte after this one stands: within a line, after a backslash that escapes it, or where a further line has
+-- to follow
 abbrev pub inside_after : Inside → ℕ → Inside
 inside_after Escape b = if b == 10 then Due else InLine
 inside_after InLine b = if b == 92 then Escape else InLine
 inside_after Due b = if b == 92 then Escape else InLine
 
--- where a text ends, of which the rest begins at a place. None where a further line has to follow and doesn't
+-- where a text ends whose rest begins at a place. None where a further line has to follow and doesn't
 abbrev pub text_end : Inside → ℕ → List ℕ → Option ℕ
 text_end InLine at [] = Some at
 text_end Escape at [] = None
 text_end Due at [] = None
 text_end how at (b ∷ bs) = if stops how b then Some at else text_end (inside_after how b) (suc at) bs
 
+-- whether a line ends before this byte, or at the end of the text
 abbrev pub ends_line : Option ℕ → Bool
 ends_line None = true
 ends_line (Some b) = b == 10
 
--- the text of `a`, `i` or `c` from after the blanks that follow its letter: where it begins and ends.
--- Without a backslash and a newline at its beginning it is a one-line form (this project's own)
+-- where the text of `a`, `i` or `c` begins and ends that is expected at a place, after the blanks that follow its
+-- letter. Without a backslash and a newline before it it is a one-line form (this project's own)
 unfoldable pub text_from : List ℕ → ℕ → Option (ℕ × ℕ)
 text_from text from =
     if is_byte 92 (slice_get text from) && is_byte 10 (slice_get text (from + 1))
@@ -74,47 +76,44 @@ text_from text from =
     else if ends_line (slice_get text from) then None
     else option_map (λ to. (from, to)) (text_end InLine from (drop from text))
 
--- the function that has this text, whose letter stands at a place
+-- the function with this text, whose letter stands at a place, and the place after it
 abbrev pub text_of : TextUse → ℕ → Option (ℕ × ℕ) → Result (Function × ℕ) ScriptFault
 text_of t place None = fault MissingText place
 text_of t place (Some span) = Ok (Text t span.0 span.1, span.1)
 
--- a label's name, from where it begins: up to a newline, a semicolon, a blank or a closing brace. The `:` stands at
--- a place
+-- the label whose name begins at a place and whose `:` stands at another, and its end. The name goes up to a newline, a
+-- semicolon, a blank or a closing brace
 abbrev pub label_of : List ℕ → ℕ → ℕ → Result (Function × ℕ) ScriptFault
 label_of text place from =
     if past Name text from == from then fault MissingLabel place
     else ended text (Label from (past Name text from)) (past Name text from)
 
--- a branch, from where its label begins. An empty label stands for the end of the script
+-- the branch whose label begins at a place, and its end. An empty label stands for the end of the script
 abbrev pub branch_of : List ℕ → BranchUse → ℕ → Result (Function × ℕ) ScriptFault
 branch_of text u from = ended text (Branch u from (past Name text from)) (past Name text from)
 
--- where the name of a file begins and ends, from the place after its letter on: blanks are passed over, where there are any
--- (that none are needed is this project's own), and it goes up to
--- the newline, so that blanks at its end, semicolons and closing braces belong to it. None where it is empty
+-- where the name of a file begins and ends, which is expected at a place, after its letter: blanks before it are passed
+-- over (that none are needed is this project's own), and it goes up to the newline, so that blanks at its end,
+-- semicolons and closing braces belong to it. None where it is empty
 unfoldable pub name_from : List ℕ → ℕ → Option (ℕ × ℕ)
 name_from text at =
     if past Line text (past Blank text at) == past Blank text at then None
     else Some (past Blank text at, past Line text (past Blank text at))
 
--- the function that reads or writes the file of this name, whose letter stands at a place
+-- the function that reads or writes the file of this name, whose letter stands at a place, and the place after it
 abbrev pub file_of : FileUse → ℕ → Option (ℕ × ℕ) → Result (Function × ℕ) ScriptFault
 file_of u place None = fault MissingName place
 file_of u place (Some name) = Ok (File u name.0 name.1, name.1)
 
-abbrev pub given : {A : Type 0} → Option A → ℕ
-given None = 0
-given (Some a) = 1
-
--- what the letter at a place stands for, if that may have these addresses.
+-- what the letter at a place stands for, if that is a function which may have these addresses.
 -- A `!` before a function without addresses is refused (this project's own)
 abbrev pub allowed : Addresses → ℕ → Option Verb → Result Verb ScriptFault
 allowed addresses at None = fault UnknownCommand at
 allowed addresses at (Some verb) =
     if addresses.negate && most_addresses verb == 0 then fault UnknownCommand at
-    else if nat_lt (most_addresses verb) (given addresses.first + given addresses.second) then fault TooManyAddresses at
+    else if nat_lt (most_addresses verb) (option_len addresses.first + option_len addresses.second) then fault TooManyAddresses at
     else Ok verb
 
+-- an item with these addresses and the place of its letter, and the place after it
 abbrev pub item_of : Addresses → ℕ → Function × ℕ → Here
 item_of addresses place found = Is (record { addresses = addresses; place = place; function = found.0 }) found.1

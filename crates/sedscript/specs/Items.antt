@@ -24,8 +24,9 @@ use Rattle.sedscript.specs.Flags.{folds}
 use Rattle.sedscript.specs.Reading.{Reading, plainly, expression, ◌>>=◌}
 use Rattle.sedscript.specs.Addresses.{Headed, addresses_at, with_bang}
 
--- what stands after the strings of `s`, with so many regular expressions before it. The empty one has no number, and
--- sets no limit to the groups of the replacement (this project's own). The flags say how the others are read
+-- the command `s` with these strings, and its end, with so many regular expressions before it. The empty one has no
+-- number, and sets no limit to the groups of the replacement (this project's own). The flags say whether letters of the
+-- others match without regard to case
 abbrev pub substitute_with : List ℕ → ℕ → Strings → Reading (Function × ℕ)
 substitute_with text count s =
     if s.middle == s.from then plainly (substituted text s None None)
@@ -37,12 +38,12 @@ substitute_with text count s =
     })
     (λ groups. plainly (substituted text s (Some count) (Some groups)))
 
--- `s`, whose letter stands at a place
+-- the command `s` whose letter stands at a place, and its end
 unfoldable pub substitute_at : List ℕ → ℕ → ℕ → Reading (Function × ℕ)
 substitute_at text count at =
     plainly (substitute_strings text (at + 1) (own_delimiter (slice_get text (at + 1)))) >>= substitute_with text count
 
--- the function of a letter that stands at a place and is not `s`, and the place after it
+-- the function whose letter stands at a place, and the place after it. The letter is not `s`, and has this shape
 abbrev pub function_of : List ℕ → Shape → ℕ → Result (Function × ℕ) ScriptFault
 function_of text OpensBlock at = Ok (Open, at + 1)
 function_of text ClosesBlock at = ended text Close (at + 1)
@@ -54,25 +55,27 @@ function_of text (NamesFile u) at = file_of u at (name_from text (at + 1))
 function_of text TakesStrings at = transliterate_at text at
 function_of text (Alone s) at = ended text (Plain s) (at + 1)
 
--- the function of a letter that stands at a place, and the place after it
+-- the function whose letter stands at a place and stands for this, and the place after it
 abbrev pub function_with : List ℕ → ℕ → Verb → ℕ → Reading (Function × ℕ)
 function_with text count ReadsExpression at = substitute_at text count at
 function_with text count (Reads shape) at = plainly (function_of text shape at)
 
--- the item of a function that is expected at a place, after these addresses
+-- the item of the function that is expected at a place, after these addresses, given the letter there, if there is one
 abbrev pub item_with : List ℕ → ℕ → Addresses → ℕ → Option ℕ → Reading Here
 item_with text count addresses at None = plainly (fault UnknownCommand at)
 item_with text count addresses at (Some letter) =
     plainly (allowed addresses at (verb_of letter)) >>= λ verb.
     function_with text count verb at >>= λ found. plainly (Ok (item_of addresses at found))
 
+-- the item of the function that is expected at a place, after these addresses
 unfoldable pub function_at : List ℕ → ℕ → Addresses → ℕ → Reading Here
 function_at text count addresses at = item_with text count addresses at (slice_get text at)
 
+-- the item of the function that is expected after these addresses; a `!` may stand between
 abbrev pub function_after : List ℕ → Headed → Reading Here
 function_after text h = function_at text h.count (with_bang text h).addresses (with_bang text h).at
 
--- the item that begins with this byte, or the end
+-- the item at a place, given the byte there, or the end where there is none
 abbrev pub item_from : List ℕ → ℕ → ℕ → Option ℕ → Reading Here
 item_from text count at None = plainly (Ok Ends)
 item_from text count at (Some b) = addresses_at text count at >>= function_after text

@@ -19,14 +19,14 @@ Longer {A} old new = (more : List A) × (new ≡ old ++ more)
 abbrev pub no_addresses : Addresses
 no_addresses = record { first = None; second = None; negate = false }
 
--- the addresses that are kept with a number, where a list has those that need more room
+-- the addresses that an item keeps in this way, with a number; a list has those that need more room
 abbrev pub addresses_of : List Addresses → Given → ℕ → Addresses
 addresses_of heads g.Nothing n = no_addresses
 addresses_of heads g.Line n = record no_addresses { first = Some (address.Line n) }
 addresses_of heads g.Last n = record no_addresses { first = Some address.Last }
 addresses_of heads g.Listed n = unwrap_or (slice_get heads n) no_addresses
 
--- the function that is kept with two places
+-- the function that an item keeps in this way, with two places; a list has those that need more room
 abbrev pub function_of : List Function → Brief → ℕ → ℕ → Function
 function_of longs (b.Plain s) from to = f.Plain s
 function_of longs b.Open from to = f.Open
@@ -38,6 +38,7 @@ function_of longs (b.File u) from to = f.File u from to
 function_of longs b.Comment from to = f.Comment
 function_of longs b.Listed from to = unwrap_or (slice_get longs from) f.Comment
 
+-- the item of a compact form
 abbrev pub item_of : List Addresses → List Function → Kept → Item
 item_of heads longs k = record {
   addresses = addresses_of heads k.given k.head;
@@ -48,11 +49,12 @@ item_of heads longs k = record {
 abbrev pub items_of : List Addresses → List Function → List Kept → List Item
 items_of heads longs ks = map (item_of heads longs) ks
 
--- a list of so many addresses has those that are listed
+-- where the addresses are listed, they stand in a list of this length
 abbrev pub IsGiven : ℕ → Given → ℕ → Type 0
 IsGiven count g.Listed n = n < count
 IsGiven count g n = Unit {0}
 
+-- where the function is listed, it stands in a list of this length
 abbrev pub IsBrief : ℕ → Brief → ℕ → Type 0
 IsBrief count b.Listed from = from < count
 IsBrief count b from = Unit {0}

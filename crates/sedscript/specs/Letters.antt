@@ -11,7 +11,7 @@ use Rattle.sedscript.specs.declared.items.TextUse.TheVariants.{Append, Insert, C
 use Rattle.sedscript.specs.declared.items.BranchUse.TheVariants.{Always, IfReplaced}
 use Rattle.sedscript.specs.declared.items.FileUse.TheVariants.{Read, Write}
 
--- what a letter stands for. None where it stands for no function
+-- what a letter stands for, if it is a function's
 abbrev pub verb_of : ℕ → Option Verb
 verb_of letter =
     -- `{` `}` `#` `:` `b` `t`

@@ -23,7 +23,7 @@ program_of commands named quiet max_nodes = record {
   max_nodes = max_nodes;
 }
 
--- what the items name, with these expressions
+-- these parts are what the items name, with these expressions
 pub record IsNamed (text : List ℕ) (items : List Item) (expressions : List Written) (named : Named) : Type 0 where
   pub exprs : named.exprs.items ≡ expressions
   pub texts : map (λ t. t.items) named.texts.items ≡ texts_of text items

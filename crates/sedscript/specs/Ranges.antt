@@ -31,12 +31,12 @@ sizes_of p = record {
   wfiles = length p.wfiles;
 }
 
--- the empty expression, or one of so many
+-- no number, which stands for the empty expression, or that of one of so many expressions
 abbrev pub IsOneOf : ℕ → Option ℕ → Type 0
 IsOneOf expressions None = Unit {0}
 IsOneOf expressions (Some k) = k < expressions
 
--- an address names one of so many expressions
+-- where an address names an expression, it is one of so many, and where it names a line, that is 1 or more
 abbrev pub AddressWithin : ℕ → Option Address → Type 0
 AddressWithin expressions None = Unit {0}
 AddressWithin expressions (Some (Line n)) = 1 ≤ n
@@ -62,6 +62,7 @@ ActionWithin n (ReadFile k) = k < n.rfiles
 ActionWithin n (WriteFile sink) = sink ≤ n.wfiles
 ActionWithin n other = Unit {0}
 
+-- a command's addresses and its action are in range
 pub record CommandWithin (n : Sizes) (c : Command) : Type 0 where
   pub first : AddressWithin n.expressions c.first
   pub second : AddressWithin n.expressions c.second

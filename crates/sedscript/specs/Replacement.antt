@@ -1,6 +1,7 @@
 -- Replacements (XCU sed, "Editing Commands in sed": `s`).
 use Rattle.std.specs.Prelude.{ℕ, suc, ◌-◌, ◌≤◌, List, [], ◌∷◌, ◌++◌, map, Bool, true, false, Option}
 use Rattle.std.specs.Prelude.{Some, None, if◌then◌else◌, nat_lt, ◌==◌}
+use Rattle.std.specs.List.{cons_option}
 use Rattle.std.specs.Option.{option_or}
 use Rattle.sedscript.specs.declared.types.ScriptFault.{ScriptFault}
 use Rattle.sedscript.specs.declared.types.Reason.TheVariants.{BadEscape, GroupAbsent}
@@ -35,26 +36,23 @@ escaped_piece delimiter b =
 abbrev pub plain_piece : ℕ → Piece
 plain_piece b = if b == 38 then whole else literal b
 
--- the piece that a byte ends, given whether it is escaped
+-- the piece that a byte ends, given whether it is escaped. None where it ends none
 abbrev pub piece_of : ℕ → Bool → ℕ → Option Piece
 piece_of delimiter true b = escaped_piece delimiter b
 piece_of delimiter false b = if b == 92 then None else Some (plain_piece b)
-
-abbrev pub with_piece : Option Piece → List Piece → List Piece
-with_piece None ps = ps
-with_piece (Some p) ps = p ∷ ps
 
 -- the pieces of a replacement's text, given whether its first byte is escaped.
 -- An escape that is refused leaves none
 abbrev pub pieces_from : ℕ → Bool → List ℕ → List Piece
 pieces_from delimiter escaped [] = []
 pieces_from delimiter escaped (b ∷ bs) =
-    with_piece (piece_of delimiter escaped b) (pieces_from delimiter (escapes escaped b) bs)
+    cons_option (piece_of delimiter escaped b) (pieces_from delimiter (escapes escaped b) bs)
 
+-- the pieces of a replacement's text
 abbrev pub pieces_of : ℕ → List ℕ → List Piece
 pieces_of delimiter text = pieces_from delimiter false text
 
--- whether the expression hasn't this group. The empty expression sets no limit (this project's own)
+-- whether a group's number is above the limit. The empty expression sets none (this project's own)
 abbrev pub exceeds : Option ℕ → ℕ → Bool
 exceeds None k = false
 exceeds (Some limit) k = nat_lt limit k
@@ -84,7 +82,7 @@ pieces_in (Literal bytes ∷ ps) = map literal bytes.items ++ pieces_in ps
 pieces_in (Whole ∷ ps) = whole ∷ pieces_in ps
 pieces_in (Group k ∷ ps) = group k ∷ pieces_in ps
 
--- each piece of a group is of one from 1 to this number
+-- the groups of the pieces have numbers from 1 to this one
 abbrev pub GroupsWithin : ℕ → List Piece → Type 0
 GroupsWithin n [] = Unit {0}
 GroupsWithin n (literal b ∷ ps) = GroupsWithin n ps

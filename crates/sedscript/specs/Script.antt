@@ -71,6 +71,7 @@ abbrev pub unescaped_from : Bool → List ℕ → List ℕ
 unescaped_from escaped [] = []
 unescaped_from escaped (b ∷ bs) = if not escaped && b == 92 then unescaped_from true bs else b ∷ unescaped_from false bs
 
+-- the texts with that of a function before them, if it has one
 abbrev pub with_text : List ℕ → Function → List (List ℕ) → List (List ℕ)
 with_text text (Text t from to) ts = unescaped_from false (bytes_between text from to) ∷ ts
 with_text text f ts = ts
@@ -83,7 +84,7 @@ texts_of text (i ∷ is) = with_text text i.function (texts_of text is)
 abbrev pub none_counted : Counts
 none_counted = record { texts = 0; substitutions = 0; tables = 0 }
 
--- the sink that the flag `w` names, if it is there
+-- the number of the sink that the flag `w` names, if the flag is there
 abbrev pub sink_of : List ℕ → List Item → Option (ℕ × ℕ) → Option ℕ
 sink_of text all None = None
 sink_of text all (Some name) = Some (number_in Write text all (bytes_between text name.0 name.1))
@@ -99,6 +100,7 @@ substitution_of text all s e f = record {
   file = sink_of text all f.file;
 }
 
+-- the substitutions with that of a function before them, if it has one
 abbrev pub with_substitution : List ℕ → List Item → Function → List Substitution → List Substitution
 with_substitution text all (Substitute s e f) ss = substitution_of text all s e f ∷ ss
 with_substitution text all f ss = ss
@@ -114,6 +116,7 @@ table_between text s =
     table_of (bytes_of (chars_of text s.delimiter s.from s.middle))
     (bytes_of (chars_of text s.delimiter (s.middle + 1) s.to))
 
+-- the tables with that of a function before them, if it has one
 abbrev pub with_table : List ℕ → Function → List (List ℕ) → List (List ℕ)
 with_table text (Transliterate s) ts = table_between text s ∷ ts
 with_table text f ts = ts
@@ -123,13 +126,14 @@ abbrev pub tables_of : List ℕ → List Item → List (List ℕ)
 tables_of text [] = []
 tables_of text (i ∷ is) = with_table text i.function (tables_of text is)
 
--- the numbers of texts, substitutions and tables up to a function and with it, given those before it
+-- how many texts, substitutions and tables there are up to and including a function, where there are so many before it
 abbrev pub counts_with : Counts → Function → Counts
 counts_with n (Text t from to) = record n { texts = suc n.texts }
 counts_with n (Substitute s e f) = record n { substitutions = suc n.substitutions }
 counts_with n (Transliterate s) = record n { tables = suc n.tables }
 counts_with n f = n
 
+-- the action of a command of one letter
 abbrev pub simple_action : Simple → Action
 simple_action Delete = DeleteSpace
 simple_action LineNumber = WriteNumber
@@ -146,21 +150,24 @@ simple_action AppendNext = a.AppendNext
 simple_action DeleteFirst = a.DeleteFirst
 simple_action ListSpace = a.List
 
+-- the action of `a`, `i` or `c` with the text of this number
 abbrev pub text_action : TextUse → ℕ → Action
 text_action Append k = a.Append k
 text_action Insert k = InsertText k
 text_action Change k = ChangeText k
 
+-- the action of `b` or `t` that goes to the command of this number
 abbrev pub branch_action : BranchUse → ℕ → Action
 branch_action Always to = BranchTo to
 branch_action IfReplaced to = TestTo to
 
+-- the action of `r` or `w` with the file or the sink of this number
 abbrev pub file_action : FileUse → ℕ → Action
 file_action Read k = a.ReadFile k
 file_action Write sink = a.WriteFile sink
 
--- what a function does among all items, with those before it, which have so many texts, substitutions and tables, and
--- the items after it
+-- the action of a function among all items, given those before it, which have so many texts, substitutions and tables,
+-- and those after it. None where it doesn't become a command
 abbrev pub action_of : List ℕ → List Item → List Item → Counts → List Item → Function → Option Action
 action_of text all before n after (Plain s) = Some (simple_action s)
 action_of text all before n after Open = Some (Block (unwrap_or (block_end before after) 0))
@@ -174,11 +181,12 @@ action_of text all before n after (Substitute s e f) = Some (SubstituteNow n.sub
 action_of text all before n after (Transliterate s) = Some (TransliterateNow n.tables)
 action_of text all before n after f = None
 
+-- the commands with one of these addresses and this action before them, if there is an action
 abbrev pub with_action : Addresses → Option Action → List Command → List Command
 with_action a None cs = cs
 with_action a (Some action) cs = record { first = a.first; second = a.second; negate = a.negate; action = action } ∷ cs
 
--- the commands that the items leave, in the order of their letters
+-- the commands that the items become, in the order of their letters
 abbrev pub commands_of : List ℕ → List Item → List Item → Counts → List Item → List Command
 commands_of text all before n [] = []
 commands_of text all before n (i ∷ is) =
@@ -215,11 +223,11 @@ pub record Means (text : List ℕ) (kind : Kind) (max_nodes : ℕ) (s : Program)
 
 -- the first fault of the text; its place, and which fault comes first, are this project's own
 pub data Faulty (text : List ℕ) (kind : Kind) (max_nodes : ℕ) : ScriptFault → Type 0 where
-  -- after these items, which have none
+  -- that of the item after these, which have none
   early : {f : ScriptFault} (items : List Item) (es : List Written) (to : ℕ) →
       Cut text kind max_nodes 0 0 items es to → Fails text kind max_nodes (item_at text (length es) to) f →
       Faulty text kind max_nodes f
-  -- of a text that is cut to its end
+  -- that of the labels and blocks of a text which is cut to its end
   afterwards : {f : ScriptFault} (items : List Item) (es : List Written) (to : ℕ) →
       Cut text kind max_nodes 0 0 items es to → IsEnd text to → target_fault text items ≡ Some f →
       Faulty text kind max_nodes f

@@ -5,9 +5,9 @@ use Rattle.std.specs.Prelude.{ℕ, suc, List, [], ◌∷◌, Bool, false, not, �
 abbrev pub escapes : Bool → ℕ → Bool
 escapes escaped b = b == 92 && not escaped
 
--- where a string between delimiters ends: at the first delimiter that isn't escaped. A newline never ends it. An escaped
--- one may stand in a replacement, where it breaks lines, but not in a string of `y`
-abbrev pub string_end : Bool → ℕ → Bool → ℕ → List ℕ → Option ℕ
+-- where a string between delimiters ends: at the first delimiter that isn't escaped. None where a newline stands before
+-- that. An escaped newline may stand in a replacement, which `breaks` lines there, but not in a string of `y`
+abbrev pub string_end : (breaks : Bool) → ℕ → (escaped : Bool) → ℕ → List ℕ → Option ℕ
 string_end breaks delimiter escaped at [] = None
 string_end breaks delimiter escaped at (b ∷ bs) =
     if b == 10 && not (breaks && escaped) then None

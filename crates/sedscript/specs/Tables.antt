@@ -1,11 +1,11 @@
 -- Private to the proofs: no contract of a public item cites what stands here.
 -- The tables by which labels, blocks and files are found without searching anew.
-use Rattle.std.specs.Prelude.{◌≡◌, ◌≤◌, ℕ, suc, List, [], ◌∷◌, ◌++◌, Bool, false, not, ◌||◌, ◌==◌, Option}
+use Rattle.std.specs.Prelude.{◌≡◌, ◌≤◌, ℕ, suc, List, [], ◌∷◌, ◌++◌, drop, Bool, false, not, ◌==◌, Option}
 use Rattle.std.specs.Prelude.{Some, None, if◌then◌else◌, map}
 use Rattle.std.specs.Borrow.{Bor}
 use Rattle.std.specs.BTreeMap.{BTreeMap, get_by}
 use Rattle.std.specs.Cmp.Lexicographic.{slice_cmp}
-use Rattle.std.specs.List.{position_from}
+use Rattle.std.specs.List.{list_any, position_from}
 use Rattle.std.specs.Ordering.{nat_cmp}
 use Rattle.std.specs.Str.{bytes_eq}
 use Rattle.sedscript.specs.declared.targets.FirstLabel.{FirstLabel}
@@ -19,55 +19,38 @@ use Rattle.sedscript.specs.declared.items.Function.{Function}
 use Rattle.sedscript.specs.Files.{files_in}
 use Rattle.sedscript.specs.Targets.{is_label, counted, commands_in, is_open, is_close, close_in}
 
--- the first item with a label of this name, and the number of the command after it
+-- the first item with a label of this name, and the number of the command after it, where the items begin with this
+-- index and so many commands before them
 abbrev pub first_label : List ℕ → List ℕ → ℕ → ℕ → List Item → Option FirstLabel
 first_label text name k n [] = None
 first_label text name k n (i ∷ is) =
     if is_label text name i.function then Some (record { item = k; number = n })
     else first_label text name (suc k) (counted n i) is
 
--- the number of the command after a label
-abbrev pub number : Option FirstLabel → Option ℕ
-number None = None
-number (Some l) = Some l.number
-
--- whether a label's first item stands before an index
+-- whether the first item with a label is another one than that at an index. No item has the label where there is none
 abbrev pub is_earlier : ℕ → Option FirstLabel → Bool
 is_earlier k None = false
 is_earlier k (Some l) = not (l.item == k)
 
--- what the map has of a name
+-- the value that the map has at a name
 abbrev pub labelled : {V : Type 0} → BTreeMap (Bor (List ℕ)) V → List ℕ → Option V
 labelled m name = get_by (λ x. slice_cmp nat_cmp name x.now) m
 
--- the map has the first label of each name
+-- the map has the first item with a label of each name
 abbrev pub LabelsAre : List ℕ → List Item → BTreeMap (Bor (List ℕ)) FirstLabel → Type 0
 LabelsAre text items m = (name : List ℕ) → labelled m name ≡ first_label text name 0 0 items
 
-abbrev pub tail : List ℕ → List ℕ
-tail [] = []
-tail (x ∷ xs) = xs
-
--- where the closing braces lead that close no block opened in what is left of a script, the first of them first:
--- those from a function on, with `n` commands before it, given those after it
+-- where the closing braces from a function on lead that close no block opened there, in order, with `n` commands before
+-- the function, given where those after it lead
 abbrev pub unopened_by : ℕ → Function → List ℕ → List ℕ
-unopened_by n f ends = if is_close f then n ∷ ends else if is_open f then tail ends else ends
+unopened_by n f ends = if is_close f then n ∷ ends else if is_open f then drop 1 ends else ends
 
--- the same of items
+-- where the closing braces of the items lead that close no block opened there, in order, with `n` commands before them
 abbrev pub unopened : ℕ → List Item → List ℕ
 unopened n [] = []
 unopened n (i ∷ is) = unopened_by n i.function (unopened (counted n i) is)
 
--- a list from its end, as a stack has it
-abbrev pub reversed : List ℕ → List ℕ
-reversed [] = []
-reversed (x ∷ xs) = reversed xs ++ x ∷ []
-
-abbrev pub first : List ℕ → Option ℕ
-first [] = None
-first (x ∷ xs) = Some x
-
--- the number of blocks opened up to a function and with it, given the number before it
+-- the number of blocks opened up to and including a function, given the number before it
 abbrev pub opened : ℕ → Function → ℕ
 opened n f = if is_open f then suc n else n
 
@@ -76,7 +59,7 @@ abbrev pub blocks_in : List Item → ℕ
 blocks_in [] = 0
 blocks_in (i ∷ is) = opened (blocks_in is) i.function
 
--- the ends of blocks, with the one before them that a function opens
+-- the ends of blocks, with that of the block that a function opens before them, if it opens one
 abbrev pub with_end : Function → Option ℕ → List (Option ℕ) → List (Option ℕ)
 with_end f end ends = if is_open f then end ∷ ends else ends
 
@@ -85,15 +68,10 @@ abbrev pub ends_in : ℕ → List Item → List (Option ℕ)
 ends_in n [] = []
 ends_in n (i ∷ is) = with_end i.function (close_in 0 (counted n i) is) (ends_in (counted n i) is)
 
--- whether a name is one of these
-abbrev pub has : List ℕ → List (List ℕ) → Bool
-has name [] = false
-has name (n ∷ ns) = bytes_eq name n || has name ns
-
--- the names with one more, where it is new
+-- the names with one more, if it is new
 abbrev pub with_name : List (List ℕ) → Option (List ℕ) → List (List ℕ)
 with_name names None = names
-with_name names (Some name) = if has name names then names else names ++ name ∷ []
+with_name names (Some name) = if list_any (bytes_eq name) names then names else names ++ name ∷ []
 
 -- the map has the number of each of the names, counted from the first
 abbrev pub NumbersAre : ℕ → List (List ℕ) → BTreeMap (Bor (List ℕ)) ℕ → Type 0
@@ -118,7 +96,7 @@ pub record FilesAre (text : List ℕ) (items : List Item) (f : Files) : Type 0 w
 abbrev pub AtMost : ℕ → Counts → Type 0
 AtMost most n = (n.texts ≤ most) × (n.substitutions ≤ most) × (n.tables ≤ most)
 
--- the tables of all items
+-- the tables are those of all items
 pub record TargetsAre (text : List ℕ) (items : List Item) (labels : BTreeMap (Bor (List ℕ)) FirstLabel)
     (ends : List (Option ℕ)) (commands : ℕ) : Type 0 where
   pub labels_are : LabelsAre text items labels

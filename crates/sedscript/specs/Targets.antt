@@ -13,18 +13,18 @@ use Rattle.sedscript.specs.declared.items.Function.TheVariants.{Open, Close, Lab
 use Rattle.sedscript.specs.declared.items.Item.{Item}
 use Rattle.sedscript.specs.Bytes.{bytes_between}
 
--- whether a function leaves a command: all but `}`, `:` and `#`
+-- whether a function becomes a command: all but `}`, `:` and `#` do
 abbrev pub leaves : Function → Bool
 leaves Close = false
 leaves (Label from to) = false
 leaves Comment = false
 leaves f = true
 
--- the number of commands up to this item and with it, given the number before it
+-- the number of commands up to and including this item, given the number before it
 abbrev pub counted : ℕ → Item → ℕ
 counted n i = if leaves i.function then suc n else n
 
--- how many commands the items leave
+-- how many commands the items become
 abbrev pub commands_in : List Item → ℕ
 commands_in [] = 0
 commands_in (i ∷ is) = if leaves i.function then suc (commands_in is) else commands_in is
@@ -39,10 +39,12 @@ abbrev pub label_in : List ℕ → List ℕ → ℕ → List Item → Option ℕ
 label_in text name n [] = None
 label_in text name n (i ∷ is) = if is_label text name i.function then Some n else label_in text name (counted n i) is
 
+-- whether a function opens a block
 abbrev pub is_open : Function → Bool
 is_open Open = true
 is_open f = false
 
+-- whether a function closes a block
 abbrev pub is_close : Function → Bool
 is_close Close = true
 is_close f = false
@@ -63,11 +65,12 @@ close_in depth n (i ∷ is) =
 abbrev pub block_end : List Item → List Item → Option ℕ
 block_end before after = close_in 0 (suc (commands_in before)) after
 
+-- the fault at a place, if something is wrong
 abbrev pub fault_if : Bool → Reason → ℕ → Option ScriptFault
 fault_if wrong reason place = then_some wrong (record { place = place; reason = reason })
 
--- what is wrong with a function at a place among all items: those before it with so many open blocks, and those
--- after it. That a label may not stand twice is this project's own
+-- what is wrong with a function at a place among all items, if anything is, given those before it, which leave so many
+-- blocks open, and those after it. That a label may not stand twice is this project's own
 abbrev pub target_fault_at : List ℕ → List Item → List Item → ℕ → List Item → ℕ → Function → Option ScriptFault
 target_fault_at text all before depth after place Open = fault_if (is_none (block_end before after)) OpenBlock place
 target_fault_at text all before depth after place Close = fault_if (depth == 0) StrayClose place
@@ -77,6 +80,7 @@ target_fault_at text all before depth after place (Branch u from to) =
     fault_if (not (from == to) && is_none (label_in text (bytes_between text from to) 0 all)) UnknownLabel place
 target_fault_at text all before depth after place f = None
 
+-- the first fault of labels and blocks in the items after these, which leave so many blocks open
 abbrev pub target_fault_in : List ℕ → List Item → List Item → ℕ → List Item → Option ScriptFault
 target_fault_in text all before depth [] = None
 target_fault_in text all before depth (i ∷ is) =

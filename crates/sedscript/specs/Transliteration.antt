@@ -1,7 +1,7 @@
 -- The strings of `y` (XCU sed, "Editing Commands in sed": `y`).
 use Rattle.std.specs.Prelude.{ℕ, suc, ◌+◌, ◌-◌, List, [], ◌∷◌, map, length, Bool, true, false, not, ◌&&◌, ◌||◌, Option}
 use Rattle.std.specs.Prelude.{Some, None, is_none, option_map, if◌then◌else◌, ◌==◌}
-use Rattle.std.specs.List.{list_any, range_with_len}
+use Rattle.std.specs.List.{cons_option, list_any, range_with_len}
 use Rattle.std.specs.Option.{option_or}
 use Rattle.sedscript.specs.declared.types.ScriptFault.{ScriptFault}
 use Rattle.sedscript.specs.declared.types.Reason.TheVariants.{LengthsDiffer, RepeatedByte, BadEscape}
@@ -20,30 +20,27 @@ escaped_byte delimiter b =
     else if b == 116 then Some 9
     else None
 
--- the byte of a string that ends with the one at a place, given whether that is escaped
+-- the byte of a string that ends with the one at a place, given whether that is escaped. None where none ends there
 abbrev pub char_of : ℕ → Bool → ℕ → ℕ → Option Char
 char_of delimiter true at b = option_map (λ x. record { byte = x; place = at - 1 }) (escaped_byte delimiter b)
 char_of delimiter false at b = if b == 92 then None else Some (record { byte = b; place = at })
-
-abbrev pub with_char : Option Char → List Char → List Char
-with_char None cs = cs
-with_char (Some c) cs = c ∷ cs
 
 -- the bytes of a string that begins at a place, given whether the first is escaped.
 -- An escape that is refused leaves none
 abbrev pub chars_from : ℕ → Bool → ℕ → List ℕ → List Char
 chars_from delimiter escaped at [] = []
 chars_from delimiter escaped at (b ∷ bs) =
-    with_char (char_of delimiter escaped at b) (chars_from delimiter (escapes escaped b) (suc at) bs)
+    cons_option (char_of delimiter escaped at b) (chars_from delimiter (escapes escaped b) (suc at) bs)
 
 -- the bytes of the string that stands between two places
 abbrev pub chars_of : List ℕ → ℕ → ℕ → ℕ → List Char
 chars_of text delimiter from to = chars_from delimiter false from (bytes_between text from to)
 
+-- the bytes without their places
 abbrev pub bytes_of : List Char → List ℕ
 bytes_of cs = map (λ c. c.byte) cs
 
--- the first escape of a string that is refused
+-- the first escape that is refused in a string that begins at a place, given whether its first byte is escaped
 abbrev pub string_fault : ℕ → Bool → ℕ → List ℕ → Option ScriptFault
 string_fault delimiter escaped at [] = None
 string_fault delimiter escaped at (b ∷ bs) =
@@ -54,12 +51,13 @@ string_fault delimiter escaped at (b ∷ bs) =
 abbrev pub is_among : List ℕ → ℕ → Bool
 is_among bs b = list_any (λ x. x == b) bs
 
--- the place of the first byte that stands there a second time, with those that stand before
+-- the place of the first byte that stands a second time, given those that stand before the string
 abbrev pub repeated_in : List ℕ → List Char → Option ℕ
 repeated_in before [] = None
 repeated_in before (c ∷ cs) =
     if is_among before c.byte then Some c.place else repeated_in (c.byte ∷ before) cs
 
+-- the fault of a byte that stands a second time at a place, if one does
 abbrev pub repeated_fault : Option ℕ → Option ScriptFault
 repeated_fault found = option_map (λ place. record { place = place; reason = RepeatedByte }) found
 
@@ -74,12 +72,12 @@ strings_fault text delimiter letter from middle to =
     (fault_if (not (length (chars_of text delimiter from middle) == length (chars_of text delimiter (middle + 1) to)))
     LengthsDiffer letter)))
 
--- the byte of string2 at the place that a byte has in string1, or the byte itself
+-- the byte of string2 at the first place that a byte has in string1, or the byte itself where there is none
 abbrev pub counterpart : List ℕ → List ℕ → ℕ → ℕ
 counterpart [] string2 b = b
 counterpart (s ∷ string1) [] b = b
 counterpart (s ∷ string1) (t ∷ string2) b = if s == b then t else counterpart string1 string2 b
 
--- what stands for each byte
+-- the table of a `y` with these strings: what stands for each byte
 unfoldable pub table_of : List ℕ → List ℕ → List ℕ
 table_of string1 string2 = map (counterpart string1 string2) (range_with_len 0 256)

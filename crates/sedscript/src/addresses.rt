@@ -16,7 +16,7 @@ use crate::items::{Addresses, Source};
 use crate::types::{Address, Reason, ScriptFault};
 use sedre::{Expr, delimited};
 
-/// The line's address whose digits stand between two places.
+/// The address of the line whose number has its digits between two places, and the place after them.
 fn line_at(text: &[u8], from: usize, to: usize) -> Result<(Option<Address>, usize), ScriptFault>
     requires { (from ≤ to) × (to ≤ length text.now) }
     ensures is { (count : ℕ) → Agrees as_addressed count result
@@ -39,7 +39,7 @@ fn folds_at(text: &[u8], at: usize) -> bool
     is_byte(b'I', byte_at(text, at))
 }
 
-/// The place after the flag `I`, where it stands at a place.
+/// The place after the flag `I`, if that stands at `at`; otherwise `at` itself.
 fn past_flag(text: &[u8], at: usize) -> usize
     requires { at ≤ length text.now }
     ensures is { result ≡ past_flag text.now at }
@@ -48,7 +48,8 @@ fn past_flag(text: &[u8], at: usize) -> usize
     if folds_at(text, at) { at + 1 } else { at }
 }
 
-/// The address of the empty expression, up to a place.
+/// The address of the empty regular expression, whose last delimiter stands before `at`, and the place after it.
+/// The flag `I` may not stand there.
 fn empty_match(text: &[u8], at: usize) -> Result<(Option<Address>, usize), ScriptFault>
     ensures is { (count : ℕ) → Agrees as_addressed count result (empty_match text.now count at) }
     ensures at { IfOk result (λ found. found.1 ≡ at) }
@@ -63,7 +64,8 @@ fn empty_match(text: &[u8], at: usize) -> Result<(Option<Address>, usize), Scrip
     }
 }
 
-/// The expression after the delimiter at a place, with the flag that may stand after it.
+/// The address of the regular expression after the delimiter at `place`, and the place after it and its flag `I`, if
+/// it has that.
 #[tactic(auto, unfolding(crate::specs::Addresses::match_at))]
 fn match_at(
     source: &Source,
@@ -96,7 +98,7 @@ fn match_at(
     ))
 }
 
-/// An expression whose own delimiter stands at a place.
+/// The address of the regular expression whose own delimiter stands at `place`, and the place after it.
 fn own_match(
     source: &Source,
     exprs: &mut Vec<Expr>,
@@ -144,6 +146,7 @@ fn address_at(
     }
 }
 
+/// These addresses, without a `!`.
 fn addresses_of(first: Option<Address>, second: Option<Address>) -> Addresses
     ensures { result ≡ addresses_of first second }
 {
@@ -154,6 +157,7 @@ fn addresses_of(first: Option<Address>, second: Option<Address>) -> Addresses
     }
 }
 
+/// Both addresses and the place `next` after them; a fault at `place` where there is no second address.
 fn with_second(
     first: Address,
     place: usize,
@@ -173,7 +177,7 @@ fn with_second(
     }
 }
 
-/// The second address, which has to stand at a place.
+/// Both addresses and the place after them. The second one has to stand at `at`.
 fn second_at(
     source: &Source,
     exprs: &mut Vec<Expr>,
@@ -189,7 +193,8 @@ fn second_at(
     with_second(first, at, next, second)
 }
 
-/// What follows a first address: a comma and a second one, or nothing.
+/// The addresses of a command and the place after them. The first one, if there is one, ends at `at`, where a comma and
+/// a second one may follow it.
 fn after_first(
     source: &Source,
     exprs: &mut Vec<Expr>,

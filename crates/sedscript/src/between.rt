@@ -18,7 +18,7 @@ use crate::transliteration::strings_fault;
 use crate::types::{Reason, ScriptFault};
 use sedre::delimited;
 
-/// The byte, if it may be a delimiter.
+/// The byte, if it may be a delimiter: neither a backslash nor a newline.
 pub fn own_delimiter(b: Option<u8>) -> Option<u8>
     ensures is { result ≡ own_delimiter b }
     ensures some { IfSome result (λ d. b ≡ Some d) }
@@ -32,8 +32,8 @@ pub fn own_delimiter(b: Option<u8>) -> Option<u8>
     }
 }
 
-/// The two strings after the delimiter at a place, of which the first ends at `first`, where the next delimiter was found.
-/// Where it `breaks`, the second may have a newline after a backslash.
+/// The two strings after the delimiter at `place`. The first ends at `first`, where the next delimiter stands, if there
+/// is one. Where it `breaks`, the second may have a newline after a backslash.
 fn strings_after(
     text: &[u8],
     breaks: bool,
@@ -108,7 +108,7 @@ fn transliterate_strings(text: &[u8], place: usize) -> Result<Strings, ScriptFau
     }
 }
 
-/// The command `y`, whose letter stands at a place.
+/// The command `y` whose letter stands at `at`, and its end.
 #[tactic(auto, unfolding(crate::specs::Between::transliterate_at))]
 pub fn transliterate_at(text: &[u8], at: usize) -> Result<(Function, usize), ScriptFault>
     requires { at < length text.now }
@@ -141,7 +141,7 @@ pub fn folds(text: &[u8], strings: Strings) -> bool
     }
 }
 
-/// The flags of `s`, and its end.
+/// The command `s` with the flags after its strings, and its end.
 fn flagged(
     text: &[u8],
     strings: Strings,
@@ -155,8 +155,8 @@ fn flagged(
     ended(text, Function::Substitute(strings, expression, flags), end)
 }
 
-/// What stands after the regular expression of `s`, which has this number in the script: a replacement, where no group
-/// may have a greater number than the limit, and flags.
+/// The command `s` with these strings, and its end. Its regular expression has this number in the script; None stands
+/// for the empty one. The groups of the replacement have numbers up to `limit`, where there is one.
 #[tactic(auto, unfolding(crate::specs::Between::substituted))]
 pub fn substituted(
     text: &[u8],

@@ -27,6 +27,7 @@ pub fn is_blank(b: u8) -> bool
     b == b' ' || b == b'\t'
 }
 
+/// Whether a byte is of the sort.
 fn belongs(sort: Sort, b: u8) -> bool
     ensures { result ≡ belongs sort b }
 {
@@ -47,7 +48,7 @@ pub fn byte_at(text: &[u8], at: usize) -> Option<u8>
     text.get(at).copied()
 }
 
-/// Whether this byte stands there.
+/// Whether the byte that was found is `b`.
 pub fn is_byte(b: u8, found: Option<u8>) -> bool
     ensures { result ≡ Rattle.sedscript.specs.Bytes.is_byte b found }
 {
@@ -57,7 +58,7 @@ pub fn is_byte(b: u8, found: Option<u8>) -> bool
     }
 }
 
-/// The first place from here on with a byte that isn't of the sort, or the end.
+/// The first place from `at` on whose byte isn't of the sort, or the end of the text.
 #[tactic(auto, unfolding(crate::specs::Bytes::past))]
 pub fn past(sort: Sort, text: &[u8], at: usize) -> usize
     requires { at ≤ length text.now }
@@ -74,7 +75,7 @@ pub fn past(sort: Sort, text: &[u8], at: usize) -> usize
     next
 }
 
-/// The bytes from a place up to another, as far as they stand there.
+/// The bytes from `from` up to `to`, or those of them that the text has.
 pub fn bytes_between(text: &[u8], from: usize, to: usize) -> &[u8]
     ensures { result.now ≡ bytes_between text.now from to }
 {
@@ -87,6 +88,7 @@ pub fn bytes_between(text: &[u8], from: usize, to: usize) -> &[u8]
     }
 }
 
+/// The number with one digit more at its end, if it is below 2^64.
 fn with_digit(n: Option<u64>, d: u8) -> Option<u64>
     ensures { result ≡ with_digit n d }
 {
@@ -94,7 +96,7 @@ fn with_digit(n: Option<u64>, d: u8) -> Option<u64>
     n?.checked_mul(10)?.checked_add(digit)
 }
 
-/// The number that decimal digits say, if it is below 2^64.
+/// The number that these decimal digits write, if it is below 2^64.
 pub fn number_of(digits: &[u8]) -> Option<u64>
     ensures { result ≡ with_digits (Some 0) digits.now }
 {

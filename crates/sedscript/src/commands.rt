@@ -1,4 +1,4 @@
-//! The commands and texts that the items leave.
+//! The commands that the items become, and what they name by numbers.
 
 ghost use Rattle.std.specs.Prelude.{◌≡◌, ◌<◌, ◌≤◌, ◌+◌, ◌-◌, ◌++◌, ℕ, List, [], Some, false, map, length, drop, take};
 ghost use Rattle.std.specs.Prelude.{slice_get, IfOk, OnOk};
@@ -24,7 +24,7 @@ use crate::transliteration::table_between;
 use crate::types::{Action, Command};
 use std::alloc::{AllocError, Global};
 
-/// The numbers of texts, substitutions and tables up to this function and with it, given those before it.
+/// How many texts, substitutions and tables there are up to and including this function, where there are `n` before it.
 fn counts_with(n: Counts, function: Function) -> Counts
     requires { AtMost (usize.MAX - 1) n }
     ensures is { result ≡ counts_with n function }
@@ -48,6 +48,7 @@ fn counts_with(n: Counts, function: Function) -> Counts
     }
 }
 
+/// The action of a command of one letter.
 fn simple_action(simple: Simple) -> Action
     ensures { result ≡ simple_action simple }
 {
@@ -69,6 +70,7 @@ fn simple_action(simple: Simple) -> Action
     }
 }
 
+/// The action of `a`, `i` or `c` with the text of this number.
 fn text_action(text_use: TextUse, k: usize) -> Action
     ensures { result ≡ text_action text_use k }
 {
@@ -79,6 +81,7 @@ fn text_action(text_use: TextUse, k: usize) -> Action
     }
 }
 
+/// The action of `b` or `t` that goes to the command of this number.
 fn branch_action(branch_use: BranchUse, to: usize) -> Action
     ensures { result ≡ branch_action branch_use to }
 {
@@ -88,6 +91,7 @@ fn branch_action(branch_use: BranchUse, to: usize) -> Action
     }
 }
 
+/// The action of `r` or `w` with the file of this number.
 fn file_action(file_use: FileUse, number: usize) -> Action
     ensures { result ≡ file_action file_use number }
 {
@@ -97,8 +101,8 @@ fn file_action(file_use: FileUse, number: usize) -> Action
     }
 }
 
-/// What the item at index `k` does, where `before` blocks were opened and `counts` were counted before it. None where it
-/// leaves no command.
+/// The action of the item at index `k`; None where it doesn't become a command. The items before it open `before`
+/// blocks, and have so many texts, substitutions and tables as `counts` says.
 fn action_of<'a>(
     text: &'a [u8],
     items: &Items,
@@ -141,7 +145,7 @@ fn action_of<'a>(
     }
 }
 
-/// Adds the command of an item.
+/// Adds the command that an item becomes, if it has an action.
 fn add_command(
     commands: &mut Vec<Command>,
     item: Item,
@@ -165,7 +169,7 @@ fn add_command(
     Ok(())
 }
 
-/// The commands that the items leave, in their order.
+/// The commands that the items become, in order.
 pub fn commands_of<'a>(
     alloc: Global,
     text: &'a [u8],
@@ -199,7 +203,7 @@ pub fn commands_of<'a>(
     Ok(commands)
 }
 
-/// A text without its backslashes.
+/// A text without the backslashes that escape its bytes.
 fn unescaped(alloc: Global, bytes: &[u8]) -> Result<Vec<u8>, AllocError>
     ensures { IfOk result (λ v. v.items ≡ unescaped_from false bytes.now) }
 {
@@ -219,7 +223,7 @@ fn unescaped(alloc: Global, bytes: &[u8]) -> Result<Vec<u8>, AllocError>
     Ok(plain)
 }
 
-/// The texts of the items, in their order.
+/// The texts of the items, in order.
 pub fn texts_of(alloc: Global, text: &[u8], items: &Items) -> Result<Vec<Vec<u8>>, AllocError>
     ensures { IfOk result (λ v. map (λ t. t.items) v.items ≡ texts_of text.now items.now) }
 {
@@ -234,7 +238,7 @@ pub fn texts_of(alloc: Global, text: &[u8], items: &Items) -> Result<Vec<Vec<u8>
     Ok(texts)
 }
 
-/// The sink that the flag `w` names, if it is there.
+/// The number of the sink that the flag `w` names, if the flag is there.
 fn sink_of<'a>(text: &'a [u8], files: &Files<'a>, name: Option<(usize, usize)>) -> Option<usize>
     ensures { (items : List Item) →
         FilesAre text.now items files.now → result ≡ sink_of text.now items name }
@@ -243,7 +247,7 @@ fn sink_of<'a>(text: &'a [u8], files: &Files<'a>, name: Option<(usize, usize)>) 
     Some(files.number(FileUse::Write, bytes_between(text, from, to)))
 }
 
-/// The substitution of an `s`.
+/// The substitution that an `s` makes.
 fn substitution_of<'a>(
     alloc: Global,
     text: &'a [u8],
@@ -266,7 +270,7 @@ fn substitution_of<'a>(
     })
 }
 
-/// The substitutions of the items, in their order.
+/// The substitutions of the items, in order.
 pub fn substitutions_of<'a>(
     alloc: Global,
     text: &'a [u8],
@@ -287,7 +291,7 @@ pub fn substitutions_of<'a>(
     Ok(substitutions)
 }
 
-/// The tables of the items, in their order.
+/// The tables of the items, in order.
 pub fn tables_of(alloc: Global, text: &[u8], items: &Items) -> Result<Vec<Vec<u8>>, AllocError>
     ensures { IfOk result (λ v. map (λ t. t.items) v.items ≡ tables_of text.now items.now) }
 {

@@ -14,13 +14,14 @@ use crate::types::{ExprFault, NO_MEMORY, Reason, ScriptFault};
 use sedre::{Expr, read_folded};
 use std::alloc::{AllocError, Global};
 
+/// Whether the reason is that a request for memory was refused.
 fn is_no_memory(reason: sedre::Reason) -> bool
     ensures { result ≡ is_no_memory reason }
 {
     matches!(reason, sedre::Reason::NoMemory)
 }
 
-/// The fault of a script whose expression begins at a place and has this fault.
+/// The fault of the script, where the regular expression that begins at `from` has this fault.
 fn fault_of(from: usize, fault: ExprFault) -> ScriptFault
     requires { from + fault.place ≤ usize.MAX }
     ensures { result ≡ fault_of from fault }
@@ -35,7 +36,7 @@ fn fault_of(from: usize, fault: ExprFault) -> ScriptFault
     }
 }
 
-/// Reads the expression that stands between two places, where case counts or is folded.
+/// Reads the regular expression between two places; where it is `folded`, its letters match without regard to case.
 fn expression_between(
     source: &Source,
     delimiter: u8,
@@ -76,7 +77,7 @@ fn expression_between(
     }
 }
 
-/// Adds a copy of an expression, so that the room that reading it took beyond its own is given back.
+/// Adds a copy of an expression, which takes only the room that it needs; the one that was read may have taken more.
 fn add_copy(alloc: Global, exprs: &mut Vec<Expr>, expr: &Expr) -> Result<(), AllocError>
     ensures { OnOk result (exprs.new.items ≡ exprs.old.items ++ expr.now ∷ []) }
 {
@@ -84,8 +85,8 @@ fn add_copy(alloc: Global, exprs: &mut Vec<Expr>, expr: &Expr) -> Result<(), All
     Ok(())
 }
 
-/// Reads the expression that stands between two places, where case counts or is folded, and adds it. Answers how many
-/// groups it has.
+/// Reads the regular expression between two places, adds it and answers how many groups it has. Where it is `folded`,
+/// its letters match without regard to case.
 pub fn expression_at(
     source: &Source,
     exprs: &mut Vec<Expr>,

@@ -39,7 +39,7 @@ fn is_standard_output(name: &[u8]) -> bool
     name == STANDARD_OUTPUT
 }
 
-/// Whether a name is that of a file: one that stands for the standard output isn't, where it is written.
+/// Whether a name is a file's: each that is read is, and each that is written but the standard output's.
 fn is_file(file_use: FileUse, name: &[u8]) -> bool
     ensures { result ≡ is_file file_use name.now }
 {
@@ -49,7 +49,7 @@ fn is_file(file_use: FileUse, name: &[u8]) -> bool
     }
 }
 
-/// Where the name of the file that a function reads, or writes, begins and ends.
+/// Where the name of the file begins and ends that a function reads, or writes, if it does.
 fn name_in(file_use: FileUse, function: Function) -> Option<(usize, usize)>
     ensures { result ≡ name_in file_use function }
 {
@@ -61,7 +61,8 @@ fn name_in(file_use: FileUse, function: Function) -> Option<(usize, usize)>
     }
 }
 
-/// Where the numbers of files begin: 0 of those that are written is the standard output.
+/// The number of the first file that is read, or written. Those that are written begin with 1: 0 is the standard
+/// output.
 fn first_number(file_use: FileUse) -> usize
     ensures { result ≡ first_number file_use }
 {
@@ -78,7 +79,7 @@ fn is_numbered<'a>(numbers: &BTreeMap<&'a [u8], usize>, name: &'a [u8]) -> bool
     numbers.contains_key(&name)
 }
 
-/// Adds a name, where it is new.
+/// Adds a name with the next number, unless it has one. The numbers begin with `first`.
 fn add_name<'a>(
     alloc: Global,
     names: &mut Vec<Vec<u8>>,
@@ -104,7 +105,7 @@ fn add_name<'a>(
     }
 }
 
-/// Adds the name of a file between two places, where it is new.
+/// Adds the name between two places, if it is a file's and new.
 fn add_file<'a>(
     alloc: Global,
     text: &'a [u8],
@@ -160,7 +161,7 @@ pub fn files_of<'a>(alloc: Global, text: &'a [u8], items: &Items) -> Result<File
 }
 
 impl<'a> NumberedFiles<'a> {
-    /// The number of a file, 0 where it isn't one of these.
+    /// The number of the file of this name, or 0 where it isn't one of these.
     fn number(&self, name: &'a [u8]) -> usize
         ensures { result ≡ unwrap_or (labelled self.now.numbers name.now) 0 }
     {
@@ -169,7 +170,7 @@ impl<'a> NumberedFiles<'a> {
 }
 
 impl<'a> Files<'a> {
-    /// The number of what is read, or written, by a name.
+    /// The number of the file of this name that is read, or of the sink of this name that is written.
     pub fn number(&self, file_use: FileUse, name: &'a [u8]) -> usize
         ensures { (text : List ℕ) (items : List Item) →
             FilesAre text items self.now → result ≡ number_in file_use text items name.now }

@@ -17,7 +17,7 @@ fn ends_flags(b: u8) -> bool
     is_blank(b) || may_end(Some(b))
 }
 
-/// The flags with the number of these digits, whose first stands at a place.
+/// The flags with the number that these digits write, of which the first stands at `at`.
 fn with_number(flags: Flags, at: usize, digits: &[u8]) -> Result<Flags, ScriptFault>
     ensures { result ≡ with_number flags at digits.now }
 {
@@ -36,7 +36,7 @@ fn with_number(flags: Flags, at: usize, digits: &[u8]) -> Result<Flags, ScriptFa
     }
 }
 
-/// The flags with the one of the byte at a place, where the regular expression is `empty` or not.
+/// The flags with the one of the byte `b`, which stands at `at`. `empty` says whether the regular expression is empty.
 fn with_flag(empty: bool, flags: Flags, at: usize, b: u8) -> Result<Flags, ScriptFault>
     ensures { result ≡ with_flag empty flags at b }
 {
@@ -89,7 +89,8 @@ fn with_file(text: &[u8], flags: Flags, at: usize) -> Result<(Flags, usize), Scr
     }
 }
 
-/// The flags with the one that begins at a place, and the place after it.
+/// The flags with the one that begins at `at`, and the place after it. `empty` says whether the regular expression is
+/// empty.
 fn flag_at(text: &[u8], empty: bool, flags: Flags, at: usize) -> Result<(Flags, usize), ScriptFault>
     requires inside { at < length text.now }
     requires flag { ends_flags (slice_index text.now at) ≡ false }
@@ -107,7 +108,7 @@ fn flag_at(text: &[u8], empty: bool, flags: Flags, at: usize) -> Result<(Flags, 
     }
 }
 
-/// The flags from a place on, where the regular expression is `empty` or not, and the place after them.
+/// The flags from `from` on, and the place after them. `empty` says whether the regular expression is empty.
 pub fn flags_at(text: &[u8], empty: bool, from: usize) -> Result<(Flags, usize), ScriptFault>
     requires { from ≤ length text.now }
     ensures is { result ≡ flags_from text.now empty no_flags 0 from (drop from text.now) }

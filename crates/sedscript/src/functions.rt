@@ -4,7 +4,8 @@ ghost use Rattle.std.specs.Prelude.{◌≡◌, ◌≤◌, ◌<◌, ◌+◌, leng
 ghost use Rattle.sedscript.specs.Bytes.{past};
 ghost use Rattle.sedscript.specs.Letters.{verb_of};
 ghost use Rattle.sedscript.specs.Functions.{may_end, ended, label_of, branch_of, text_of, text_from, name_from, file_of};
-ghost use Rattle.sedscript.specs.Functions.{given, allowed};
+ghost use Rattle.sedscript.specs.Functions.{allowed};
+ghost use Rattle.std.specs.Option.{option_len};
 
 use crate::bytes::{Sort, byte_at, past};
 use crate::items::{Addresses, BranchUse, FileUse, Function, TextUse};
@@ -12,7 +13,7 @@ use crate::letters::{Verb, most_addresses, verb_of};
 use crate::texts::text_from;
 use crate::types::{Address, Reason, ScriptFault};
 
-/// Whether a command may end before this byte.
+/// Whether a command may end before this byte; None is the end of the text.
 pub fn may_end(next: Option<u8>) -> bool
     ensures { result ≡ may_end next }
 {
@@ -22,7 +23,7 @@ pub fn may_end(next: Option<u8>) -> bool
     }
 }
 
-/// The function, where nothing but the command's end follows a place.
+/// The function and the end of its command, which only blanks may stand before from `at` on.
 pub fn ended(text: &[u8], function: Function, at: usize) -> Result<(Function, usize), ScriptFault>
     requires { at ≤ length text.now }
     ensures is { result ≡ ended text.now function at }
@@ -39,7 +40,7 @@ pub fn ended(text: &[u8], function: Function, at: usize) -> Result<(Function, us
     }
 }
 
-/// The label whose `:` stands at a place and whose name begins at another.
+/// The label whose name begins at `from` and whose `:` stands at `place`, and its end.
 pub fn label_of(text: &[u8], place: usize, from: usize) -> Result<(Function, usize), ScriptFault>
     requires { from ≤ length text.now }
     ensures is { result ≡ label_of text.now place from }
@@ -56,7 +57,7 @@ pub fn label_of(text: &[u8], place: usize, from: usize) -> Result<(Function, usi
     }
 }
 
-/// The branch whose label begins at a place.
+/// The branch whose label begins at `from`, and its end.
 pub fn branch_of(
     text: &[u8],
     branch_use: BranchUse,
@@ -70,7 +71,7 @@ pub fn branch_of(
     ended(text, Function::Branch(branch_use, from, end), end)
 }
 
-/// The function whose letter stands at a place and whose text follows.
+/// The function whose letter stands at `at`, with the text that follows, and the place after it.
 pub fn text_of(text: &[u8], text_use: TextUse, at: usize) -> Result<(Function, usize), ScriptFault>
     requires { at < length text.now }
     ensures is { result ≡ text_of text_use at (text_from text.now (past Sort.Blank text.now (at + 1))) }
@@ -85,7 +86,7 @@ pub fn text_of(text: &[u8], text_use: TextUse, at: usize) -> Result<(Function, u
     }
 }
 
-/// Where the name of a file begins and ends, from the place after its letter on. None where it is missing.
+/// Where the name of a file begins and ends that is expected at `at`, after its letter; None where it is missing.
 #[tactic(auto, unfolding(crate::specs::Functions::name_from))]
 pub fn name_from(text: &[u8], at: usize) -> Option<(usize, usize)>
     requires { at ≤ length text.now }
@@ -97,7 +98,7 @@ pub fn name_from(text: &[u8], at: usize) -> Option<(usize, usize)>
     if to == from { None } else { Some((from, to)) }
 }
 
-/// The function whose letter stands at a place and that reads or writes the file whose name follows.
+/// The function whose letter stands at `at`, with the name of its file that follows, and the place after it.
 pub fn file_of(text: &[u8], file_use: FileUse, at: usize) -> Result<(Function, usize), ScriptFault>
     requires { at < length text.now }
     ensures is { result ≡ file_of file_use at (name_from text.now (at + 1)) }
@@ -112,8 +113,9 @@ pub fn file_of(text: &[u8], file_use: FileUse, at: usize) -> Result<(Function, u
     }
 }
 
+/// 1 where there is an address, and 0 where there is none.
 fn given(address: Option<Address>) -> usize
-    ensures { result ≡ given address }
+    ensures { result ≡ option_len address }
 {
     match address {
         None => 0,
@@ -121,7 +123,7 @@ fn given(address: Option<Address>) -> usize
     }
 }
 
-/// What the letter at a place stands for, if that may have these addresses.
+/// What the letter at `at` stands for, if that is a function which may have these addresses.
 pub fn allowed(addresses: Addresses, letter: u8, at: usize) -> Result<Verb, ScriptFault>
     ensures { result ≡ allowed addresses at (verb_of letter) }
 {

@@ -1,4 +1,4 @@
-//! The items of a script are read: functions with their addresses.
+//! Reads the items of a script: functions with their addresses.
 
 ghost use Rattle.std.specs.Prelude.{◌≡◌, ◌≤◌, ◌<◌, ◌+◌, Some, length, slice_get, IfOk};
 ghost use Rattle.sedscript.specs.Items.{substitute_at, substitute_with, function_of, function_with, function_at};
@@ -16,7 +16,7 @@ use crate::letters::{Shape, Verb};
 use crate::types::{Reason, ScriptFault};
 use sedre::Expr;
 
-/// What stands after the strings of `s`.
+/// The command `s` with these strings, and its end.
 fn substitute_with(
     source: &Source,
     exprs: &mut Vec<Expr>,
@@ -42,7 +42,7 @@ fn substitute_with(
     substituted(source.text, strings, Some(number), Some(groups))
 }
 
-/// The command `s`, whose letter stands at a place.
+/// The command `s` whose letter stands at `at`, and its end.
 fn substitute_at(
     source: &Source,
     exprs: &mut Vec<Expr>,
@@ -57,7 +57,7 @@ fn substitute_at(
     substitute_with(source, exprs, strings)
 }
 
-/// The function of a letter that stands at a place and is not `s`, and the place after it.
+/// The function whose letter stands at `at`, and the place after it. The letter is not `s`, and has this shape.
 fn function_of(text: &[u8], shape: Shape, at: usize) -> Result<(Function, usize), ScriptFault>
     requires { at < length text.now }
     ensures is { result ≡ function_of text.now shape at }
@@ -78,7 +78,7 @@ fn function_of(text: &[u8], shape: Shape, at: usize) -> Result<(Function, usize)
     }
 }
 
-/// The function of a letter that stands at a place, and the place after it.
+/// The function whose letter stands at `at` and stands for this, and the place after it.
 fn function_with(
     source: &Source,
     exprs: &mut Vec<Expr>,
@@ -96,6 +96,7 @@ fn function_with(
     }
 }
 
+/// An item and the place after it.
 fn item_of(addresses: Addresses, place: usize, function: Function, next: usize) -> Here
     ensures { result ≡ item_of addresses place (function, next) }
 {
@@ -109,7 +110,7 @@ fn item_of(addresses: Addresses, place: usize, function: Function, next: usize) 
     )
 }
 
-/// The item of the function whose letter stands at a place, if that may have these addresses.
+/// The item of the function whose letter stands at `at`, if that may have these addresses.
 fn item_with(
     source: &Source,
     exprs: &mut Vec<Expr>,
@@ -127,7 +128,7 @@ fn item_with(
     Ok(item_of(addresses, at, function, next))
 }
 
-/// The item of the function that is expected at a place, after these addresses.
+/// The item of the function that is expected at `at`, after these addresses.
 fn function_at(
     source: &Source,
     exprs: &mut Vec<Expr>,
@@ -148,7 +149,7 @@ fn function_at(
     }
 }
 
-/// The item of the function after its addresses.
+/// The item of the function that is expected after these addresses, which end at `at`; a `!` may stand between.
 fn function_after(
     source: &Source,
     exprs: &mut Vec<Expr>,

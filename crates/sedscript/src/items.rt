@@ -1,5 +1,5 @@
-//! What is read, and the items of a script, before labels and blocks are found.
-//! Names, texts and strings are the places between which they stand.
+//! The text of a script, and the items that it is cut into before labels and blocks are looked up.
+//! A name, a text or a string is kept as the places where it begins and ends.
 
 ghost use Rattle.std.specs.Prelude.{◌≤◌};
 
@@ -17,7 +17,7 @@ pub struct Source<'a> {
     ghost nodes: { (1 ≤ max_nodes) × (max_nodes ≤ 65536) },
 }
 
-/// What stands before a function.
+/// The addresses of a function.
 #[derive(Clone, Copy)]
 pub struct Addresses {
     pub first: Option<Address>,
@@ -25,7 +25,8 @@ pub struct Addresses {
     pub negate: bool,
 }
 
-/// The flags of `s`: a number where one stands, `g`, `p` and `I`, and where the name stands that follows `w`.
+/// The flags of `s`: a number, if there is one; `g`, `p` and `I`; and where the name after `w` begins and ends, if
+/// there is one.
 #[derive(Clone, Copy)]
 pub struct Flags {
     pub number: Option<u64>,
@@ -36,7 +37,7 @@ pub struct Flags {
     pub file: Option<(usize, usize)>,
 }
 
-/// The commands of one letter that need nothing more.
+/// The commands that are one letter.
 #[derive(Clone, Copy)]
 pub enum Simple {
     AppendHold,
@@ -72,7 +73,7 @@ pub enum FileUse {
     Write,
 }
 
-/// When a command that has a label goes there.
+/// When a branch goes to its label.
 #[derive(Clone, Copy)]
 pub enum BranchUse {
     /// `b`
@@ -91,7 +92,7 @@ pub struct Strings {
     pub to: usize,
 }
 
-/// A function, as its letter and what follows say.
+/// A function: its letter and what follows that.
 #[derive(Clone, Copy)]
 pub enum Function {
     /// `=`, `d`, `D`, `g`, `G`, `h`, `H`, `l`, `n`, `N`, `p`, `P`, `q` or `x`

@@ -33,7 +33,7 @@ pub enum Brief {
     Text(TextUse),
     File(FileUse),
     Comment,
-    /// The one of a list, at an index that is kept in the item. The others have two places there, or none.
+    /// One of a list, at an index that is kept in the item, where other functions have two places or none.
     Listed,
 }
 
@@ -50,14 +50,14 @@ pub struct Kept {
     pub function: Brief,
 }
 
-/// What stands before a function that has no address.
+/// The addresses of a function that has none.
 const NO_ADDRESSES: Addresses = Addresses {
     first: None,
     second: None,
     negate: false,
 };
 
-/// The addresses that are kept in this way.
+/// The addresses that an item keeps as `given` and `head`.
 #[inline]
 fn addresses_of(heads: &[Addresses], given: Given, head: u64) -> Addresses
     requires { IsGiven (length heads.now) given head }
@@ -77,7 +77,7 @@ fn addresses_of(heads: &[Addresses], given: Given, head: u64) -> Addresses
     }
 }
 
-/// The function that is kept in this way.
+/// The function that an item keeps as `function`, `from` and `to`.
 #[inline]
 fn function_of(longs: &[Function], function: Brief, from: usize, to: usize) -> Function
     requires { IsBrief (length longs.now) function from }
@@ -96,7 +96,7 @@ fn function_of(longs: &[Function], function: Brief, from: usize, to: usize) -> F
     }
 }
 
-/// How addresses are kept, of which most are none or one line.
+/// What an item keeps of its addresses. They go into the list, unless they are none, one line or `$`.
 fn keep_addresses(
     heads: &mut Vec<Addresses>,
     addresses: Addresses,
@@ -129,7 +129,7 @@ fn keep_addresses(
     }
 }
 
-/// How a function is kept: all but `s` and `y` without a list.
+/// What an item keeps of its function. `s` and `y` go into the list.
 fn keep_function(
     longs: &mut Vec<Function>,
     function: Function,
@@ -155,7 +155,7 @@ fn keep_function(
     }
 }
 
-/// How an item is kept.
+/// The item in its compact form. What that has no room for goes into the lists.
 fn keep(
     heads: &mut Vec<Addresses>,
     longs: &mut Vec<Function>,
@@ -213,14 +213,14 @@ impl Items {
         }
     }
 
-    /// How many there are.
+    /// How many items there are.
     pub fn len(&self) -> usize
         ensures { result ≡ length self.now }
     {
         self.kept.len()
     }
 
-    /// The item of an index.
+    /// The item at an index.
     #[inline]
     pub fn get(&self, k: usize) -> Item
         requires { k < length self.now }

@@ -10,7 +10,7 @@ use crate::items::{BranchUse, FileUse, Simple, TextUse};
 pub enum Verb {
     /// `s`, which alone reads a regular expression.
     ReadsExpression,
-    /// All others.
+    /// Each other function.
     Reads(Shape),
 }
 

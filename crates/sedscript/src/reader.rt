@@ -20,7 +20,7 @@ use sedre::Expr;
 use sedre::laws::{fault_within, reads_as_one};
 use std::alloc::{AllocError, Global};
 
-/// Cuts a text into its items and regular expressions up to its end, and answers where the last item ends.
+/// Answers where the last item of a text ends, and cuts the text into its items and regular expressions.
 fn cut(source: &Source, items: &mut Items, exprs: &mut Vec<Expr>) -> Result<usize, ScriptFault>
     requires empty { (items.old ≡ []) × (exprs.old.items ≡ []) }
     ensures cut { IfOk result (λ to.
@@ -41,7 +41,8 @@ fn cut(source: &Source, items: &mut Items, exprs: &mut Vec<Expr>) -> Result<usiz
     }
 }
 
-/// Cuts a text into its items and judges its labels and blocks.
+/// Answers where the labels and blocks of a text lead, and cuts the text into its items and regular expressions; or the
+/// first fault of either.
 fn judge<'a>(
     source: &Source<'a>,
     items: &mut Items,

@@ -12,7 +12,7 @@ use crate::substitution::{Part, Piece};
 use crate::types::{Reason, ScriptFault};
 use std::alloc::{AllocError, Global};
 
-/// What this byte stands for where it is escaped.
+/// What this byte stands for where it is escaped, if it may be.
 fn escaped_piece(delimiter: u8, b: u8) -> Option<Piece>
     ensures { result ≡ escaped_piece delimiter b }
 {
@@ -33,6 +33,7 @@ fn escaped_piece(delimiter: u8, b: u8) -> Option<Piece>
     }
 }
 
+/// What this byte stands for where it isn't escaped.
 fn plain_piece(b: u8) -> Piece
     ensures { result ≡ plain_piece b }
 {
@@ -43,7 +44,7 @@ fn plain_piece(b: u8) -> Piece
     }
 }
 
-/// The piece that a byte ends.
+/// The piece that a byte ends, `escaped` or not; None where it ends none.
 fn piece_of(delimiter: u8, escaped: bool, b: u8) -> Option<Piece>
     ensures { result ≡ piece_of delimiter escaped b }
 {
@@ -56,7 +57,7 @@ fn piece_of(delimiter: u8, escaped: bool, b: u8) -> Option<Piece>
     }
 }
 
-/// Whether the expression hasn't this group.
+/// Whether a group's number is above the limit, if there is one.
 fn exceeds(limit: Option<usize>, k: usize) -> bool
     ensures { result ≡ exceeds limit k }
 {
@@ -66,7 +67,7 @@ fn exceeds(limit: Option<usize>, k: usize) -> bool
     }
 }
 
-/// What is wrong with the escape of a byte, whose backslash stands at a place.
+/// What is wrong with the escape of a byte, if anything is. Its backslash stands at `place`.
 fn escape_fault(delimiter: u8, limit: Option<usize>, place: usize, b: u8) -> Option<ScriptFault>
     ensures { result ≡ escape_fault delimiter limit place b }
 {
@@ -83,7 +84,8 @@ fn escape_fault(delimiter: u8, limit: Option<usize>, place: usize, b: u8) -> Opt
     }
 }
 
-/// The first fault of the replacement that stands between two places.
+/// The first fault of the replacement between two places, if it has one. Groups have numbers up to `limit`, where there
+/// is one.
 pub fn replacement_fault(
     text: &[u8],
     delimiter: u8,
@@ -120,7 +122,8 @@ fn end_run(parts: &mut Vec<Part>, run: Vec<u8>) -> Result<(), AllocError>
     Ok(())
 }
 
-/// Adds a piece to the parts and the bytes gathered after them, and gives the bytes that are gathered then.
+/// Answers the bytes that are gathered after one piece more: a byte joins those gathered so far, and any other piece ends
+/// them and becomes a part.
 fn add_piece(
     alloc: Global,
     parts: &mut Vec<Part>,

@@ -16,7 +16,7 @@ pub enum Part {
     Group(usize),
 }
 
-/// What a replacement is made of, a byte at a time, as contracts see it.
+/// A piece of a replacement, a byte at a time, as contracts see it.
 #[derive(Clone, Copy, Debug, PartialEq, Eq)]
 pub enum Piece {
     /// This byte.
@@ -77,7 +77,7 @@ pub struct Substitution {
     pub global: bool,
     /// `p`: the pattern space is written if a replacement was made.
     pub print: bool,
-    /// `w`: the sink that it is written to, after `p`, if a replacement was made: 0 is the standard output, and the files
-    /// that are written follow from 1 on.
+    /// `w`: the sink that it is written to, after `p`, if a replacement was made: 0 is the standard output, and the
+    /// files that are written follow from 1 on.
     pub file: Option<usize>,
 }

@@ -17,7 +17,8 @@ pub fn fault_if(wrong: bool, reason: Reason, place: usize) -> Option<ScriptFault
     wrong.then_some(ScriptFault { place, reason })
 }
 
-/// What is wrong with the item at index `k`, if anything is: `before` blocks were opened before it, and `depth` are open.
+/// What is wrong with the item at index `k`, if anything is. The items before it open `before` blocks, and leave
+/// `depth` of them open.
 fn target_fault_at<'a>(
     text: &'a [u8],
     items: &Items,
@@ -63,6 +64,7 @@ fn target_fault_at<'a>(
     }
 }
 
+/// How many blocks are open after a function, where `depth` are open before it.
 fn depth_after(depth: usize, function: Function) -> usize
     requires { depth < usize.MAX }
     ensures is { result ≡ depth_after depth function }

@@ -1,14 +1,13 @@
 //! Where labels and blocks lead: tables that are made once, so that nothing is searched anew.
 
 ghost use Rattle.std.specs.Prelude.{◌≡◌, ◌<◌, ◌≤◌, ◌+◌, ℕ, List, [], Some, None, true, is_some, length, drop, take};
-ghost use Rattle.std.specs.Prelude.{slice_get, if◌then◌else◌, IfOk, OnOk};
+ghost use Rattle.std.specs.Prelude.{slice_get, reverse, option_map, if◌then◌else◌, IfOk, OnOk};
 ghost use Rattle.std.specs.Option.{option_or};
 ghost use Rattle.sedscript.specs.Targets.{counted, commands_in, is_label, label_in, block_end};
 ghost use Rattle.sedscript.specs.declared.items.Item.{Item};
 ghost use Rattle.sedscript.specs.declared.items.Function.TheVariants.{Open};
 ghost use Rattle.sedscript.specs.Tables.{LabelsAre, TargetsAre, ends_in, with_end, opened, blocks_in, unopened, unopened_by};
-ghost use Rattle.sedscript.specs.Tables.{reversed, first};
-ghost use Rattle.sedscript.specs.Tables.{number, is_earlier, labelled};
+ghost use Rattle.sedscript.specs.Tables.{is_earlier, labelled};
 
 use crate::bytes::bytes_between;
 use crate::items::{Function, Item};
@@ -25,7 +24,7 @@ pub struct FirstLabel {
     pub number: usize,
 }
 
-/// Whether a function leaves a command.
+/// Whether a function becomes a command: all but `}`, `:` and `#` do.
 pub fn leaves(function: Function) -> bool
     ensures { result ≡ Rattle.sedscript.specs.Targets.leaves function }
 {
@@ -55,7 +54,7 @@ pub fn is_close(function: Function) -> bool
     matches!(function, Function::Close)
 }
 
-/// The number of commands up to this item and with it, given the number before it.
+/// The number of commands up to and including this item, where there are `n` before it.
 pub fn counted(n: usize, item: Item) -> usize
     requires { n < usize.MAX }
     ensures is { result ≡ counted n item }
@@ -64,7 +63,7 @@ pub fn counted(n: usize, item: Item) -> usize
     if leaves(item.function) { n + 1 } else { n }
 }
 
-/// The number of commands before this item, given the number up to it and with it.
+/// The number of commands before this item, where there are `n` up to and including it.
 fn number_before(n: usize, item: Item) -> usize
     requires { Rattle.sedscript.specs.Targets.leaves item.function ≡ true → 1 ≤ n }
     ensures { n ≡ counted result item }
@@ -72,6 +71,7 @@ fn number_before(n: usize, item: Item) -> usize
     if leaves(item.function) { n - 1 } else { n }
 }
 
+/// How many commands the items become.
 fn commands_in(items: &Items) -> usize
     ensures is { result ≡ commands_in items.now }
     ensures few { result ≤ length items.now }
@@ -85,7 +85,7 @@ fn commands_in(items: &Items) -> usize
     n
 }
 
-/// The number of blocks opened up to this function and with it, given the number before it.
+/// The number of blocks opened up to and including this function, where there are `n` before it.
 pub fn opened(n: usize, function: Function) -> usize
     requires { n < usize.MAX }
     ensures is { result ≡ opened n function }
@@ -94,6 +94,7 @@ pub fn opened(n: usize, function: Function) -> usize
     if is_open(function) { n + 1 } else { n }
 }
 
+/// How many blocks the items open.
 fn blocks_in(items: &Items) -> usize
     ensures { result ≡ blocks_in items.now }
 {
@@ -106,18 +107,18 @@ fn blocks_in(items: &Items) -> usize
     n
 }
 
-/// Passes over an item, going from the last one back: `n` commands stand before it, and `ends` has where the closing braces
-/// lead that stand after it and close no block opened there. Answers the end of the block that the item opens, if it opens
-/// one.
+/// Answers the end of the block that a function opens, if it opens one. Functions are passed from the last to the
+/// first: `n` commands stand before this one, and the stack `ends` has where the closing braces lead that stand after
+/// it and close no block opened there.
 fn pass_back(
     ends: &mut Vec<usize>,
     n: usize,
     function: Function,
 ) -> Result<Option<usize>, AllocError>
-    ensures ends { OnOk result ((us : List ℕ) → ends.old.items ≡ reversed us →
-        ends.new.items ≡ reversed (unopened_by n function us)) }
-    ensures end { IfOk result (λ end. (us : List ℕ) → ends.old.items ≡ reversed us →
-        Rattle.sedscript.specs.Targets.is_open function ≡ true → end ≡ first us) }
+    ensures ends { OnOk result ((us : List ℕ) → ends.old.items ≡ reverse us →
+        ends.new.items ≡ reverse (unopened_by n function us)) }
+    ensures end { IfOk result (λ end. (us : List ℕ) → ends.old.items ≡ reverse us →
+        Rattle.sedscript.specs.Targets.is_open function ≡ true → end ≡ slice_get us 0) }
 {
     if is_close(function) {
         ends.push(n)?;
@@ -150,8 +151,8 @@ fn ends_of(alloc: Global, items: &Items, commands: usize) -> Result<Vec<Option<u
     Ok(ends)
 }
 
-/// Puts the end of the block that a function opens, if it opens one, into the table; `blocks` were opened up to the
-/// function and with it. Answers how many were opened before it.
+/// Answers how many blocks were opened before a function, where there are `blocks` up to and including it, and puts the
+/// end of the block that it opens, if it opens one, into the table.
 fn put_end(
     ends: &mut Vec<Option<usize>>,
     blocks: usize,
@@ -172,7 +173,8 @@ fn put_end(
     }
 }
 
-/// Adds the name of an item that is a label, where no earlier one has it.
+/// Adds the label that a function is, if it is one and no earlier label has its name. The function stands at index `k`,
+/// after `n` commands.
 fn add_label<'a>(
     labels: &mut BTreeMap<&'a [u8], FirstLabel>,
     text: &'a [u8],
@@ -246,14 +248,14 @@ pub fn targets_of<'a>(
     })
 }
 
-/// The number of the command after a label.
+/// The number of the command after a label, if it is there.
 fn number(label: Option<FirstLabel>) -> Option<usize>
-    ensures { result ≡ number label }
+    ensures { result ≡ option_map (λ l. l.number) label }
 {
     Some(label?.number)
 }
 
-/// Whether the first item with a label stands before an index.
+/// Whether the first item with a label is another one than that at index `k`; false where no item has the label.
 fn is_earlier(k: usize, label: Option<FirstLabel>) -> bool
     ensures { result ≡ is_earlier k label }
 {
@@ -280,7 +282,7 @@ impl<'a> Targets<'a> {
         number(self.first_label(name))
     }
 
-    /// Whether an earlier item than the label of a name at an index is a label of this name.
+    /// Whether an item before the one at index `k` is a label of this name, as that is.
     pub fn is_repeated(&self, name: &'a [u8], k: usize) -> bool
         ensures { (text : List ℕ) (items : List Item) (i : Item) →
             TargetsAre text items self.now.labels self.now.ends.items self.now.commands →
@@ -290,8 +292,7 @@ impl<'a> Targets<'a> {
         is_earlier(k, self.first_label(name))
     }
 
-    /// The number of the command after the end of the block before which `blocks` were opened; None where it isn't
-    /// closed.
+    /// The number of the command after the end of a block; None where it isn't closed. Before it `blocks` were opened.
     pub fn block_end(&self, blocks: usize) -> Option<usize>
         requires { blocks < length self.now.ends.items }
         ensures { slice_get self.now.ends.items blocks ≡ Some result }

@@ -5,7 +5,7 @@ ghost use Rattle.sedscript.specs.Functions.{text_end, stops, inside_after, text_
 
 use crate::bytes::{byte_at, is_byte};
 
-/// How far a text is read.
+/// Where the next byte of a text stands.
 #[derive(Clone, Copy)]
 pub enum Inside {
     /// Within a line.
@@ -16,6 +16,7 @@ pub enum Inside {
     Due,
 }
 
+/// Whether a line ends before this byte; None is the end of the text.
 fn ends_line(b: Option<u8>) -> bool
     ensures { result ≡ ends_line b }
 {
@@ -35,6 +36,7 @@ fn stops(inside: Inside, b: u8) -> bool
     }
 }
 
+/// Where the byte after this one stands.
 fn inside_after(inside: Inside, b: u8) -> Inside
     ensures { result ≡ inside_after inside b }
 {
@@ -52,7 +54,7 @@ fn inside_after(inside: Inside, b: u8) -> Inside
     }
 }
 
-/// Where a text ends, of which the rest begins at a place; None where a further line has to follow and doesn't.
+/// Where a text ends whose rest begins at `from`; None where a further line has to follow and doesn't.
 fn text_end(text: &[u8], start: Inside, from: usize) -> Option<usize>
     requires { from ≤ length text.now }
     ensures is { result ≡ text_end start from (drop from text.now) }
@@ -73,7 +75,8 @@ fn text_end(text: &[u8], start: Inside, from: usize) -> Option<usize>
     }
 }
 
-/// The text after the blanks that follow its letter: where it begins and ends; None where it is missing.
+/// Where the text begins and ends that is expected at `from`, after the blanks that follow its letter; None where it is
+/// missing.
 #[tactic(auto, unfolding(crate::specs::Functions::text_from))]
 pub fn text_from(text: &[u8], from: usize) -> Option<(usize, usize)>
     requires { from ≤ length text.now }

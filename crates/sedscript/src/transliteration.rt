@@ -22,7 +22,7 @@ pub struct Char {
     pub place: usize,
 }
 
-/// What this byte stands for where it is escaped.
+/// What this byte stands for where it is escaped, if it may be.
 fn escaped_byte(delimiter: u8, b: u8) -> Option<u8>
     ensures { result ≡ escaped_byte delimiter b }
 {
@@ -37,7 +37,7 @@ fn escaped_byte(delimiter: u8, b: u8) -> Option<u8>
     }
 }
 
-/// The byte of a string, plain or escaped, that ends with the one at a place.
+/// The byte of a string that ends with the byte `b` of the text at `at`, `escaped` or not; None where none ends there.
 fn char_of(delimiter: u8, escaped: bool, at: usize, b: u8) -> Option<Char>
     requires { escaped ≡ true → 1 ≤ at }
     ensures { result ≡ char_of delimiter escaped at b }
@@ -55,7 +55,7 @@ fn char_of(delimiter: u8, escaped: bool, at: usize, b: u8) -> Option<Char>
     }
 }
 
-/// The first escape that is refused in the string that begins at a place.
+/// The first escape that is refused in the string that begins at `from`, if there is one.
 fn string_fault(bytes: &[u8], delimiter: u8, from: usize) -> Option<ScriptFault>
     requires { from + length bytes.now ≤ usize.MAX }
     ensures { result ≡ string_fault delimiter false from bytes.now }
@@ -87,7 +87,7 @@ fn note(seen: &mut [bool; 256], b: u8) -> bool
     noted
 }
 
-/// The place of the first byte that stands a second time in the string that begins at a place.
+/// The place of the first byte that stands a second time in the string that begins at `from`, if there is one.
 fn repeated(bytes: &[u8], delimiter: u8, from: usize) -> Option<usize>
     requires { from + length bytes.now ≤ usize.MAX }
     ensures { result ≡ repeated_in [] (chars_from delimiter false from bytes.now) }
@@ -108,7 +108,7 @@ fn repeated(bytes: &[u8], delimiter: u8, from: usize) -> Option<usize>
     None
 }
 
-/// How many bytes the string has that begins at a place.
+/// How many bytes the string has that begins at `from`.
 fn count(bytes: &[u8], delimiter: u8, from: usize) -> usize
     requires { from + length bytes.now ≤ usize.MAX }
     ensures { result ≡ length (chars_from delimiter false from bytes.now) }
@@ -127,7 +127,8 @@ fn count(bytes: &[u8], delimiter: u8, from: usize) -> usize
     count
 }
 
-/// The first fault of the strings of a `y`: one stands between the first two places, the other after the second.
+/// The first fault of the strings of a `y`, if they have one. The first string ends at `middle`, where a delimiter
+/// stands, and the second begins after that.
 pub fn strings_fault(
     text: &[u8],
     delimiter: u8,
@@ -157,7 +158,7 @@ pub fn strings_fault(
     fault_if(differ, Reason::LengthsDiffer, letter)
 }
 
-/// The bytes of a string.
+/// The bytes of a string, with each escape as the byte that it stands for.
 fn bytes_of(alloc: Global, bytes: &[u8], delimiter: u8) -> Result<Vec<u8>, AllocError>
     ensures { IfOk result (λ v. v.items ≡ bytes_of (chars_from delimiter false 0 bytes.now)) }
 {
@@ -175,7 +176,7 @@ fn bytes_of(alloc: Global, bytes: &[u8], delimiter: u8) -> Result<Vec<u8>, Alloc
     Ok(string)
 }
 
-/// Each byte at its own place.
+/// All bytes, each at its own place.
 fn all_bytes(alloc: Global) -> Result<Vec<u8>, AllocError>
     ensures { IfOk result (λ v. v.items ≡ range_with_len 0 256) }
 {
@@ -186,7 +187,7 @@ fn all_bytes(alloc: Global) -> Result<Vec<u8>, AllocError>
     Ok(bytes)
 }
 
-/// What stands for each byte where these bytes stand for those.
+/// The table of a `y` with these strings: what stands for each byte.
 fn table_from(alloc: Global, string1: &[u8], string2: &[u8]) -> Result<Vec<u8>, AllocError>
     ensures { IfOk result (λ v. v.items ≡ table_of string1.now string2.now) }
 {
@@ -199,7 +200,7 @@ fn table_from(alloc: Global, string1: &[u8], string2: &[u8]) -> Result<Vec<u8>, 
     Ok(table)
 }
 
-/// What stands for each byte, by the strings of a `y`.
+/// The table of a `y`, whose strings stand in the text: what stands for each byte.
 pub fn table_between(alloc: Global, text: &[u8], strings: Strings) -> Result<Vec<u8>, AllocError>
     ensures { IfOk result (λ v. v.items ≡ table_between text.now strings) }
 {

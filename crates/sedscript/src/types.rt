@@ -13,12 +13,12 @@ pub enum Address {
     Line(u64),
     /// `$`: the last line.
     Last,
-    /// `/RE/` or `\cREc`, with or without the flag `I`: pattern spaces that match the script's regular expression of this
-    /// number, counted from 0. None stands for the empty RE, the one last used.
+    /// `/RE/` or `\cREc`, with or without the flag `I`: pattern spaces that match the script's regular expression of
+    /// this number, counted from 0. None stands for the empty RE, the one last used.
     Match(Option<usize>),
 }
 
-/// What a command does (XCU sed, "Editing Commands in sed"). `}`, `:` and `#` leave no command.
+/// What a command does (XCU sed, "Editing Commands in sed"). `}`, `:` and `#` don't become commands.
 #[derive(Clone, Copy, Debug, PartialEq, Eq)]
 pub enum Action {
     /// `a`: queues the script's text of this number, counted from 0.
@@ -44,8 +44,8 @@ pub enum Action {
     Exchange,
     /// `d`: deletes the pattern space and starts the next cycle.
     Delete,
-    /// `D`: deletes the pattern space up to its first newline, and starts the next cycle without reading a line. Without
-    /// a newline it is `d`.
+    /// `D`: deletes the pattern space up to its first newline, and starts the next cycle without reading a line.
+    /// Without a newline it is `d`.
     DeleteFirst,
     /// `i`: writes the script's text of this number, counted from 0.
     Insert(usize),

@@ -1,7 +1,7 @@
-use Rattle.std.proofs.Common.{◌≡◌, ◌+◌, ◌-◌, ◌∙◌, ℕ, List, take, drop, ap, arith}
+use Rattle.std.proofs.Common.{◌≡◌, ◌+◌, ◌-◌, ◌∙◌, ℕ, List, take, drop, reverse, ap, arith}
 use Rattle.sedscript.specs.declared.items.Item.{Item}
 use Rattle.sedscript.specs.Targets.{commands_in}
-use Rattle.sedscript.specs.Tables.{reversed, unopened, ends_in, blocks_in}
+use Rattle.sedscript.specs.Tables.{unopened, ends_in, blocks_in}
 use Rattle.sedscript.proofs.Labels.{counted_back, counted_some}
 use Rattle.sedscript.proofs.Blocks.{ends_step, unopened_step, blocks_back, blocks_some}
 use Rattle.sedscript.proofs.targets.ends_of.Goals as goal
@@ -14,7 +14,7 @@ items-preserved c =
     let i : Item = c.get-item.result in
     let counted : c.items.n ≡ commands_in (take (k + 1) items) = c.items.invariant.counted ∙ ap (λ (z : ℕ). commands_in (take z items)) back in
     let blocks : c.items.blocks ≡ blocks_in (take (k + 1) items) = c.items.invariant.blocks ∙ ap (λ (z : ℕ). blocks_in (take z items)) back in
-    let stack : c.items.unopened.items ≡ reversed (unopened c.items.n (drop (k + 1) items)) = c.items.invariant.stack ∙ ap (λ (z : ℕ). reversed (unopened c.items.n (drop z items))) back in
+    let stack : c.items.unopened.items ≡ reverse (unopened c.items.n (drop (k + 1) items)) = c.items.invariant.stack ∙ ap (λ (z : ℕ). reverse (unopened c.items.n (drop z items))) back in
     let ends : drop c.items.blocks c.items.ends.items ≡ ends_in c.items.n (drop (k + 1) items) = c.items.invariant.ends ∙ ap (λ (z : ℕ). ends_in c.items.n (drop z items)) back in
     record {
       within = omega arith;
@@ -25,7 +25,7 @@ items-preserved c =
           ∙ ends_step items k c.items.n c.number_before-n.result i c.in_ok-end.end (drop c.items.blocks c.items.ends.items) c.get-item.ensures.is c.number_before-n.ensures ends
           (c.in_ok-end.ensures.end (unopened c.items.n (drop (k + 1) items)) stack);
       stack = c.in_ok-end.ensures.ends (unopened c.items.n (drop (k + 1) items)) stack
-          ∙ ap reversed (unopened_step items k c.items.n c.number_before-n.result i c.get-item.ensures.is c.number_before-n.ensures);
+          ∙ ap reverse (unopened_step items k c.items.n c.number_before-n.result i c.get-item.ensures.is c.number_before-n.ensures);
     }
 
 pub number_before-n-requires : goal.number_before-n-requires

@@ -1,6 +1,6 @@
-use Rattle.std.proofs.Common.{◌≡◌, ◌≤◌, length, take, drop}
+use Rattle.std.proofs.Common.{◌≡◌, ◌≤◌, length, take, drop, reverse}
 use Rattle.sedscript.specs.Targets.{commands_in}
-use Rattle.sedscript.specs.Tables.{ends_in, blocks_in, unopened, reversed}
+use Rattle.sedscript.specs.Tables.{ends_in, blocks_in, unopened}
 use Rattle.sedscript.proofs.targets.ends_of.Given as goal
 
 abbrev pub invariant-items : goal.invariant-items
@@ -10,7 +10,7 @@ invariant-items l = record {
   blocks : l.blocks ≡ blocks_in (take l.k l.items);
   few : l.blocks ≤ length l.ends.items;
   ends : drop l.blocks l.ends.items ≡ ends_in l.n (drop l.k l.items);
-  stack : l.unopened.items ≡ reversed (unopened l.n (drop l.k l.items));
+  stack : l.unopened.items ≡ reverse (unopened l.n (drop l.k l.items));
 }
 
 abbrev pub decreases-items : goal.decreases-items
