@@ -7,7 +7,7 @@ use crate::byte_set::ByteSet;
 use crate::elements::{Element, item_at};
 use crate::types::{ExprFault, Reason};
 
-/// The bytes of an item by itself, or its fault.
+/// The bytes of an item that is no end of a range, or its fault.
 fn single(place: usize, element: Element) -> Result<ByteSet, ExprFault>
     ensures is { result ≡ single (place, element) }
     ensures fault { IfErr result (λ f. f.place ≡ place) }
@@ -23,7 +23,7 @@ fn single(place: usize, element: Element) -> Result<ByteSet, ExprFault>
     }
 }
 
-/// The byte by which an item can be an end of a range.
+/// The byte of an item that can be an end of a range.
 fn end_of(element: Element) -> Option<u8>
     ensures { result ≡ end_of element }
 {
@@ -33,7 +33,8 @@ fn end_of(element: Element) -> Option<u8>
     }
 }
 
-/// The bytes of a range that begins at a place, by its ends.
+/// The bytes of a range with these ends, which begins at `place`; a fault there where one of them is missing, they
+/// stand in the wrong order, or the range `goes_on` with a further `-`.
 fn between_ends(
     place: usize,
     first: Option<u8>,
@@ -52,7 +53,8 @@ fn between_ends(
     }
 }
 
-/// The bytes of a range between two items that stand at these places, or its first fault.
+/// The bytes of a range between two items, which stand at `place` and `at`, or its first fault. It `goes_on` where a
+/// further `-` and an item follow.
 fn range(
     place: usize,
     first: Element,
@@ -73,7 +75,7 @@ fn range(
     }
 }
 
-/// Whether `-` and a further item stand at a place.
+/// Whether `-` and a further item stand at `at`.
 fn is_range_at(text: &[u8], at: usize) -> bool
     requires { at ≤ length text.now }
     ensures is { result ≡ is_range (drop at text.now) }
@@ -129,7 +131,8 @@ fn is_closing(text: &[u8], start: usize, at: usize) -> bool
     text[at] == b']' && at != start
 }
 
-/// The bytes that a list matches whose items list a set.
+/// The bytes that a list matches, whose items list this set. Letters of the set match without regard to case where it
+/// is `folded`, and a `negated` list matches all other bytes.
 fn matched(folded: bool, negated: bool, set: ByteSet) -> ByteSet
     ensures { result ≡ matched folded negated set }
 {
@@ -141,9 +144,9 @@ fn matched(folded: bool, negated: bool, set: ByteSet) -> ByteSet
     }
 }
 
-/// Reads the bracket expression whose `[` stands at a place: its bytes, and the place after its `]`.
-/// With a delimiter, a backslash and the delimiter are the delimiter as a literal. Where case is folded, what is
-/// listed is closed under its change, before `^` takes the others.
+/// The bytes that the bracket expression matches whose `[` stands at `at`, and the place after its `]`.
+/// With a delimiter, a backslash and the delimiter are the delimiter as a literal. Where it is `folded`, each letter
+/// that is listed stands for both its cases, before `^` takes the other bytes.
 ///
 /// # Errors
 ///
@@ -179,8 +182,7 @@ pub fn list_at(
     })
 }
 
-/// The place after the bracket expression whose `[` stands at a place, whatever it lists; None where
-/// it isn't closed.
+/// The place after the bracket expression whose `[` stands at `at`, whatever it lists; None where it isn't closed.
 pub fn list_end(delimiter: Option<u8>, text: &[u8], at: usize) -> Option<usize>
     requires { at < length text.now }
     ensures is { result ≡ list_end delimiter (at + 1) (drop (at + 1) text.now) }

@@ -1,4 +1,4 @@
-//! What was read so far: the trees on the stack, and the groups that are open.
+//! The trees that were read so far, and the groups that are open.
 ghost use Rattle.std.specs.Prelude.{◌≡◌, ◌≢◌, ◌≤◌, ◌<◌, ◌+◌, [], ◌∷◌, ℕ, OnOk, vec_len};
 
 use crate::parts::{Cover, Mark};
@@ -21,7 +21,7 @@ impl Builder {
     ghost use Rattle.sedre.specs.Repeats.{IsInterval};
     ghost use Rattle.sedre.specs.Stacks.{Represents, State, TakesItem, start, CanTake, Stored, IsLeaf, with_piece, whole};
 
-    /// Nothing was read. The limit is one more than the nodes allowed.
+    /// A builder to which nothing was added. The limit is one more than the nodes allowed.
     pub fn new(alloc: Global, limit: usize) -> Self
         ensures { Represents limit result start }
     {
@@ -37,7 +37,7 @@ impl Builder {
         }
     }
 
-    /// A piece without parts.
+    /// Adds a piece without parts.
     fn leaf(&mut self, node: Node) -> Result<(), AllocError>
         ensures state { OnOk result ((limit : ℕ) (s : State) (t : Tree) → IsLeaf node t → Represents limit self.old s →
             Represents limit self.new (record { opened = s.opened; top = with_piece t s.top; below = s.below })) }
@@ -46,6 +46,7 @@ impl Builder {
         self.stack.leaf(node)
     }
 
+    /// Opens a group.
     fn open(&mut self) -> Result<(), AllocError>
         requires { self.old.opened < usize.MAX }
         ensures state { OnOk result (TakesItem Item.Open self.old self.new) }
@@ -61,6 +62,7 @@ impl Builder {
         Ok(())
     }
 
+    /// Ends an alternative and begins the next.
     fn bar(&mut self) -> Result<(), AllocError>
         requires { self.old.top.pieces ≤ vec_len self.old.stack.parts }
         ensures state { OnOk result (TakesItem Item.Bar self.old self.new) }
@@ -71,6 +73,7 @@ impl Builder {
         Ok(())
     }
 
+    /// Closes the innermost open group.
     fn close(&mut self) -> Result<(), AllocError>
         requires pieces { self.old.top.pieces ≤ vec_len self.old.stack.parts }
         requires alternatives { self.old.top.alternatives ≤ self.old.top.pieces }
@@ -85,6 +88,7 @@ impl Builder {
         Ok(())
     }
 
+    /// Repeats the last piece.
     fn repeat(&mut self, least: u8, most: Option<u8>) -> Result<(), AllocError>
         requires some { 1 ≤ vec_len self.old.stack.parts }
         requires order { IsInterval least most }
@@ -94,7 +98,7 @@ impl Builder {
         self.stack.repeat(least, most)
     }
 
-    /// Reads one more item.
+    /// Adds one more item.
     pub fn take(&mut self, item: Item) -> Result<(), AllocError>
         requires some { (limit : ℕ) × (s : State) × Represents limit self.old s × CanTake item s }
         requires room { self.old.opened < usize.MAX }

@@ -36,7 +36,7 @@ impl Model for ByteSet {
 }
 
 impl ByteSet {
-    /// No byte.
+    /// The set of no byte.
     pub(crate) fn none() -> Self
         ensures { result ≡ no_byte }
     {
@@ -155,7 +155,7 @@ impl ByteSet {
         self.has(b) || self.has(other_case(b))
     }
 
-    /// The set closed under the change of ASCII case.
+    /// The set with both cases of each of its ASCII letters.
     fn folded(&self) -> Self
         ensures { result ≡ folded_set self.now }
     {
@@ -168,7 +168,7 @@ impl ByteSet {
         set
     }
 
-    /// A byte, and the letter that differs from it in its case alone.
+    /// The set of a byte and the letter that differs from it in its case alone, if there is one.
     fn in_either_case(b: u8) -> Self
         ensures { result ≡ folded_set (only b) }
     {
@@ -177,7 +177,7 @@ impl ByteSet {
         set
     }
 
-    /// The bytes that match for a literal one, where case counts or is folded.
+    /// The bytes that match a literal one: both cases of a letter where it is `folded`, and otherwise that byte.
     pub(crate) fn literal(b: u8, folded: bool) -> Self
         ensures { result ≡ matching folded (only b) }
     {
@@ -188,7 +188,7 @@ impl ByteSet {
         }
     }
 
-    /// The bytes that match for those of the set, where case counts or is folded.
+    /// The bytes that match those of the set: both cases of its letters where it is `folded`, and otherwise the set.
     pub(crate) fn matching(&self, folded: bool) -> Self
         ensures { result ≡ matching folded self.now }
     {
@@ -207,7 +207,7 @@ fn other_case(b: u8) -> u8
     }
 }
 
-/// Whether the bit is set.
+/// Whether the bit `k` of a word is set.
 fn has_bit(word: u64, k: u8) -> bool
     requires { k < 64 }
     ensures { result ≡ eqb (bit_at word k) 1 }
@@ -215,7 +215,7 @@ fn has_bit(word: u64, k: u8) -> bool
     (word >> k) & 1 == 1
 }
 
-/// Sets the bit.
+/// The word with its bit `k` set.
 fn set_bit(word: u64, k: u8) -> u64
     requires { k < 64 }
     ensures same { bit_at result k ≡ 1 }
@@ -224,14 +224,14 @@ fn set_bit(word: u64, k: u8) -> u64
     word | (1u64 << k)
 }
 
-/// The bits of either word.
+/// The bits that are set in either word.
 fn either(a: u64, b: u64) -> u64
     ensures { (k : ℕ) → bit_at result k ≡ max (bit_at a k) (bit_at b k) }
 {
     a | b
 }
 
-/// The lowest bit that is set.
+/// The lowest bit of a word that is set.
 fn lowest_bit(word: u64) -> u8
     requires { 0 < word }
     ensures within { result < 64 }
@@ -240,7 +240,7 @@ fn lowest_bit(word: u64) -> u8
     word.trailing_zeros() as u8
 }
 
-/// The least byte whose bit is set.
+/// The least byte whose bit is set, if any is.
 fn first_member(words: &[u64; 4]) -> Option<u8>
     ensures { MatchOption result ((k : ℕ) → k < 4 → slice_index_or words.now k 0 ≡ 0)
         (λ b. bit_at (slice_index_or words.now (b / 64) 0) (b % 64) ≡ 1) }

@@ -5,9 +5,9 @@ ghost use Rattle.sedre.specs.Delimited.{delimiter_at, next_place};
 
 use crate::brackets::list_end;
 
-/// The place of the delimiter that ends the expression which begins at `at`: the first one that is neither
-/// after a backslash nor in a bracket expression. None where a newline or the end of the text comes first,
-/// and where `at` is past the text. The delimiter is neither a backslash nor a newline.
+/// The place of the delimiter that ends the expression which begins at `at`: the first one that is neither after a
+/// backslash nor in a bracket expression. None where a newline or the end of the text comes first, and where `at` is
+/// past the text. Condition: the delimiter is neither a backslash nor a newline.
 ///
 /// Bracket expressions are read by their own rules, so `[[:x]/` has no end; faults in them are not reported
 /// here. A `[` that is the delimiter ends the expression.
@@ -32,8 +32,8 @@ pub fn delimited(text: &[u8], at: usize, delimiter: u8) -> Option<usize>
     None
 }
 
-/// The place after what stands at a place: an escape, a bracket expression or a byte; None where the
-/// text ends before.
+/// The place after what stands at `at`: an escape, a bracket expression or a byte; None where the text ends before
+/// that.
 fn next_place(text: &[u8], at: usize, delimiter: u8) -> Option<usize>
     requires { at < length text.now }
     ensures is { result ≡ next_place delimiter at (drop at text.now) }

@@ -24,7 +24,7 @@ pub enum Element {
     Unclosed,
 }
 
-/// How many bytes stand before the first `closing` that a `]` follows.
+/// How many bytes stand before the first `closing` that a `]` follows, if there is one.
 fn before_closing(closing: u8, bytes: &[u8]) -> Option<usize>
     ensures is { result ≡ before_closing closing bytes.now }
     ensures within { IfSome result (λ n. n + 1 < length bytes.now) }
@@ -39,7 +39,7 @@ fn before_closing(closing: u8, bytes: &[u8]) -> Option<usize>
     None
 }
 
-/// The item of a form that holds these bytes.
+/// The item of a form of this kind, `:`, `=` or `.`, that holds these bytes.
 fn form_of(kind: u8, held: &[u8]) -> Element
     ensures { result ≡ form_of kind held.now }
 {
@@ -59,7 +59,7 @@ fn form_of(kind: u8, held: &[u8]) -> Element
     }
 }
 
-/// The form whose opening these bytes follow, and how many bytes it has.
+/// The item of the form of this kind whose opening these bytes follow, and how many bytes the form has.
 fn form(kind: u8, bytes: &[u8]) -> (Element, usize)
     requires { length bytes.now + 2 < 2 ^ 64 }
     ensures is { result ≡ form kind (length bytes.now + 2) (content kind bytes.now) }
@@ -74,7 +74,7 @@ fn form(kind: u8, bytes: &[u8]) -> (Element, usize)
     }
 }
 
-/// The item at a place of a list, and how many bytes it has.
+/// The item of a list at `at`, and how many bytes it has.
 pub fn item_at(delimiter: Option<u8>, text: &[u8], at: usize) -> (Element, usize)
     requires { at < length text.now }
     ensures is { result ≡ item delimiter (drop at text.now) }

@@ -7,7 +7,7 @@ ghost use Rattle.sedre.specs.Intervals.{decimal, numeral, begins, closes, closin
 
 use crate::types::Kind;
 
-/// The bounds of a repetition, and how many bytes they and the closing have.
+/// The bounds of a repetition, and how many bytes these and the closing have.
 #[derive(Clone, Copy)]
 pub struct Interval {
     pub least: u8,
@@ -23,7 +23,7 @@ fn digits(front: &[u8]) -> usize
     front.iter().take_while(|b| b.is_ascii_digit()).count()
 }
 
-/// The number that digits make, up to 256.
+/// The number that the digits write, or 256 where it is greater.
 fn decimal(digits: &[u8]) -> u16
     ensures { result ≡ min 256 (decimal 0 digits.now) }
 {
@@ -34,7 +34,7 @@ fn decimal(digits: &[u8]) -> u16
     value
 }
 
-/// The number at the front, at most 255, and how many digits it has.
+/// The number at the front and how many digits it has, if one stands there that is at most 255.
 fn numeral(front: &[u8]) -> Option<(u8, usize)>
     ensures is { result ≡ numeral front.now }
     ensures within { IfSome result (λ found. found.1 ≤ length front.now) }
@@ -48,6 +48,7 @@ fn numeral(front: &[u8]) -> Option<(u8, usize)>
     }
 }
 
+/// Whether this byte stands at the front.
 fn begins(front: &[u8], b: u8) -> bool
     ensures { result ≡ begins front.now b }
 {
@@ -65,6 +66,7 @@ fn closes(kind: Kind, delimiter: Option<u8>, front: &[u8]) -> bool
     }
 }
 
+/// How many bytes the closing has.
 fn closing_width(kind: Kind) -> usize
     ensures { result ≡ closing_width kind }
 {
@@ -74,7 +76,8 @@ fn closing_width(kind: Kind) -> usize
     }
 }
 
-/// What follows the comma: the closing, or a limit of at least the first number and then the closing.
+/// The interval with this first number of so many digits, if `front`, what follows its comma, ends it: by the closing,
+/// or by a limit that is not below the first number and then the closing.
 fn limit(
     kind: Kind,
     delimiter: Option<u8>,
@@ -108,7 +111,7 @@ fn limit(
     }
 }
 
-/// The interval whose opening stands before `front`.
+/// The interval whose opening stands before `front`, if it is one.
 #[tactic(auto, unfolding(crate::specs::Intervals::interval))]
 pub fn interval_at(kind: Kind, delimiter: Option<u8>, front: &[u8]) -> Option<Interval>
     ensures is { result ≡ interval kind delimiter front.now }

@@ -15,44 +15,49 @@ use crate::symbols::symbol_at;
 use crate::syntax::{Here, Item, Symbol};
 use crate::types::{ExprFault, Kind, Reason};
 
+/// Whether an item after this one stands first in its alternative.
 fn is_first(before: &Option<Item>) -> bool
     ensures { result ≡ is_first before.now }
 {
     matches!(before, None | Some(Item::Open | Item::Bar))
 }
 
+/// Whether this item can be repeated.
 fn is_repeatable(before: &Option<Item>) -> bool
     ensures { result ≡ is_repeatable before.now }
 {
     matches!(before, Some(Item::Byte(_) | Item::Close | Item::Repeat(..)))
 }
 
+/// Whether this item is a repetition.
 fn is_repeat(before: &Option<Item>) -> bool
     ensures { result ≡ is_repeat before.now }
 {
     matches!(before, Some(Item::Repeat(..)))
 }
 
+/// Whether an alternative ends before this symbol; None is the end of the text.
 fn ends_alternative(symbol: Option<(Symbol, usize)>) -> bool
     ensures { result ≡ ends_alternative symbol }
 {
     matches!(symbol, None | Some((Symbol::Closing | Symbol::Parting, _)))
 }
 
+/// A fault at `place`.
 fn fault(place: usize, reason: Reason) -> Here
     ensures { result ≡ fault place reason }
 {
     Here::Bad(ExprFault { place, reason })
 }
 
-/// A literal byte that is no letter.
+/// The item of a literal byte that is no letter.
 fn literal(b: u8, next: usize) -> Here
     ensures { result ≡ Here.Is (Item.Byte (only b)) next }
 {
     Here::Is(Item::Byte(ByteSet::only(b)), next)
 }
 
-/// A repetition, where something stands before it that can be repeated.
+/// The repetition, if what stands before it may be repeated; otherwise a fault at `at`.
 fn repeats(may: bool, at: usize, repeat: Here) -> Here
     ensures { result ≡ repeats may at repeat }
 {
@@ -63,6 +68,7 @@ fn repeats(may: bool, at: usize, repeat: Here) -> Here
     }
 }
 
+/// The item of a `*` at `at`, where what stands before it may be repeated or may not.
 fn star_item(kind: Kind, may: bool, at: usize, next: usize) -> Here
     ensures { result ≡ star_item kind may at next }
 {
@@ -73,6 +79,8 @@ fn star_item(kind: Kind, may: bool, at: usize, next: usize) -> Here
     }
 }
 
+/// The item of a `?` or `\?` at `at`, where what stands before it may be repeated or may not, and is a repetition or
+/// not.
 fn question_item(kind: Kind, may: bool, repeated: bool, at: usize, next: usize) -> Here
     ensures { result ≡ question_item kind may repeated at next }
 {
@@ -83,6 +91,7 @@ fn question_item(kind: Kind, may: bool, repeated: bool, at: usize, next: usize) 
     }
 }
 
+/// The item of an interval at `at`, or a fault there.
 fn interval_item(interval: Option<Interval>, at: usize, next: usize) -> Here
     requires { ForSome interval (λ found. next + found.width ≤ usize.MAX) }
     ensures { result ≡ interval_item interval at next }
@@ -93,6 +102,7 @@ fn interval_item(interval: Option<Interval>, at: usize, next: usize) -> Here
     }
 }
 
+/// The item of a bracket expression, or its fault.
 fn list_item(list: Result<(ByteSet, usize), ExprFault>) -> Here
     ensures { result ≡ list_item list }
 {
@@ -102,6 +112,7 @@ fn list_item(list: Result<(ByteSet, usize), ExprFault>) -> Here
     }
 }
 
+/// The item of a `^`, which stands `first` in its alternative or doesn't.
 fn caret_item(kind: Kind, first: bool, next: usize) -> Here
     ensures { result ≡ caret_item kind first next }
 {
@@ -115,6 +126,7 @@ fn caret_item(kind: Kind, first: bool, next: usize) -> Here
     }
 }
 
+/// The item of a `$`, which stands `last` in its alternative or doesn't.
 fn dollar_item(kind: Kind, last: bool, next: usize) -> Here
     ensures { result ≡ dollar_item kind last next }
 {
@@ -128,7 +140,8 @@ fn dollar_item(kind: Kind, last: bool, next: usize) -> Here
     }
 }
 
-/// What stands at a place of a text after an item, where case counts or is folded.
+/// What stands at `at` after the item `before`, if one stands before it. Where the text is `folded`, letters match
+/// without regard to case.
 #[tactic(auto, unfolding(crate::specs::Items::item_at))]
 pub fn item_at(
     kind: Kind,

@@ -5,7 +5,8 @@ ghost use Rattle.sedre.specs.declared.types.Reason.{Reason};
 ghost use Rattle.sedre.specs.Tree.{Tree, size, depth};
 ghost use Rattle.sedre.specs.Grammar.{ReadsAs, ExprFaulty};
 
-/// A text reads as one expression, with one number of groups, and as one where case is folded.
+/// A text reads as one expression at most, with one number of groups, and as one at most where letters match without
+/// regard to case.
 pub fn reads_as_one()
     ensures { (kind : Kind) (folded : Bool) (delimiter : Option ℕ) (text : List ℕ) (one other : Tree)
         (groups more : ℕ) →
@@ -13,7 +14,8 @@ pub fn reads_as_one()
         (one ≡ other) × (groups ≡ more) }
 {}
 
-/// A text that reads as an expression within the limits, where case counts or is folded, has no fault.
+/// A text has no fault if it reads as an expression within the limits, be it one whose letters match without regard to
+/// case or not.
 pub fn reads_without_fault()
     ensures { (kind : Kind) (folded : Bool) (delimiter : Option ℕ) (text : List ℕ) (expression : Tree)
         (groups max_nodes place : ℕ) (reason : Reason) →
@@ -28,7 +30,7 @@ pub fn one_fault()
         (place ≡ more) × (reason ≡ other) }
 {}
 
-/// The place of a text's first fault is in the text or at its end.
+/// The first fault of a text is told in the text or at its end.
 pub fn fault_within()
     ensures { (kind : Kind) (delimiter : Option ℕ) (text : List ℕ) (max_nodes place : ℕ) (reason : Reason) →
         ExprFaulty kind delimiter text max_nodes place reason → place ≤ length text }

@@ -12,7 +12,7 @@ use std::alloc::{AllocError, Global};
 use std::collections::BTreeMap;
 use std::marker::Model;
 
-/// The kind of a node, its mark included.
+/// The kind of a node, with its mark.
 #[derive(Clone, Copy)]
 pub enum Shape {
     Empty,
@@ -28,8 +28,8 @@ pub enum Shape {
     Opt,
 }
 
-/// What is kept of a node. A set is its number, a group its number, and a part how many places it stands before
-/// the node: so a copy of some nodes has the same entries as they have.
+/// What is kept of a node: for a set its number, for a group its number, and for a part how many places it stands
+/// before the node. So a copy of some nodes is a copy of their entries.
 #[derive(Clone, Copy)]
 pub struct Entry {
     pub shape: Shape,
@@ -37,19 +37,21 @@ pub struct Entry {
     pub right: usize,
 }
 
+/// The shape of a `Star` with this mark.
 fn star_shape(first: bool) -> Shape
     ensures { result ≡ star_shape first }
 {
     if first { Shape::FirstStar } else { Shape::Star }
 }
 
+/// The shape of an `Opt` with this mark.
 fn opt_shape(first: bool) -> Shape
     ensures { result ≡ opt_shape first }
 {
     if first { Shape::FirstOpt } else { Shape::Opt }
 }
 
-/// What is kept of a node at the index `at`.
+/// What is kept of a node at the index `at`. `number` is that of its set, if it is one.
 fn entry_of(at: usize, number: usize, node: Node) -> Entry
     ensures { result ≡ entry_of at number node }
 {
@@ -101,15 +103,15 @@ fn node_at(sets: &[ByteSet], at: usize, entry: Entry) -> Node
     }
 }
 
-/// What is kept of the node, mirrored where that is asked for.
+/// What is kept of the node, or of the mirrored node where it is to be `mirrored`.
 fn entry_seen(entry: Entry, mirrored: bool) -> Entry
     ensures { result ≡ entry_seen mirrored entry }
 {
     if mirrored { mirror_entry(entry) } else { entry }
 }
 
-/// What is kept of the mirrored node: its two parts are exchanged where they stand one after the other, and so are
-/// the two anchors.
+/// What is kept of the mirrored node: the other anchor for an anchor, and two parts in the other order where they stand
+/// one after the other.
 fn mirror_entry(entry: Entry) -> Entry
     ensures { result ≡ entry_seen true entry }
 {
@@ -134,7 +136,7 @@ fn mirror_entry(entry: Entry) -> Entry
     }
 }
 
-/// The node that an entry at the index `at` stands for, mirrored where that is asked for.
+/// The node that an entry at the index `at` stands for, or the mirrored node where it is to be `mirrored`.
 fn seen_at(sets: &[ByteSet], at: usize, entry: Entry, mirrored: bool) -> Node
     requires { Fits sets.now at entry }
     ensures { result ≡ node_seen mirrored (node_at sets.now at entry) }
@@ -142,7 +144,8 @@ fn seen_at(sets: &[ByteSet], at: usize, entry: Entry, mirrored: bool) -> Node
     node_at(sets, at, entry_seen(entry, mirrored))
 }
 
-/// The number of a set that was added before. It is compared, so that nothing rests on `numbers`.
+/// The number of a set, if it was added before and `numbers` leads to it. The set there is compared, so that nothing
+/// rests on `numbers`.
 fn number_among(
     sets: &[ByteSet],
     numbers: &BTreeMap<[u64; 4], usize>,
@@ -158,7 +161,7 @@ fn number_among(
     if found.same(set) { Some(number) } else { None }
 }
 
-/// The number of a set, which is added where it isn't there yet. `numbers` says where to look.
+/// The number of a set, which is added unless `numbers` leads to it.
 fn number_of(
     sets: &mut Vec<ByteSet>,
     numbers: &mut BTreeMap<[u64; 4], usize>,
@@ -181,7 +184,7 @@ fn number_of(
     Ok(number)
 }
 
-/// The number of the node's set, or 0.
+/// The number of the node's set, which is added unless it is known; 0 where the node is no set.
 fn set_number(
     sets: &mut Vec<ByteSet>,
     numbers: &mut BTreeMap<[u64; 4], usize>,
@@ -213,7 +216,7 @@ fn add(
     Ok(())
 }
 
-/// Adds the entries from number `from` on once more.
+/// Adds a copy of the entries from index `from` on.
 fn add_again(entries: &mut Vec<Entry>, from: usize) -> Result<(), AllocError>
     ensures fits { (sets : List (List Bool)) → FitFrom sets 0 entries.old.items → FitFrom sets 0 entries.new.items }
     ensures entries { OnOk result (entries.new.items ≡ entries.old.items ++ drop from entries.old.items) }
@@ -230,7 +233,7 @@ fn add_again(entries: &mut Vec<Entry>, from: usize) -> Result<(), AllocError>
 pub struct Packed {
     entries: Vec<Entry>,
     sets: Vec<ByteSet>,
-    /// the number of each set, by its words
+    /// The number of each set, by its words.
     numbers: BTreeMap<[u64; 4], usize>,
 }
 
@@ -258,7 +261,7 @@ impl Packed {
         }
     }
 
-    /// A copy of the nodes, to which others can be added; their sets aren't sought among those of the copy.
+    /// A copy of the nodes. The sets of nodes that are added to it later aren't sought among those that it has.
     pub fn copy(&self, alloc: Global) -> Result<Packed, AllocError>
         ensures { IfOk result (λ p. p ≡ self.now) }
     {
@@ -276,7 +279,7 @@ impl Packed {
         self.entries.len()
     }
 
-    /// The node of an index.
+    /// The node at an index.
     pub fn get(&self, index: usize) -> Node
         requires { index < length self.now }
         ensures { slice_get self.now index ≡ Some result }
@@ -284,7 +287,7 @@ impl Packed {
         node_at(&self.sets, index, self.entries[index])
     }
 
-    /// The node of an index, mirrored where that is asked for.
+    /// The node at an index, or the mirrored node where it is to be `mirrored`.
     pub fn get_seen(&self, index: usize, mirrored: bool) -> Node
         requires { index < length self.now }
         ensures { option_map (node_seen mirrored) (slice_get self.now index) ≡ Some result }
@@ -292,14 +295,14 @@ impl Packed {
         seen_at(&self.sets, index, self.entries[index], mirrored)
     }
 
-    /// Adds a node, which is kept as it is where its parts stand before it.
+    /// Adds a node. It is kept as it is if its parts stand before it.
     pub fn push(&mut self, node: Node) -> Result<(), AllocError>
         ensures { OnOk result (PartsBelow (length self.old) node → self.new ≡ self.old ++ node ∷ []) }
     {
         add(&mut self.entries, &mut self.sets, &mut self.numbers, node)
     }
 
-    /// Adds the last `count` nodes once more, the parts of each `count` places further on.
+    /// Adds a copy of the last `count` nodes, whose parts are `count` places further on.
     pub fn copy_last(&mut self, count: usize) -> Result<(), AllocError>
         ensures { OnOk result (count ≤ length self.old →
             self.new ≡ self.old ++ map (shifted count) (drop (length self.old - count) self.old)) }

@@ -3,11 +3,11 @@
 /// What is kept of a tree.
 #[derive(Clone, Copy)]
 pub struct Part {
-    /// how many nodes the trees up to this one have together, or the limit
+    /// How many nodes the trees up to and including this one have, or the limit where they have more.
     pub end: usize,
-    /// how deep it nests, up to 601
+    /// How deep it nests, up to 601.
     pub depth: usize,
-    /// how deep it nests as an alternative after the first, up to 601
+    /// How deep it nests where it is an alternative after the first, up to 601.
     pub inner: usize,
 }
 

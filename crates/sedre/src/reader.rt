@@ -1,4 +1,4 @@
-//! Reading of an expression: once over the text, with a stack of its own.
+//! Reads an expression, in one pass over the text and with a stack of its own.
 ghost use Rattle.std.specs.Prelude.{◌≡◌, ◌≢◌, true, false, ◌≤◌, ◌<◌, ◌⊎◌, [], ℕ, Some, length};
 ghost use Rattle.std.specs.Prelude.{OnOk, IfOk, IfErr, vec_len};
 ghost use Rattle.std.specs.Bool.{OnTrue, OnFalse};
@@ -17,7 +17,7 @@ use crate::table::Expr;
 use crate::types::{ExprFault, Kind, NO_MEMORY, Reason};
 use std::alloc::Global;
 
-/// Makes one expression of all that was read, where it is within the limits.
+/// The expression of all that was read, if it is within the limits; otherwise a fault at the end of the text, `len`.
 fn finish(mut builder: Builder, len: usize) -> Result<Expr, ExprFault>
     requires { (limit : ℕ) × (s : State) × Represents limit builder s × (s.below ≡ []) ×
         Numbered s.opened (whole s.top) × (limit ≤ 65537) }
@@ -56,7 +56,7 @@ fn finish(mut builder: Builder, len: usize) -> Result<Expr, ExprFault>
     Ok(Expr::of(nodes, opened))
 }
 
-/// Whether the item closes a group where none is open.
+/// Whether the item closes a group and none is open.
 fn is_stray(builder: &Builder, item: &Item) -> bool
     ensures stray { OnTrue result ((item.now ≡ Item.Close) × (vec_len builder.now.below ≡ 0)) }
     ensures fine { OnFalse result (item.now ≡ Item.Close → 0 < vec_len builder.now.below) }
@@ -64,7 +64,8 @@ fn is_stray(builder: &Builder, item: &Item) -> bool
     matches!(item, Item::Close) && builder.below.is_empty()
 }
 
-/// Reads a text, where case counts or is folded.
+/// Reads a text as an expression, or answers its first fault. Where it is `folded`, letters match without regard to
+/// case.
 fn read_with(
     alloc: Global,
     kind: Kind,
@@ -119,9 +120,9 @@ fn read_with(
 
 /// Reads a text as an expression, or answers its first fault.
 ///
-/// With a delimiter, a backslash and the delimiter stand for the delimiter as a literal. Conditions: `max_nodes` is 1 to
-/// 65,536, the delimiter is neither backslash nor newline. E14 at 0 is answered only where a request for memory was
-/// refused.
+/// With a delimiter, a backslash and the delimiter stand for the delimiter as a literal. E14 at 0 is answered only
+/// where a request for memory was refused. Conditions: `max_nodes` is 1 to 65,536, and the delimiter is neither a
+/// backslash nor a newline.
 pub fn read(
     alloc: Global,
     kind: Kind,
@@ -149,8 +150,9 @@ pub fn read(
     read_with(alloc, kind, false, text, delimiter, max_nodes)
 }
 
-/// Reads a text as [`read`] does, with ASCII letters that match without regard to case: a literal byte, and the bytes
-/// that a list lists before its `^`, stand for both cases of their letters.
+/// Reads a text as an expression whose ASCII letters match without regard to case, or answers its first fault. A
+/// literal letter stands for both its cases, and so does a letter that a list names, before its `^` takes the other
+/// bytes. Faults, delimiters and conditions are those of [`read`].
 pub fn read_folded(
     alloc: Global,
     kind: Kind,

@@ -1,4 +1,4 @@
-//! Repetitions, written out on the stack.
+//! Repetitions, which are written out as copies on the stack.
 ghost use Rattle.std.specs.Prelude.{◌≡◌, ◌≤◌, ◌<◌, ◌+◌, ◌^◌, ◌++◌, ◌∷◌, ◌&&◌, [], ℕ, List, None, Some, OnOk, nat_eq};
 ghost use Rattle.std.specs.Prelude.{vec_len};
 
@@ -7,7 +7,8 @@ use crate::stack::Stack;
 use crate::types::Node;
 use std::alloc::AllocError;
 
-/// Whether this optional copy is the outermost one, and the first of its repetition.
+/// Whether an optional copy that holds `held` others is the outermost of `count + 1`, in a repetition where it is
+/// `first`.
 fn is_first(first: bool, held: usize, count: usize) -> bool
     ensures { result ≡ (first && nat_eq held count) }
 {
@@ -32,7 +33,7 @@ impl Stack {
         Ok(())
     }
 
-    /// Makes optional copies, each of which holds the next, of the last `count + 1` trees.
+    /// Makes the last `count + 1` trees optional copies, each of which holds the next.
     fn nest(&mut self, count: usize, first: bool) -> Result<(), AllocError>
         requires { count + 1 ≤ vec_len self.old.parts }
         ensures trees { OnOk result ((limit : ℕ) (ts : List Tree) (a : Tree) →
@@ -48,7 +49,7 @@ impl Stack {
         Ok(())
     }
 
-    /// Repeats the last tree without a limit.
+    /// Repeats the last tree at least `least` times, without a limit.
     fn repeat_from(&mut self, least: u8) -> Result<(), AllocError>
         requires { 1 ≤ vec_len self.old.parts }
         ensures trees { OnOk result (LastBecomes (repetition least None) self.old self.new) }
@@ -60,7 +61,7 @@ impl Stack {
         self.concatenate(from)
     }
 
-    /// Makes a number of copies of the last tree, at least one.
+    /// Repeats the last tree `count` times, at least once.
     fn repeat_exactly(&mut self, count: usize) -> Result<(), AllocError>
         requires some { 1 ≤ vec_len self.old.parts }
         requires once { 1 ≤ count }
@@ -72,7 +73,7 @@ impl Stack {
         self.concatenate(from)
     }
 
-    /// Repeats the last tree at least `least` times, and at most `more` times more.
+    /// Repeats the last tree at least `least` times, and at most `least + more` times.
     fn repeat_within(&mut self, least: usize, more: usize) -> Result<(), AllocError>
         requires some { 1 ≤ vec_len self.old.parts }
         requires more { 1 ≤ more }
@@ -86,7 +87,7 @@ impl Stack {
         self.concatenate(from)
     }
 
-    /// Takes the last tree away, and puts the null string in its place.
+    /// Puts the null string in place of the last tree.
     fn repeat_never(&mut self) -> Result<(), AllocError>
         requires { 1 ≤ vec_len self.old.parts }
         ensures trees { OnOk result (LastBecomes (repetition 0 (Some 0)) self.old self.new) }
@@ -96,7 +97,7 @@ impl Stack {
         self.leaf(Node::Empty)
     }
 
-    /// Repeats the last tree at least `least` times, and at most `most` times where that is given.
+    /// Repeats the last tree at least `least` times, and at most `most` times, or without a limit where that is None.
     pub fn repeat(&mut self, least: u8, most: Option<u8>) -> Result<(), AllocError>
         requires some { 1 ≤ vec_len self.old.parts }
         requires order { IsInterval least most }

@@ -1,4 +1,4 @@
-//! The nodes of an expression, looked at from its beginning or from its end.
+//! The nodes of an expression, or of the mirrored one.
 ghost use Rattle.std.specs.Prelude.{◌≡◌, ◌<◌, ◌≤◌, ◌+◌, ◌^◌, Bool, true, false, Some, length, slice_get};
 ghost use Rattle.sedre.specs.Arena.{Written, IsArena};
 ghost use Rattle.sedre.specs.Mirror.{node_seen, seen};
@@ -9,8 +9,8 @@ use crate::table::Expr;
 use crate::types::{Node, NodeId};
 use std::marker::Model;
 
-/// An expression as it is, or mirrored: the mirrored one matches the same texts, read from the last byte to the first.
-/// No second table is kept: each node is mirrored when it is looked at.
+/// An expression, as it is or mirrored. The mirrored one matches the texts that the expression matches, each read from
+/// its last byte to its first. There is no second table: a node is mirrored when it is looked at.
 #[derive(Drop)]
 pub struct Nodes<'a> {
     expr: &'a Expr,
@@ -56,7 +56,7 @@ impl<'a> Nodes<'a> {
         self.expr.nodes()
     }
 
-    /// The node of the whole expression.
+    /// The id of the node that is the whole expression.
     pub fn root(&self) -> NodeId
         ensures last { result.index + 1 ≡ length self.now.nodes }
         ensures arena { IsArena self.now.nodes }
@@ -65,7 +65,7 @@ impl<'a> Nodes<'a> {
         self.expr.root()
     }
 
-    /// The node of an index. Condition: the index is below `nodes()`.
+    /// The id of the node at an index. Condition: the index is below `nodes()`.
     pub fn id(&self, index: usize) -> NodeId
         requires { index < length self.now.nodes }
         ensures { result.index ≡ index }
@@ -73,7 +73,7 @@ impl<'a> Nodes<'a> {
         self.expr.id(index)
     }
 
-    /// The node itself; the look counts one step. Condition: the index is below `nodes()`.
+    /// The node of an id. This counts one step. Condition: the id's index is below `nodes()`.
     pub fn look(&self, id: NodeId, steps: &mut Steps) -> Node
         requires inside { id.index < length self.now.nodes }
         ensures node { slice_get self.now.nodes id.index ≡ Some result }

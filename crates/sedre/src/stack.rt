@@ -1,7 +1,7 @@
 //! The trees that were read, written out one after another.
 //!
-//! A tree is kept as its nodes only where the nodes up to it stay below a limit. Of a tree that is too large, and of
-//! all after it, only the depths are kept: what stands there reads on, and may still go away under `{0}`.
+//! The nodes of a tree are kept only if all nodes up to it stay below a limit. Of a tree that is too large, and of all
+//! after it, only the depths are kept: reading goes on, since `{0}` may still take them away.
 ghost use Rattle.std.specs.Prelude.{◌≡◌, ◌≤◌, ◌<◌, ◌+◌, ◌-◌, ◌++◌, ◌∷◌, [], ℕ, List, min, max, take, drop, map, length};
 ghost use Rattle.std.specs.Prelude.{OnOk, vec_len, false};
 ghost use Rattle.sedre.specs.Covers.{cover_node};
@@ -11,7 +11,7 @@ use crate::parts::{Cover, Part};
 use crate::types::{Node, NodeId};
 use std::alloc::{AllocError, Global};
 
-/// The sum, up to a limit.
+/// The sum, or the limit where that is less.
 fn sum_within(a: usize, b: usize, limit: usize) -> usize
     ensures { result ≡ min (a + b) limit }
 {
@@ -22,13 +22,14 @@ fn sum_within(a: usize, b: usize, limit: usize) -> usize
     }
 }
 
+/// The larger of two numbers.
 fn larger(a: usize, b: usize) -> usize
     ensures { result ≡ max a b }
 {
     if a < b { b } else { a }
 }
 
-/// One deeper, up to 601.
+/// One level deeper, up to 601.
 fn deeper(a: usize) -> usize
     ensures { result ≡ min 600 a + 1 }
 {
@@ -44,6 +45,7 @@ fn root_at(end: usize) -> NodeId
     }
 }
 
+/// The node with this part.
 fn cover_node(cover: Cover, part: NodeId) -> Node
     ensures { result ≡ cover_node cover part }
 {
@@ -54,10 +56,10 @@ fn cover_node(cover: Cover, part: NodeId) -> Node
     }
 }
 
-/// Trees, the last of which can be changed.
+/// A stack of trees.
 #[derive(Drop)]
 pub struct Stack {
-    /// one more than the nodes that are kept at most
+    /// One more than the most nodes that are kept.
     pub limit: usize,
     pub nodes: Packed,
     pub parts: Vec<Part>,
@@ -97,7 +99,7 @@ impl Stack {
         }
     }
 
-    /// Puts a tree on the stack, whose root is this node. The nodes of its parts, which end at `end`, are the last.
+    /// Puts a tree on the stack whose root is this node. The nodes of its parts are the last ones, and end at `end`.
     fn put(&mut self, node: Node, end: usize, depth: usize, inner: usize) -> Result<(), AllocError>
         ensures put { OnOk result
             (Puts self.old.limit self.old.nodes self.old.parts.items self.new node end depth inner) }
@@ -124,7 +126,7 @@ impl Stack {
         self.put(node, end, 0, 0)
     }
 
-    /// Makes an alternation or a concatenation of the last two trees.
+    /// Makes the last two trees one: an alternation of `alternatives`, or a concatenation.
     pub fn join(&mut self, alternatives: bool) -> Result<(), AllocError>
         requires { 2 ≤ vec_len self.old.parts }
         ensures trees { OnOk result ((limit : ℕ) (ts : List Tree) (a b : Tree) →
@@ -143,7 +145,7 @@ impl Stack {
         }
     }
 
-    /// Puts the last tree under a node.
+    /// Puts a node above the last tree.
     pub fn cover(&mut self, cover: Cover) -> Result<(), AllocError>
         requires { 1 ≤ vec_len self.old.parts }
         ensures trees { OnOk result (LastBecomes (covered cover) self.old self.new) }
@@ -154,7 +156,7 @@ impl Stack {
         self.put(cover_node(cover, root_at(part.end)), part.end, depth, depth)
     }
 
-    /// Adds the last nodes once more, where they stay below the limit.
+    /// Adds a copy of the last `count` nodes, if the nodes then end, at `end`, below the limit.
     fn copy_nodes(&mut self, count: usize, end: usize) -> Result<(), AllocError>
         ensures limit { self.new.limit ≡ self.old.limit }
         ensures parts { self.new.parts ≡ self.old.parts }
@@ -201,7 +203,7 @@ impl Stack {
         self.nodes.truncate(base);
     }
 
-    /// Joins the trees from number `from` on, of which there is at least one.
+    /// Makes the trees from number `from` on one, an alternation or a concatenation. There is at least one of them.
     pub fn join_all(&mut self, from: usize, alternatives: bool) -> Result<(), AllocError>
         requires { from < vec_len self.old.parts }
         ensures trees { OnOk result (Joins from (chain alternatives) self.old self.new) }
@@ -213,7 +215,7 @@ impl Stack {
         Ok(())
     }
 
-    /// Makes a concatenation of the trees from number `from` on.
+    /// Makes the trees from number `from` on one concatenation.
     pub fn concatenate(&mut self, from: usize) -> Result<(), AllocError>
         requires { from ≤ vec_len self.old.parts }
         ensures trees { OnOk result (Joins from concatenation self.old self.new) }
@@ -226,7 +228,7 @@ impl Stack {
         }
     }
 
-    /// Makes an alternation of the trees from number `from` on, of which there is at least one.
+    /// Makes the trees from number `from` on one alternation. There is at least one of them.
     pub fn alternate(&mut self, from: usize) -> Result<(), AllocError>
         requires { from < vec_len self.old.parts }
         ensures trees { OnOk result (Joins from alternation self.old self.new) }

@@ -1,4 +1,4 @@
-//! The count of looks at nodes, and of what the matcher counts besides.
+//! The count of steps: of looks at nodes, and of what the matcher counts besides.
 ghost use Rattle.std.specs.Prelude.{◌≡◌, ◌*◌};
 ghost use Rattle.sedre.specs.Steps.{Takes, Counted};
 
@@ -19,7 +19,7 @@ impl Model for Steps {
 }
 
 impl Steps {
-    /// No steps yet.
+    /// A count of no steps.
     pub fn new() -> Self
         ensures { result ≡ 0 }
     {

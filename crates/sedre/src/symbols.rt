@@ -5,7 +5,7 @@ ghost use Rattle.sedre.specs.Symbols.{alone, escaped, escaped_literal, symbol};
 use crate::syntax::Symbol;
 use crate::types::{Kind, Reason};
 
-/// What a byte means when no backslash stands before it.
+/// What a byte means that no backslash stands before.
 fn alone(kind: Kind, b: u8) -> Symbol
     ensures { result ≡ alone kind b }
 {
@@ -35,7 +35,7 @@ fn alone(kind: Kind, b: u8) -> Symbol
     }
 }
 
-/// What a byte means after a backslash where it is no symbol.
+/// What a byte means after a backslash, if the two are no operator.
 fn escaped_literal(b: u8) -> Symbol
     ensures { result ≡ escaped_literal b }
 {
@@ -69,7 +69,7 @@ fn escaped(kind: Kind, b: u8) -> Symbol
     }
 }
 
-/// The symbol of a byte that is the last one.
+/// The symbol of the last byte of a text.
 fn last(kind: Kind, b: u8) -> Symbol
     ensures { symbol kind None (b ∷ []) ≡ Some (result, 1) }
 {
@@ -80,7 +80,7 @@ fn last(kind: Kind, b: u8) -> Symbol
     }
 }
 
-/// The symbol of a byte before another, and how many bytes it has.
+/// The symbol of the byte `b`, which `c` follows, and how many bytes it has.
 fn before(kind: Kind, delimiter: Option<u8>, b: u8, c: u8) -> (Symbol, usize)
     ensures symbol { (rest : List ℕ) → symbol kind delimiter (b ∷ c ∷ rest) ≡ Some result }
     ensures width { (0 < result.1) × (result.1 ≤ 2) }
@@ -94,7 +94,7 @@ fn before(kind: Kind, delimiter: Option<u8>, b: u8, c: u8) -> (Symbol, usize)
     }
 }
 
-/// The symbol at a place and how many bytes it has, or None at the end of the text.
+/// The symbol at `at` and how many bytes it has; None at the end of the text.
 pub fn symbol_at(
     kind: Kind,
     delimiter: Option<u8>,

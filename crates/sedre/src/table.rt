@@ -11,8 +11,8 @@ use crate::types::{Node, NodeId};
 use std::alloc::{AllocError, Global};
 use std::marker::Model;
 
-/// An expression whose intervals are written out as copies. The parts of a node have smaller indices than the node.
-/// The root is the last node; each other node is a part of exactly one node, once.
+/// An expression whose intervals are written out as copies. A node has a greater index than its parts. The last node is
+/// the whole expression, and each other one is a part of exactly one node, once.
 #[derive(Drop)]
 pub struct Expr {
     nodes: Packed,
@@ -48,7 +48,7 @@ impl Expr {
         })
     }
 
-    /// How many nodes it has, intervals written out.
+    /// How many nodes it has, with its intervals written out.
     pub fn nodes(&self) -> usize
         ensures value { result ≡ length self.now.nodes }
         ensures arena { IsArena self.now.nodes }
@@ -57,7 +57,7 @@ impl Expr {
         self.nodes.len()
     }
 
-    /// How many groups its text has.
+    /// How many groups the text that was read has.
     pub fn groups(&self) -> usize
         ensures value { result ≡ self.now.groups }
         ensures expr { IsExpr self.now.nodes self.now.groups }
@@ -65,7 +65,7 @@ impl Expr {
         self.groups
     }
 
-    /// The node of the whole expression.
+    /// The id of the node that is the whole expression.
     pub fn root(&self) -> NodeId
         ensures last { result.index + 1 ≡ length self.now.nodes }
         ensures arena { IsArena self.now.nodes }
@@ -76,7 +76,7 @@ impl Expr {
         }
     }
 
-    /// The node of an index. Condition: the index is below `nodes()`.
+    /// The id of the node at an index. Condition: the index is below `nodes()`.
     pub fn id(&self, index: usize) -> NodeId
         requires { index < length self.now.nodes }
         ensures { result.index ≡ index }
@@ -84,7 +84,7 @@ impl Expr {
         NodeId { index }
     }
 
-    /// The node itself; the look counts one step. Condition: the index is below `nodes()`.
+    /// The node of an id. This counts one step. Condition: the id's index is below `nodes()`.
     pub fn look(&self, id: NodeId, steps: &mut Steps) -> Node
         requires inside { id.index < length self.now.nodes }
         ensures node { slice_get self.now.nodes id.index ≡ Some result }
@@ -97,7 +97,8 @@ impl Expr {
         self.nodes.get(id.index)
     }
 
-    /// The node itself, mirrored where that is asked for. It counts nothing: [`crate::Nodes`] does.
+    /// The node of an id, or the mirrored node where it is to be `mirrored`. This counts nothing: [`crate::Nodes`]
+    /// does.
     pub(crate) fn seen(&self, id: NodeId, mirrored: bool) -> Node
         requires { id.index < length self.now.nodes }
         ensures node { option_map (node_seen mirrored) (slice_get self.now.nodes id.index) ≡ Some result }

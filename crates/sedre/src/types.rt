@@ -22,7 +22,7 @@ pub enum Reason {
     UnknownClass,
     /// E3: more than one byte stands in `[.` or `[=`
     LongCollating,
-    /// E4: a range is invalid: one of its ends can't be one, or they stand in the wrong order
+    /// E4: a range is invalid: one of its ends can't be an end, or they stand in the wrong order
     BadRange,
     /// E5: a group isn't closed
     OpenGroup,
@@ -40,7 +40,7 @@ pub enum Reason {
     BackReference,
     /// E12: there are more nodes than allowed
     TooManyNodes,
-    /// E13: it nests deeper than 600
+    /// E13: the expression nests deeper than 600 levels
     TooDeep,
     /// E14: a request for memory was refused
     NoMemory,
@@ -93,7 +93,7 @@ impl Reason {
     }
 }
 
-/// A fault, and the place in the text at which it is reported.
+/// A fault, and the place in the text at which it is reported, counted from 0.
 #[derive(Clone, Copy, Debug, PartialEq, Eq)]
 pub struct ExprFault {
     pub place: usize,
@@ -106,14 +106,14 @@ pub const NO_MEMORY: ExprFault = ExprFault {
     reason: Reason::NoMemory,
 };
 
-/// The number of a node in its expression.
+/// The id of a node: its index in its expression.
 #[derive(Clone, Copy)]
 pub struct NodeId {
     pub(crate) index: usize,
 }
 
 impl NodeId {
-    /// Its index, from 0.
+    /// Its index, counted from 0.
     pub fn index(&self) -> usize
         ensures { result ≡ self.now.index }
     {
@@ -132,13 +132,13 @@ pub enum Node {
     Begin,
     /// the end of the text
     End,
-    /// one after the other
+    /// one part and then the other
     Seq(NodeId, NodeId),
-    /// either
+    /// either part
     Alt(NodeId, NodeId),
     /// a group and its number, from 1
     Group(usize, NodeId),
-    /// any number of copies; the mark says that no copy of the same repetition stands before it
+    /// any number of copies; the mark is true where no copy of its repetition stands before it
     Star(NodeId, bool),
     /// at most one copy; the mark as for `Star`
     Opt(NodeId, bool),
