@@ -63,7 +63,7 @@ pub counted_back : (items : List Item) (k n next : ℕ) (i : Item) → slice_get
 counted_back items k n next i at e f =
     counted_same i next (commands_in (take k items)) (sym f ∙ (e ∙ (ap commands_in (take_item items k i at) ∙ commands_snoc (take k items) i)))
 
--- an item that leaves a command is counted
+-- an item that becomes a command is counted
 pub counted_some : (items : List Item) (k n : ℕ) (i : Item) → slice_get items k ≡ Some i → n ≡ commands_in (take (k + 1) items) → leaves i.function ≡ true → 1 ≤ n
 counted_some items k n i at e l =
     let f : n ≡ counted (commands_in (take k items)) i = e ∙ (ap commands_in (take_item items k i at) ∙ commands_snoc (take k items) i) in

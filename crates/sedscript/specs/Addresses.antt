@@ -65,7 +65,8 @@ abbrev pub address_of : List ℕ → ℕ → ℕ → Option ℕ → Reading Addr
 address_of text count at None = plainly (found None at count)
 address_of text count at (Some b) =
     if is_digit b
-    then plainly (line_of count at (past Digit text at) (with_digits (Some 0) (bytes_between text at (past Digit text at))))
+    then plainly
+    (line_of count at (past Digit text at) (with_digits (Some 0) (bytes_between text at (past Digit text at))))
     else if b == 36 then plainly (found (Some Last) (at + 1) count)
     else if b == 47 then match_at text count 47 at
     else if b == 92 then own_match text count (at + 1) (own_delimiter (slice_get text (at + 1)))

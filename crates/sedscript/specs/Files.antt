@@ -33,7 +33,8 @@ name_in u f = None
 -- the name that stands there, if it is a file's
 abbrev pub file_at : FileUse → List ℕ → Option (ℕ × ℕ) → Option (List ℕ)
 file_at u text None = None
-file_at u text (Some name) = if is_file u (bytes_between text name.0 name.1) then Some (bytes_between text name.0 name.1) else None
+file_at u text (Some name) =
+    if is_file u (bytes_between text name.0 name.1) then Some (bytes_between text name.0 name.1) else None
 
 -- each name once, in the order in which they first stand there
 abbrev pub distinct : List (List ℕ) → List (List ℕ)

@@ -111,7 +111,8 @@ abbrev pub allowed : Addresses → ℕ → Option Verb → Result Verb ScriptFau
 allowed addresses at None = fault UnknownCommand at
 allowed addresses at (Some verb) =
     if addresses.negate && most_addresses verb == 0 then fault UnknownCommand at
-    else if nat_lt (most_addresses verb) (option_len addresses.first + option_len addresses.second) then fault TooManyAddresses at
+    else if nat_lt (most_addresses verb) (option_len addresses.first + option_len addresses.second)
+    then fault TooManyAddresses at
     else Ok verb
 
 -- an item with these addresses and the place of its letter, and the place after it

@@ -122,8 +122,8 @@ fn end_run(parts: &mut Vec<Part>, run: Vec<u8>) -> Result<(), AllocError>
     Ok(())
 }
 
-/// Answers the bytes that are gathered after one piece more: a byte joins those gathered so far, and any other piece ends
-/// them and becomes a part.
+/// Answers the bytes that are gathered after one piece more: a byte joins those gathered so far, and any other piece
+/// ends them and becomes a part.
 fn add_piece(
     alloc: Global,
     parts: &mut Vec<Part>,

@@ -6,8 +6,8 @@ ghost use Rattle.std.specs.Option.{option_or};
 ghost use Rattle.sedscript.specs.Targets.{counted, commands_in, is_label, label_in, block_end};
 ghost use Rattle.sedscript.specs.declared.items.Item.{Item};
 ghost use Rattle.sedscript.specs.declared.items.Function.TheVariants.{Open};
-ghost use Rattle.sedscript.specs.Tables.{LabelsAre, TargetsAre, ends_in, with_end, opened, blocks_in, unopened, unopened_by};
-ghost use Rattle.sedscript.specs.Tables.{is_earlier, labelled};
+ghost use Rattle.sedscript.specs.Tables.{LabelsAre, TargetsAre, ends_in, with_end, opened, blocks_in, unopened};
+ghost use Rattle.sedscript.specs.Tables.{unopened_by, is_earlier, labelled};
 
 use crate::bytes::bytes_between;
 use crate::items::{Function, Item};
@@ -249,7 +249,7 @@ pub fn targets_of<'a>(
 }
 
 /// The number of the command after a label, if it is there.
-fn number(label: Option<FirstLabel>) -> Option<usize>
+fn number_of_label(label: Option<FirstLabel>) -> Option<usize>
     ensures { result ≡ option_map (λ l. l.number) label }
 {
     Some(label?.number)
@@ -279,7 +279,7 @@ impl<'a> Targets<'a> {
             TargetsAre text items self.now.labels self.now.ends.items self.now.commands →
             result ≡ label_in text name.now 0 items }
     {
-        number(self.first_label(name))
+        number_of_label(self.first_label(name))
     }
 
     /// Whether an item before the one at index `k` is a label of this name, as that is.

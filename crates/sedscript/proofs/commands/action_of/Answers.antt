@@ -1,4 +1,4 @@
-use Rattle.std.proofs.Common.{drop, take, ◌+◌}
+use Rattle.std.proofs.Common.{drop, take, ◌+◌, rules}
 use Rattle.sedscript.proofs.Blocks.{end_known, end_within}
 use Rattle.sedscript.proofs.TargetFaults.{action_open}
 use Rattle.sedscript.proofs.commands.action_of.Goals as goal
@@ -11,3 +11,6 @@ returns-in-Open c =
 pub block_end-requires : goal.block_end-requires
 block_end-requires c =
     end_within c.args.items.now c.args.targets.now.ends.items c.args.k c.args.before c.args.item c.requires.targets.ends_are c.requires.item c.in-Open.is c.requires.opened
+
+pub returns-else-from-to : goal.returns-else-from-to
+returns-else-from-to c = search rules
