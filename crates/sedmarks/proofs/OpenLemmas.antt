@@ -8,7 +8,7 @@ use Rattle.sedre.specs.declared.types.Node.{Node}
 use Rattle.sedre.specs.declared.types.Node.TheVariants.{Empty, Set, Begin, End, Seq, Alt, Group, Star, Opt}
 use Rattle.sedmarks.specs.declared.passes.Starts.{Starts}
 use Rattle.sedmarks.specs.Reach.{At, Enters, at_root, with_whole, after_left, again, SetsFrom, OpenAt}
-use Rattle.sedmarks.specs.Local.{takes_next}
+use Rattle.sedmarks.specs.PartMarks.{takes_next}
 use Rattle.sedmarks.specs.Matching.{takes}
 use Rattle.sedmarks.proofs.SpanLemmas.{Copies-append}
 use Rattle.sedmarks.proofs.ReachLemmas.{open_at, close_at, Enters-inside}

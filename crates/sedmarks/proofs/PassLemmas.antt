@@ -9,7 +9,7 @@ use Rattle.sedre.specs.declared.types.Node.TheVariants.{Empty, Set, Begin, End, 
 use Rattle.sedmarks.specs.declared.passes.Starts.{Starts}
 use Rattle.sedmarks.specs.Reach.{IsStart, Marked, Below, PartFrom, IsLoose, At, Enters, Ends, Entered, at_root}
 use Rattle.sedre.specs.Packed.{PartsBelow}
-use Rattle.sedmarks.specs.Local.{null_of, end_of, enter_parts}
+use Rattle.sedmarks.specs.PartMarks.{null_of, end_of, enter_parts}
 use Rattle.sedmarks.specs.Matching.{takes}
 use Rattle.sedmarks.specs.Places.{IsPlace, ComesAfter}
 use Rattle.sedmarks.proofs.ReachLemmas.{null_of-At, end_of-Ends, enter_parts-Marked, Enters-root, Enters-loose}

@@ -12,7 +12,7 @@ use Rattle.sedre.specs.declared.types.Node.TheVariants.{Empty, Set, Begin, End, 
 use Rattle.sedre.proofs.TreeLemmas.{tree_at-node}
 use Rattle.sedmarks.specs.declared.passes.Starts.{Starts}
 use Rattle.sedmarks.specs.Reach.{Marked, IsLoose, BeginsWith, At, IsStart, Enters, at_root, with_whole, after_left, again, Ends, Entered}
-use Rattle.sedmarks.specs.Local.{null_of, end_of, enter_parts}
+use Rattle.sedmarks.specs.PartMarks.{null_of, end_of, enter_parts}
 use Rattle.sedmarks.specs.Matching.{takes}
 use Rattle.sedmarks.proofs.SpanLemmas.{Spans-forward, Copies-append, Copies-last}
 

@@ -9,7 +9,7 @@ pub mod Costs
 pub mod Words
 pub mod Fits
 pub mod Nodes
-pub mod Local
+pub mod PartMarks
 pub mod Reach
 pub mod Places
 pub mod States

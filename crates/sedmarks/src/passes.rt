@@ -7,7 +7,7 @@ ghost use Rattle.std.specs.Prelude.{length, slice_index_or, slice_get, Some, IsT
 ghost use Rattle.sedre.specs.Arena.{IsArena};
 ghost use Rattle.sedmarks.specs.Nodes.{IsNode};
 ghost use Rattle.sedre.specs.Packed.{PartsBelow};
-ghost use Rattle.sedmarks.specs.Local.{takes_next, null_of, end_of, enter_parts};
+ghost use Rattle.sedmarks.specs.PartMarks.{takes_next, null_of, end_of, enter_parts};
 ghost use Rattle.sedmarks.specs.Matching.{takes};
 ghost use Rattle.sedmarks.specs.Reach.{IsStart, SetsFrom, SomeSpan, OpenAt};
 ghost use Rattle.sedmarks.specs.Reach.{TellNull, TellEntered, TellEnded, TellBegun};

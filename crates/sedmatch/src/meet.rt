@@ -9,7 +9,7 @@
 ghost use Rattle.std.specs.Prelude.{◌≡◌, ℕ, [], ◌+◌, ◌-◌, ◌*◌, ◌^◌, ◌<◌, ◌≤◌, ◌↔◌, length, IsTrue, IfSome, IfOk, true, false, slice_index_or, Option, Some, if◌then◌else◌};
 ghost use Rattle.sedre.specs.Arena.{tree};
 ghost use Rattle.sedmarks.specs.Nodes.{IsArenaRoot, IsNode, IsRoot};
-ghost use Rattle.sedmarks.specs.Local.{takes_next};
+ghost use Rattle.sedmarks.specs.PartMarks.{takes_next};
 ghost use Rattle.sedmarks.specs.Words.{row_of};
 ghost use Rattle.sedmarks.specs.Reach.{Longest, TellBegun, TellEntered, one_start};
 ghost use Rattle.sedmatch.specs.Meet.{MeetsBelow, GoesOnFrom, CameTo, PassTells, MarksGrow, BlockTells, HasKept, IsKept, Served, ServedAfter, HasBackPass, FitsRows, SameShape, KeepsBackPass, HasPlace, TurnsTo, BlockTakes, low_of, met_to, begin_to, end_to, blocks_cost};

@@ -1,6 +1,6 @@
 use Rattle.std.proofs.Common.{◌≡◌, ◌*◌, ◌+◌, refl, Some, ap, ◌∙◌, arith}
 use Rattle.std.specs.Prelude.{slice_get, slice_index_or, false}
-use Rattle.sedmarks.specs.Local.{end_of}
+use Rattle.sedmarks.specs.PartMarks.{end_of}
 use Rattle.sedmarks.proofs.StepLemmas.{least_none, least_four}
 use Rattle.sedmarks.proofs.PassLemmas.{parts_below, ascend_null, ascend_ended}
 use Rattle.sedmarks.proofs.passes.ascend.Goals as goal

@@ -1,7 +1,7 @@
 use Rattle.std.proofs.Common.{◌≡◌, ◌+◌, ◌-◌, ◌≤◌, Some, refl, sym, subst, ◌∙◌, arith}
 use Rattle.std.specs.Prelude.{slice_get, slice_index_or, false}
 use Rattle.sedmarks.specs.Reach.{SetsFrom}
-use Rattle.sedmarks.specs.Local.{enter_parts}
+use Rattle.sedmarks.specs.PartMarks.{enter_parts}
 use Rattle.sedmarks.proofs.PassLemmas.{parts_below, descend_root, descend_step, Told, Told-all, Told-self}
 use Rattle.sedmarks.proofs.OpenLemmas.{sets_above, sets_step}
 use Rattle.sedmarks.proofs.passes.descend.Goals as goal
