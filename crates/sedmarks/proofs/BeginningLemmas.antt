@@ -2,7 +2,6 @@
 use Rattle.std.proofs.Common.{◌≡◌, ℕ, ◌+◌, ◌<◌, ◌≤◌, Bool, false, List, Some, None, IsTrue, refl, sym, ◌∙◌, subst, inl, ⊎_elim, arith, ◌⊎◌, ◌||◌, inr, ap, Option}
 use Rattle.std.proofs.lemmas.Bool.{both_ways, cases_lt, or_left, or_right}
 use Rattle.sedmarks.specs.declared.beginnings.Begins.TheVariants.{WithSet}
-use Rattle.sedmarks.specs.Spans.{IsIn}
 use Rattle.std.proofs.lemmas.Option.{none-some}
 use Rattle.std.specs.Prelude.{slice_get, slice_index_or}
 use Rattle.sedre.specs.Arena.{IsArena}

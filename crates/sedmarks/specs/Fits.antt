@@ -27,7 +27,7 @@ KeepsStack old new = (new.items ≡ []) × (vec_capacity old ≤ vec_capacity ne
 abbrev pub KeepsPlan : Plan → Plan → Type 0
 KeepsPlan old new = (new.stack.items ≡ []) × (vec_capacity old.stack ≤ vec_capacity new.stack) × (vec_capacity old.tasks ≤ vec_capacity new.tasks)
 
--- the room for texts of so many bytes and expressions of so many nodes
+-- places and plan are room for texts of `text` bytes, at most 2 ^ 30, and expressions of `nodes` nodes, at most 65536
 pub record HasRoom (text nodes : ℕ) (places : List Bool) (plan : Plan) : Type 0 where
   pub short : text ≤ 2 ^ 30
   pub few : nodes ≤ 65536

@@ -1,4 +1,4 @@
--- What is matched, computed: the same as the relations say, by trying all places.
+-- What is matched, computed by trying all places; the laws below say that it is what the relations tell.
 use Rattle.std.specs.Prelude.{◌≡◌, ℕ, zero, suc, ◌+◌, ◌-◌, ◌≤◌, Bool, false, ◌&&◌, ◌||◌, cond, eqb, ltb, List, length, slice_get, slice_index_or, slice_set, Option, Some, None, IsTrue, is_some, ◌↔◌}
 use Rattle.sedre.specs.Tree.{Tree, empty, set, begin, end, seq, alt, group, star, opt}
 use Rattle.sedmarks.specs.Spans.{Spans, Found, NotFound, SomeFound}

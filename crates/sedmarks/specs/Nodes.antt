@@ -12,6 +12,6 @@ IsNode nodes x = (x < length nodes) × (length nodes ≤ 65536)
 abbrev pub IsRoot : List Node → ℕ → Type 0
 IsRoot nodes r = (r + 1 ≡ length nodes) × (length nodes ≤ 65536)
 
--- the same of an arena
+-- r is the last node of an arena, which is the root, and there are no more of them than an expression may have
 abbrev pub IsArenaRoot : List Node → ℕ → Type 0
 IsArenaRoot nodes r = IsArena nodes × IsRoot nodes r

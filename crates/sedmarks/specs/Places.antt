@@ -13,7 +13,7 @@ InOrder a b c = (a ≤ b) × (b ≤ c)
 abbrev pub IsPlace : List ℕ → ℕ → Bool → Bool → Type 0
 IsPlace w place begin end = (IsTrue begin ↔ (place ≡ 0)) × (IsTrue end ↔ (place ≡ length w))
 
--- of the sets that are marked, the same take the byte before the place as take this one
+-- each set that is marked takes the byte before the place exactly if it takes this one
 abbrev pub ComesAfter : List Node → List ℕ → ℕ → List Bool → Option ℕ → Type 0
 ComesAfter nodes w place row byte = (i x : ℕ) (members : List Bool) → i + 1 ≡ place → slice_get nodes x ≡ Some (Set members) → IsTrue (slice_index_or row x false) → takes (slice_get w i) members ≡ takes byte members
 

@@ -6,6 +6,6 @@ pub record Room : Type 0 where
   pub text : ℕ
   pub nodes : ℕ
 
--- a text of so many bytes and an expression of so many nodes fit into the room
+-- a text of `text` bytes and an expression of `nodes` nodes fit into the room
 abbrev pub FitInto : ℕ → ℕ → Room → Type 0
 FitInto text nodes room = (text ≤ room.text) × (nodes ≤ room.nodes)

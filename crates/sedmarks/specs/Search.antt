@@ -33,11 +33,11 @@ pub record IsRegion (e : Tree) (w : List ℕ) (whole : Bool) (r : Region) : Type
   pub some : (i : ℕ) × (k : ℕ) × (r.start ≤ i) × (i ≤ r.last) × Spans e w i k
   pub all : IsTrue whole → (i k : ℕ) → r.start ≤ i → i ≤ r.last → Spans e w i k → k ≤ r.bound
 
--- the same of a region that begins at the place p
+-- the region begins at the place p, and a match begins in it; if the whole of it was looked at, none passes its bound
 abbrev pub IsRegionFrom : Tree → List ℕ → Bool → ℕ → Region → Type 0
 IsRegionFrom e w whole p r = (r.start ≡ p) × IsRegion e w whole r
 
--- the same of a whole region whose last place is the place q
+-- the region goes from the place p to the place q, a match begins in it, and none that does passes its bound
 abbrev pub IsRegionTo : Tree → List ℕ → ℕ → ℕ → Region → Type 0
 IsRegionTo e w p q r = (r.start ≡ p) × (r.last ≡ q) × IsRegion e w true r
 

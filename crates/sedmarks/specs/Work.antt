@@ -85,7 +85,7 @@ NoGroups other = Unit {0}
 abbrev pub AreFlat : List Node → Type 0
 AreFlat nodes = (x k : ℕ) (a : NodeId) → slice_get nodes x ≡ Some (Group k a) → NoGroups (tree_at nodes a.index)
 
--- there is none in the trees at the nodes
+-- there is no group in the trees at the nodes
 abbrev pub AllWithout : List Node → List ℕ → Type 0
 AllWithout nodes [] = Unit {0}
 AllWithout nodes (x ∷ xs) = NoGroups (tree_at nodes x) × AllWithout nodes xs
@@ -96,7 +96,7 @@ weights nodes [] = 0
 weights nodes (Enter x i j ∷ tasks) = 2 * size (tree_at nodes x) + weights nodes tasks
 weights nodes (Close k i j ∷ tasks) = 1 + weights nodes tasks
 
--- some tasks were begun: what is left is less, each of it is ready, and it takes the groups to where the tasks take them
+-- the tasks were begun: those left are ready, weigh less, and take the groups to where the tasks take them
 abbrev pub LeavesLess : List Node → List ℕ → List Task → Groups → List Task → Groups → Type 0
 LeavesLess nodes w tasks old rest new = ((f : Groups) → Run nodes w rest new f → Run nodes w tasks old f) × IsReady nodes w rest × (weights nodes rest + 1 ≤ weights nodes tasks)
 
@@ -109,7 +109,7 @@ inner (star a first) = 1 + inner a
 inner (opt a first) = 1 + inner a
 inner other = 0
 
--- of all nodes to be entered
+-- how many nodes with parts the trees have that are to be entered
 abbrev pub inners : List Node → List Task → ℕ
 inners nodes [] = 0
 inners nodes (Enter x i j ∷ tasks) = inner (tree_at nodes x) + inners nodes tasks

@@ -1,7 +1,7 @@
 //! What the nodes that come first in a match tell of the matches that begin at a place.
 //!
-//! A concatenation is followed from part to part as long as each is a set, an anchor or the null string: so far a match
-//! goes one way only. Most places at which none begins are told by one or two of these parts. Where the
+//! A concatenation is followed from part to part as long as each is a set, an anchor or the null string: up to there a
+//! match goes one way only. Most places at which none begins are told by one or two of these parts. Where the
 //! longest match is asked for, the look goes on over runs of single bytes (`runs_ahead`).
 ghost use Rattle.std.specs.Prelude.{◌≡◌, ℕ, ◌+◌, ◌*◌, ◌^◌, ◌<◌, ◌≤◌, length, slice_get, Some, IfSome, IsTrue};
 ghost use Rattle.sedre.specs.Arena.{IsArena, tree, tree_of};
@@ -52,7 +52,7 @@ fn set_lead(set: &ByteSet, text: &Text, place: usize, steps: &mut Steps) -> Lead
     }
 }
 
-/// Where the spans of an anchor end that begin at the place, given whether it holds there.
+/// Where the spans of an anchor end that begin at the place; `holds` says whether it holds there.
 fn anchor_lead(holds: bool, place: usize) -> Lead
     ensures { result ≡ anchor_lead holds place }
 {
@@ -87,7 +87,7 @@ pub enum Rest {
     End(Lead),
 }
 
-/// What is left of the spans of a concatenation, which stands at the index, after its first part.
+/// What is left of the spans of the concatenation at the index that begin at the place, after its first part.
 #[inline(always)]
 pub fn rest_of_seq(
     expr: &Expr,
@@ -115,7 +115,7 @@ pub fn rest_of_seq(
     }
 }
 
-/// What is left of the spans of the node, which stands at the index, after its first part.
+/// What is left of the spans of the node at the index that begin at the place, after its first part.
 #[inline(always)]
 pub fn rest_of_node(
     expr: &Expr,
@@ -143,7 +143,7 @@ pub fn rest_of_node(
     }
 }
 
-/// Whether the first part of a node tells that no span of it begins at the place, or what is left after that part.
+/// Whether the first part of a node, or what comes first after that part, tells that no span of it begins at the place.
 fn fails_early(expr: &Expr, index: usize, text: &Text, place: usize, steps: &mut Steps) -> bool
     requires inside { index < length expr.now.nodes }
     requires place { place ≤ length text.now }
@@ -196,7 +196,7 @@ pub fn look_ahead(expr: &Expr, text: &Text, place: usize, steps: &mut Steps) -> 
     lead_from(expr, root, text, place, Depth::Parts, steps)
 }
 
-/// The same, where runs of single bytes are looked at as well.
+/// Where the matches end that begin at the place, as far as what comes first in them and runs of single bytes tell.
 pub fn look_far(expr: &Expr, text: &Text, place: usize, steps: &mut Steps) -> Lead
     requires place { place ≤ length text.now }
     ensures leads { LeadsTo (length text.now) (Spans (tree expr.now) text.now place) result }
@@ -206,7 +206,8 @@ pub fn look_far(expr: &Expr, text: &Text, place: usize, steps: &mut Steps) -> Le
     lead_from(expr, root, text, place, Depth::Runs, steps)
 }
 
-/// What is left after the first part of the node at the index, by a look of this depth.
+/// What is left of the spans of the node at the index that begin at the place, after its first part, by a look of this
+/// depth.
 #[inline(always)]
 fn rest_by(
     expr: &Expr,

@@ -35,7 +35,7 @@ pub fn left_part(node: &Node) -> Option<usize>
     }
 }
 
-/// How every span of a node begins that has no such part.
+/// How every span of a node begins, if the node has no part with which all of them begin.
 fn begins_of(node: &Node) -> Begins
     ensures { LeafBegins node.now result }
 {
@@ -49,7 +49,8 @@ fn begins_of(node: &Node) -> Begins
     }
 }
 
-/// The node at the end of the way down the left side of a node: where the node matches, this one does first.
+/// The node with which every span of a node begins and which has no such part itself: the last one on the way down its
+/// left side.
 fn left_leaf(expr: &Expr, from: usize, steps: &mut Steps) -> Node
     requires inside { from < length expr.now.nodes }
     ensures leaf { IsLeaf expr.now.nodes from result }
@@ -88,7 +89,7 @@ fn alternatives(node: &Node) -> Option<(usize, usize)>
     }
 }
 
-/// How every span of two alternatives begins, the second of which may have alternatives of its own.
+/// How every span of two alternatives begins. The second may have alternatives of its own.
 fn begins_either(expr: &Expr, left: usize, right: usize, steps: &mut Steps) -> Begins
     requires left { left < length expr.now.nodes }
     requires right { right < length expr.now.nodes }
@@ -122,7 +123,7 @@ fn begins_either(expr: &Expr, left: usize, right: usize, steps: &mut Steps) -> B
     Begins::Anyhow
 }
 
-/// How every span of the expression begins, by the nodes that can stand first in one.
+/// How every span of the expression begins, as far as the nodes tell that can come first in one.
 pub fn how_begins(expr: &Expr, steps: &mut Steps) -> Begins
     ensures begins { AllBegin (tree expr.now) result }
     ensures cost { Takes steps.old steps.new (9 * length expr.now.nodes) }

@@ -144,8 +144,8 @@ impl<'a> Model for Bytes<'a> {
     ghost view = { λ b. in_order b.backwards b.bytes.now };
 }
 
-/// The bytes that one loop looks at, counted apart from the steps, to which they are added at its end: so the count stays
-/// in a register.
+/// The bytes that one loop looks at, counted apart from the steps, to which they are added at its end: so the count
+/// stays in a register.
 #[derive(Drop)]
 pub struct Tally {
     count: usize,
@@ -158,7 +158,7 @@ impl Model for Tally {
 }
 
 impl Tally {
-    /// No bytes yet.
+    /// A count of no bytes yet.
     pub fn new() -> Tally
         ensures { result ≡ 0 }
     {
@@ -201,7 +201,7 @@ impl<'a> Bytes<'a> {
         self.at(i)
     }
 
-    /// The byte at a place, in a loop that counts its bytes. Counts it there.
+    /// The byte at a place. Counts one look in the tally.
     pub fn tallied(&self, i: usize, tally: &mut Tally) -> u8
         requires inside { i < length self.now }
         requires fits { tally.old + 1 < 2 ^ 64 }
@@ -306,7 +306,7 @@ impl Marks {
     }
 }
 
-/// So many words without a mark.
+/// `count` words without a mark.
 fn zero_words(alloc: Global, count: usize) -> Result<Vec<u64>, AllocError>
     ensures { IfOk result (λ v. v.items ≡ replicate count 0) }
 {
@@ -334,7 +334,7 @@ fn put_bit(word: u64, k: usize, mark: bool) -> u64
     }
 }
 
-/// Empties the first words.
+/// Takes all marks of the first `count` words away.
 fn clear_words(words: &mut Vec<u64>, count: usize)
     requires { count ≤ vec_len words.old }
     ensures len { length words.new.items ≡ length words.old.items }
@@ -345,7 +345,7 @@ fn clear_words(words: &mut Vec<u64>, count: usize)
     }
 }
 
-/// A number made of the first words.
+/// A number made of the first `count` words.
 fn digest_words(words: &Vec<u64>, count: usize) -> u64
     requires inside { count ≤ vec_len words.now }
 {

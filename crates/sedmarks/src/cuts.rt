@@ -42,7 +42,7 @@ pub fn reaches(
     }
 }
 
-/// The same, where what comes first doesn't tell it.
+/// Whether the node `root` matches `start..stop`, by a pass over these bytes.
 fn reaches_by_pass(
     expr: &Expr,
     root: usize,
@@ -128,8 +128,8 @@ fn ends_from(
     }
 }
 
-/// The first place from `start` up to `stop` at which a match of the node `root` from `start` ends and which is marked
-/// where it is counted from the other end.
+/// The first place from `start` up to `stop` at which a match of the node `root` from `start` ends and which is marked,
+/// if there is one. The marks are counted from the other end.
 fn first_end(
     nodes: &Nodes,
     root: usize,
@@ -161,8 +161,8 @@ fn first_end(
     None
 }
 
-/// Where the longest match of `left` from `start` ends, if what comes first in those of `right` tells that none of
-/// them begins before.
+/// Where the longest match of `left` from `start` ends, if what comes first tells this end, and tells that from
+/// `start` on no match of `right` begins before it.
 fn far_cut(
     expr: &Expr,
     left: usize,
@@ -180,18 +180,16 @@ fn far_cut(
     ensures cost { let m = length expr.now.nodes in let n = length text.now in
         Takes steps.old steps.new ((n + 8) * m + 3 + n) }
 {
-    match longest_ahead(expr, left, text, start, steps) {
-        Some(end) => if none_before(expr, right, text, start, end, steps) {
-            Some(end)
-        } else {
-            None
-        },
-        None => None,
+    let end = longest_ahead(expr, left, text, start, steps)?;
+    if none_before(expr, right, text, start, end, steps) {
+        Some(end)
+    } else {
+        None
     }
 }
 
-/// The cut of a span into those of two parts, where it can be told by what comes first in them, or where the right one
-/// is a byte.
+/// The greatest place up to which `left` matches from `start`, and from which `right` matches to `stop`, if what comes
+/// first in them tells it, or if `right` is a single byte.
 fn cut_at_sight(
     expr: &Expr,
     left: usize,
@@ -250,7 +248,8 @@ pub fn last_cut(
     }
 }
 
-/// The same, by one pass from either end.
+/// The greatest place up to which `left` matches from `start`, and from which `right` matches to `stop`, by one pass
+/// from either end.
 fn cut_by_passes(
     expr: &Expr,
     left: usize,
@@ -290,7 +289,7 @@ fn cut_by_passes(
     }
 }
 
-/// The greatest marked place after `start` up to which one copy of `root` matches.
+/// The greatest marked place after `start` up to which one copy of `root` matches, if there is one.
 fn copy_to(
     expr: &Expr,
     root: usize,
@@ -322,8 +321,8 @@ fn copy_to(
     best
 }
 
-/// Marks each place up to `stop` at which a match of the node `root` from `start` ends, counted from the other end; the
-/// others up to there aren't marked.
+/// Marks each place up to `stop` at which a match of the node `root` from `start` ends, and no other up to there. The
+/// marks are counted from the other end.
 fn mark_ends(
     nodes: &Nodes,
     root: usize,
@@ -353,7 +352,8 @@ fn mark_ends(
     }
 }
 
-/// Marks each place from `start` on from which a match of the node `root` ends at `stop`, by one pass backwards.
+/// Marks each place from `start` on at which a match of the node `root` begins that ends at `stop`, by one pass
+/// backwards.
 fn starts_to(
     expr: &Expr,
     root: usize,
@@ -386,8 +386,8 @@ fn starts_to(
     );
 }
 
-/// Where the last copy of `root` begins when `start..stop`, which the repetition `star` of it matches, is cut into copies
-/// that are as long as can be.
+/// Where the last copy of `root` begins when `start..stop` is cut into copies that are as long as can be. `star` is the
+/// repetition of `root`, and matches `start..stop`.
 pub fn last_copy(
     expr: &Expr,
     star: usize,
@@ -420,8 +420,8 @@ pub fn last_copy(
     }
 }
 
-/// The same, where runs of single bytes tell the longest copy from each place on, and the last of these ends at `stop`:
-/// then each is as long as it can be.
+/// Where the last copy of `root` begins when `start..stop` is cut into copies that are as long as can be, if runs of
+/// single bytes tell the longest copy from each place on and the last of these ends at `stop`.
 fn copy_at_sight(
     expr: &Expr,
     root: usize,
@@ -451,8 +451,9 @@ fn copy_at_sight(
     }
 }
 
-/// The same by passes, where a copy may have several bytes: one backwards over the whole marks from where copies lead on
-/// to `stop`, and one forwards over each copy finds the last such place at which it can end.
+/// Where the last copy of `root` begins when `start..stop` is cut into copies that are as long as can be. A pass
+/// backwards over the whole marks the places from which copies lead on to `stop`, and a pass forwards over each copy
+/// finds the last of these at which it can end.
 fn copy_by_passes(
     expr: &Expr,
     star: usize,

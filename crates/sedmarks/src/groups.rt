@@ -5,6 +5,7 @@ ghost use Rattle.std.specs.Prelude.{◌≡◌, ℕ, false, [], ◌∷◌, ◌++�
 ghost use Rattle.std.specs.Prelude.{vec_len, vec_capacity, slice_get, Some, None, slice_set, IfOk, IsTrue, ◌↔◌};
 ghost use Rattle.sedre.specs.Tree.{size};
 ghost use Rattle.sedre.specs.Arena.{IsArena, tree_at, tree};
+ghost use Rattle.sedre.specs.declared.types.Node.TheVariants.{Star, Opt};
 ghost use Rattle.sedmarks.specs.Spans.{Spans};
 ghost use Rattle.sedmarks.specs.Caps.{Caps, forget, IsReport};
 ghost use Rattle.sedmarks.specs.Fits.{AllDone, FitsWork, HasStack, KeepsGroups, KeepsPlan, KeepsStack};
@@ -19,7 +20,7 @@ ghost use Rattle.sedre.specs.Steps.{Takes};
 use crate::counted::{Marks, Text};
 use crate::cuts::{last_copy, last_cut, reaches};
 use crate::scratch::{Plan, Sets, Task};
-use sedre::{Expr, Node, Steps};
+use sedre::{Expr, Node, NodeId, Steps};
 use std::alloc::{AllocError, Global};
 
 /// What is done in place of one task, and whether the groups inside are forgotten before.
@@ -33,7 +34,7 @@ pub enum Split {
     Two(bool, Task, Task),
 }
 
-/// Pushes the parts of a node, the left one last.
+/// Pushes the parts of a node on the stack, the left one last.
 fn put_parts(node: &Node, stack: &mut Vec<usize>)
     requires { vec_len stack.old + 2 ≤ vec_capacity stack.old }
     ensures items { reverse stack.new.items ≡ parts_of node.now ++ reverse stack.old.items }
@@ -133,7 +134,8 @@ pub fn are_flat(alloc: Global, expr: &Expr, steps: &mut Steps) -> Result<bool, A
     Ok(true)
 }
 
-/// Whether there may be a group in the inside of a group, given that there is none where no group stands within another.
+/// Whether there may be a group in what stands inside a group. `flat` says that no group of the expression stands
+/// within another.
 fn may_have_group(
     expr: &Expr,
     flat: bool,
@@ -157,7 +159,8 @@ fn may_have_group(
     }
 }
 
-/// Whether a repetition that matches the null string takes one empty copy of its part: the first one it could have.
+/// Whether a repetition that matches the null string takes one empty copy of its part: if the part matches the null
+/// string there and `first` says that the copy would be the first one.
 fn has_empty_copy(
     expr: &Expr,
     part: usize,
@@ -173,6 +176,68 @@ fn has_empty_copy(
     ensures cost { Takes steps.old steps.new (28 * length expr.now.nodes * (length text.now + 1)) }
 {
     first && reaches(expr, part, text, place, place, sets, steps)
+}
+
+/// How to go on with any number of copies of the node `a` that match a span.
+fn split_star(
+    expr: &Expr,
+    x: usize,
+    a: NodeId,
+    first: bool,
+    start: usize,
+    stop: usize,
+    text: &Text,
+    sets: &mut Sets,
+    places: &mut Marks,
+    steps: &mut Steps,
+) -> Split
+    requires order { InOrder start stop (length text.now) }
+    requires places { length text.now < length places.old }
+    requires node { IsNodeOf expr.now.nodes x (Star a first) }
+    requires spans { At expr.now.nodes text.now x start stop }
+    ensures same { length places.new ≡ length places.old }
+    ensures step { IsStep expr.now.nodes text.now x start stop (forgets_of result) (tasks_of result) }
+    ensures cost { let m = length expr.now.nodes in let n = length text.now in
+        Takes steps.old steps.new (46 * m * (n + 1) * (n + 1) + 1) }
+{
+    let inner = a.index();
+    if start < stop {
+        let copy = last_copy(expr, x, inner, text, start, stop, sets, places, steps);
+        Split::One(true, Task::Enter(inner, copy, stop))
+    } else if has_empty_copy(expr, inner, first, text, start, sets, steps) {
+        Split::One(true, Task::Enter(inner, start, stop))
+    } else {
+        Split::Done
+    }
+}
+
+/// How to go on with one copy of the node `a` or none that matches a span.
+fn split_opt(
+    expr: &Expr,
+    x: usize,
+    a: NodeId,
+    first: bool,
+    start: usize,
+    stop: usize,
+    text: &Text,
+    sets: &mut Sets,
+    steps: &mut Steps,
+) -> Split
+    requires order { InOrder start stop (length text.now) }
+    requires node { IsNodeOf expr.now.nodes x (Opt a first) }
+    requires spans { At expr.now.nodes text.now x start stop }
+    ensures step { IsStep expr.now.nodes text.now x start stop (forgets_of result) (tasks_of result) }
+    ensures cost { let m = length expr.now.nodes in let n = length text.now in
+        Takes steps.old steps.new (46 * m * (n + 1) * (n + 1) + 1) }
+{
+    let inner = a.index();
+    if start < stop {
+        Split::One(true, Task::Enter(inner, start, stop))
+    } else if has_empty_copy(expr, inner, first, text, start, sets, steps) {
+        Split::One(true, Task::Enter(inner, start, stop))
+    } else {
+        Split::Done
+    }
 }
 
 /// How to go on with a node that matches a span.
@@ -235,30 +300,13 @@ fn split_node(
             }
         }
         Node::Star(a, first) => {
-            let inner = a.index();
-            if start < stop {
-                let copy = last_copy(expr, x, inner, text, start, stop, sets, places, steps);
-                Split::One(true, Task::Enter(inner, copy, stop))
-            } else if has_empty_copy(expr, inner, *first, text, start, sets, steps) {
-                Split::One(true, Task::Enter(inner, start, stop))
-            } else {
-                Split::Done
-            }
+            split_star(expr, x, *a, *first, start, stop, text, sets, places, steps)
         }
-        Node::Opt(a, first) => {
-            let inner = a.index();
-            if start < stop {
-                Split::One(true, Task::Enter(inner, start, stop))
-            } else if has_empty_copy(expr, inner, *first, text, start, sets, steps) {
-                Split::One(true, Task::Enter(inner, start, stop))
-            } else {
-                Split::Done
-            }
-        }
+        Node::Opt(a, first) => split_opt(expr, x, *a, *first, start, stop, text, sets, steps),
     }
 }
 
-/// Pushes the tasks of a split, the first one last.
+/// Pushes the tasks of a split on the stack, the first one last.
 fn put_split(split: &Split, tasks: &mut Vec<Task>)
     requires { vec_len tasks.old + 2 ≤ vec_capacity tasks.old }
     ensures items { reverse tasks.new.items ≡ tasks_of split.now ++ reverse tasks.old.items }
@@ -274,7 +322,7 @@ fn put_split(split: &Split, tasks: &mut Vec<Task>)
     }
 }
 
-/// Whether the groups inside are forgotten first.
+/// Whether the split asks for the groups inside to be forgotten first.
 fn forgets(split: &Split) -> bool
     ensures { result ≡ forgets_of split.now }
 {
@@ -306,7 +354,7 @@ fn has_span(groups: &[Option<(usize, usize)>]) -> bool
     false
 }
 
-/// Forgets the groups inside a node, if it is to be done.
+/// Forgets the groups inside a node, if `before` asks for it.
 // Most often there is nothing to forget, and that is seen faster than which groups are inside.
 fn forget_first(
     expr: &Expr,
@@ -329,7 +377,7 @@ fn forget_first(
     }
 }
 
-/// Does one task.
+/// Does one task: the tasks that come of it are put into the plan.
 fn work(
     expr: &Expr,
     flat: bool,
@@ -367,7 +415,8 @@ fn work(
     }
 }
 
-/// Which span each group has in a match of the node `root`, given the groups decided before.
+/// Brings the groups from what they are before the match `start..stop` of the node `root` to what they are after it.
+/// `flat` says that no group of the expression stands within another.
 pub fn decide(
     expr: &Expr,
     flat: bool,
@@ -400,8 +449,8 @@ pub fn decide(
     }
 }
 
-/// The groups of the match `start..stop` of a whole expression. Entry 0 is the whole match. `flat` says that no group of the
-/// expression stands within another.
+/// The groups of the match `start..stop` of a whole expression. Entry 0 is the whole match. `flat` says that no group
+/// of the expression stands within another.
 pub fn report(
     expr: &Expr,
     flat: bool,

@@ -22,7 +22,7 @@ pub struct Found {
     pub start: usize,
     /// Where it ends: the place after its last byte.
     pub end: usize,
-    /// Entry 0 is the whole match, entry k the span of group k; None where the group has no match.
+    /// Entry 0 is the whole match, and entry `k` the span of group `k`, or `None` where the group has no match.
     pub groups: [Option<(usize, usize)>; 10],
 }
 
@@ -42,8 +42,8 @@ impl Found {
 
 /// The leftmost-longest match that begins at `from` or later, with its groups. `None` exactly where there is no match.
 ///
-/// It takes no memory, and its steps are bounded whatever the expression; None costs steps in proportion to the
-/// text.
+/// It takes no memory, and its steps are bounded whatever the expression; where there is no match they are in
+/// proportion to the text.
 pub fn find(
     expr: &Expr,
     text: &Text,
@@ -78,7 +78,8 @@ pub fn find(
     Some(Found { start, end, groups })
 }
 
-/// Where the leftmost-longest match that begins at `from` or later begins and ends, without its groups.
+/// Where the leftmost-longest match that begins at `from` or later begins and ends. `None` exactly where there is no
+/// match.
 pub fn find_span(
     expr: &Expr,
     text: &Text,

@@ -1,10 +1,11 @@
 //! Bytes of a set in a text: the first one from a place on, and how far a run of them goes, by calls that count.
-ghost use Rattle.std.specs.Prelude.{◌≡◌, ◌<◌, ◌≤◌, length, slice_get, Some, IfSome};
+ghost use Rattle.std.specs.Prelude.{◌≡◌, ◌+◌, ◌-◌, ◌<◌, ◌≤◌, length, min, slice_get, Some, IfSome};
 ghost use Rattle.sedmarks.specs.RunsAhead.{IsRun};
 ghost use Rattle.sedmarks.specs.Beginnings.{CanBegin, NextStart, skip_cost};
+ghost use Rattle.sedmarks.specs.Bytes.{looked_at};
 ghost use Rattle.sedmarks.specs.declared.beginnings.Begins.TheVariants.{WithSet};
 ghost use Rattle.sedmarks.specs.Costs.{Pays};
-ghost use Rattle.sedre.specs.Steps.{Takes};
+ghost use Rattle.sedre.specs.Steps.{Takes, Counted};
 
 use crate::counted::{Text, uncounted};
 use sedre::{ByteSet, Steps};
@@ -61,6 +62,7 @@ pub fn find_member(text: &Text, set: &ByteSet, from: usize, steps: &mut Steps) -
     ensures next { NextStart (WithSet set.now) text.now from result }
     ensures here { IfSome result (λ k. CanBegin (WithSet set.now) text.now k) }
     ensures cost { Pays steps.old steps.new (skip_cost (length text.now) result) from }
+    ensures counts { Counted steps.old steps.new (looked_at (length text.now) from result) }
 {
     let bytes = uncounted(text);
     match first_member(set, bytes, from) {
@@ -82,12 +84,10 @@ pub fn run_end(text: &Text, set: &ByteSet, from: usize, steps: &mut Steps) -> us
     requires from { from ≤ length text.now }
     ensures run { IsRun set.now text.now from result }
     ensures cost { Takes steps.old steps.new (length text.now) }
+    ensures counts { Counted steps.old steps.new (min (result + 1) (length text.now) - from) }
 {
     let bytes = uncounted(text);
     let end = run_to(set, bytes, from);
-    steps.add(end - from);
-    if end < bytes.len() {
-        steps.add(1);
-    }
+    steps.add((end + 1).min(bytes.len()) - from);
     end
 }

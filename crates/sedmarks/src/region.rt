@@ -1,4 +1,4 @@
-//! Among some places the first one at which a match begins, found from the other end.
+//! The first of some places at which a match begins, found from the other end of the text.
 //!
 //! What a mirrored expression matches in the text read from its end is what the expression itself matches. So the
 //! last place at which a match of the mirrored one ends is the first at which a match begins.
@@ -23,7 +23,7 @@ pub struct Region {
     pub bound: usize,
 }
 
-/// The last place before `stop` at which a match ends that begins at `first` or after it.
+/// The last place before `stop` at which a match ends that begins at `first` or after it, if there is one.
 fn last_end(
     nodes: &Nodes,
     bytes: &Bytes,

@@ -18,7 +18,7 @@ use crate::counted::Text;
 use crate::members::run_end;
 use sedre::{ByteSet, Expr, Node, Steps};
 
-/// The set of which the node is a repetition, if it is one. It stands at the index.
+/// The set that the node at the index repeats, if it is a repetition of a set.
 fn star_set_of(expr: &Expr, index: usize, node: &Node, steps: &mut Steps) -> Option<ByteSet>
     requires node { slice_get expr.now.nodes index ≡ Some node.now }
     requires arena { IsArena expr.now.nodes }
@@ -35,7 +35,8 @@ fn star_set_of(expr: &Expr, index: usize, node: &Node, steps: &mut Steps) -> Opt
     }
 }
 
-/// The set of which the node is a repetition, alone or in a group, if it is one. It stands at the index.
+/// The set that the node at the index repeats, alone or in a group, if it is a repetition of a set. `node` is that
+/// node.
 fn repeated_set(expr: &Expr, index: usize, node: &Node, steps: &mut Steps) -> Option<ByteSet>
     requires node { slice_get expr.now.nodes index ≡ Some node.now }
     requires arena { IsArena expr.now.nodes }
@@ -52,7 +53,7 @@ fn repeated_set(expr: &Expr, index: usize, node: &Node, steps: &mut Steps) -> Op
     }
 }
 
-/// The same of the node at the index.
+/// The set that the node at the index repeats, alone or in a group, if it is a repetition of a set.
 pub fn star_set(expr: &Expr, index: usize, steps: &mut Steps) -> Option<ByteSet>
     requires inside { index < length expr.now.nodes }
     ensures repeats { IfSome result (λ s. AllRepeat expr.now.nodes index s) }
@@ -62,7 +63,7 @@ pub fn star_set(expr: &Expr, index: usize, steps: &mut Steps) -> Option<ByteSet>
     repeated_set(expr, index, &node, steps)
 }
 
-/// The node with which the spans of the node at the index begin, at most two parts deep.
+/// A node with which all spans of the node at the index begin: at most two parts deep in it.
 fn near_first(expr: &Expr, index: usize, steps: &mut Steps) -> Node
     requires inside { index < length expr.now.nodes }
     ensures first { IsFirst expr.now.nodes index result }
@@ -80,7 +81,7 @@ fn near_first(expr: &Expr, index: usize, steps: &mut Steps) -> Node
     expr.look(expr.id(deeper), steps)
 }
 
-/// The end of the run of bytes of the set that begins at the place, where no byte of the run is in the set `next`.
+/// The end of the run of bytes of the set that begins at the place, if no byte of the run is in the set `next`.
 fn run_apart(
     set: &ByteSet,
     next: &ByteSet,
@@ -105,7 +106,8 @@ fn run_apart(
     Some(text.len())
 }
 
-/// The end of the run of bytes of the set, where no span of the node at the index begins before it in the run.
+/// The end of the run of bytes of the set that begins at the place, if no span of the node at the index begins at a
+/// byte of the run.
 fn run_before(
     expr: &Expr,
     index: usize,
@@ -127,7 +129,8 @@ fn run_before(
     }
 }
 
-/// Where the longest of one copy of the set and none ends.
+/// The end of the byte at the place, if it is in the set, and otherwise the place itself: there the longest span ends
+/// that is one byte of the set or none.
 fn one_or_none(set: &ByteSet, text: &Text, place: usize, steps: &mut Steps) -> Lead
     requires place { place ≤ length text.now }
     ensures leads { LeadsTo (length text.now) (λ j. (place ≡ j) ⊎ Spans (a_set set.now) text.now place j) result }
@@ -140,7 +143,7 @@ fn one_or_none(set: &ByteSet, text: &Text, place: usize, steps: &mut Steps) -> L
     }
 }
 
-/// Where the longest span of a repetition ends, which is the node at the index.
+/// Where the longest span of the node at the index ends that begins at the place, if the node repeats a set.
 fn star_end(
     expr: &Expr,
     index: usize,
@@ -162,7 +165,8 @@ fn star_end(
     }
 }
 
-/// Where the longest span of the node ends, which stands at the index and has the part once or not at all.
+/// Where the longest span of the node at the index ends that begins at the place, if the node is one byte of a set or
+/// none.
 fn opt_end(
     expr: &Expr,
     index: usize,
@@ -187,7 +191,8 @@ fn opt_end(
     }
 }
 
-/// What is left of the spans of a concatenation, which stands at the index, after its first part.
+/// What is left of the spans of the concatenation at the index that begin at the place, after its first part, which may
+/// be a run of single bytes.
 fn seq_after(
     expr: &Expr,
     index: usize,
@@ -244,7 +249,7 @@ pub fn rest_after_run(
     }
 }
 
-/// Whether no byte from one place up to another is in the set.
+/// Whether no byte from `from` up to `to` is in the set.
 fn none_in(set: &ByteSet, text: &Text, from: usize, to: usize, steps: &mut Steps) -> bool
     requires to { to ≤ length text.now }
     ensures apart { IsTrue result → IsApart set.now text.now from to }
@@ -259,7 +264,7 @@ fn none_in(set: &ByteSet, text: &Text, from: usize, to: usize, steps: &mut Steps
     true
 }
 
-/// Whether what comes first in the spans of the node tells that none of them begins from one place up to another.
+/// Whether what comes first in the spans of the node tells that none of them begins at a place from `from` up to `to`.
 pub fn none_before(
     expr: &Expr,
     index: usize,

@@ -26,21 +26,24 @@ pub enum Task {
     Close(usize, usize, usize),
 }
 
-/// What is still to do, the next one last.
+/// What is still to do while the groups of a match are decided: in both lists the next one is the last.
 #[derive(Drop)]
 pub struct Plan {
-    /// While the groups are decided.
+    /// The tasks.
     pub tasks: Vec<Task>,
-    /// While groups are forgotten: the nodes still to look at.
+    /// The nodes still to look at, while groups are forgotten.
     pub stack: Vec<usize>,
 }
 
-/// The room for searches: `find` and its like take no memory besides.
+/// The room for searches: `find`, `find_span` and `is_match` take no other memory.
 #[derive(Drop)]
 pub struct Scratch {
+    /// Marks for the nodes.
     pub sets: Sets,
-    /// Of the places of a text, while a node is cut into its parts: a part can end there, or the rest can begin there.
+    /// A mark for each place of a text, while a node is cut into its parts: a part can end there, or the rest can begin
+    /// there.
     pub places: Marks,
+    /// What is still to do while the groups are decided.
     pub plan: Plan,
     max_text: usize,
     max_nodes: usize,
@@ -97,7 +100,7 @@ pub fn new_sets(alloc: Global) -> Result<Sets, AllocError> {
     })
 }
 
-/// Empty lists with room for what an expression of `nodes` nodes gives to do.
+/// A plan with nothing to do, and with room for all that an expression of `nodes` nodes can give to do.
 fn new_plan(alloc: Global, nodes: usize) -> Result<Plan, AllocError>
     requires { nodes ≤ 65536 }
     ensures { IfOk result (λ p. FitsWork nodes p) }

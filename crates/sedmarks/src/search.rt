@@ -100,7 +100,7 @@ pub fn advance_from(
     advance_forwards(expr, root, text, starts, place, sets, steps)
 }
 
-/// The end of the longest match that begins at `start`.
+/// The end of the longest match that begins at `start`, if there is one.
 fn longest_at(
     expr: &Expr,
     text: &Text,
@@ -128,7 +128,7 @@ fn longest_at(
     best
 }
 
-/// The end of the longest match that begins at `start`, where a look ahead may have told it.
+/// The end of the longest match that begins at `start`, if there is one. `lead` is what a look ahead told of it.
 fn longest_from(
     expr: &Expr,
     text: &Text,
@@ -163,8 +163,8 @@ pub enum Swept {
     Miss(usize),
 }
 
-/// The region whose last place, where the first match ends, a pass from `start` on has reached: with its bound,
-/// to which the pass goes on with no new starts, if the whole of it is asked for.
+/// The region from `start` to `last`, where the first match ends that a pass from `start` on has met. If `whole` asks
+/// for its bound, the pass goes on to it with no new starts.
 fn region_to(
     expr: &Expr,
     root: usize,
@@ -211,9 +211,9 @@ fn region_to(
     }
 }
 
-/// A pass over the text from `start` on in which every place is entered as a start.
-/// It ends where a match does, or where no match that began before can go on; where the whole region of the match is
-/// asked for, it goes on with no new starts to the bound.
+/// How a pass over the text ends that goes on from `start` with every place as a start. It ends where a match does, or
+/// where no match that began before can go on. If `whole` asks for the bound of the match's region, it goes on to that
+/// with no new starts.
 fn sweep(
     expr: &Expr,
     text: &Text,
@@ -257,8 +257,8 @@ pub fn better(best: Option<usize>, place: usize, matched: bool) -> Option<usize>
     if matched { Some(place) } else { best }
 }
 
-/// The end of the longest match from a start that ends at `stop` or before, given what is told of a place and the best
-/// before it.
+/// The end of the longest match that begins at `start` and ends at `stop` or before, if there is one. `ends` says
+/// whether one ends at `place`, and `before` is the end of the longest of those that end before `place`.
 pub fn longest_on(
     expr: &Nodes,
     root: usize,
@@ -292,7 +292,8 @@ pub fn longest_on(
     best
 }
 
-/// The same, where a look ahead may have told that a match begins at `start`.
+/// How a pass ends that goes on from `start` with every place as a start. Where a look ahead told where the match from
+/// `start` ends, as `lead` says, no pass is made.
 fn sweep_from(
     expr: &Expr,
     text: &Text,
@@ -318,8 +319,8 @@ fn sweep_from(
     }
 }
 
-/// The first place from `from` on at which a match can begin, by its first byte and by what comes first in it, and
-/// where the matches end that begin there.
+/// The first place from `from` on at which a match can begin, and what a look ahead tells of where the matches end that
+/// begin there. Places are passed over by the first byte of a match and by what comes first in it.
 pub fn next_place(
     expr: &Expr,
     begins: &Begins,
@@ -349,8 +350,8 @@ pub fn next_place(
     None
 }
 
-/// A region from `from` on before which no match begins, whole if that is asked for.
-/// Each byte is passed once, whatever the expression.
+/// A region from `from` on in which a match begins and before which none does, if there is a match: with its bound, if
+/// `whole` asks for that. Each byte is passed once, whatever the expression.
 pub fn scan(
     expr: &Expr,
     begins: &Begins,
@@ -382,8 +383,8 @@ pub fn scan(
     None
 }
 
-/// The leftmost-longest span among those that begin in the region: the first start by a pass from the other end,
-/// and the longest span from there.
+/// The leftmost-longest span of those that begin in the region: a pass from the other end finds where it begins, and a
+/// pass from there where it ends.
 fn span_in(
     expr: &Expr,
     text: &Text,
@@ -400,13 +401,11 @@ fn span_in(
 {
     let start = earliest(expr, text, region, sets, steps);
     let lead = look_ahead(expr, text, start, steps);
-    match longest_from(expr, text, start, lead, sets, steps) {
-        None => None,
-        Some(end) => Some((start, end)),
-    }
+    let end = longest_from(expr, text, start, lead, sets, steps)?;
+    Some((start, end))
 }
 
-/// The leftmost-longest span that begins at `from` or later.
+/// The leftmost-longest span that begins at `from` or later, if there is one.
 ///
 /// The first possible start is tried first. Where no match begins there, one pass tells whether any follows, up to
 /// which place it begins and up to which it can end; a pass backwards from there finds where the first one begins,

@@ -17,14 +17,14 @@ use crate::passes::{ascend, descend, ends_here};
 use crate::scratch::Sets;
 use sedre::{Node, Nodes, Steps};
 
-/// Whether a match ends at a place.
+/// What is told of a place: whether a match ends there, and whether one may end later.
 #[derive(Clone, Copy, PartialEq, Eq)]
 pub struct Ends {
-    /// If bytes follow.
+    /// Whether a match ends there if bytes follow.
     pub inner: bool,
-    /// If the place is the end of the text.
+    /// Whether a match ends there if it is the end of the text.
     pub last: bool,
-    /// Not whether one ends there, but whether one that began there or before may end later.
+    /// Whether a match that began there or before may end later.
     pub goes: bool,
 }
 
@@ -59,8 +59,8 @@ fn any_set(expr: &Nodes, root: usize, marks: &NodeMarks, steps: &mut Steps) -> b
     false
 }
 
-/// Brings the marks of a pass to a place after `byte`, which `begin` says to be the text's beginning, and at which a
-/// match may begin if `first` says so.
+/// Brings the marks of a pass to the next place, and tells whether a match ends there. `byte` is the one before it, if
+/// there is one, `begin` says whether it is the text's beginning, and `first` whether a match may begin there.
 pub fn step(
     expr: &Nodes,
     root: usize,

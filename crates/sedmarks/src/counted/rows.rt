@@ -49,7 +49,7 @@ impl Rows {
         self.count
     }
 
-    /// Copies the first `count` marks of a row, a word at a time; those after them may change too.
+    /// Copies the first `count` marks of a row into `marks`, a word at a time; those after them may change too.
     /// Counts a look for each of the `count`.
     #[inline(always)]
     pub fn load(&self, row: usize, marks: &mut NodeMarks, count: usize, steps: &mut Steps)
@@ -63,7 +63,7 @@ impl Rows {
         self.load_marks(row, &mut marks.marks, count, steps);
     }
 
-    /// Makes the first `count` marks of a row these, a word at a time; those after them may change too.
+    /// Copies the first `count` of `marks` into a row, a word at a time; those after them in the row may change too.
     /// Counts a look for each of the `count`.
     #[inline(always)]
     pub fn store(&mut self, row: usize, marks: &NodeMarks, count: usize, steps: &mut Steps)
@@ -80,7 +80,7 @@ impl Rows {
         self.store_marks(row, &marks.marks, count, steps);
     }
 
-    /// Whether the first `count` marks of a row are these, and the rest of their last word too.
+    /// Whether the first `count` marks of a row are those of `marks`, and the rest of their last word too.
     /// Counts a look for each of the `count`.
     #[inline(always)]
     pub fn same(&self, row: usize, marks: &NodeMarks, count: usize, steps: &mut Steps) -> bool
@@ -94,7 +94,8 @@ impl Rows {
         self.same_marks(row, &marks.marks, count, steps)
     }
 
-    /// The same as [`Rows::load`] for any marks.
+    /// Copies the first `count` marks of a row into `marks`, a word at a time; those after them may change too.
+    /// Counts a look for each of the `count`.
     fn load_marks(&self, row: usize, marks: &mut Marks, count: usize, steps: &mut Steps)
         requires row { row < length self.now }
         requires inside { count ≤ length (row_of self.now row) }
@@ -114,7 +115,8 @@ impl Rows {
         );
     }
 
-    /// The same as [`Rows::store`] for any marks.
+    /// Copies the first `count` of `marks` into a row, a word at a time; those after them in the row may change too.
+    /// Counts a look for each of the `count`.
     fn store_marks(&mut self, row: usize, marks: &Marks, count: usize, steps: &mut Steps)
         requires row { row < length self.old }
         requires inside { count ≤ length (row_of self.old row) }
@@ -136,7 +138,8 @@ impl Rows {
         );
     }
 
-    /// The same as [`Rows::same`] for any marks.
+    /// Whether the first `count` marks of a row are those of `marks`, and the rest of their last word too.
+    /// Counts a look for each of the `count`.
     fn same_marks(&self, row: usize, marks: &Marks, count: usize, steps: &mut Steps) -> bool
         requires row { row < length self.now }
         requires inside { count ≤ length (row_of self.now row) }
@@ -155,7 +158,7 @@ impl Rows {
     }
 }
 
-/// Copies so many words from one place to another.
+/// Copies `count` words of `other` from `from` on into `words`, from `to` on.
 fn copy_words(words: &mut Vec<u64>, to: usize, other: &Vec<u64>, from: usize, count: usize)
     requires inside { to + count ≤ vec_len words.old }
     requires there { from + count ≤ vec_len other.now }
@@ -169,7 +172,7 @@ fn copy_words(words: &mut Vec<u64>, to: usize, other: &Vec<u64>, from: usize, co
     }
 }
 
-/// Whether so many words from a place on are the first ones of another list.
+/// Whether the `count` words from `at` on are the first `count` words of `other`.
 fn same_words(words: &Vec<u64>, at: usize, other: &Vec<u64>, count: usize) -> bool
     requires inside { at + count ≤ vec_len words.now }
     requires there { count ≤ vec_len other.now }

@@ -1,4 +1,4 @@
-use Rattle.std.proofs.Common.{◌≡◌, ℕ, ◌+◌, ◌*◌, ◌<◌, ◌≤◌, ◌⊎◌, List, length}
+use Rattle.std.proofs.Common.{ℕ, ◌+◌, ◌*◌, ◌<◌, ◌≤◌, ◌⊎◌, List, length}
 use Rattle.sedmarks.specs.Reach.{At}
 use Rattle.sedmarks.specs.Beginnings.{AllAt, CanBegin}
 use Rattle.sedmarks.specs.declared.beginnings.Begins.TheVariants.{WithSet}

@@ -1,15 +1,14 @@
-use Rattle.std.proofs.Common.{◌+◌, ◌*◌, ◌≤◌, length, false, true, [], ◌∷◌, ◌≡◌, Some, refl, sym, ap, ◌∙◌, subst, inl, inr, arith}
+use Rattle.std.proofs.Common.{◌+◌, ◌*◌, ◌≤◌, length, ◌≡◌, Some, refl, sym, ap, ◌∙◌, subst, inl, inr, arith}
 use Rattle.std.specs.Prelude.{slice_get}
 use Rattle.std.proofs.lemmas.Bool.{both_ways}
-use Rattle.sedre.specs.declared.types.Node.TheVariants.{Empty, Set, Begin, End, Seq, Alt, Group, Star, Opt}
+use Rattle.sedre.specs.declared.types.Node.TheVariants.{Empty, Set, Begin, End, Seq, Alt, Group}
 use Rattle.sedmarks.specs.Reach.{At}
-use Rattle.sedmarks.specs.Caps.{LastCut, LastCopy}
+use Rattle.sedmarks.specs.Caps.{LastCut}
 use Rattle.sedre.specs.Arena.{tree_at}
 use Rattle.sedre.specs.Tree.{size}
-use Rattle.sedmarks.specs.Work.{IsStep, NoGroups, node_cost}
-use Rattle.sedmarks.specs.declared.scratch.Task.TheVariants.{Enter}
+use Rattle.sedmarks.specs.Work.{NoGroups, node_cost}
 use Rattle.sedmarks.proofs.ReachLemmas.{open_at}
-use Rattle.sedmarks.proofs.WorkLemmas.{group_size, part_inside, step_leaf, step_seq, step_alt_left, step_alt_right, step_group, step_group_alone, step_star, step_star_empty, step_star_none, step_opt, step_opt_empty, step_opt_none}
+use Rattle.sedmarks.proofs.WorkLemmas.{group_size, part_inside, step_leaf, step_seq, step_alt_left, step_alt_right, step_group, step_group_alone}
 use Rattle.sedmarks.proofs.groups.split_node.Goals as goal
 
 pub last_cut-cut-requires-clause-left_inside : goal.last_cut-cut-requires-clause-left_inside
@@ -31,31 +30,6 @@ pub reaches-spans-requires-clause-root : goal.reaches-spans-requires-clause-root
 reaches-spans-requires-clause-root c =
     let is : slice_get c.args.expr.now.nodes c.args.x ≡ Some (Alt c.in-Alt.a c.in-Alt.b) = c.requires.node.2 ∙ ap Some c.in-Alt.is in
     (rw c.index-left-in-Alt.ensures (part_inside _ c.requires.node.0 _ _ _ c.requires.node.1.0 is (inl refl)), c.requires.node.1.1)
-
-pub last_copy-copy-requires-clause-root : goal.last_copy-copy-requires-clause-root
-last_copy-copy-requires-clause-root c =
-    let is : slice_get c.args.expr.now.nodes c.args.x ≡ Some (Star c.in-Star.a c.in-Star.first) = c.requires.node.2 ∙ ap Some c.in-Star.is in
-    rw c.index-inner-in-Star.ensures (part_inside _ c.requires.node.0 _ _ _ c.requires.node.1.0 is refl)
-
-pub last_copy-copy-requires-clause-repeats : goal.last_copy-copy-requires-clause-repeats
-last_copy-copy-requires-clause-repeats c =
-    let is : slice_get c.args.expr.now.nodes c.args.x ≡ Some (Star c.in-Star.a c.in-Star.first) = c.requires.node.2 ∙ ap Some c.in-Star.is in
-    (c.in-Star.a, c.in-Star.first, is, sym c.index-inner-in-Star.ensures)
-
-pub last_copy-copy-requires-clause-spans : goal.last_copy-copy-requires-clause-spans
-last_copy-copy-requires-clause-spans c =
-    let is : slice_get c.args.expr.now.nodes c.args.x ≡ Some (Star c.in-Star.a c.in-Star.first) = c.requires.node.2 ∙ ap Some c.in-Star.is in
-    rw c.index-inner-in-Star.ensures (open_at c.args.expr.now.nodes c.args.text.now c.args.x (Star c.in-Star.a c.in-Star.first) c.requires.node.0 is c.args.start c.args.stop c.requires.spans)
-
-pub has_empty_copy-requires-clause-part : goal.has_empty_copy-requires-clause-part
-has_empty_copy-requires-clause-part c =
-    let is : slice_get c.args.expr.now.nodes c.args.x ≡ Some (Star c.in-Star.a c.in-Star.first) = c.requires.node.2 ∙ ap Some c.in-Star.is in
-    (rw c.index-inner-in-Star.ensures (part_inside _ c.requires.node.0 _ _ _ c.requires.node.1.0 is refl), c.requires.node.1.1)
-
-pub has_empty_copy-requires-else-start-stop-2-clause-part : goal.has_empty_copy-requires-else-start-stop-2-clause-part
-has_empty_copy-requires-else-start-stop-2-clause-part c =
-    let is : slice_get c.args.expr.now.nodes c.args.x ≡ Some (Opt c.in-Opt.a c.in-Opt.first) = c.requires.node.2 ∙ ap Some c.in-Opt.is in
-    (rw c.index-inner-in-Opt.ensures (part_inside _ c.requires.node.0 _ _ _ c.requires.node.1.0 is refl), c.requires.node.1.1)
 
 pub returns-in-Empty-clause-step : goal.returns-in-Empty-clause-step
 returns-in-Empty-clause-step c =
@@ -107,53 +81,6 @@ returns-else-may_have_group-clause-step c =
     let is : slice_get c.args.expr.now.nodes c.args.x ≡ Some (Group c.in-Group.k c.in-Group.a) = c.requires.node.2 ∙ ap Some c.in-Group.is in
     step_group_alone c.args.expr.now.nodes c.args.text.now c.requires.node.0 c.args.x c.requires.node.1.0 c.in-Group.k c.in-Group.a is
     (subst (λ n. NoGroups (tree_at c.args.expr.now.nodes n)) c.index-inner.ensures (c.may_have_group.ensures.none c.if-may_have_group.false)) c.args.start c.args.stop c.requires.spans
-
-pub returns-then-start-stop-clause-step : goal.returns-then-start-stop-clause-step
-returns-then-start-stop-clause-step c =
-    let is : slice_get c.args.expr.now.nodes c.args.x ≡ Some (Star c.in-Star.a c.in-Star.first) = c.requires.node.2 ∙ ap Some c.in-Star.is in
-    let last : LastCopy (At c.args.expr.now.nodes c.args.text.now c.in-Star.a.index) c.args.stop c.args.start c.last_copy-copy.result = rw c.index-inner-in-Star.ensures at c.last_copy-copy.ensures.last.0 in
-    rw c.index-inner-in-Star.ensures (step_star c.args.expr.now.nodes c.args.text.now c.requires.node.0 c.args.x c.requires.node.1.0 c.in-Star.a c.in-Star.first is c.args.start c.last_copy-copy.result c.args.stop c.if-start-stop.true c.last_copy-copy.ensures.last.1 c.requires.order.1 last)
-
-pub returns-then-has_empty_copy-clause-step : goal.returns-then-has_empty_copy-clause-step
-returns-then-has_empty_copy-clause-step c =
-    let is : slice_get c.args.expr.now.nodes c.args.x ≡ Some (Star c.in-Star.a c.in-Star.first) = c.requires.node.2 ∙ ap Some c.in-Star.is in
-    let same : c.args.start ≡ c.args.stop = omega arith in
-    let copy = c.has_empty_copy.ensures.copy.0 c.if-has_empty_copy.true in
-    let at : At c.args.expr.now.nodes c.args.text.now c.in-Star.a.index c.args.start c.args.start = rw c.index-inner-in-Star.ensures at copy.1 in
-    rw c.index-inner-in-Star.ensures (subst (λ j. IsStep c.args.expr.now.nodes c.args.text.now c.args.x c.args.start j true (Enter c.in-Star.a.index c.args.start j ∷ [])) same
-    (step_star_empty c.args.expr.now.nodes c.args.text.now c.requires.node.0 c.args.x c.requires.node.1.0 c.in-Star.a c.in-Star.first is c.args.start (omega arith) copy.0 at))
-
-pub returns-else-has_empty_copy-clause-step : goal.returns-else-has_empty_copy-clause-step
-returns-else-has_empty_copy-clause-step c =
-    let is : slice_get c.args.expr.now.nodes c.args.x ≡ Some (Star c.in-Star.a c.in-Star.first) = c.requires.node.2 ∙ ap Some c.in-Star.is in
-    let same : c.args.start ≡ c.args.stop = omega arith in
-    subst (λ j. IsStep c.args.expr.now.nodes c.args.text.now c.args.x c.args.start j false []) same
-    (step_star_none c.args.expr.now.nodes c.args.text.now c.requires.node.0 c.args.x c.requires.node.1.0 c.in-Star.a c.in-Star.first is c.args.start
-    (λ is_first at. both_ways _ c.if-has_empty_copy.false (c.has_empty_copy.ensures.copy.1
-    (is_first, subst (λ v. At c.args.expr.now.nodes c.args.text.now v c.args.start c.args.start) (sym c.index-inner-in-Star.ensures) at))))
-
-pub returns-then-start-stop-2-clause-step : goal.returns-then-start-stop-2-clause-step
-returns-then-start-stop-2-clause-step c =
-    let is : slice_get c.args.expr.now.nodes c.args.x ≡ Some (Opt c.in-Opt.a c.in-Opt.first) = c.requires.node.2 ∙ ap Some c.in-Opt.is in
-    rw c.index-inner-in-Opt.ensures (step_opt c.args.expr.now.nodes c.args.text.now c.requires.node.0 c.args.x c.requires.node.1.0 c.in-Opt.a c.in-Opt.first is c.args.start c.args.stop c.if-start-stop-2.true c.requires.order.1 c.requires.spans)
-
-pub returns-then-has_empty_copy-2-clause-step : goal.returns-then-has_empty_copy-2-clause-step
-returns-then-has_empty_copy-2-clause-step c =
-    let is : slice_get c.args.expr.now.nodes c.args.x ≡ Some (Opt c.in-Opt.a c.in-Opt.first) = c.requires.node.2 ∙ ap Some c.in-Opt.is in
-    let same : c.args.start ≡ c.args.stop = omega arith in
-    let copy = c.has_empty_copy-else-start-stop-2.ensures.copy.0 c.if-has_empty_copy-2.true in
-    let at : At c.args.expr.now.nodes c.args.text.now c.in-Opt.a.index c.args.start c.args.start = rw c.index-inner-in-Opt.ensures at copy.1 in
-    rw c.index-inner-in-Opt.ensures (subst (λ j. IsStep c.args.expr.now.nodes c.args.text.now c.args.x c.args.start j true (Enter c.in-Opt.a.index c.args.start j ∷ [])) same
-    (step_opt_empty c.args.expr.now.nodes c.args.text.now c.requires.node.0 c.args.x c.requires.node.1.0 c.in-Opt.a c.in-Opt.first is c.args.start (omega arith) copy.0 at))
-
-pub returns-else-has_empty_copy-2-clause-step : goal.returns-else-has_empty_copy-2-clause-step
-returns-else-has_empty_copy-2-clause-step c =
-    let is : slice_get c.args.expr.now.nodes c.args.x ≡ Some (Opt c.in-Opt.a c.in-Opt.first) = c.requires.node.2 ∙ ap Some c.in-Opt.is in
-    let same : c.args.start ≡ c.args.stop = omega arith in
-    subst (λ j. IsStep c.args.expr.now.nodes c.args.text.now c.args.x c.args.start j false []) same
-    (step_opt_none c.args.expr.now.nodes c.args.text.now c.requires.node.0 c.args.x c.requires.node.1.0 c.in-Opt.a c.in-Opt.first is c.args.start
-    (λ is_first at. both_ways _ c.if-has_empty_copy-2.false (c.has_empty_copy-else-start-stop-2.ensures.copy.1
-    (is_first, subst (λ v. At c.args.expr.now.nodes c.args.text.now v c.args.start c.args.start) (sym c.index-inner-in-Opt.ensures) at))))
 
 pub may_have_group-requires-clause-inside : goal.may_have_group-requires-clause-inside
 may_have_group-requires-clause-inside c =
