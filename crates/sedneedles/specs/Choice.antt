@@ -14,7 +14,7 @@ use Rattle.sedneedles.specs.declared.choice.Branches.TheVariants.{Both, Inner, A
 abbrev pub ChoiceAt : List (List ℕ) → List ℕ → ℕ → Type 0
 ChoiceAt words w i = (literal : List ℕ) × (k : ℕ) × (slice_get words k ≡ Some literal) × OccursAt w literal i
 
--- what matches from i to j
+-- one of the literals leads from i to j
 abbrev pub ChoiceSpans : List (List ℕ) → List ℕ → ℕ → ℕ → Type 0
 ChoiceSpans words w i j = (literal : List ℕ) × (k : ℕ) × (slice_get words k ≡ Some literal) × OccursAt w literal i × (j ≡ i + length literal)
 
@@ -22,7 +22,7 @@ ChoiceSpans words w i j = (literal : List ℕ) × (k : ℕ) × (slice_get words 
 abbrev pub AllChoice : List Node → ℕ → List (List ℕ) → Type 0
 AllChoice nodes x words = (w : List ℕ) (i j : ℕ) → i ≤ length w → At nodes w x i j ↔ ChoiceSpans words w i j
 
--- the spans of the node x are those of the literals, and those of the node y
+-- the spans of the node x are those of the literals and those of the node y
 abbrev pub ChoiceOr : List Node → ℕ → List (List ℕ) → ℕ → Type 0
 ChoiceOr nodes x words y = (w : List ℕ) (i j : ℕ) → i ≤ length w → At nodes w x i j ↔ (ChoiceSpans words w i j ⊎ At nodes w y i j)
 
@@ -44,7 +44,7 @@ AreHeads heads words = (length heads ≡ 256) × HeadsIn heads words (length wor
 abbrev pub FewHeads : Option Few → List (List ℕ) → ℕ → Type 0
 FewHeads few words n = (k : ℕ) (literal : List ℕ) → k < n → slice_get words k ≡ Some literal → (c : ℕ) × (slice_get literal 0 ≡ Some c) × Gathered few c
 
--- each literal begins with one of the few bytes, where they are known
+-- each literal begins with one of the few bytes, if there are such
 abbrev pub RareHeads : Option Few → List (List ℕ) → Type 0
 RareHeads None words = Unit {0}
 RareHeads (Some few) words = FewHeads (Some few) words (length words)
@@ -54,7 +54,7 @@ unfoldable pub bytes_in : List (List ℕ) → ℕ
 bytes_in [] = 0
 bytes_in (literal ∷ others) = length literal + bytes_in others
 
--- they are short
+-- the literals have at most 20 bytes together
 abbrev pub AreShort : List (List ℕ) → Type 0
 AreShort words = bytes_in words ≤ 20
 
@@ -63,7 +63,7 @@ abbrev pub LongestAt : List (List ℕ) → List ℕ → ℕ → ℕ → Option �
 LongestAt words w i n None = (k : ℕ) (literal : List ℕ) → k < n → slice_get words k ≡ Some literal → OccursAt w literal i → ⊥
 LongestAt words w i n (Some m) = ChoiceSpans words w i (i + m) × ((k : ℕ) (literal : List ℕ) → k < n → slice_get words k ≡ Some literal → OccursAt w literal i → length literal ≤ m)
 
--- the longer of a literal, if there is one, and another one
+-- the length of the longer of a literal, if there is one, and another one
 abbrev pub Longer : Option ℕ → ℕ → Option ℕ → Type 0
 Longer None n r = r ≡ Some n
 Longer (Some m) n r = ((n ≤ m) × (r ≡ Some m)) ⊎ ((m < n) × (r ≡ Some n))

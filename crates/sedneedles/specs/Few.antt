@@ -14,7 +14,7 @@ HasFew (One a) c = c ≡ a
 HasFew (Two a b) c = (c ≡ a) ⊎ (c ≡ b)
 HasFew (Three a b d) c = (c ≡ a) ⊎ ((c ≡ b) ⊎ (c ≡ d))
 
--- of 32 lanes those are 0 in which such a byte stands
+-- of 32 lanes those are 0 in which a byte with the property stands
 abbrev pub HasZeros : (ℕ → Type 0) → List ℕ → List ℕ → Type 0
 HasZeros P lanes zeros = (length zeros ≡ 32) × ((k : ℕ) → k < 32 → P (slice_index lanes k) → slice_index zeros k ≡ 0)
 
@@ -22,12 +22,12 @@ HasZeros P lanes zeros = (length zeros ≡ 32) × ((k : ℕ) → k < 32 → P (s
 abbrev pub FewAt : Few → List ℕ → ℕ → Type 0
 FewAt few w i = (c : ℕ) × (slice_get w i ≡ Some c) × HasFew few c
 
--- the first place from p on at which one of the few stands
+-- the first place from p on at which one of the few stands, if there is one
 abbrev pub FirstFew : Few → List ℕ → ℕ → Option ℕ → Type 0
 FirstFew few w p None = (k : ℕ) → p ≤ k → FewAt few w k → ⊥
 FirstFew few w p (Some k) = (p ≤ k) × FewAt few w k × ((h : ℕ) → p ≤ h → h < k → FewAt few w h → ⊥)
 
--- one of those gathered so far
+-- the byte is one of those gathered before
 abbrev pub Gathered : Option Few → ℕ → Type 0
 Gathered None c = ⊥
 Gathered (Some few) c = HasFew few c
@@ -36,11 +36,11 @@ Gathered (Some few) c = HasFew few c
 abbrev pub AreMembers : List Bool → Few → Type 0
 AreMembers set few = (c : ℕ) → c < 256 → HasFew few c ↔ IsIn c set
 
--- what begins so begins with one of the few
+-- what can begin there, as `begins` says, begins with one of the few
 abbrev pub IsFewOf : Begins → Few → Type 0
 IsFewOf begins few = (w : List ℕ) → AreBytes w → (i : ℕ) → CanBegin begins w i → FewAt few w i
 
--- the same, where they are known
+-- what can begin there, as `begins` says, begins with one of the few, if there are such
 abbrev pub FewOf : Begins → Option Few → Type 0
 FewOf begins None = Unit {0}
 FewOf begins (Some few) = IsFewOf begins few

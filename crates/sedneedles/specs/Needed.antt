@@ -18,14 +18,14 @@ use Rattle.sedneedles.specs.declared.needed.Needed.{Needed}
 abbrev pub IsOfSet : List Node → ℕ → List Bool → Type 0
 IsOfSet nodes x s = (w : List ℕ) (i j : ℕ) → At nodes w x i j ↔ (CanBegin (WithSet s) w i × (j ≡ i + 1))
 
--- the spans of the node x are those that begin so
+-- the spans of the node x are those that begin as the link says
 abbrev pub LinksTo : List Node → ℕ → Link → Type 0
 LinksTo nodes x (OneOf s y) = (y < x) × ((w : List ℕ) (i j : ℕ) → At nodes w x i j ↔ (CanBegin (WithSet s) w i × At nodes w y (i + 1) j))
 LinksTo nodes x (Last s) = IsOfSet nodes x s
 LinksTo nodes x (Inner y) = (y < x) × ((w : List ℕ) (i j : ℕ) → At nodes w x i j ↔ At nodes w y i j)
 LinksTo nodes x Other = Unit {0}
 
--- the node y is spanned from i to j, or nothing is left where there is none
+-- the node y is spanned from i to j, or i is j if there is no such node
 abbrev pub GoesOnAs : List Node → List ℕ → ℕ → ℕ → Option ℕ → Type 0
 GoesOnAs nodes w i j None = i ≡ j
 GoesOnAs nodes w i j (Some y) = At nodes w y i j
@@ -60,7 +60,7 @@ AllHold nodes x literal = (w : List ℕ) (i j : ℕ) → i ≤ length w → At n
 abbrev pub AllEndWith : List Node → ℕ → ℕ → Type 0
 AllEndWith nodes x y = (w : List ℕ) (i j : ℕ) → i ≤ length w → At nodes w x i j → (k : ℕ) × (i ≤ k) × (k ≤ length w) × At nodes w y k j
 
--- each span of the expression holds the literal, at its beginning where it leads
+-- each span of the expression holds the literal, if there is one, and begins with it if it leads
 abbrev pub IsNeeded : Tree → Option Needed → Type 0
 IsNeeded e None = Unit {0}
 IsNeeded e (Some n) = (w : List ℕ) (i j : ℕ) → i ≤ length w → Spans e w i j → (k : ℕ) × (i ≤ k) × (IsTrue n.leads → k ≡ i) × OccursAt w n.finder k
@@ -75,7 +75,7 @@ abbrev pub passed_to : ℕ → ℕ → ℕ → Option ℕ → ℕ
 passed_to n p m None = n - p
 passed_to n p m (Some k) = k + m - p
 
--- the first place from p on at which a match can begin
+-- a place from p on before which no match begins, or that none begins from p on
 abbrev pub Narrowed : Tree → List ℕ → ℕ → Option ℕ → Type 0
 Narrowed e w p None = NotFound e w p
 Narrowed e w p (Some q) = (p ≤ q) × (q ≤ length w) × NoneIn e w p q

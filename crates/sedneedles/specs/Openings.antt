@@ -25,7 +25,7 @@ ZerosWhere P zeros = (length zeros ≡ 32) × ((k : ℕ) → k < 32 → P k → 
 abbrev pub PairIn : Opening → List ℕ → List ℕ → ℕ → Type 0
 PairIn opening ahead next k = (slice_index ahead k ≡ opening.first) × (slice_index next k ≡ opening.second)
 
--- one of the first n openings does
+-- one of the first n openings stands in a lane of two vectors
 abbrev pub OpensIn : List Opening → ℕ → List ℕ → List ℕ → ℕ → Type 0
 OpensIn openings n ahead next k = (m : ℕ) × (opening : Opening) × PairIn opening ahead next k × (m < n) × (slice_get openings m ≡ Some opening)
 

@@ -1,5 +1,5 @@
 -- Private to the proofs: no contract of a public item cites what stands here.
--- A set repeated so many times: bytes of it one after another, always as many.
+-- A set repeated a fixed number of times: bytes of it one after another, always as many.
 use Rattle.std.specs.Prelude.{◌≡◌, ℕ, ◌+◌, ◌<◌, ◌≤◌, ◌↔◌, Bool, List, length, slice_index, Option, Some, None}
 use Rattle.sedre.specs.declared.types.Node.{Node}
 use Rattle.sedmarks.specs.Reach.{At}
@@ -13,15 +13,15 @@ use Rattle.sedmarks.specs.declared.beginnings.Begins.TheVariants.{WithSet}
 abbrev pub SameBytes : List Bool → List Bool → Type 0
 SameBytes these those = (c : ℕ) → c < 256 → IsIn c these ↔ IsIn c those
 
--- so many bytes of the set lead from i to j
+-- `count` bytes of the set lead from i to j
 abbrev pub HasTimes : List Bool → ℕ → List ℕ → ℕ → ℕ → Type 0
 HasTimes members count w i j = Repeated members w i j × (j ≡ i + count)
 
--- in a text of bytes the spans of the node x are of so many bytes of the set
+-- in a text of bytes the spans of the node x are those of `count` bytes of the set
 abbrev pub AllTimes : List Node → ℕ → List Bool → ℕ → Type 0
 AllTimes nodes x members count = (w : List ℕ) → AreBytes w → (i j : ℕ) → At nodes w x i j ↔ HasTimes members count w i j
 
--- those of each node that has a width are of as many bytes
+-- the spans of each node that has a width are those of as many bytes of the set
 abbrev pub AreWidths : List Node → List Bool → List ℕ → Type 0
 AreWidths nodes members widths = (x : ℕ) → x < length widths → AllTimes nodes x members (slice_index widths x)
 
@@ -30,7 +30,7 @@ abbrev pub LastOutside : List Bool → List ℕ → ℕ → ℕ → Option ℕ �
 LastOutside members w p q None = Repeated members w p q
 LastOutside members w p q (Some k) = (p ≤ k) × (k < q) × (CanBegin (WithSet members) w k → ⊥) × Repeated members w (k + 1) q
 
--- the first place from p on from which so many bytes are in the set
+-- the first place from p on from which `count` bytes are in the set, if there is one
 abbrev pub FirstTimes : List Bool → ℕ → List ℕ → ℕ → Option ℕ → Type 0
 FirstTimes members count w p None = (k : ℕ) → p ≤ k → k ≤ length w → Repeated members w k (k + count) → ⊥
 FirstTimes members count w p (Some k) = (p ≤ k) × (k + count ≤ length w) × Repeated members w k (k + count) × ((h : ℕ) → p ≤ h → h < k → Repeated members w h (h + count) → ⊥)

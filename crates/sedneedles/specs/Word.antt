@@ -5,7 +5,7 @@ use Rattle.memchr.specs.Find.{OccursAt}
 use Rattle.sedre.specs.declared.types.Node.{Node}
 use Rattle.sedmarks.specs.Reach.{At}
 
--- what matches from i to j
+-- the literal leads from i to j
 abbrev pub WordSpans : List ℕ → List ℕ → ℕ → ℕ → Type 0
 WordSpans literal w i j = OccursAt w literal i × (j ≡ i + length literal)
 

@@ -1,4 +1,4 @@
-//! Places at which two of a few bytes each stand at their distances, told by vectors of 32 bytes.
+//! Places after which bytes of two kinds both stand, each at its distance, told by vectors of 32 bytes.
 ghost use Rattle.std.specs.Prelude.{◌≡◌, ℕ, ◌+◌, ◌^◌, ◌<◌, ◌≤◌, IsTrue, length, slice_index};
 ghost use Rattle.sedneedles.specs.Rare.{ApartIn};
 
@@ -8,7 +8,7 @@ use std::simd::prelude::*;
 /// How many lanes a vector has.
 const LANES: usize = 32;
 
-/// The bytes from a place on, as many as a vector has lanes.
+/// The 32 bytes from the place `at` on.
 #[inline(always)]
 pub fn lanes_at(bytes: &[u8], at: usize) -> u8x32
     requires { at + 32 ≤ length bytes.now }
@@ -17,7 +17,7 @@ pub fn lanes_at(bytes: &[u8], at: usize) -> u8x32
     u8x32::from_slice(&bytes[at..])
 }
 
-/// Whether the two stand together at none of so many places as a vector has lanes.
+/// Whether at none of the 32 places from `place` on `first` and `second` both stand at their distances after it.
 #[inline(always)]
 fn are_apart(bytes: &[u8], first: &Fixed, second: &Fixed, place: usize) -> bool
     requires first { place + first.now.offset + 32 ≤ length bytes.now }
@@ -30,7 +30,8 @@ fn are_apart(bytes: &[u8], first: &Fixed, second: &Fixed, place: usize) -> bool
     both.simd_eq(u8x32::splat(0)).to_bitmask() == 0
 }
 
-/// A place such that from `place` up to it the two stand together nowhere, by the last vector of the text.
+/// A place before which, from `place` on, `first` and `second` stand together nowhere, as far as the last vector of the
+/// text tells.
 fn last_apart(bytes: &[u8], first: &Fixed, second: &Fixed, reach: usize, place: usize) -> usize
     requires place { place ≤ length bytes.now }
     requires first { first.now.offset + 32 ≤ reach }
@@ -49,7 +50,7 @@ fn last_apart(bytes: &[u8], first: &Fixed, second: &Fixed, reach: usize, place: 
     last + LANES
 }
 
-/// A place before which, from `from` on, the two never stand together; only whole vectors are looked at.
+/// A place before which, from `from` on, `first` and `second` stand together nowhere, as far as whole vectors tell.
 pub fn apart_to(bytes: &[u8], first: &Fixed, second: &Fixed, from: usize) -> usize
     requires from { from ≤ length bytes.now }
     ensures after { from ≤ result }

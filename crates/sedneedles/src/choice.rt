@@ -1,9 +1,9 @@
-//! A choice of a few literals, as in `cat\|dog\|bird`: a match begins where one of them stands, and ends after the longest
-//! that does.
+//! A choice of a few literals, as in `cat\|dog\|bird`: a match begins where one of them stands, and ends after the
+//! longest that does.
 //!
-//! The places at which a literal can stand are sought by the bytes with which they begin: by the first of each, where these
-//! are few and rare, else by the first two of each, or where one has a single byte, by a look at each byte of the text. At
-//! such a place the literals are compared.
+//! The places at which a literal can stand are sought by the bytes with which they begin: by the first of each, where
+//! these are few and rare, else by the first two of each, or where one has a single byte, by a look at each byte of the
+//! text. At such a place the literals are compared.
 ghost use Rattle.std.specs.Prelude.{◌≡◌, ℕ, List, Bool, ◌+◌, ◌*◌, ◌^◌, ◌<◌, ◌≤◌, ◌-◌, ◌↔◌, ◌⊎◌, length, IfOk, IfSome, IsTrue, slice_get, Some};
 ghost use Rattle.memchr.specs.Find.{OccursAt};
 ghost use Rattle.sedneedles.specs.Word.{AllWord};
@@ -50,7 +50,7 @@ impl Alternative {
         &self.bytes
     }
 
-    /// The two bytes with which it begins, if it has so many.
+    /// The two bytes with which it begins, if it has two.
     pub fn opening(&self) -> Option<Opening>
         ensures { IfSome result (λ o. PairAt o self.now 0) }
     {
@@ -80,9 +80,9 @@ impl Alternative {
 pub struct Choice {
     // Whether a literal begins with the byte.
     heads: Vec<bool>,
-    // The bytes with which the literals begin, where they are few and rare.
+    // The bytes with which the literals begin, if they are few and rare.
     rare: Option<Few>,
-    // The first two bytes of each, where it has so many.
+    // The first two bytes of each literal, if every one has two.
     openings: Option<Vec<Opening>>,
     literals: Vec<Alternative>,
 }
@@ -125,7 +125,7 @@ fn branches_of(expr: &Expr, index: usize, steps: &mut Steps) -> Branches
     }
 }
 
-/// The literal that the spans of the node are, where it has a byte or more, and at most `most`.
+/// The literal that the node matches and nothing else, if there is one, of a byte or more and of at most `most`.
 fn literal_at(
     alloc: Global,
     expr: &Expr,
@@ -145,7 +145,7 @@ fn literal_at(
     Ok(Some(Alternative { bytes }))
 }
 
-/// The literals among which the matches are, where there are few, and no other matches.
+/// The literals that the expression matches and nothing else, if there are such and they are few and short.
 #[tactic(auto, using(crate::proofs::ChoiceLemmas::no_bytes, crate::proofs::ChoiceLemmas::more_bytes))]
 fn literals_of(
     alloc: Global,
@@ -180,7 +180,7 @@ fn literals_of(
     Ok(Some(literals))
 }
 
-/// The bytes with which the literals begin, each of them marked, where each literal has one.
+/// A mark for each byte, set at those with which a literal begins, if no literal is empty.
 fn heads_of(alloc: Global, literals: &[Alternative]) -> Result<Option<Vec<bool>>, AllocError>
     ensures { IfOk result (λ r. IfSome r (λ h. AreHeads h.items literals.now)) }
 {
@@ -194,7 +194,7 @@ fn heads_of(alloc: Global, literals: &[Alternative]) -> Result<Option<Vec<bool>>
     Ok(Some(heads))
 }
 
-/// The bytes gathered so far and one more, where they are still few.
+/// The bytes gathered before and one more, if they are still few.
 fn with_head(few: Option<Few>, byte: u8) -> Option<Few>
     ensures { IfSome result (λ f. (c : ℕ) → (Gathered few c ⊎ (c ≡ byte)) → HasFew f c) }
 {
@@ -204,7 +204,7 @@ fn with_head(few: Option<Few>, byte: u8) -> Option<Few>
     }
 }
 
-/// The bytes with which the literals begin, where they are few.
+/// The bytes with which the literals begin, if they are few.
 fn few_heads(literals: &[Alternative]) -> Option<Few>
     ensures { RareHeads result literals.now }
 {
@@ -215,7 +215,7 @@ fn few_heads(literals: &[Alternative]) -> Option<Few>
     few
 }
 
-/// The same, where they are rare too.
+/// The bytes with which the literals begin, if they are few and rare.
 fn rare_heads(literals: &[Alternative]) -> Option<Few>
     ensures { RareHeads result literals.now }
 {
@@ -225,7 +225,7 @@ fn rare_heads(literals: &[Alternative]) -> Option<Few>
     }
 }
 
-/// The choice of two literals or more that the matches are, if they are few.
+/// The two literals or more that the expression matches and nothing else, if there are such and they are few and short.
 pub fn choice_of(
     alloc: Global,
     expr: &Expr,
@@ -270,7 +270,7 @@ fn stands(literal: &[u8], bytes: &[u8], at: usize) -> bool
     true
 }
 
-/// The longer of a literal that stands at a place, if there is one, and another one.
+/// The length of the longer of two literals: of the longest before, if there is one, and of another one.
 #[inline(always)]
 fn longer(best: Option<usize>, other: usize) -> Option<usize>
     ensures { Longer best other result }
@@ -306,7 +306,7 @@ fn one_stands(heads: &[bool], literals: &[Alternative], bytes: &[u8], at: usize)
     heads[usize::from(bytes[at])] && longest_at(literals, bytes, at).is_some()
 }
 
-/// The first place from `from` on at which one of the literals stands.
+/// The first place from `from` on at which one of the literals stands, if there is one.
 // As a part of a large function it would be slower by the byte.
 #[inline(never)]
 pub fn first_choice(
@@ -327,7 +327,8 @@ pub fn first_choice(
     None
 }
 
-/// The same where the literals begin with few bytes, which are sought.
+/// The first place from `from` on at which one of the literals stands, if there is one, by a search for the few bytes
+/// with which they begin.
 fn rare_choice(
     few: &Few,
     literals: &[Alternative],
@@ -352,7 +353,7 @@ fn rare_choice(
 }
 
 impl Choice {
-    /// The first place from `from` on at which a match begins.
+    /// The first place from `from` on at which a match begins, if there is one.
     pub fn start(&self, text: &Text, from: usize, steps: &mut Steps) -> Option<usize>
         requires from { from ≤ length text.now }
         ensures first { FirstChoice self.now text.now from result }
@@ -368,7 +369,7 @@ impl Choice {
         }
     }
 
-    /// Where the longest match ends that begins at `start`.
+    /// Where the longest match ends that begins at `start`. Condition: one begins there.
     pub fn end(&self, text: &Text, start: usize, steps: &mut Steps) -> usize
         requires can { ChoiceAt self.now text.now start }
         ensures end { ChoiceEnd self.now text.now start result }

@@ -31,7 +31,7 @@ impl Few {
         }
     }
 
-    /// The first place at which one of them stands.
+    /// The first place at which one of them stands, if there is one.
     pub fn find(&self, bytes: &[u8]) -> Option<usize>
         ensures { FirstFew self.now bytes.now 0 result }
     {
@@ -63,7 +63,7 @@ pub fn byte_zeros(byte: u8, lanes: u8x32) -> u8x32
     lanes ^ u8x32::splat(byte)
 }
 
-/// The same for two bytes.
+/// Lanes of which those are 0 in which one of the two bytes stands.
 #[inline(always)]
 fn two_zeros(first: u8, second: u8, lanes: u8x32) -> u8x32
     ensures { HasZeros (HasFew (Two first second)) lanes result }
@@ -71,7 +71,7 @@ fn two_zeros(first: u8, second: u8, lanes: u8x32) -> u8x32
     byte_zeros(first, lanes).simd_min(byte_zeros(second, lanes))
 }
 
-/// The same for three bytes.
+/// Lanes of which those are 0 in which one of the three bytes stands.
 #[inline(always)]
 fn three_zeros(first: u8, second: u8, third: u8, lanes: u8x32) -> u8x32
     ensures { HasZeros (HasFew (Three first second third)) lanes result }
@@ -79,7 +79,7 @@ fn three_zeros(first: u8, second: u8, third: u8, lanes: u8x32) -> u8x32
     byte_zeros(first, lanes).simd_min(two_zeros(second, third, lanes))
 }
 
-/// The bytes gathered so far and one more, where they are still few.
+/// The bytes gathered before and one more, if they are still few.
 pub fn with_byte(few: Option<Few>, byte: u8) -> Option<Few>
     ensures { IfSome result (λ f. (c : ℕ) → HasFew f c ↔ (Gathered few c ⊎ (c ≡ byte))) }
 {
@@ -91,7 +91,7 @@ pub fn with_byte(few: Option<Few>, byte: u8) -> Option<Few>
     }
 }
 
-/// The members of the set, where it has one to three.
+/// The members of the set, if it has one to three.
 pub fn members_of(set: &ByteSet) -> Option<Few>
     ensures { IfSome result (AreMembers set.now) }
 {
@@ -104,7 +104,7 @@ pub fn members_of(set: &ByteSet) -> Option<Few>
     few
 }
 
-/// The bytes with which a match begins, where they are few.
+/// The bytes with which a match begins, if they are few.
 pub fn few_of(begins: &Begins) -> Option<Few>
     ensures { FewOf begins.now result }
 {

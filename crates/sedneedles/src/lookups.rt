@@ -17,7 +17,7 @@ use memchr::memmem::Finder;
 use sedmarks::counted::{Text, uncounted};
 use sedre::Steps;
 
-/// The first place from `from` on at which one of the few bytes stands.
+/// The first place from `from` on at which one of the few bytes stands, if there is one.
 /// Counts a look for each byte from `from` to that place, or to the end where there is none.
 #[inline(always)]
 pub fn find_few(text: &Text, few: &Few, from: usize, steps: &mut Steps) -> Option<usize>
@@ -40,7 +40,7 @@ pub fn find_few(text: &Text, few: &Few, from: usize, steps: &mut Steps) -> Optio
     }
 }
 
-/// The first place from `from` on at which the literal stands.
+/// The first place from `from` on at which the literal stands, if there is one.
 /// Counts a look for each byte from `from` to the literal's end, or to the end where there is none.
 pub fn find_literal(text: &Text, finder: &Finder, from: usize, steps: &mut Steps) -> Option<usize>
     requires from { from ≤ length text.now }
@@ -62,7 +62,7 @@ pub fn find_literal(text: &Text, finder: &Finder, from: usize, steps: &mut Steps
     }
 }
 
-/// A place such that from `from` up to it the two stand together nowhere, as far as vectors tell.
+/// A place before which, from `from` on, `first` and `second` stand together nowhere, as far as whole vectors tell.
 /// Counts two looks for each place from `from` to that one.
 pub fn pass_apart(
     text: &Text,
@@ -84,7 +84,7 @@ pub fn pass_apart(
     place
 }
 
-/// The first place from `from` on at which one of the literals stands.
+/// The first place from `from` on at which one of the literals stands, if there is one.
 /// Counts a look and the most bytes of all literals for each byte from `from` to that place, or to the end where there
 /// is none.
 pub fn find_choice(
@@ -99,6 +99,7 @@ pub fn find_choice(
     requires from { from ≤ length text.now }
     ensures first { FirstChoice literals.now text.now from result }
     ensures cost { Takes steps.old steps.new (21 * (length text.now + 1)) }
+    ensures counts { Counted steps.old steps.new (21 * looked_at (length text.now) from result) }
 {
     let bytes = uncounted(text);
     match first_choice(heads, literals, bytes, from) {
@@ -113,9 +114,10 @@ pub fn find_choice(
     }
 }
 
-/// The first place at which one of the literals stands, sought by the two bytes with which each begins.
-/// Counts two looks and the most bytes of all literals for each byte from `from` to that place, or to the end where there
-/// is none.
+/// The first place from `from` on at which one of the literals stands, if there is one, sought by the two bytes with
+/// which each begins.
+/// Counts two looks and the most bytes of all literals for each byte from `from` to that place, or to the end where
+/// there is none.
 pub fn find_opened(
     text: &Text,
     heads: &[bool],
@@ -130,6 +132,7 @@ pub fn find_opened(
     requires from { from ≤ length text.now }
     ensures first { FirstChoice literals.now text.now from result }
     ensures cost { Takes steps.old steps.new (22 * (length text.now + 1)) }
+    ensures counts { Counted steps.old steps.new (22 * looked_at (length text.now) from result) }
 {
     let bytes = uncounted(text);
     match first_opened(heads, openings, literals, bytes, from) {

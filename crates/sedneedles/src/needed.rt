@@ -36,7 +36,7 @@ pub enum Link {
 pub struct Literal {
     /// The bytes.
     pub bytes: Vec<u8>,
-    /// The node as whose spans they go on after these.
+    /// The node as whose spans they go on after these bytes; where there is none, they end there.
     pub rest: Option<usize>,
 }
 
@@ -49,7 +49,7 @@ pub struct Needed {
     pub leads: bool,
 }
 
-/// The set of whose bytes the spans of the node have one, if the node is a set.
+/// The set that the node at the index is, if it is one.
 fn set_of(expr: &Expr, index: usize, steps: &mut Steps) -> Option<ByteSet>
     requires inside { index < length expr.now.nodes }
     ensures set { IfSome result (λ s. IsOfSet expr.now.nodes index s) }
@@ -82,7 +82,7 @@ pub fn link_of(expr: &Expr, index: usize, steps: &mut Steps) -> Link
     }
 }
 
-/// The only byte of the set, if it has one alone.
+/// The only byte of the set, if it has no other.
 fn sole_of(set: &ByteSet) -> Option<u8>
     ensures { IfSome result (IsSole set.now) }
 {
@@ -92,7 +92,7 @@ fn sole_of(set: &ByteSet) -> Option<u8>
     }
 }
 
-/// The literal with which the spans of the node begin.
+/// The literal with which the spans of the node begin, and the node as whose spans they go on after it.
 pub fn literal_from(
     alloc: Global,
     expr: &Expr,
@@ -132,7 +132,7 @@ pub fn literal_from(
     })
 }
 
-/// The second part of a node that is a concatenation.
+/// The second part of the node at the index, if it is a concatenation.
 fn second_of(expr: &Expr, index: usize, steps: &mut Steps) -> Option<usize>
     requires inside { index < length expr.now.nodes }
     ensures below { IfSome result (λ y. y < index) }
@@ -158,7 +158,7 @@ fn longer(first: Vec<u8>, second: Vec<u8>) -> Vec<u8>
     }
 }
 
-/// The longest of the literals that the spans of the node hold one after another.
+/// The longest of the literals that the spans of the node hold one after another; empty where none is found.
 fn longest_literal(
     alloc: Global,
     expr: &Expr,
@@ -192,8 +192,8 @@ fn search_for(alloc: Global, literal: &[u8], leads: bool) -> Result<Needed, Allo
     Ok(Needed { finder, leads })
 }
 
-/// A literal that every match of the expression holds, where one is found that is worth a search: one of two bytes or
-/// more with which all begin, or the longest of the others.
+/// A literal that every match of the expression holds, if one is found: one of two bytes or more with which all begin,
+/// or else the longest that is found.
 pub fn find_needed(
     alloc: Global,
     expr: &Expr,
@@ -213,7 +213,8 @@ pub fn find_needed(
     Ok(Some(search_for(alloc, &best, false)?))
 }
 
-/// The first place from `from` on at which a match can begin, as far as the literal tells that each of them holds.
+/// The first place from `from` on at which a match can begin, if there is one, as far as the literal tells that each
+/// match holds.
 pub fn narrowed(
     needed: &Option<Needed>,
     text: &Text,
@@ -226,9 +227,9 @@ pub fn narrowed(
 {
     match needed {
         None => Some(from),
-        Some(needed) => match find_literal(text, &needed.finder, from, steps) {
-            None => None,
-            Some(place) => Some(if needed.leads { place } else { from }),
-        },
+        Some(needed) => {
+            let place = find_literal(text, &needed.finder, from, steps)?;
+            Some(if needed.leads { place } else { from })
+        }
     }
 }

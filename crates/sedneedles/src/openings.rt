@@ -1,5 +1,5 @@
-//! The first two bytes of each literal of a choice, held against 32 places at once: at most places they tell that none of
-//! the literals stands there.
+//! The first two bytes of each literal of a choice, compared with 32 places at once: at most places they tell that none
+//! of the literals stands there.
 ghost use Rattle.std.specs.Prelude.{◌≡◌, ℕ, ◌+◌, ◌^◌, ◌<◌, ◌≤◌, length, slice_get, IfOk, IfSome, Some};
 ghost use Rattle.std.specs.Int.{bit_at};
 ghost use Rattle.sedneedles.specs.Choice.{AreHeads, ChoiceAt, FirstChoice};
@@ -23,7 +23,7 @@ pub struct Opening {
     pub second: u8,
 }
 
-/// The first two bytes of each of the literals, where each has two or more.
+/// The first two bytes of each of the literals, if each has two or more.
 pub fn openings_of(
     alloc: Global,
     literals: &[Alternative],
@@ -83,7 +83,7 @@ fn opened(openings: &[Opening], bytes: &[u8], at: usize) -> u64
     zeros.simd_eq(u8x32::splat(0)).to_bitmask()
 }
 
-/// The first bit from `from` on that is set.
+/// The first bit from `from` on that is set, if there is one.
 #[inline(always)]
 fn next_bit(bits: u64, from: usize) -> Option<usize>
     requires { from < 64 }
@@ -97,8 +97,8 @@ fn next_bit(bits: u64, from: usize) -> Option<usize>
     }
 }
 
-/// The first place from `at + skip` on and before `at + 32` at which one of the literals stands, given a bit for each place
-/// from `at` on at which one can.
+/// The first place from `at + skip` on and before `at + 32` at which one of the literals stands, if there is one. In
+/// `bits` a bit is set for each place from `at` on at which one can.
 #[inline(always)]
 fn first_in(
     literals: &[Alternative],
@@ -123,7 +123,8 @@ fn first_in(
     None
 }
 
-/// The same, where the openings tell at which places one can stand.
+/// The first place from `at + skip` on and before `at + 32` at which one of the literals stands, if there is one. The
+/// openings tell at which places one can.
 #[inline(always)]
 fn first_of_block(
     openings: &[Opening],
@@ -141,7 +142,8 @@ fn first_of_block(
     first_in(literals, bytes, at, skip, bits)
 }
 
-/// The first place from `from` on at which one of the literals stands, where no whole vector and the byte after it are left.
+/// The first place from `from` on at which one of the literals stands, if there is one. Condition: at most 32 bytes are
+/// left.
 #[inline(always)]
 fn last_opened(
     heads: &[bool],
@@ -159,13 +161,13 @@ fn last_opened(
     if bytes.len() <= LANES {
         return first_choice(heads, literals, bytes, from);
     }
-    // A vector that ends with the text, of which the places before `from` are skipped. At the last place of all stands no
-    // literal, since each has two bytes or more.
+    // A vector that ends with the text, of which the places before `from` are skipped. At the last place of all stands
+    // no literal, since each has two bytes or more.
     let at = bytes.len() - LANES - 1;
     first_of_block(openings, literals, bytes, at, from - at)
 }
 
-/// The first place from `from` on at which one of the literals stands.
+/// The first place from `from` on at which one of the literals stands, if there is one.
 // As a part of a large function it would be slower by the byte.
 #[inline(never)]
 pub fn first_opened(

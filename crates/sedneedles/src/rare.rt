@@ -1,5 +1,5 @@
 //! Few bytes of which one stands at a fixed distance after the beginning of every match: the rarest are sought, the
-//! next rarest are held against what stands there, and after them the nodes that come first in a match.
+//! next rarest are compared with what stands there, and after them the nodes that come first in a match.
 ghost use Rattle.std.specs.Prelude.{◌≡◌, ℕ, ◌+◌, ◌*◌, ◌^◌, ◌<◌, ◌≤◌, ◌↔◌, ◌⊎◌, Some, length, IfSome, IsTrue};
 ghost use Rattle.sedre.specs.Arena.{tree, tree_at};
 ghost use Rattle.sedre.specs.Tree.{Tree};
@@ -21,10 +21,10 @@ use sedmarks::beginnings::{Begins, next_start};
 use sedmarks::counted::{Text, are_bytes};
 use sedre::{ByteSet, Expr, Node, Steps};
 
-/// How many bytes a table tells in the time of one look ahead.
+/// How many bytes a search by a table passes in the time of one look ahead.
 const FAR: usize = 24;
 
-/// How many looks ahead more are made where two bytes are known to stand at each such place.
+/// How many more looks ahead are made if two bytes stand where they do in a match.
 const SPARE: usize = 4;
 
 /// How often bytes stand in a thousand that are sought one by one in less time than by vectors.
@@ -72,7 +72,7 @@ impl Fixed {
         }
     }
 
-    /// Whether one of them stands so far after the place. Counts one look.
+    /// Whether one of them stands at the distance after the place. Counts at most one look.
     fn stands(&self, text: &Text, place: usize, steps: &mut Steps) -> bool
         requires place { place ≤ length text.now }
         ensures stands { IsTrue result ↔ StandsAt self.now text.now place }
@@ -86,7 +86,7 @@ impl Fixed {
         }
     }
 
-    /// The first place from `from` on after which one of them stands so far.
+    /// The first place from `from` on after which one of them stands at the distance, if there is one.
     fn find(&self, text: &Text, from: usize, steps: &mut Steps) -> Option<usize>
         requires from { from ≤ length text.now }
         ensures first { FirstFixed self.now text.now from result }
@@ -95,10 +95,8 @@ impl Fixed {
         if self.offset > text.len() - from {
             return None;
         }
-        match find_few(text, &self.few, from + self.offset, steps) {
-            None => None,
-            Some(place) => Some(place - self.offset),
-        }
+        let place = find_few(text, &self.few, from + self.offset, steps)?;
+        Some(place - self.offset)
     }
 }
 
@@ -116,14 +114,14 @@ pub fn are_rare(few: &Few) -> bool {
 pub struct Rare {
     /// The rarest bytes, which are sought.
     pub sought: Fixed,
-    /// The next rarest, which are held against what stands there.
+    /// The next rarest, which are compared with what stands there.
     pub held: Option<Fixed>,
-    /// Whether those sought are so frequent that vectors pass them over in less time.
+    /// Whether those sought are so frequent that vectors tell in less time where both stand.
     pub often: bool,
 }
 
 impl Rare {
-    /// Whether what is held stands where it does in a match that begins at the place. Counts one look.
+    /// Whether the next rarest, if there are such, stand at their distance after the place. Counts at most one look.
     fn holds(&self, text: &Text, place: usize, steps: &mut Steps) -> bool
         requires place { place ≤ length text.now }
         ensures holds { IsTrue result ↔ HeldAt self.now.held text.now place }
@@ -135,7 +133,7 @@ impl Rare {
         }
     }
 
-    /// How far from `from` on vectors tell that a match begins nowhere.
+    /// A place before which, from `from` on, a match can begin nowhere, as far as vectors tell.
     fn pass(&self, text: &Text, from: usize, steps: &mut Steps) -> usize
         requires from { from ≤ length text.now }
         ensures after { from ≤ result }
@@ -152,7 +150,8 @@ impl Rare {
         }
     }
 
-    /// The first place from `from` on at which a match can begin as far as these bytes tell, one by one.
+    /// The first place from `from` on at which a match can begin as far as these bytes tell, if there is one. Each
+    /// place of the rarest is looked at.
     fn find_near(&self, text: &Text, from: usize, steps: &mut Steps) -> Option<usize>
         requires from { from ≤ length text.now }
         ensures first { FirstRare self.now text.now from result }
@@ -168,7 +167,8 @@ impl Rare {
         None
     }
 
-    /// The same, vectors first.
+    /// The first place from `from` on at which a match can begin as far as these bytes tell, if there is one. Vectors
+    /// pass over the text before each place of the rarest is looked at.
     fn find(&self, text: &Text, from: usize, steps: &mut Steps) -> Option<usize>
         requires from { from ≤ length text.now }
         ensures first { FirstRare self.now text.now from result }
@@ -179,7 +179,8 @@ impl Rare {
         self.find_near(text, place, steps)
     }
 
-    /// Whether one look ahead more than these is paid for by the time that was saved where so many bytes were passed.
+    /// Whether one more look ahead, after `looks` others, is paid for by the time that was saved where `passed` bytes
+    /// were passed over.
     fn is_worth(&self, passed: usize, looks: usize) -> bool {
         // At the place where a search begins a literal was mostly found before, which a table tells in less time.
         let spare = if passed > 0 && self.held.is_some() {
@@ -191,7 +192,7 @@ impl Rare {
     }
 }
 
-/// The rarer of what was held and one more.
+/// The rarer of what was held, if there is such, and one more.
 fn rarer(held: Option<Fixed>, more: Fixed) -> Fixed
     ensures { (e : Tree) → AllHeld e held → AllStand e more → AllStand e result }
 {
@@ -231,7 +232,8 @@ fn with_fixed(rare: Option<Rare>, more: Fixed) -> Rare
     }
 }
 
-/// The same where a byte of the set stands so far after the beginning of every match: sets of many bytes are left out.
+/// The two rarest of these and of the members of the set, one of which stands `offset` bytes after the beginning of
+/// every match. A set of many bytes is left out.
 fn with_set(rare: Option<Rare>, offset: usize, set: &ByteSet) -> Option<Rare>
     ensures { (e : Tree) → AllRare e rare → AllHave e offset set.now → AllRare e result }
 {
@@ -241,7 +243,8 @@ fn with_set(rare: Option<Rare>, offset: usize, set: &ByteSet) -> Option<Rare>
     }
 }
 
-/// The rarest bytes that stand after the beginning of every span of a node, as long as it is a concatenation of sets.
+/// The rarest bytes that stand at a fixed distance after the beginning of every span of a node, if such bytes are
+/// found: a concatenation is followed as long as its parts are sets.
 fn rare_from(expr: &Expr, from: usize, steps: &mut Steps) -> Option<Rare>
     requires inside { IsNode expr.now.nodes from }
     ensures rare { AllRare (tree_at expr.now.nodes from) result }
@@ -265,18 +268,16 @@ fn rare_from(expr: &Expr, from: usize, steps: &mut Steps) -> Option<Rare>
     rare
 }
 
-/// The bytes with which every match begins, where they are few.
+/// The bytes with which every match begins, if they are few.
 fn rare_first(begins: &Begins) -> Option<Rare>
     ensures { (e : Tree) → AllBegin e begins.now → AllRare e result }
 {
-    match few_of(begins) {
-        None => None,
-        Some(few) => Some(Rare {
-            sought: Fixed { offset: 0, few },
-            held: None,
-            often: false,
-        }),
-    }
+    let few = few_of(begins)?;
+    Some(Rare {
+        sought: Fixed { offset: 0, few },
+        held: None,
+        often: false,
+    })
 }
 
 /// The set of which a byte stands second in every span of the node, if there is one.
@@ -295,7 +296,7 @@ fn second_set(expr: &Expr, index: usize, steps: &mut Steps) -> Option<ByteSet>
     }
 }
 
-/// The bytes that stand second in every match, where there are two alternatives and these bytes are few.
+/// The bytes that stand second in every match, if the expression is two alternatives and these bytes are few.
 fn second_of_two(expr: &Expr, steps: &mut Steps) -> Option<Fixed>
     ensures second { AllHeld (tree expr.now) result }
     ensures cost { Takes steps.old steps.new 9 }
@@ -312,28 +313,26 @@ fn second_of_two(expr: &Expr, steps: &mut Steps) -> Option<Fixed>
     }
 }
 
-/// The members of two sets, where they are few.
+/// The members of two sets together, if they are few.
 fn few_of_two(first: ByteSet, second: ByteSet) -> Option<Few>
     ensures { IfSome result (λ f. (c : ℕ) → c < 256 → HasFew f c ↔ (IsIn c first ⊎ IsIn c second)) }
 {
     members_of(&first.union(&second))
 }
 
-/// The same with what is held too.
+/// These bytes, if there are such, with `held` as the next rarest.
 fn with_held(rare: Option<Rare>, held: Option<Fixed>) -> Option<Rare>
     ensures { (e : Tree) → AllRare e rare → AllHeld e held → AllRare e result }
 {
-    match rare {
-        None => None,
-        Some(rare) => Some(Rare {
-            sought: rare.sought,
-            held,
-            often: held.is_some() && rare.sought.weight() > RARE,
-        }),
-    }
+    let sought = rare?.sought;
+    Some(Rare {
+        sought,
+        held,
+        often: held.is_some() && sought.weight() > RARE,
+    })
 }
 
-/// The rarest bytes that stand after the beginning of every match, where they are few.
+/// The rarest bytes that stand at a fixed distance after the beginning of every match, if such bytes are found.
 pub fn rare_of(expr: &Expr, begins: &Begins, steps: &mut Steps) -> Option<Rare>
     requires begins { AllBegin (tree expr.now) begins.now }
     ensures rare { AllRare (tree expr.now) result }
@@ -349,15 +348,16 @@ pub fn rare_of(expr: &Expr, begins: &Begins, steps: &mut Steps) -> Option<Rare>
     }
 }
 
-/// Whether looks ahead are within what a search is allowed, for so many nodes and bytes.
+/// Whether looks ahead stay within the steps that a search may take, in a text of `bytes` bytes and for an expression
+/// of `nodes` nodes.
 fn is_large(nodes: usize, bytes: usize) -> bool
     ensures { IsTrue result → (2 ≤ nodes) × (8 ≤ bytes) }
 {
     nodes >= 2 && bytes >= 8
 }
 
-/// The first place from `from` on at which a match can begin, by its rarest bytes and, as long as that is worth it, by
-/// what comes first in it.
+/// The first place from `from` on at which a match can begin, if there is one, and what a look ahead tells of it. Its
+/// rarest bytes are sought, and as long as that is worth it, a look ahead follows at each place found.
 fn rare_place(
     expr: &Expr,
     rare: &Rare,
@@ -390,7 +390,7 @@ fn rare_place(
     None
 }
 
-/// The first place from `from` on at which a match can begin, and what a look ahead tells of it.
+/// The first place from `from` on at which a match can begin, if there is one, and what a look ahead tells of it.
 pub fn first_place(
     expr: &Expr,
     begins: &Begins,
@@ -409,9 +409,9 @@ pub fn first_place(
 {
     match rare {
         Some(rare) => rare_place(expr, rare, text, from, steps),
-        None => match next_start(begins, text, from, steps) {
-            None => None,
-            Some(start) => Some((start, Lead::Unknown)),
-        },
+        None => {
+            let start = next_start(begins, text, from, steps)?;
+            Some((start, Lead::Unknown))
+        }
     }
 }

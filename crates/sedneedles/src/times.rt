@@ -1,6 +1,7 @@
-//! A set repeated so many times, as in `[0-9]\{6\}`: a match begins where so many bytes in a row are in the set.
+//! A set repeated a fixed number of times, as in `[0-9]\{6\}`: a match begins where that number of bytes in a row are
+//! in the set.
 //!
-//! The last of so many bytes is looked at first. Where it isn't in the set, no match begins before it, and those before
+//! The last of these bytes is looked at first. Where it isn't in the set, no match begins before it, and those before
 //! it aren't looked at: where such bytes are rare, most of a text is passed over unseen.
 ghost use Rattle.std.specs.Prelude.{◌≡◌, ℕ, ◌+◌, ◌^◌, ◌<◌, ◌≤◌, ◌-◌, length, slice_get, Some, IfOk, IfSome, IsTrue};
 ghost use Rattle.sedmarks.specs.RunsAhead.{Repeated};
@@ -25,15 +26,15 @@ fn same_bytes(these: &ByteSet, those: &ByteSet) -> bool
     true
 }
 
-/// The sum, where it can be told.
+/// The sum, if it fits.
 fn sum_of(first: usize, second: usize) -> Option<usize>
     ensures { IfSome result (λ sum. sum ≡ first + second) }
 {
     first.checked_add(second)
 }
 
-/// How many bytes the spans of the node at the index have, where they are of bytes of the set alone. How many those of its
-/// parts have is known.
+/// How many bytes the spans of the node at the index have, if they are all strings of that many bytes of the set.
+/// `widths` has this number for each node before it.
 fn width_of(
     expr: &Expr,
     index: usize,
@@ -62,8 +63,8 @@ fn width_of(
     }
 }
 
-/// The set of which the matches have so many bytes, where they are of nothing else, and how many. Bytes that are few are
-/// sought faster one by one.
+/// The set and the number such that the matches are all strings of that many bytes of the set, if there are such. Sets
+/// of few bytes are left out: these are sought faster one by one.
 pub fn times_of(
     alloc: Global,
     expr: &Expr,
@@ -89,7 +90,7 @@ pub fn times_of(
     Ok(Some((set, widths[count - 1])))
 }
 
-/// The last of the bytes from one place up to another that isn't in the set.
+/// The last place from `from` up to `to` whose byte isn't in the set, if there is one.
 #[inline(always)]
 fn last_outside(
     set: &ByteSet,
@@ -112,7 +113,7 @@ fn last_outside(
     None
 }
 
-/// The first place from `from` on from which `count` bytes are in the set.
+/// The first place from `from` on at which `count` bytes in a row begin that are in the set, if there is one.
 #[inline(never)]
 pub fn find_times(
     set: &ByteSet,
