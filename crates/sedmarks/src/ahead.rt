@@ -17,16 +17,16 @@ use crate::counted::Text;
 use crate::runs_ahead::rest_after_run;
 use sedre::{ByteSet, Expr, Node, NodeId, Steps};
 
-/// Where the spans end that begin at a place.
+/// What is known of the ends of the spans that begin at a place.
 #[derive(Clone, Copy)]
 pub enum Lead {
-    /// There are none.
+    /// No span begins there.
     Nowhere,
-    /// There is one, which ends at this place.
+    /// All end at this place, and one does.
     To(usize),
-    /// The longest ends at this place.
+    /// The longest one ends at this place.
     Longest(usize),
-    /// That isn't known.
+    /// Nothing is known.
     Unknown,
 }
 
@@ -39,7 +39,7 @@ pub enum Depth {
     Runs,
 }
 
-/// Where the spans of a set end that begin at the place.
+/// The end of a set's span that begins at the place, if there is one.
 fn set_lead(set: &ByteSet, text: &Text, place: usize, steps: &mut Steps) -> Lead
     requires place { place ≤ length text.now }
     ensures leads { LeadsTo (length text.now) (Spans (a_set set.now) text.now place) result }
@@ -52,7 +52,7 @@ fn set_lead(set: &ByteSet, text: &Text, place: usize, steps: &mut Steps) -> Lead
     }
 }
 
-/// Where the spans of an anchor end that begin at the place; `holds` says whether it holds there.
+/// The end of an anchor's span at the place, if `holds` says that the anchor holds there.
 fn anchor_lead(holds: bool, place: usize) -> Lead
     ensures { result ≡ anchor_lead holds place }
 {
@@ -63,7 +63,7 @@ fn anchor_lead(holds: bool, place: usize) -> Lead
     }
 }
 
-/// Where the spans of a node end that begin at the place.
+/// The end of a node's span that begins at the place, if the node is a set, an anchor or the null string.
 fn node_lead(node: &Node, text: &Text, place: usize, steps: &mut Steps) -> Lead
     requires place { place ≤ length text.now }
     ensures leads { (part : ℕ → Tree) → LeadsTo (length text.now) (Spans (tree_of part node.now) text.now place) result }
@@ -81,9 +81,9 @@ fn node_lead(node: &Node, text: &Text, place: usize, steps: &mut Steps) -> Lead
 /// What is left of the spans of a node that begin at a place.
 #[derive(Clone, Copy)]
 pub enum Rest {
-    /// They go on as the spans of this node from this place on.
+    /// The spans of this node from this place on.
     Part(usize, usize),
-    /// They end there.
+    /// Nothing, and this is known of their ends.
     End(Lead),
 }
 
@@ -164,8 +164,8 @@ fn fails_early(expr: &Expr, index: usize, text: &Text, place: usize, steps: &mut
     }
 }
 
-/// What is left of the spans of the node at the index that begin at the place, after its first part. An alternative
-/// that fails early is left out.
+/// What is left of the spans of the node at the index that begin at the place, after its first part. The first of two
+/// alternatives is left out if it fails early.
 pub fn rest_after(expr: &Expr, index: usize, text: &Text, place: usize, steps: &mut Steps) -> Rest
     requires inside { index < length expr.now.nodes }
     requires place { place ≤ length text.now }
@@ -186,7 +186,7 @@ pub fn rest_after(expr: &Expr, index: usize, text: &Text, place: usize, steps: &
     }
 }
 
-/// Where the matches end that begin at the place, as far as what comes first in them tells.
+/// The ends of the matches that begin at the place, as far as what comes first in them tells.
 pub fn look_ahead(expr: &Expr, text: &Text, place: usize, steps: &mut Steps) -> Lead
     requires place { place ≤ length text.now }
     ensures leads { LeadsTo (length text.now) (Spans (tree expr.now) text.now place) result }
@@ -196,7 +196,7 @@ pub fn look_ahead(expr: &Expr, text: &Text, place: usize, steps: &mut Steps) -> 
     lead_from(expr, root, text, place, Depth::Parts, steps)
 }
 
-/// Where the matches end that begin at the place, as far as what comes first in them and runs of single bytes tell.
+/// The ends of the matches that begin at the place, as far as what comes first in them and runs of single bytes tell.
 pub fn look_far(expr: &Expr, text: &Text, place: usize, steps: &mut Steps) -> Lead
     requires place { place ≤ length text.now }
     ensures leads { LeadsTo (length text.now) (Spans (tree expr.now) text.now place) result }
@@ -229,7 +229,7 @@ fn rest_by(
     }
 }
 
-/// Where the spans of a node end that begin at the place, as far as a look of this depth tells.
+/// The ends of a node's spans that begin at the place, as far as a look of this depth tells.
 pub fn lead_from(
     expr: &Expr,
     root: usize,
@@ -256,7 +256,7 @@ pub fn lead_from(
     }
 }
 
-/// Where the longest span of a node ends that begins at the place, if what comes first in it and runs of single bytes
+/// The end of the longest of a node's spans that begin at the place, if what comes first in it and runs of single bytes
 /// tell it.
 pub fn longest_ahead(
     expr: &Expr,

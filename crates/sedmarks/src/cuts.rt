@@ -161,7 +161,7 @@ fn first_end(
     None
 }
 
-/// Where the longest match of `left` from `start` ends, if what comes first tells this end, and tells that from
+/// The end of the longest match of `left` from `start`, if what comes first tells this end, and tells that from
 /// `start` on no match of `right` begins before it.
 fn far_cut(
     expr: &Expr,
@@ -352,8 +352,7 @@ fn mark_ends(
     }
 }
 
-/// Marks each place from `start` on at which a match of the node `root` begins that ends at `stop`, by one pass
-/// backwards.
+/// Marks each place from `start` on from which the node `root` matches up to `stop`, by one pass backwards.
 fn starts_to(
     expr: &Expr,
     root: usize,
@@ -438,9 +437,7 @@ fn copy_at_sight(
 {
     let mut copy = start;
     'copies: loop {
-        let Some(end) = longest_ahead(expr, root, text, copy, steps) else {
-            return None;
-        };
+        let end = longest_ahead(expr, root, text, copy, steps)?;
         if end == stop {
             return Some(copy);
         }

@@ -23,7 +23,7 @@ pub struct Region {
     pub bound: usize,
 }
 
-/// The last place before `stop` at which a match ends that begins at `first` or after it, if there is one.
+/// The last place before `stop` at which a match that begins at `first` or later ends, if there is one.
 fn last_end(
     nodes: &Nodes,
     bytes: &Bytes,

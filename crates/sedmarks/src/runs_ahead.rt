@@ -63,7 +63,7 @@ pub fn star_set(expr: &Expr, index: usize, steps: &mut Steps) -> Option<ByteSet>
     repeated_set(expr, index, &node, steps)
 }
 
-/// A node with which all spans of the node at the index begin: at most two parts deep in it.
+/// A node with which all spans of the node at the index begin, at most two parts deep in it.
 fn near_first(expr: &Expr, index: usize, steps: &mut Steps) -> Node
     requires inside { index < length expr.now.nodes }
     ensures first { IsFirst expr.now.nodes index result }
@@ -129,8 +129,7 @@ fn run_before(
     }
 }
 
-/// The end of the byte at the place, if it is in the set, and otherwise the place itself: there the longest span ends
-/// that is one byte of the set or none.
+/// The end of the longest span at the place that is one byte of the set or none.
 fn one_or_none(set: &ByteSet, text: &Text, place: usize, steps: &mut Steps) -> Lead
     requires place { place ≤ length text.now }
     ensures leads { LeadsTo (length text.now) (λ j. (place ≡ j) ⊎ Spans (a_set set.now) text.now place j) result }
@@ -143,7 +142,7 @@ fn one_or_none(set: &ByteSet, text: &Text, place: usize, steps: &mut Steps) -> L
     }
 }
 
-/// Where the longest span of the node at the index ends that begins at the place, if the node repeats a set.
+/// The end of the longest span of the node at the index that begins at the place, if the node repeats a set.
 fn star_end(
     expr: &Expr,
     index: usize,
@@ -165,7 +164,7 @@ fn star_end(
     }
 }
 
-/// Where the longest span of the node at the index ends that begins at the place, if the node is one byte of a set or
+/// The end of the longest span of the node at the index that begins at the place, if the node is one byte of a set or
 /// none.
 fn opt_end(
     expr: &Expr,

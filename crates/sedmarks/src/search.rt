@@ -154,17 +154,17 @@ fn longest_from(
     }
 }
 
-/// How a pass ends that takes every place it reaches as a start.
+/// The outcome of a pass that takes every place it reaches as a start.
 #[derive(Clone, Copy)]
 pub enum Swept {
-    /// A match from one of these starts ends.
+    /// A match was met. It begins in this region.
     Hit(Region),
     /// No match begins up to this place.
     Miss(usize),
 }
 
-/// The region from `start` to `last`, where the first match ends that a pass from `start` on has met. If `whole` asks
-/// for its bound, the pass goes on to it with no new starts.
+/// The region from `start` to `last`, the end of the first match that a pass from `start` on has met. If `whole` asks
+/// for the region's bound, the pass goes on to it with no new starts.
 fn region_to(
     expr: &Expr,
     root: usize,
@@ -211,9 +211,9 @@ fn region_to(
     }
 }
 
-/// How a pass over the text ends that goes on from `start` with every place as a start. It ends where a match does, or
-/// where no match that began before can go on. If `whole` asks for the bound of the match's region, it goes on to that
-/// with no new starts.
+/// The outcome of a pass over the text from `start` on that takes every place as a start. It ends where a match does,
+/// or where no match that began before can go on. If `whole` asks for the bound of the match's region, the pass goes on
+/// to that with no new starts.
 fn sweep(
     expr: &Expr,
     text: &Text,
@@ -292,8 +292,8 @@ pub fn longest_on(
     best
 }
 
-/// How a pass ends that goes on from `start` with every place as a start. Where a look ahead told where the match from
-/// `start` ends, as `lead` says, no pass is made.
+/// The outcome of a pass over the text from `start` on that takes every place as a start. No pass is made if `lead`,
+/// what a look ahead told of the matches from `start`, is their end.
 fn sweep_from(
     expr: &Expr,
     text: &Text,
@@ -319,8 +319,8 @@ fn sweep_from(
     }
 }
 
-/// The first place from `from` on at which a match can begin, and what a look ahead tells of where the matches end that
-/// begin there. Places are passed over by the first byte of a match and by what comes first in it.
+/// The first place from `from` on at which a match can begin, by its first byte and by what comes first in it, if there
+/// is one, and what is known of the ends of the matches that begin there.
 pub fn next_place(
     expr: &Expr,
     begins: &Begins,
@@ -428,17 +428,13 @@ pub fn leftmost(
         IfNone result (steps.new ≤ steps.old + 58 * m * (n + 1)) }
 {
     let begins = how_begins(expr, steps);
-    let Some((start, lead)) = next_place(expr, &begins, text, from, steps) else {
-        return None;
-    };
+    let (start, lead) = next_place(expr, &begins, text, from, steps)?;
     if let Some(end) = longest_from(expr, text, start, lead, sets, steps) {
         return Some((start, end));
     }
     if start >= text.len() {
         return None;
     }
-    let Some(region) = scan(expr, &begins, text, start + 1, true, sets, steps) else {
-        return None;
-    };
+    let region = scan(expr, &begins, text, start + 1, true, sets, steps)?;
     span_in(expr, text, region, sets, steps)
 }

@@ -369,7 +369,7 @@ impl Choice {
         }
     }
 
-    /// Where the longest match ends that begins at `start`. Condition: one begins there.
+    /// The end of the longest match that begins at `start`. Condition: one begins there.
     pub fn end(&self, text: &Text, start: usize, steps: &mut Steps) -> usize
         requires can { ChoiceAt self.now text.now start }
         ensures end { ChoiceEnd self.now text.now start result }
