@@ -10,7 +10,7 @@ use Rattle.sedmarks.specs.declared.ahead.Depth.TheVariants.{Parts, Runs}
 use Rattle.sedmarks.specs.declared.ahead.Rest.{Rest}
 use Rattle.sedmarks.specs.declared.ahead.Rest.TheVariants.{Part, End}
 
--- where the spans end that begin at one place of a text of n bytes
+-- of the spans that begin at one place of a text of n bytes and end as Ends says, the lead is right
 abbrev pub LeadsTo : ℕ → (ℕ → Type 0) → Lead → Type 0
 LeadsTo n Ends Nowhere = (j : ℕ) → Ends j → ⊥
 LeadsTo n Ends (To k) = (k ≤ n) × ((j : ℕ) → Ends j ↔ (j ≡ k))
@@ -22,7 +22,7 @@ abbrev pub anchor_lead : Bool → ℕ → Lead
 anchor_lead true place = To place
 anchor_lead false place = Nowhere
 
--- what is left of the spans that begin at one place
+-- of the spans that begin at one place and end as Ends says, the rest is what is left
 abbrev pub GoesOn : List Node → List ℕ → (ℕ → Type 0) → Rest → Type 0
 GoesOn nodes w Ends (Part x i) = (j : ℕ) → Ends j ↔ At nodes w x i j
 GoesOn nodes w Ends (End lead) = LeadsTo (length w) Ends lead

@@ -48,7 +48,7 @@ LeafBegins (Seq a b) begins = Unit {0}
 LeafBegins (Group k a) begins = Unit {0}
 LeafBegins other begins = (w : List ℕ) (i : ℕ) → CanBegin begins w i
 
--- the node, which has no left part, is spanned first where the node x is
+-- the node has no part with which its spans begin, and each span of the node x begins with a span of it
 abbrev pub IsLeaf : List Node → ℕ → Node → Type 0
 IsLeaf nodes x node = (y : ℕ) × (slice_get nodes y ≡ Some node) × (y ≤ x) × (left_part node ≡ None) × ((w : List ℕ) (i j : ℕ) → At nodes w x i j → (k : ℕ) × At nodes w y i k)
 

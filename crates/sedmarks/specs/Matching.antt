@@ -100,7 +100,7 @@ NotFoundLaw = (e : Tree) (w : List ℕ) (p : ℕ) → p ≤ length w → (found 
 abbrev pub SomeFoundLaw : Type 0
 SomeFoundLaw = (e : Tree) (w : List ℕ) (p : ℕ) → p ≤ length w → IsTrue (is_some (found e w p)) ↔ SomeFound e w p
 
--- what groups report is one thing only
+-- a match has one report of its groups alone
 abbrev pub OneCapsLaw : Type 0
 OneCapsLaw = (e : Tree) (w : List ℕ) (i j : ℕ) (old new other : Groups) → Caps e w i j old new → Caps e w i j old other → new ≡ other
 

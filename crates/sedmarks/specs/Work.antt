@@ -129,7 +129,7 @@ node_cost cost Begin = 0
 node_cost cost End = 0
 node_cost cost other = cost
 
--- the groups inside are forgotten, if it is to be done
+-- the groups inside are forgotten, if before asks for it
 abbrev pub forget_if : Bool → Tree → Groups → Groups
 forget_if before t g = (if before then forget t g else g)
 

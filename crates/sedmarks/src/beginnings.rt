@@ -137,7 +137,7 @@ pub fn how_begins(expr: &Expr, steps: &mut Steps) -> Begins
     }
 }
 
-/// The first place from `from` on at which a match can begin.
+/// The first place from `from` on at which a match can begin, as far as `begins` tells, if there is one.
 pub fn next_start(begins: &Begins, text: &Text, from: usize, steps: &mut Steps) -> Option<usize>
     requires from { from ≤ length text.now }
     ensures next { NextStart begins.now text.now from result }

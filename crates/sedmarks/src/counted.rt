@@ -321,7 +321,7 @@ fn has_bit(word: u64, k: usize) -> bool
     (word >> k) & 1 == 1
 }
 
-/// Sets the bit, or takes it away.
+/// The word with the bit set, or with it taken away.
 fn put_bit(word: u64, k: usize, mark: bool) -> u64
     requires { k < 64 }
     ensures same { eqb (bit_at result k) 1 ≡ mark }

@@ -19,7 +19,7 @@ fn byte_at(bytes: &[u8], i: usize) -> u8
     bytes[i]
 }
 
-/// The first place from `from` on whose byte is in the set.
+/// The first place from `from` on whose byte is in the set, if there is one.
 // As a part of a large function it would be slower by the byte.
 #[inline(never)]
 fn first_member(set: &ByteSet, bytes: &[u8], from: usize) -> Option<usize>
@@ -54,7 +54,7 @@ fn run_to(set: &ByteSet, bytes: &[u8], from: usize) -> usize
     bytes.len()
 }
 
-/// The first place from `from` on whose byte is in the set.
+/// The first place from `from` on whose byte is in the set, if there is one.
 /// Counts a look for each byte from `from` to that place, or to the end where there is none.
 #[inline(always)]
 pub fn find_member(text: &Text, set: &ByteSet, from: usize, steps: &mut Steps) -> Option<usize>
