@@ -8,8 +8,8 @@ use Rattle.sedre.specs.declared.types.Node.{Node}
 use Rattle.sedmarks.specs.Words.{AgreeBelow, row_of}
 use Rattle.sedmarks.specs.Reach.{Marked, Below, Enters, Entered, TellBegun, TellEntered, SomeSpan}
 use Rattle.sedmarks.specs.Search.{starts_to}
-use Rattle.sedmatch.specs.Meet.{RowTells, RowsTell, EdgesTell, MarkTells, HasBackPass, KeepsBackPass, low_of}
-use Rattle.sedmatch.specs.declared.meet.BackPass.{BackPass}
+use Rattle.sedmatch.specs.BackPass.{RowTells, RowsTell, EdgesTell, MarkTells, HasBackPass, KeepsBackPass, low_of}
+use Rattle.sedmatch.specs.declared.back_pass.BackPass.{BackPass}
 use Rattle.sedmarks.specs.declared.scratch.Sets.{Sets}
 
 -- marks that agree tell the same

@@ -5,11 +5,11 @@ pub mod SightLemmas
 pub mod TrailLemmas
 pub mod AnywhereLemmas
 pub mod StartLemmas
-pub mod MeetLemmas
+pub mod BackPassLemmas
 pub mod BlockLemmas
 pub mod OccurrenceLemmas
 pub mod TableLemmas
-pub mod QuickLemmas
+pub mod FollowLemmas
 pub mod LinearLemmas
 pub mod FirstStartLemmas
 pub mod LongestLemmas

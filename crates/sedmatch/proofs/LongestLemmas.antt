@@ -4,7 +4,7 @@ use Rattle.std.proofs.lemmas.Bool.{cases_lt, both_ways}
 use Rattle.sedre.specs.Tree.{Tree}
 use Rattle.sedre.specs.Arena.{Written, tree}
 use Rattle.sedre.specs.declared.types.Node.{Node}
-use Rattle.sedmatch.specs.declared.quick.Passed.{Passed}
+use Rattle.sedmatch.specs.declared.table_matcher.Passed.{Passed}
 use Rattle.sedmatch.specs.declared.tables.Table.{Table}
 use Rattle.sedmatch.specs.Longest.{HasPassed}
 use Rattle.sedmarks.specs.Spans.{Spans}

@@ -9,7 +9,7 @@ use Rattle.sedmarks.specs.Spans.{Spans}
 use Rattle.sedmarks.specs.Matching.{found}
 use Rattle.sedmarks.proofs.MatchingLemmas.{found-iff}
 use Rattle.sedmatch.specs.declared.occurrences.Occurrences.{Occurrences}
-use Rattle.sedmatch.specs.Meet.{blocks_cost, end_to}
+use Rattle.sedmatch.specs.BackPass.{blocks_cost, end_to}
 use Rattle.sedmatch.specs.Occurrences.{EndsWithin, Keeps, LiesOn, Occurs, Serves, next_span, unless_null_at, owed_met, owed_apart, owed_together, owed_from, owed_after}
 
 -- what is owed after an answer, where c is what the blocks may cost

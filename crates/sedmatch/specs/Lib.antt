@@ -12,5 +12,5 @@ pub mod Ready
 pub mod Between
 pub mod Trail
 pub mod Sight
-pub mod Meet
+pub mod BackPass
 pub mod Occurrences

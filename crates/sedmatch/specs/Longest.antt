@@ -3,7 +3,7 @@
 use Rattle.std.specs.Prelude.{ℕ, ◌+◌, ◌<◌, ◌≤◌, List, length, Option, IfSome, IsTrue}
 use Rattle.sedre.specs.Tree.{Tree}
 use Rattle.sedre.specs.Arena.{Written, tree}
-use Rattle.sedmatch.specs.declared.quick.Passed.{Passed}
+use Rattle.sedmatch.specs.declared.table_matcher.Passed.{Passed}
 use Rattle.sedmatch.specs.declared.tables.Table.{Table}
 use Rattle.sedmarks.specs.Reach.{one_start, LongestBelow}
 use Rattle.sedmatch.specs.Tables.{StateAt}

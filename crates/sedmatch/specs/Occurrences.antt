@@ -4,7 +4,7 @@ use Rattle.sedre.specs.Arena.{Written}
 use Rattle.sedre.specs.Tree.{Tree}
 use Rattle.sedmarks.specs.Spans.{Spans}
 use Rattle.sedmatch.specs.declared.occurrences.Occurrences.{Occurrences}
-use Rattle.sedmatch.specs.Meet.{HasBackPass, Served, blocks_cost}
+use Rattle.sedmatch.specs.BackPass.{HasBackPass, Served, blocks_cost}
 
 -- the match of the null string at a place is passed over for another one
 abbrev pub unless_null_at : ℕ → Option (ℕ × ℕ) → Option (ℕ × ℕ) → Option (ℕ × ℕ)

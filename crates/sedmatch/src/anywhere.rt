@@ -10,8 +10,8 @@ ghost use Rattle.sedmarks.specs.Costs.{Pays};
 ghost use Rattle.sedre.specs.Steps.{Takes};
 
 use crate::linear::{first_end_in, region_by, span_by, start_to};
-use crate::quick::longest_in;
 use crate::ready::{Known, Tables};
+use crate::table_matcher::longest_in;
 use crate::tables::Table;
 use sedmarks::ahead::Lead;
 use sedmarks::beginnings::Begins;

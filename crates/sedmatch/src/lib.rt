@@ -18,21 +18,21 @@
 #![tactic(auto)]
 
 mod anywhere;
+mod back_pass;
 mod backwards;
 mod between;
 mod classes;
 mod linear;
-mod meet;
 mod occurrences;
-mod quick;
 mod ready;
 mod sight;
+mod table_matcher;
 mod tables;
 mod trail;
 mod word;
 
 pub use occurrences::Occurrences;
-pub use quick::TableMatcher;
 pub use sedmarks::{
     Found, Marks, Scratch, Text, find, find_span, found_law, groups_law, is_match, spans_law,
 };
+pub use table_matcher::TableMatcher;

@@ -15,8 +15,8 @@ ghost use Rattle.sedmatch.specs.Ready.{AreTables};
 ghost use Rattle.sedmarks.specs.Costs.{Pays};
 ghost use Rattle.sedre.specs.Steps.{Takes};
 
-use crate::quick::{longest_in, longest_to};
 use crate::ready::Tables;
+use crate::table_matcher::{longest_in, longest_to};
 use crate::tables::{Next, Table, first_state, follow, follow_past, go, settle, stay};
 use sedmarks::counted::{Bytes, Text};
 use sedmarks::passes::{Starts, advance};

@@ -2,7 +2,7 @@
 ghost use Rattle.std.specs.Prelude.{◌≡◌, ℕ, false, ◌+◌, ◌*◌, ◌^◌, ◌<◌, ◌≤◌, length, nat_lt, if◌then◌else◌, None, Some, IfOk, IfSome, IsTrue};
 ghost use Rattle.sedre.specs.Arena.{Written, tree};
 ghost use Rattle.sedmarks.specs.Matching.{found, report};
-ghost use Rattle.sedmatch.specs.Meet.{HasBackPass, KeepsBackPass, Served};
+ghost use Rattle.sedmatch.specs.BackPass.{HasBackPass, KeepsBackPass, Served};
 ghost use Rattle.sedmatch.specs.Occurrences.{EndsWithin, Keeps, KeepsOn, KeepsRoom, LiesOn, Occurs, RoomFor, Serves, ServesOn};
 ghost use Rattle.sedmatch.specs.Occurrences.{next_span, owed, owed_after, owed_apart, owed_met, owed_together};
 ghost use Rattle.sedmarks.specs.Nodes.{IsRoot};
@@ -12,8 +12,8 @@ ghost use Rattle.sedmarks.specs.Room.{FitInto};
 ghost use Rattle.sedmarks.specs.Costs.{Pays};
 ghost use Rattle.sedre.specs.Steps.{Takes};
 
-use crate::meet::{BackPass, is_null_at, keep_back_pass, new_back_pass, next_after};
-use crate::quick::TableMatcher;
+use crate::back_pass::{BackPass, is_null_at, keep_back_pass, new_back_pass, next_after};
+use crate::table_matcher::TableMatcher;
 use sedmarks::counted::Text;
 use sedmarks::groups::report;
 use sedmarks::scratch::Scratch;

@@ -1,5 +1,5 @@
 use Rattle.std.proofs.Common.{arith}
-use Rattle.sedmatch.proofs.QuickLemmas.{pass_one}
+use Rattle.sedmatch.proofs.FollowLemmas.{pass_one}
 use Rattle.sedmatch.proofs.linear.at_last.Goals as goal
 
 pub returns-else-ends-clause-first : goal.returns-else-ends-clause-first

@@ -6,7 +6,7 @@ use Rattle.sedmarks.specs.Search.{starts_to}
 use Rattle.sedmatch.specs.Tables.{NextIs, LeadsFrom}
 use Rattle.sedmarks.specs.Words.{row_of}
 use Rattle.sedmarks.proofs.MarkLemmas.{default_same}
-use Rattle.sedmatch.proofs.QuickLemmas.{next_map, look_most}
+use Rattle.sedmatch.proofs.FollowLemmas.{next_map, look_most}
 use Rattle.sedmatch.proofs.LinearLemmas.{line_step, line_end, line_rest, to_are, bound_closed, bound_end}
 use Rattle.sedmatch.proofs.linear.bound_by.Goals as goal
 

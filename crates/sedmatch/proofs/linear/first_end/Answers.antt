@@ -9,7 +9,7 @@ use Rattle.sedmatch.specs.Tables.{NextIs, LeadsFrom, IsFirst, starts_from}
 use Rattle.sedmatch.proofs.TableLemmas.{at_agree, agree_back}
 use Rattle.sedmarks.proofs.MarkLemmas.{default_same}
 use Rattle.sedmarks.proofs.SweepLemmas.{missed_init}
-use Rattle.sedmatch.proofs.QuickLemmas.{next_map, starts_are, pass_one, pass_more, pass_rest}
+use Rattle.sedmatch.proofs.FollowLemmas.{next_map, starts_are, pass_one, pass_more, pass_rest}
 use Rattle.sedmatch.proofs.LinearLemmas.{line_step, line_end, line_rest, line_stop}
 use Rattle.sedmatch.proofs.linear.first_end.Goals as goal
 

@@ -3,7 +3,7 @@ use Rattle.sedmarks.specs.declared.passes.Starts.{Starts}
 use Rattle.sedmarks.specs.Reach.{TellBegun, SomeSpan, OpenAt}
 use Rattle.sedmatch.specs.Tables.{starts_from}
 use Rattle.sedmarks.proofs.SearchLemmas.{next_entered}
-use Rattle.sedmatch.proofs.QuickLemmas.{pass_one}
+use Rattle.sedmatch.proofs.FollowLemmas.{pass_one}
 use Rattle.sedmatch.proofs.LinearLemmas.{told_at}
 use Rattle.sedmatch.proofs.linear.first_end_on.Goals as goal
 

@@ -8,7 +8,7 @@ use Rattle.sedmarks.specs.Search.{LastEnd}
 use Rattle.sedmatch.specs.Tables.{NextIs, LeadsFrom, IsFirst, starts_from}
 use Rattle.sedmarks.specs.Words.{row_of}
 use Rattle.sedmarks.proofs.MarkLemmas.{default_same}
-use Rattle.sedmatch.proofs.QuickLemmas.{next_map, starts_are, look_most}
+use Rattle.sedmatch.proofs.FollowLemmas.{next_map, starts_are, look_most}
 use Rattle.sedmarks.proofs.RegionLemmas.{LastEnd-none, LastEnd-hit}
 use Rattle.sedmatch.proofs.LinearLemmas.{line_step, line_end, line_rest, last_passed}
 use Rattle.sedmatch.proofs.linear.last_by.Goals as goal

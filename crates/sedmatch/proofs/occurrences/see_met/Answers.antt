@@ -1,5 +1,5 @@
 use Rattle.std.proofs.Common.{◌+◌, ◌≤◌, length, sym, subst, true, arith}
-use Rattle.sedmatch.specs.Meet.{low_of}
+use Rattle.sedmatch.specs.BackPass.{low_of}
 use Rattle.sedmatch.specs.Occurrences.{owed_met}
 use Rattle.sedmatch.proofs.OccurrenceLemmas.{met_paid, owed_not_met}
 use Rattle.sedmatch.proofs.occurrences.see_met.Goals as goal

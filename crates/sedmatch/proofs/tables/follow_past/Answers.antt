@@ -1,4 +1,4 @@
-use Rattle.sedmatch.proofs.QuickLemmas.{follow_none}
+use Rattle.sedmatch.proofs.FollowLemmas.{follow_none}
 use Rattle.sedmatch.proofs.tables.follow_past.Goals as goal
 
 pub returns-then-inner-clause-follows : goal.returns-then-inner-clause-follows

@@ -4,7 +4,7 @@ use Rattle.sedmarks.specs.Words.{row_of}
 use Rattle.sedmatch.specs.Tables.{ends_of, LeadsOn, Follows}
 use Rattle.sedmatch.proofs.TableLemmas.{known_plain, cell_inside, offset_state, not_inner}
 use Rattle.sedmarks.proofs.MarkLemmas.{default_same}
-use Rattle.sedmatch.proofs.QuickLemmas.{follow_none, follow_step}
+use Rattle.sedmatch.proofs.FollowLemmas.{follow_none, follow_step}
 use Rattle.sedre.specs.Steps.{TakesAtLeast}
 use Rattle.sedmarks.proofs.StepLemmas.{least_own}
 use Rattle.sedmatch.proofs.tables.follow_to.Goals as goal

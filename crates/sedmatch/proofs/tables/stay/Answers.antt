@@ -1,4 +1,4 @@
-use Rattle.sedmatch.proofs.QuickLemmas.{stay_none}
+use Rattle.sedmatch.proofs.FollowLemmas.{stay_none}
 use Rattle.sedmatch.proofs.tables.stay.Goals as goal
 
 pub returns-then-not-inner-clause-stays : goal.returns-then-not-inner-clause-stays

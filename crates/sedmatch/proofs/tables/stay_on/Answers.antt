@@ -4,7 +4,7 @@ use Rattle.sedmarks.specs.Words.{row_of}
 use Rattle.sedmatch.specs.Tables.{ends_of, LeadsOn, Stays}
 use Rattle.sedmatch.proofs.TableLemmas.{known_low, cell_inside, few_cells, back_state}
 use Rattle.sedmarks.proofs.MarkLemmas.{default_same}
-use Rattle.sedmatch.proofs.QuickLemmas.{stay_none, stay_step}
+use Rattle.sedmatch.proofs.FollowLemmas.{stay_none, stay_step}
 use Rattle.sedre.specs.Steps.{TakesAtLeast}
 use Rattle.sedmarks.proofs.StepLemmas.{least_own}
 use Rattle.sedmatch.proofs.tables.stay_on.Goals as goal
