@@ -1,6 +1,6 @@
 -- Private to the proofs: no contract of a public item cites what stands here.
 -- A run of bytes of a set and one byte after it.
-use Rattle.std.specs.Prelude.{ℕ, ◌<◌, ◌≤◌, Bool, List, Option, Some, None}
+use Rattle.std.specs.Prelude.{ℕ, ◌-◌, ◌<◌, ◌≤◌, Bool, List, Option, Some, None}
 use Rattle.sedmarks.specs.RunsAhead.{Repeated}
 use Rattle.sedmatch.specs.Sight.{StartsWith}
 use Rattle.sedmatch.specs.declared.sight.First.{First}
@@ -13,3 +13,8 @@ RunBegins members w p q i = (p ≤ i) × (i ≤ q) × Repeated members w i q × 
 abbrev pub LastWith : First → List ℕ → ℕ → ℕ → Option ℕ → Type 0
 LastWith first w p q None = (k : ℕ) → p ≤ k → k < q → StartsWith first w k → ⊥
 LastWith first w p q (Some k) = (p ≤ k) × (k < q) × StartsWith first w k × ((h : ℕ) → k < h → h < q → StartsWith first w h → ⊥)
+
+-- how many bytes are looked at from the one before place q down to the place found, or to p where there is none
+abbrev pub looked_back : ℕ → ℕ → Option ℕ → ℕ
+looked_back p q None = q - p
+looked_back p q (Some k) = q - k

@@ -1,8 +1,9 @@
 //! The last place in a part of a text at which something stands, by calls that count.
-ghost use Rattle.std.specs.Prelude.{◌≡◌, ◌<◌, ◌≤◌, length, slice_get, Some};
+ghost use Rattle.std.specs.Prelude.{◌≡◌, ◌+◌, ◌-◌, ◌<◌, ◌≤◌, length, min, slice_get, Some};
 ghost use Rattle.sedmarks.specs.Costs.{Pays};
 ghost use Rattle.sedneedles.specs.Needed.{LastLiteral};
-ghost use Rattle.sedmatch.specs.Trail.{RunBegins, LastWith};
+ghost use Rattle.sedmatch.specs.Trail.{RunBegins, LastWith, looked_back};
+ghost use Rattle.sedre.specs.Steps.{Counted};
 
 use crate::sight::First;
 use memchr::memmem::FinderRev;
@@ -65,6 +66,7 @@ pub fn find_last(
     requires to { to ≤ length text.now }
     ensures last { LastLiteral text.now finder.now from to result }
     ensures cost { Pays steps.old steps.new to from }
+    ensures counts { Counted steps.old steps.new (looked_back from to result) }
 {
     let bytes = uncounted(text);
     let part = &bytes[from..to];
@@ -88,13 +90,16 @@ pub fn run_begin(text: &Text, set: &ByteSet, from: usize, to: usize, steps: &mut
     requires to { to ≤ length text.now }
     ensures begins { RunBegins set.now text.now from to result }
     ensures cost { Pays steps.old steps.new to from }
+    ensures counts { Counted steps.old steps.new (min (to + 1 - result) (to - from)) }
 {
     let bytes = uncounted(text);
     let begin = run_back(set, bytes, from, to);
-    steps.add(to - begin);
-    if from < begin {
-        steps.add(1);
-    }
+    let looks = if from < begin {
+        to - begin + 1
+    } else {
+        to - from
+    };
+    steps.add(looks);
     begin
 }
 
@@ -112,6 +117,7 @@ pub fn last_with(
     requires to { to ≤ length text.now }
     ensures last { LastWith sought.now text.now from to result }
     ensures cost { Pays steps.old steps.new to from }
+    ensures counts { Counted steps.old steps.new (looked_back from to result) }
 {
     let bytes = uncounted(text);
     match last_of(sought, bytes, from, to) {
