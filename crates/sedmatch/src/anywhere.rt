@@ -42,10 +42,8 @@ pub fn anchored_by(
     if from > 0 {
         return None;
     }
-    match longest_in(expr, root, text, from, single, sets, steps) {
-        None => None,
-        Some(end) => Some((from, end)),
-    }
+    let end = longest_in(expr, root, text, from, single, sets, steps)?;
+    Some((from, end))
 }
 
 /// The leftmost-longest span that begins at `from` or later.
@@ -72,14 +70,14 @@ pub fn leftmost_by(
 {
     match &known.begins {
         Begins::AtStart => anchored_by(expr, root, text, from, &mut tables.single, sets, steps),
-        _ => match narrowed(&known.needed, text, from, steps) {
-            None => None,
-            Some(start) => anywhere_by(expr, root, known, text, start, tables, sets, steps),
-        },
+        _ => {
+            let start = narrowed(&known.needed, text, from, steps)?;
+            anywhere_by(expr, root, known, text, start, tables, sets, steps)
+        }
     }
 }
 
-/// The same where matches may begin at any place.
+/// The leftmost-longest span that begins at `from` or later, where matches may begin at any place.
 fn anywhere_by(
     expr: &Expr,
     root: usize,
@@ -101,12 +99,10 @@ fn anywhere_by(
     ensures none_cost { let m = length expr.now.nodes in let n = length text.now in
         IfNone result (steps.new ≤ steps.old + 41 * m + 43 * m * n) }
 {
-    match first_place(expr, &known.begins, &known.rare, text, from, steps) {
-        None => None,
-        Some((start, lead)) => match lead {
-            Lead::To(end) => Some((start, end)),
-            _ => span_from(expr, root, text, start, tables, sets, steps),
-        },
+    let (start, lead) = first_place(expr, &known.begins, &known.rare, text, from, steps)?;
+    match lead {
+        Lead::To(end) => Some((start, end)),
+        _ => span_from(expr, root, text, start, tables, sets, steps),
     }
 }
 

@@ -559,8 +559,6 @@ pub fn span_by(
         return Some((region.start, region.start));
     }
     let start = earliest_by(expr, root, text, region, &mut tables.back, sets, steps);
-    match longest_in(expr, root, text, start, &mut tables.single, sets, steps) {
-        None => None,
-        Some(end) => Some((start, end)),
-    }
+    let end = longest_in(expr, root, text, start, &mut tables.single, sets, steps)?;
+    Some((start, end))
 }

@@ -90,12 +90,10 @@ fn trail_sight(expr: &Expr, a: NodeId, b: NodeId, steps: &mut Steps) -> Option<S
     ensures sight { IfSome result (λ s. IsSight (tree expr.now) s) }
     ensures cost { Takes steps.old steps.new 4 }
 {
-    match star_set(expr, a.index(), steps) {
-        Some(members) => match expr.look(b, steps) {
-            Node::Set(set) => Some(Sight::Trail(members, first_of(&set))),
-            _ => None,
-        },
-        None => None,
+    let members = star_set(expr, a.index(), steps)?;
+    match expr.look(b, steps) {
+        Node::Set(set) => Some(Sight::Trail(members, first_of(&set))),
+        _ => None,
     }
 }
 
@@ -108,16 +106,16 @@ fn run_sight(expr: &Expr, steps: &mut Steps) -> Option<Sight>
     match expr.look(expr.id(root), steps) {
         Node::Set(set) => Some(Sight::One(first_of(&set))),
         Node::Seq(a, b) => match expr.look(a, steps) {
-            Node::Set(set) => match star_set(expr, b.index(), steps) {
-                Some(members) => Some(Sight::Led(first_of(&set), members)),
-                None => None,
-            },
+            Node::Set(set) => {
+                let members = star_set(expr, b.index(), steps)?;
+                Some(Sight::Led(first_of(&set), members))
+            }
             _ => trail_sight(expr, a, b, steps),
         },
-        _ => match star_set(expr, root, steps) {
-            Some(members) => Some(Sight::Run(members)),
-            None => None,
-        },
+        _ => {
+            let members = star_set(expr, root, steps)?;
+            Some(Sight::Run(members))
+        }
     }
 }
 
@@ -222,10 +220,8 @@ pub fn sight_span(
     ensures cost { Takes steps.old steps.new (50 * (length text.now + 1)) }
 {
     are_bytes(text);
-    match sight_start(sight, text, from, steps) {
-        None => None,
-        Some(start) => Some((start, sight_end(sight, text, start, steps))),
-    }
+    let start = sight_start(sight, text, from, steps)?;
+    Some((start, sight_end(sight, text, start, steps)))
 }
 
 /// The leftmost-longest match that begins at `from` or later, with its groups.

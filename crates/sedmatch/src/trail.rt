@@ -28,10 +28,8 @@ pub fn trail_start(
     ensures start { FirstStart (Trail members.now last.now) text.now from result }
     ensures cost { Takes steps.old steps.new (2 * (length text.now + 1)) }
 {
-    match find_first(last, text, from, steps) {
-        Some(place) => Some(run_begin(text, members, from, place, steps)),
-        None => None,
-    }
+    let place = find_first(last, text, from, steps)?;
+    Some(run_begin(text, members, from, place, steps))
 }
 
 /// Where the longest match ends that begins at `start`.

@@ -9,28 +9,28 @@ pub returns-in-To-clause-answer : goal.returns-in-To-clause-answer
 returns-in-To-clause-answer c =
     let e = tree c.args.expr.now in
     let w = c.args.text.now in
-    let sought = subst (λ lead. Sought e w c.args.from (Some (c.in-Some.start, lead))) c.in-To.is c.in-Some.ensures.sought in
-    (found_ahead e w c.args.from c.in-Some.start c.in-To.end sought, tt, ahead_lies e w c.args.from c.in-Some.start c.in-To.end sought)
+    let sought = subst (λ lead. Sought e w c.args.from (Some (c.in_ok-start.start, lead))) c.in-To.is c.in_ok-start.ensures.sought in
+    (found_ahead e w c.args.from c.in_ok-start.start c.in-To.end sought, tt, ahead_lies e w c.args.from c.in_ok-start.start c.in-To.end sought)
 
 pub returns-in_default-clause-answer : goal.returns-in_default-clause-answer
 returns-in_default-clause-answer c =
-    let sought = c.in-Some.ensures.sought in
-    answer_later (tree c.args.expr.now) c.args.text.now c.args.from c.in-Some.start c.span_from.result sought.0 sought.2 c.span_from.ensures.answer
+    let sought = c.in_ok-start.ensures.sought in
+    answer_later (tree c.args.expr.now) c.args.text.now c.args.from c.in_ok-start.start c.span_from.result sought.0 sought.2 c.span_from.ensures.answer
 
 pub returns-in_default-clause-cost : goal.returns-in_default-clause-cost
 returns-in_default-clause-cost c =
-    let cost = all_steps (length c.args.expr.now.nodes) (length c.args.text.now) c.args.from c.in-Some.start c.args.steps.now c.first_place.new.steps c.span_from.new.steps
-    (omega arith) c.in-Some.ensures.sought.1 (omega (arith, c.in-Some.ensures.cost.1)) (omega (arith, c.span_from.ensures.cost.1)) in
+    let cost = all_steps (length c.args.expr.now.nodes) (length c.args.text.now) c.args.from c.in_ok-start.start c.args.steps.now c.first_place.new.steps c.span_from.new.steps
+    (omega arith) c.in_ok-start.ensures.sought.1 (omega (arith, c.in_ok-start.ensures.cost.1)) (omega (arith, c.span_from.ensures.cost.1)) in
     (omega arith, omega (arith, cost))
 
 pub returns-in_default-clause-short_cost : goal.returns-in_default-clause-short_cost
 returns-in_default-clause-short_cost c =
-    square_steps (length c.args.expr.now.nodes) (length c.args.text.now) c.args.from c.in-Some.start c.args.steps.now c.first_place.new.steps c.span_from.new.steps
-    (omega arith) c.in-Some.ensures.sought.1 (omega (arith, c.in-Some.ensures.cost.1)) (omega (arith, c.span_from.ensures.cost.1)) c.span_from.ensures.short_cost
+    square_steps (length c.args.expr.now.nodes) (length c.args.text.now) c.args.from c.in_ok-start.start c.args.steps.now c.first_place.new.steps c.span_from.new.steps
+    (omega arith) c.in_ok-start.ensures.sought.1 (omega (arith, c.in_ok-start.ensures.cost.1)) (omega (arith, c.span_from.ensures.cost.1)) c.span_from.ensures.short_cost
 
 pub returns-in_default-clause-none_cost : goal.returns-in_default-clause-none_cost
 returns-in_default-clause-none_cost c =
     let m = length c.args.expr.now.nodes in
     let n = length c.args.text.now in
-    none_then c.span_from.result (c.span_from.new.steps + 42 * m * c.in-Some.start ≤ c.first_place.new.steps + 40 * m + 42 * m * n) (c.span_from.new.steps ≤ c.args.steps.now + 41 * m + 43 * m * n)
-    (none_steps m n c.args.from c.in-Some.start c.args.steps.now c.first_place.new.steps c.span_from.new.steps (omega arith) c.in-Some.ensures.sought.1 (omega (arith, c.in-Some.ensures.cost.1))) c.span_from.ensures.none_cost
+    none_then c.span_from.result (c.span_from.new.steps + 42 * m * c.in_ok-start.start ≤ c.first_place.new.steps + 40 * m + 42 * m * n) (c.span_from.new.steps ≤ c.args.steps.now + 41 * m + 43 * m * n)
+    (none_steps m n c.args.from c.in_ok-start.start c.args.steps.now c.first_place.new.steps c.span_from.new.steps (omega arith) c.in_ok-start.ensures.sought.1 (omega (arith, c.in_ok-start.ensures.cost.1))) c.span_from.ensures.none_cost

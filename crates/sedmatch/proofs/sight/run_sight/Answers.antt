@@ -26,14 +26,14 @@ returns-in-Set c =
       cost = omega arith;
     }
 
-pub returns-in-Some : goal.returns-in-Some
-returns-in-Some c =
+pub returns-in_ok-members-in-Set-look : goal.returns-in_ok-members-in-Set-look
+returns-in_ok-members-in-Set-look c =
     let nodes = c.args.expr.now.nodes in
     let last : length nodes - 1 ≡ c.index-root.result = omega arith in
     let is : slice_get nodes c.index-root.result ≡ Some (Seq c.in-Seq.a c.in-Seq.b) = cc in
     let there : slice_get nodes c.in-Seq.a.index ≡ Some (Set c.in-Set-look.set) = cc in
     record {
-      sight = sight_led nodes c.in-Seq.ensures.arena c.index-root.result (length nodes - 1) last c.in-Seq.a c.in-Seq.b c.in-Set-look.set c.first_of-in-Some.result c.index.result c.in-Some.members
-          is there c.index.ensures c.first_of-in-Some.ensures c.in-Some.ensures.repeats;
+      sight = sight_led nodes c.in-Seq.ensures.arena c.index-root.result (length nodes - 1) last c.in-Seq.a c.in-Seq.b c.in-Set-look.set c.first_of-in-Set-look.result c.index.result c.in_ok-members-in-Set-look.members
+          is there c.index.ensures c.first_of-in-Set-look.ensures c.in_ok-members-in-Set-look.ensures.repeats;
       cost = omega arith;
     }

@@ -19,5 +19,5 @@ pub returns-in-Set-clause-sight : goal.returns-in-Set-clause-sight
 returns-in-Set-clause-sight c =
     let nodes = c.args.expr.now.nodes in
     let there : slice_get nodes c.args.b.index ≡ Some (Set c.in-Set.set) = cc in
-    sight_trail nodes c.requires.arena (length nodes - 1) (length nodes - 1) refl c.args.a c.args.b c.index.result c.in-Some.members c.in-Set.set c.first_of.result
-    c.requires.root c.index.ensures there c.in-Some.ensures.repeats c.first_of.ensures
+    sight_trail nodes c.requires.arena (length nodes - 1) (length nodes - 1) refl c.args.a c.args.b c.index.result c.in_ok-members.members c.in-Set.set c.first_of.result
+    c.requires.root c.index.ensures there c.in_ok-members.ensures.repeats c.first_of.ensures
