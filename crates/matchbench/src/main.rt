@@ -177,7 +177,8 @@ impl Job {
         let nodes = self.expr.nodes();
         ensure!(nodes <= MAX_NODES, "EXPRESSION has too many nodes");
         let mut scratch = Scratch::new(alloc, self.size, MAX_NODES)?;
-        let mut tables = TableMatcher::new(alloc, &self.expr)?;
+        let mut steps = Steps::new();
+        let mut tables = TableMatcher::new(alloc, &self.expr, &mut steps)?;
         let hits = self.call.rounds(
             self.rounds,
             &self.expr,

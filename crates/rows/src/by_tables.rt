@@ -5,7 +5,7 @@ ghost use Rattle.std.specs.Prelude.{◌≡◌, ◌≤◌, length};
 use crate::matches::{compare_spans, is_same};
 use crate::report::{NO_MEMORY, Report};
 use crate::table::Row;
-use sedmatch::{Found, Scratch, TableMatcher, Text};
+use sedmatch::{Found, Scratch, StateLimit, TableMatcher, Text};
 use sedre::{Expr, Steps};
 use std::alloc::Global;
 
@@ -29,7 +29,7 @@ pub(crate) fn compare_tables(
     compare_table(alloc, expr, 0, text, from, scratch, row, report);
 }
 
-/// Whether a matcher with tables of so many states tells what the row says.
+/// Whether a matcher with tables of at most `states` states, or 64 where that is more, tells what the row says.
 fn compare_table(
     alloc: Global,
     expr: &Expr,
@@ -40,14 +40,15 @@ fn compare_table(
     row: &Row,
     report: &mut Report,
 )
-    requires states { states ≤ 64 }
     requires from { from ≤ length text.now }
     requires text { length text.now ≤ scratch.old.text }
     requires nodes { length expr.now.nodes ≤ scratch.old.nodes }
     requires few { length expr.now.nodes ≤ 65536 }
     ensures { scratch.new ≡ scratch.old }
 {
-    let Ok(mut matcher) = TableMatcher::with_states(alloc, expr, states) else {
+    let mut steps = Steps::new();
+    let limit = StateLimit::new(states);
+    let Ok(mut matcher) = TableMatcher::with_states(alloc, expr, limit, &mut steps) else {
         return report.tell(NO_MEMORY);
     };
     let span = span_by(&mut matcher, text, from, scratch);

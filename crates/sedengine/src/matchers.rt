@@ -5,7 +5,8 @@ ghost use Rattle.sedscript.specs.declared.substitution.Substitution.{Substitutio
 ghost use Rattle.sedengine.specs.Fitting.{AllFit, RoomToSeek, Seek, seeks_more};
 
 use crate::limits::Limits;
-use sedmatch::{Occurrences, Scratch, TableMatcher};
+use sedmatch::{Occurrences, Scratch, StateLimit, TableMatcher};
+use sedre::Steps;
 use sedscript::Script;
 use std::alloc::{AllocError, Global};
 
@@ -44,10 +45,12 @@ pub(crate) fn matchers_of(
     ensures { IfOk result (λ ms. Seek script.now.expressions most_nodes ms.items) }
 {
     let count = script.expressions();
-    let states = states_for(count);
+    let limit = StateLimit::new(states_for(count));
+    // What is found out once is counted, and the count let go of.
+    let mut steps = Steps::new();
     let mut matchers = Vec::with_capacity(alloc, count)?;
     for k in 0..count {
-        matchers.push(TableMatcher::with_states(alloc, script.expr(k), states)?)?;
+        matchers.push(TableMatcher::with_states(alloc, script.expr(k), limit, &mut steps)?)?;
     }
     Ok(matchers)
 }

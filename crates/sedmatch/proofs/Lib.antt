@@ -1,5 +1,6 @@
 pub use Rattle.sedmarks.proofs.MatchingLemmas
 pub use Rattle.sedmarks.proofs.SpanLemmas
+pub mod CountLemmas
 pub mod BetweenLemmas
 pub mod SightLemmas
 pub mod TrailLemmas

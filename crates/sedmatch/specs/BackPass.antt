@@ -79,7 +79,7 @@ pub record HasKept (nodes : List Node) (w : List ℕ) (r : ℕ) (b : BackPass) :
   pub block : BlockTells nodes w r b
   pub inside : low_of b ≤ length w
 
--- the same of the mirrored expression in the text read from its end
+-- what is kept of a pass of the mirrored expression over the whole text read from its end
 abbrev pub IsKept : Written → List ℕ → ℕ → BackPass → Type 0
 IsKept e w r b = HasKept (seen true e).nodes (reverse w) r b
 
@@ -95,7 +95,7 @@ Served e w r place b = IsKept e w r b × Reaches (length w) place b
 abbrev pub ServedAfter : Written → List ℕ → ℕ → Option (ℕ × ℕ) → BackPass → Type 0
 ServedAfter e w r found b = IsKept e w r b × IfSome found (λ f. Reaches (length w) f.1 b)
 
--- there is room for texts of so many bytes and expressions of so many nodes
+-- there is room for texts of `text` bytes and expressions of `nodes` nodes
 pub record HasBackPass (text nodes : ℕ) (b : BackPass) : Type 0 where
   pub places : text < length b.begins
   pub blocks : text < b.width * length b.edges

@@ -37,7 +37,7 @@ LiesOn n last f = (f.0 ≤ f.1) × (f.1 ≤ n) × LiesAfter last (Some f)
 abbrev pub Occurs : Tree → List ℕ → Option ℕ → ℕ × ℕ → Type 0
 Occurs e w last f = Spans e w f.0 f.1 × LiesOn (length w) last f
 
--- there is room for texts of so many bytes and expressions of so many nodes
+-- there is room for texts of `text` bytes and expressions of `nodes` nodes
 abbrev pub RoomFor : ℕ → ℕ → Occurrences → Type 0
 RoomFor text nodes o = HasBackPass text nodes o.back_pass
 
@@ -59,12 +59,13 @@ Serves e w (Some q) o = (0 < o.left → o.met ≡ false) × Keeps e w q o
 abbrev pub ServesOn : Written → List ℕ → Option (ℕ × ℕ) → Occurrences → Occurrences → Type 0
 ServesOn e w r old new = KeepsRoom old new × IfSome r (λ f. Serves e w (Some f.1) new)
 
--- the same where no steps are left
+-- there is as much room as before, as many steps are left, and what is kept of a pass from the end, where one was made,
+-- serves to search after the occurrence found, if there is one
 abbrev pub KeepsOn : Written → List ℕ → Option (ℕ × ℕ) → Occurrences → Occurrences → Type 0
 KeepsOn e w r old new = KeepsRoom old new × (new.left ≡ old.left) × IfSome r (λ f. Keeps e w f.1 new)
 
 -- The steps that the searches may still take after an occurrence that ended at the place q, with m nodes in a text of n bytes:
--- after the pass from the end; and before it, where so many are left, or none and the pass is due.
+-- after the pass from the end; and before it, where `left` are left, or none and the pass is due.
 abbrev pub owed_met : ℕ → ℕ → ℕ → Occurrences → ℕ
 owed_met m n q o = 79 * m * (n + 1 - q) + blocks_cost m o.back_pass
 
@@ -81,7 +82,7 @@ abbrev pub owed : ℕ → ℕ → Option ℕ → Occurrences → ℕ
 owed m n None o = owed_from m n 0 o
 owed m n (Some q) o = owed_from m n q o
 
--- the same after an answer: nothing where there is no occurrence
+-- the steps that the searches may still take after an answer: none where there is no occurrence
 abbrev pub owed_after : ℕ → ℕ → Option (ℕ × ℕ) → Occurrences → ℕ
 owed_after m n None o = 0
 owed_after m n (Some f) o = owed m n (Some f.1) o

@@ -40,7 +40,7 @@ SightSpans (Choice literals) w i j = ChoiceSpans literals w i j
 abbrev pub IsSight : Tree → Sight → Type 0
 IsSight e sight = (w : List ℕ) → AreBytes w → (i j : ℕ) → i ≤ length w → Spans e w i j ↔ SightSpans sight w i j
 
--- the same, where it is known
+-- the spans of the expression in a text of bytes are these, where they are known
 abbrev pub IsSightOf : Tree → Option Sight → Type 0
 IsSightOf e None = Unit {0}
 IsSightOf e (Some sight) = IsSight e sight

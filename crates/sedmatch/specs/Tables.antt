@@ -83,11 +83,11 @@ pub record AreStates (nodes : List Node) (r : ℕ) (sweeps : Bool) (classes : Li
 abbrev pub IsTable : List Node → ℕ → Table → Type 0
 IsTable nodes r t = AreStates nodes r t.sweeps t.classes.items t.columns t.rows t.ends.items t.count t.cells.items t.index.items t.at_begin t.later
 
--- the same, and every place is a start in it
+-- the table is right for the node r of the expression, and every place is a start in it
 abbrev pub IsSweep : List Node → ℕ → Table → Type 0
 IsSweep nodes r t = IsTable nodes r t × IsTrue t.sweeps
 
--- the same, and the first place alone is a start in it
+-- the table is right for the node r of the expression, and the first place alone is a start in it
 abbrev pub IsSingle : List Node → ℕ → Table → Type 0
 IsSingle nodes r t = IsTable nodes r t × (t.sweeps ≡ false)
 

@@ -80,7 +80,7 @@ pub fn new_back_pass(
     })
 }
 
-/// The place after the last one of a block, in a text of so many bytes.
+/// The place after the last one of a block that begins at `from`, in a text of `len` bytes.
 fn block_end(from: usize, width: usize, len: usize) -> usize
     requires inside { from ≤ len }
     requires short { len < 2 ^ 63 }
@@ -169,7 +169,7 @@ fn make_block(
     back_pass.block = block;
 }
 
-/// The same of the next block of a pass over the whole text: keeps too with which marks the pass came to it.
+/// Makes the rows of the next block of a pass over the whole text, and keeps with which marks the pass came to it.
 fn keep_block(
     nodes: &Nodes,
     bytes: &Bytes,

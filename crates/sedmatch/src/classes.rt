@@ -4,6 +4,7 @@
 ghost use Rattle.std.specs.Prelude.{◌≡◌, ℕ, Bool, false, List, ◌+◌, ◌*◌, ◌^◌, ◌<◌, ◌≤◌, length, slice_index_or, slice_get, Some, IsTrue, IfOk, IfSome, vec_len};
 ghost use Rattle.sedre.specs.declared.types.Node.TheVariants.{Set as ASet};
 ghost use Rattle.sedmatch.specs.Tables.{AreClasses, IsCut, AlikeIn};
+ghost use Rattle.sedre.specs.Steps.{Counted, Takes};
 
 use sedre::{ByteSet, Node, Nodes, Steps};
 use std::alloc::{AllocError, Global};
@@ -26,12 +27,15 @@ fn digest_set(set: &ByteSet, digests: &mut [u64; 256]) {
     }
 }
 
-/// A number for each byte, the same for two bytes that are in the same sets, and mostly another for two that are not.
-fn digests(expr: &Nodes) -> [u64; 256] {
+/// A number for each byte: equal for two bytes that are in the same sets, and mostly not for two that are not.
+/// Counts a look for each node.
+fn digests(expr: &Nodes, steps: &mut Steps) -> [u64; 256]
+    ensures cost { Takes steps.old steps.new (length expr.now.nodes) }
+    ensures counts { Counted steps.old steps.new (length expr.now.nodes) }
+{
     let mut digests = [0; 256];
-    let mut steps = Steps::new();
     for x in 0..expr.nodes() {
-        let node = expr.look(expr.id(x), &mut steps);
+        let node = expr.look(expr.id(x), steps);
         if let Node::Set(set) = node {
             digest_set(&set, &mut digests);
         }
@@ -52,11 +56,13 @@ fn class_of(digests: &[u64; 256], firsts: &Vec<u8>, byte: usize) -> Option<usize
     None
 }
 
-/// The classes of bytes for an expression.
-pub fn find_classes(alloc: Global, expr: &Nodes) -> Result<Classes, AllocError>
-    ensures { IfOk result IsCut }
+/// The classes of bytes for an expression. Counts a look for each node.
+pub fn find_classes(alloc: Global, expr: &Nodes, steps: &mut Steps) -> Result<Classes, AllocError>
+    ensures cut { IfOk result IsCut }
+    ensures cost { Takes steps.old steps.new (length expr.now.nodes) }
+    ensures counts { Counted steps.old steps.new (length expr.now.nodes) }
 {
-    let digests = digests(expr);
+    let digests = digests(expr, steps);
     let mut of = Vec::with_capacity(alloc, 256)?;
     let mut firsts = Vec::with_capacity(alloc, 256)?;
     for byte in 0..256usize {
@@ -86,13 +92,15 @@ fn are_alike(set: &ByteSet, classes: &Classes) -> bool
 }
 
 /// Whether no set of the expression tells bytes of one class apart.
-pub fn are_classes(expr: &Nodes, classes: &Classes) -> bool
+/// Counts a look for each node up to the first whose set does, or for each of all where none does.
+pub fn are_classes(expr: &Nodes, classes: &Classes, steps: &mut Steps) -> bool
     requires classes { IsCut classes.now }
-    ensures { IsTrue result → AreClasses expr.now.nodes classes.now.of.items }
+    ensures alike { IsTrue result → AreClasses expr.now.nodes classes.now.of.items }
+    ensures cost { Takes steps.old steps.new (length expr.now.nodes) }
+    ensures counts { IsTrue result → Counted steps.old steps.new (length expr.now.nodes) }
 {
-    let mut steps = Steps::new();
     for x in 0..expr.nodes() {
-        let node = expr.look(expr.id(x), &mut steps);
+        let node = expr.look(expr.id(x), steps);
         if !is_alike(&node, classes) {
             return false;
         }
@@ -100,7 +108,7 @@ pub fn are_classes(expr: &Nodes, classes: &Classes) -> bool
     true
 }
 
-/// The same of the set of a node, if it has one.
+/// Whether the node's set, if it has one, has of each class all bytes or none.
 fn is_alike(node: &Node, classes: &Classes) -> bool
     requires classes { IsCut classes.now }
     ensures { (set : List Bool) → node.now ≡ ASet set → IsTrue result → AlikeIn set classes.now }

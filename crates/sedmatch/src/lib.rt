@@ -26,6 +26,7 @@ mod linear;
 mod occurrences;
 mod ready;
 mod sight;
+mod state_limit;
 mod table_matcher;
 mod tables;
 mod trail;
@@ -35,4 +36,5 @@ pub use occurrences::Occurrences;
 pub use sedmarks::{
     Found, Marks, Scratch, Text, find, find_span, found_law, groups_law, is_match, spans_law,
 };
+pub use state_limit::StateLimit;
 pub use table_matcher::TableMatcher;

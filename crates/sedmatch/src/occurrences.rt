@@ -167,7 +167,8 @@ impl TableMatcher {
         self.past_null(text, at, scratch, steps)
     }
 
-    /// The same, and counts what it took to find one: where there is none, no search follows.
+    /// The next occurrence by one search after another; the steps that it took to find one are taken off those that are
+    /// left. Where there is none, no search follows, and none are taken off.
     #[inline(always)]
     fn next_counted(
         &mut self,

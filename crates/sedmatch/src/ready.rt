@@ -1,12 +1,14 @@
 //! What is found out of an expression when its matcher is made, and its tables.
-ghost use Rattle.std.specs.Prelude.{IfOk, true, false, ◌≡◌, ℕ, ◌+◌, ◌^◌, ◌<◌, ◌≤◌, length, IsTrue};
+ghost use Rattle.std.specs.Prelude.{IfOk, true, false, ◌≡◌, ℕ, ◌+◌, ◌*◌, ◌^◌, ◌<◌, ◌≤◌, length, IsTrue};
 ghost use Rattle.sedre.specs.Arena.{tree};
 ghost use Rattle.sedre.specs.Mirror.{seen};
 ghost use Rattle.sedmatch.specs.Ready.{AreTables, IsKnown};
 ghost use Rattle.sedmatch.specs.Tables.{IsCut, IsTable};
 ghost use Rattle.sedmarks.specs.Work.{AreFlat};
+ghost use Rattle.sedre.specs.Steps.{Counted, Takes};
 
 use crate::classes::{Classes, find_classes};
+use crate::state_limit::StateLimit;
 use crate::tables::{Table, new_table};
 use sedmarks::beginnings::{Begins, how_begins};
 use sedmarks::groups::are_flat;
@@ -78,15 +80,16 @@ fn new_table_of(
     root: usize,
     sweeps: bool,
     classes: &Classes,
-    states: usize,
+    limit: StateLimit,
+    steps: &mut Steps,
 ) -> Result<Table, AllocError>
     requires classes { IsCut classes.now }
-    requires few { states ≤ 64 }
     ensures table { IfOk result (λ t. IsTable expr.now.nodes root t) }
     ensures sweeps { IfOk result (λ t. t.sweeps ≡ sweeps) }
+    ensures cost { Takes steps.old steps.new (length expr.now.nodes) }
 {
     let nodes = Nodes::of(expr);
-    new_table(alloc, &nodes, root, sweeps, classes, states)
+    new_table(alloc, &nodes, root, sweeps, classes, limit, steps)
 }
 
 /// An empty table for the mirrored expression.
@@ -96,40 +99,44 @@ fn mirror_table_of(
     root: usize,
     sweeps: bool,
     classes: &Classes,
-    states: usize,
+    limit: StateLimit,
+    steps: &mut Steps,
 ) -> Result<Table, AllocError>
     requires classes { IsCut classes.now }
-    requires few { states ≤ 64 }
     ensures table { IfOk result (λ t. IsTable (seen true expr.now).nodes root t) }
     ensures sweeps { IfOk result (λ t. t.sweeps ≡ sweeps) }
+    ensures cost { Takes steps.old steps.new (length expr.now.nodes) }
 {
     let nodes = Nodes::mirrored(expr);
-    new_table(alloc, &nodes, root, sweeps, classes, states)
+    new_table(alloc, &nodes, root, sweeps, classes, limit, steps)
 }
 
 /// The classes of bytes for an expression.
-fn classes_of(alloc: Global, expr: &Expr) -> Result<Classes, AllocError>
-    ensures { IfOk result IsCut }
+fn classes_of(alloc: Global, expr: &Expr, steps: &mut Steps) -> Result<Classes, AllocError>
+    ensures cut { IfOk result IsCut }
+    ensures cost { Takes steps.old steps.new (length expr.now.nodes) }
+    ensures counts { Counted steps.old steps.new (length expr.now.nodes) }
 {
     let nodes = Nodes::of(expr);
-    find_classes(alloc, &nodes)
+    find_classes(alloc, &nodes, steps)
 }
 
-/// Empty tables for the expression, of at most `states` states each.
+/// Empty tables for the expression, each of at most as many states as the limit says. Counts the looks at its nodes.
 pub fn new_tables(
     alloc: Global,
     expr: &Expr,
     root: usize,
-    states: usize,
+    limit: StateLimit,
+    steps: &mut Steps,
 ) -> Result<Tables, AllocError>
-    requires few { states ≤ 64 }
-    ensures { IfOk result (λ t. AreTables expr.now root t) }
+    ensures tables { IfOk result (λ t. AreTables expr.now root t) }
+    ensures cost { Takes steps.old steps.new (5 * length expr.now.nodes) }
 {
-    let classes = classes_of(alloc, expr)?;
+    let classes = classes_of(alloc, expr, steps)?;
     Ok(Tables {
-        every: new_table_of(alloc, expr, root, true, &classes, states)?,
-        single: new_table_of(alloc, expr, root, false, &classes, states)?,
-        back: mirror_table_of(alloc, expr, root, true, &classes, states)?,
-        back_single: mirror_table_of(alloc, expr, root, false, &classes, states)?,
+        every: new_table_of(alloc, expr, root, true, &classes, limit, steps)?,
+        single: new_table_of(alloc, expr, root, false, &classes, limit, steps)?,
+        back: mirror_table_of(alloc, expr, root, true, &classes, limit, steps)?,
+        back_single: mirror_table_of(alloc, expr, root, false, &classes, limit, steps)?,
     })
 }

@@ -3,10 +3,10 @@ ghost use Rattle.std.specs.Prelude.{IfOk, IfSome, IfNone, true, false, is_some, 
 ghost use Rattle.sedre.specs.Arena.{tree};
 ghost use Rattle.sedmarks.specs.Nodes.{IsRoot};
 ghost use Rattle.sedmarks.specs.Spans.{SomeFound};
-ghost use Rattle.sedmatch.specs.Tables.{IsSingle, IsSweep, IsTable, ends_of};
+ghost use Rattle.sedmatch.specs.Tables.{IsSingle, IsSweep, IsTable, StateAt, ends_of};
 ghost use Rattle.sedmatch.specs.Longest.{BestTo, HasPassed, StandsAt};
 ghost use Rattle.sedmarks.specs.Places.{InOrder};
-ghost use Rattle.sedmarks.specs.Reach.{Longest, LongestBelow};
+ghost use Rattle.sedmarks.specs.Reach.{Longest, LongestBelow, one_start};
 ghost use Rattle.sedmarks.specs.Answer.{IsComputed, MatchAnswer, SpanAnswer};
 ghost use Rattle.sedmarks.specs.Matching.{found};
 ghost use Rattle.sedmatch.specs.Ready.{AreTables, IsKnown, IsPrepared};
@@ -19,6 +19,7 @@ use crate::anywhere::{anchored_by, leftmost_by};
 use crate::linear::first_end_in;
 use crate::ready::{Known, Tables, find_known, new_tables};
 use crate::sight::{Sight, sight_find, sight_matches, sight_of, sight_span};
+use crate::state_limit::StateLimit;
 use crate::tables::{Next, PLAIN, Table, add_looks, first_state, follow_to, go, state_at, stay_on};
 use sedmarks::ahead::Lead;
 use sedmarks::beginnings::Begins;
@@ -79,7 +80,7 @@ fn some_by(
     }
 }
 
-/// The same where matches may begin at any place.
+/// Whether any match begins at `from` or later, where matches may begin at any place.
 fn some_anywhere(
     expr: &Expr,
     root: usize,
@@ -262,8 +263,10 @@ fn follow_noting(
     passed_at(table, code, stop, best, false)
 }
 
-/// The same where it is known whether a match ends at the first place, and whether the last byte led from its state to
-/// itself: mostly none ends, and then the cells up to the next such place are followed faster, and so is a run at one state.
+/// Follows filled cells from a place on, and notes the end of the longest match so far: to the place `stop`, or to one
+/// before it where another look is needed. `inner` says whether a match ends at the first place, and `again` whether the
+/// last byte led from its state to itself: mostly no match ends there, and then the cells up to the next such place are
+/// followed faster, and so is a run at one state.
 fn follow_best(
     expr: &Nodes,
     root: usize,
@@ -304,6 +307,30 @@ fn follow_best(
     }
 }
 
+/// The end of the longest match that begins at `start` and ends at `stop` or before, where the pass came to `stop` in
+/// this state. `before` is the end of the longest one that ends before `stop`.
+fn longest_at(
+    expr: &Nodes,
+    root: usize,
+    table: &Table,
+    text: &Bytes,
+    start: usize,
+    stop: usize,
+    state: usize,
+    before: Option<usize>,
+) -> Option<usize>
+    requires root { IsRoot expr.now.nodes root }
+    requires table { IsTable expr.now.nodes root table.now }
+    requires order { InOrder start stop (length text.now) }
+    requires state { state < table.now.count }
+    requires at { StateAt expr.now.nodes text.now root (one_start start) stop table.now state }
+    requires best { BestTo (tree expr.now) text.now start stop stop before }
+    ensures best { BestTo (tree expr.now) text.now start stop (stop + 1) result }
+{
+    let here = ends_at(stop, text.len(), table.ends[state]);
+    better(before, stop, here)
+}
+
 /// The end of the longest match that begins at `start` and ends at `stop` or before, by a table in which no place after
 /// the start is one.
 pub fn longest_to(
@@ -325,11 +352,10 @@ pub fn longest_to(
     ensures cost { let m = length expr.now.nodes in
         Pays steps.old steps.new (38 * m + 42 * m * stop) (42 * m * start) }
 {
-    let begin = start == 0;
     let mut place = start;
     let mut best = None;
     let mut again = false;
-    let mut next = first_state(expr, root, table, begin, sets, steps);
+    let mut next = first_state(expr, root, table, start == 0, sets, steps);
     loop {
         match next {
             Next::Full(ends) => {
@@ -338,10 +364,10 @@ pub fn longest_to(
                 );
             }
             Next::To(state) => {
-                let ends = table.ends[state];
                 if place >= stop {
-                    return better(best, place, ends_at(place, text.len(), ends));
+                    return longest_at(expr, root, table, text, start, stop, state, best);
                 }
+                let ends = table.ends[state];
                 best = better(best, place, ends.inner);
                 if !ends.goes {
                     return best;
@@ -355,8 +381,7 @@ pub fn longest_to(
                     return best;
                 }
                 if to.place >= stop {
-                    let there = ends_at(to.place, text.len(), table.ends[to.state]);
-                    return better(best, to.place, there);
+                    return longest_at(expr, root, table, text, start, stop, to.state, best);
                 }
                 let byte = text.byte(to.place, steps);
                 let passed = to.place - place;
@@ -467,34 +492,35 @@ impl Model for TableMatcher {
 }
 
 impl TableMatcher {
-    /// The expression with empty tables. Fails only where a request for memory was refused.
-    pub fn new(alloc: Global, expr: &Expr) -> Result<TableMatcher, AllocError>
+    /// The expression with empty tables; counts the looks at the expression's nodes.
+    /// Fails only where a request for memory was refused.
+    pub fn new(alloc: Global, expr: &Expr, steps: &mut Steps) -> Result<TableMatcher, AllocError>
         requires nodes { length expr.now.nodes ≤ 65536 }
         ensures { IfOk result (λ m. m ≡ expr.now) }
     {
-        TableMatcher::with_states(alloc, expr, STATES)
+        TableMatcher::with_states(alloc, expr, StateLimit::new(STATES), steps)
     }
 
-    /// Makes a matcher whose tables hold at most `states` states, 0 to 64. The answers don't depend on the number: fewer
-    /// states take less room, and more time for an expression that reaches more of them.
+    /// The expression with empty tables that hold at most as many states as the limit says; counts the looks at the
+    /// expression's nodes. The answers don't depend on the limit: fewer states take less room, and more time for an
+    /// expression that reaches more of them.
     pub fn with_states(
         alloc: Global,
         expr: &Expr,
-        states: usize,
+        limit: StateLimit,
+        steps: &mut Steps,
     ) -> Result<TableMatcher, AllocError>
         requires nodes { length expr.now.nodes ≤ 65536 }
-        requires few { states ≤ 64 }
         ensures { IfOk result (λ m. m ≡ expr.now) }
     {
         let root = expr.root().index();
         let copy = expr.copy(alloc)?;
-        let mut steps = Steps::new();
-        let sight = sight_of(alloc, expr, &mut steps)?;
+        let sight = sight_of(alloc, expr, steps)?;
         let seen = sight.is_some();
-        let known = find_known(alloc, expr, seen, &mut steps)?;
+        let known = find_known(alloc, expr, seen, steps)?;
         // Tables that no search comes to have no states. They are made last: no request follows that could fail.
-        let states = if seen { 0 } else { states };
-        let tables = new_tables(alloc, expr, root, states)?;
+        let limit = if seen { StateLimit::new(0) } else { limit };
+        let tables = new_tables(alloc, expr, root, limit, steps)?;
         Ok(TableMatcher {
             expr: copy,
             root,

@@ -13,6 +13,7 @@ ghost use Rattle.sedmarks.specs.Costs.{Pays};
 ghost use Rattle.sedre.specs.Steps.{Takes, Counted, TakesAtLeast};
 
 use crate::classes::{Classes, are_classes};
+use crate::state_limit::StateLimit;
 use sedmarks::counted::{Bytes, NodeMarks, Rows, Tally};
 use sedmarks::scratch::Sets;
 use sedmarks::states::{Ends, step};
@@ -28,7 +29,7 @@ const SLOTS: usize = 4;
 /// How many cells a table has at most.
 const CELLS: usize = 4096;
 
-/// A full table is worth emptying if so many bytes for each state were passed by its cells since the last time.
+/// A full table is worth emptying if this many bytes for each state were passed by its cells since the last time.
 const WORTH: usize = 8;
 
 /// By how many bits the inverse of a number of columns is moved.
@@ -55,7 +56,7 @@ pub struct Table {
     pub index: Vec<u8>,
     /// One more than the state in which a search from the beginning of the text begins, or 0.
     pub at_begin: usize,
-    /// The same for one from any other place.
+    /// One more than the state in which a search from any other place begins, or 0.
     pub later: usize,
     /// Whether every place after the first is a start too.
     pub sweeps: bool,
@@ -261,7 +262,7 @@ pub fn settle(
     }
 }
 
-/// A number by which [`state_at`] multiplies in place of dividing by so many columns.
+/// A number by which [`state_at`] multiplies in place of dividing by `columns`.
 fn inverse_of(columns: usize) -> usize {
     if columns == 0 {
         0
@@ -627,7 +628,7 @@ pub fn follow_past(
     follow_to(expr, root, table, text, state, from, to, steps)
 }
 
-/// No ends.
+/// What is told of `states` states before one is added: that no match ends.
 fn new_ends(alloc: Global, states: usize) -> Result<Vec<Ends>, AllocError>
     ensures { IfOk result (λ v. length v.items ≡ states) }
 {
@@ -639,44 +640,46 @@ fn new_ends(alloc: Global, states: usize) -> Result<Vec<Ends>, AllocError>
     vec![in alloc; none; states]
 }
 
-/// So many cells of which nothing is known.
+/// `count` cells of which nothing is known.
 fn new_cells(alloc: Global, count: usize) -> Result<Vec<u16>, AllocError>
     ensures { IfOk result (λ v. length v.items ≡ count) }
 {
     vec![in alloc; 0; count]
 }
 
-/// Room to note so many states. The number of slots is odd: by a power of two only a digest's last bits would count.
-fn new_index(alloc: Global, states: usize) -> Result<Vec<u8>, AllocError>
-    requires few { states ≤ 64 }
+/// Room to note as many states as the limit says. The number of slots is odd: by a power of two only a digest's last
+/// bits would count.
+fn new_index(alloc: Global, limit: StateLimit) -> Result<Vec<u8>, AllocError>
     ensures { IfOk result (λ v. 0 < length v.items) }
 {
-    vec![in alloc; 0; SLOTS * states + 1]
+    vec![in alloc; 0; SLOTS * limit.states() + 1]
 }
 
-/// An empty table with room for at most `states` states: fewer where there are many classes of bytes, and none where
-/// there are too many for the expression.
+/// An empty table with room for at most as many states as the limit says: for fewer where there are many classes of
+/// bytes, and for none where there are too many for the expression. Counts the looks at the expression's nodes.
 pub fn new_table(
     alloc: Global,
     expr: &Nodes,
     root: usize,
     sweeps: bool,
     classes: &Classes,
-    states: usize,
+    limit: StateLimit,
+    steps: &mut Steps,
 ) -> Result<Table, AllocError>
     requires classes { IsCut classes.now }
-    requires few { states ≤ 64 }
     ensures table { IfOk result (λ t. IsTable expr.now.nodes root t) }
     ensures sweeps { IfOk result (λ t. t.sweeps ≡ sweeps) }
+    ensures cost { Takes steps.old steps.new (length expr.now.nodes) }
 {
     let count = expr.nodes();
     let columns = classes.firsts.len();
-    let suits = columns <= 2 * count && are_classes(expr, classes);
-    let states = if suits {
-        states.min(CELLS / columns)
+    let suits = columns <= 2 * count && are_classes(expr, classes, steps);
+    let limit = if suits {
+        limit.at_most(CELLS / columns)
     } else {
-        0
+        StateLimit::new(0)
     };
+    let states = limit.states();
     Ok(Table {
         rows: Rows::new(alloc, states, count)?,
         ends: new_ends(alloc, states)?,
@@ -685,7 +688,7 @@ pub fn new_table(
         classes: classes.of.clone()?,
         columns,
         inverse: inverse_of(columns),
-        index: new_index(alloc, states)?,
+        index: new_index(alloc, limit)?,
         at_begin: 0,
         later: 0,
         sweeps,

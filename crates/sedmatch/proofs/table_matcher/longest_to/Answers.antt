@@ -5,7 +5,7 @@ use Rattle.sedre.specs.Arena.{tree}
 use Rattle.sedmatch.specs.declared.tables.Next.TheVariants.{To}
 use Rattle.sedmarks.specs.Reach.{one_start, LongestBelow}
 use Rattle.sedmarks.specs.States.{IsAt}
-use Rattle.sedmatch.specs.Tables.{NextIs, LeadsFrom, IsFirst}
+use Rattle.sedmatch.specs.Tables.{NextIs, LeadsFrom, IsFirst, ends_of}
 use Rattle.sedmarks.specs.Words.{row_of}
 use Rattle.sedmarks.proofs.SearchLemmas.{LongestBelow-none}
 use Rattle.sedmarks.proofs.MarkLemmas.{default_same}
@@ -33,27 +33,18 @@ loop-next-init c =
       cost = omega arith;
     }
 
-pub returns-then-place-stop-clause-longest : goal.returns-then-place-stop-clause-longest
-returns-then-place-stop-clause-longest c =
+pub longest_at-requires-clause-at : goal.longest_at-requires-clause-at
+longest_at-requires-clause-at c =
     let nodes = c.args.expr.now.nodes in
     let w = c.args.text.now in
     let r = c.args.root in
     let start = c.args.start in
-    let place = c.loop-next.place in
-    let e = tree c.args.expr.now in
     let T = c.loop-next.table in
     let state = c.in-To.state in
-    let ends = c.index-ends.result.now in
-    let there : NextIs (IsAt c.args.expr.now.nodes c.args.text.now c.args.root (one_start c.args.start) c.loop-next.place) T c.loop-next.sets.entered (To state) =
-    subst (λ n. NextIs (IsAt c.args.expr.now.nodes c.args.text.now c.args.root (one_start c.args.start) c.loop-next.place) T c.loop-next.sets.entered n) c.in-To.is c.loop-next.invariant.next in
-    let ends_there = c.loop-next.invariant.table.ends_there in
-    let rows_there = c.loop-next.invariant.table.rows_there in
-    let same = c.index-ends.ensures ∙ default_same T.ends.items state ends (record { inner = false; last = false; goes = false }) (omega (arith, there.0, ends_there, rows_there)) in
-    let at : IsAt nodes w r (one_start start) place (row_of T.rows state) ends = subst (λ v. IsAt nodes w r (one_start start) place (row_of T.rows state) v) (sym same) there.1 in
-    let same_place : place ≡ c.args.stop = omega arith in
-    let tells = c.ends_at.ensures.here nodes w r (one_start start) (row_of T.rows state) c.len.ensures.is (omega arith) at in
-    subst (λ p. LongestBelow e w start (p + 1) c.better.result) same_place
-    (c.better.ensures.longest e w start (one_span nodes w r start c.requires.root.0 place c.ends_at.result tells) c.loop-next.invariant.longest)
+    let there : NextIs (IsAt nodes w r (one_start start) c.loop-next.place) T c.loop-next.sets.entered (To state) =
+    subst (λ n. NextIs (IsAt nodes w r (one_start start) c.loop-next.place) T c.loop-next.sets.entered n) c.in-To.is c.loop-next.invariant.next in
+    let same_place : c.loop-next.place ≡ c.args.stop = omega arith in
+    subst (λ p. IsAt nodes w r (one_start start) p (row_of T.rows state) (ends_of T.ends.items state)) same_place there.1
 
 pub returns-then-not-ends-clause-longest : goal.returns-then-not-ends-clause-longest
 returns-then-not-ends-clause-longest c =
@@ -131,26 +122,6 @@ follow_best-to-requires-clause-best c =
       c.better-best.ensures.lies start c.args.stop c.loop-next.invariant.after c.loop-next.invariant.within c.loop-next.invariant.lies,
     )
 
-pub returns-then-to-stop-clause-longest : goal.returns-then-to-stop-clause-longest
-returns-then-to-stop-clause-longest c =
-    let nodes = c.args.expr.now.nodes in
-    let w = c.args.text.now in
-    let r = c.args.root in
-    let start = c.args.start in
-    let place = c.loop-next.place in
-    let e = tree c.args.expr.now in
-    let T = c.loop-next.table in
-    let state = c.in-To.state in
-    let to = c.follow_best-to.result in
-    let last = c.index.result.now in
-    let same_last = c.index.ensures ∙ default_same T.ends.items to.state last (record { inner = false; last = false; goes = false }) (omega (arith, c.follow_best-to.ensures.passed.state, c.loop-next.invariant.table.ends_there, c.loop-next.invariant.table.rows_there)) in
-    let at_last : IsAt nodes w r (one_start start) to.place (row_of T.rows to.state) last = subst (λ v. IsAt nodes w r (one_start start) to.place (row_of T.rows to.state) v) (sym same_last) c.follow_best-to.ensures.passed.at in
-    let within : to.place ≤ length w = omega (arith, c.follow_best-to.ensures.passed.within) in
-    let same_place : to.place ≡ c.args.stop = omega (arith, c.follow_best-to.ensures.passed.within) in
-    let tells = c.ends_at-there.ensures.here nodes w r (one_start start) (row_of T.rows to.state) c.len-then-to-stop.ensures.is (omega (arith, within, c.len-then-to-stop.ensures.is)) at_last in
-    subst (λ p. LongestBelow e w start (p + 1) c.better-then-to-stop.result) same_place
-    (c.better-then-to-stop.ensures.longest e w start (one_span nodes w r start c.requires.root.0 to.place c.ends_at-there.result tells) c.follow_best-to.ensures.passed.best)
-
 pub loop-next-preserved : goal.loop-next-preserved
 loop-next-preserved c =
     let nodes = c.args.expr.now.nodes in
@@ -188,7 +159,3 @@ returns-then-to-clause-cost c =
     let m = length c.args.expr.now.nodes in
     let paid = line_end m (38 * m) (38 * m) c.args.stop c.args.start c.loop-next.place c.args.steps.now c.loop-next.steps c.follow_best-to.new.steps (omega arith) (omega arith) (omega arith) c.loop-next.invariant.cost (omega arith) in
     (omega arith, omega (arith, paid))
-
-pub returns-then-to-stop-clause-lies : goal.returns-then-to-stop-clause-lies
-returns-then-to-stop-clause-lies c =
-    c.better-then-to-stop.ensures.lies c.args.start c.args.stop (omega arith) (omega arith) c.follow_best-to.ensures.passed.lies

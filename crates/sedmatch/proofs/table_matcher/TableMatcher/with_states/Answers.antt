@@ -11,5 +11,5 @@ invariant_of-result c =
       known_so = c.in_ok-known.ensures.known;
       flat_so = c.in_ok-known.ensures.flat;
       sight_so = c.in_ok-sight.ensures.sight;
-      tables_so = c.in_ok-tables.ensures;
+      tables_so = c.in_ok-tables.ensures.tables;
     })
