@@ -11,7 +11,7 @@ use Rattle.sedengine.specs.Limits.{Limits}
 use Rattle.sedengine.specs.State.{State, Task, Move, Setting}
 use Rattle.sedengine.specs.Move.{move, after, start, to_sink}
 use Rattle.sedengine.specs.Run.{setting_of}
-use Rattle.sedengine.specs.Ends.{Fits, Within, HasTurn, IsCause, Cause, WholeOrCut, Whole, Cut, named_sink, takes_turn, line_at, reaches, reads}
+use Rattle.sedengine.specs.Ends.{WithinLimits, Within, HasTurn, IsCause, Cause, WholeOrCut, Whole, Cut, named_sink, takes_turn, line_at, reaches, reads}
 use Rattle.sedengine.specs.declared.ends.Ended.{Ended}
 use Rattle.sedengine.specs.declared.ends.Ended.TheVariants.{Done, PatternFull, HoldFull, QueueFull, TurnsSpent, NoPrevious, InputBroken}
 use Rattle.examples.proofs.ComputedRun.{course, course_so, stays, after_first}
@@ -25,7 +25,7 @@ abbrev pub fits : Limits → State → Bool
 fits l s =
     leb (length s.pattern) l.space && (leb (length s.hold) l.space && (leb (length s.queue) l.queue && leb s.turns l.turns))
 
-fits_so : (l : Limits) (s : State) → fits l s ≡ true → Fits l s
+fits_so : (l : Limits) (s : State) → fits l s ≡ true → WithinLimits l s
 fits_so l s e =
     let one = both _ _ e in
     let two = both _ _ one.1 in
@@ -48,14 +48,14 @@ all_fit l g (suc n) s = fits l s && next_fits (all_fit l g n) (move g s)
 
 module _ (l : Limits) (g : Setting) where
   later_fit : (n : ℕ) (s : State) (o : Option Move) → move g s ≡ o → fits l s ≡ true → next_fits (all_fit l g n) o ≡ true →
-      ((next : State) → all_fit l g n next ≡ true → (k : ℕ) → k ≤ n → Fits l (after g next k)) → (k : ℕ) → k ≤ suc n → Fits l (after g s k)
+      ((next : State) → all_fit l g n next ≡ true → (k : ℕ) → k ≤ n → WithinLimits l (after g next k)) → (k : ℕ) → k ≤ suc n → WithinLimits l (after g s k)
   unfolding after
   later_fit n s o e f h on zero below = fits_so l s f
-  later_fit n s None e f h on (suc k) below = subst (Fits l) (sym (stays g s (suc k) e)) (fits_so l s f)
+  later_fit n s None e f h on (suc k) below = subst (WithinLimits l) (sym (stays g s (suc k) e)) (fits_so l s f)
   later_fit n s (Some m) e f h on (suc k) below =
-      subst (Fits l) (sym (after_first g s m k e)) (on m.next h k (omega arith))
+      subst (WithinLimits l) (sym (after_first g s m k e)) (on m.next h k (omega arith))
 
-  each_fits : (n : ℕ) (s : State) → all_fit l g n s ≡ true → (k : ℕ) → k ≤ n → Fits l (after g s k)
+  each_fits : (n : ℕ) (s : State) → all_fit l g n s ≡ true → (k : ℕ) → k ≤ n → WithinLimits l (after g s k)
   unfolding all_fit after
   each_fits zero s e k below = (let none : k ≡ 0 = omega (arith, below) in rw none (fits_so l s e))
   each_fits (suc n) s e k below =

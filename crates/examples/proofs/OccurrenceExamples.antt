@@ -2,17 +2,17 @@
 use Rattle.std.proofs.Common.{◌≡◌, ℕ, ◌+◌, [], ◌∷◌, true, false, Option, Some, None, refl}
 use Rattle.std.specs.Prelude.{nat_eq, nat_lt, if◌then◌else◌}
 use Rattle.sedscript.specs.declared.substitution.Piece.TheVariants.{Literal as literal, Whole as whole}
-use Rattle.sedengine.specs.Substitute.{Match, occurrences_from, occurrences, chosen, replaced_from}
+use Rattle.sedengine.specs.Substitute.{Occurrence, occurrences_from, occurrences, chosen, replaced_from}
 
-abbrev between : ℕ → ℕ → Option Match
+abbrev between : ℕ → ℕ → Option Occurrence
 between i j = Some (record { start = i; end = j; groups = [] })
 
 -- a period in three bytes
-abbrev one_byte : ℕ → Option Match
+abbrev one_byte : ℕ → Option Occurrence
 one_byte p = if nat_lt p 3 then between p (p + 1) else None
 
 -- b* in abc
-abbrev any_b : ℕ → Option Match
+abbrev any_b : ℕ → Option Occurrence
 any_b p = if nat_eq p 1 then between 1 2 else between p p
 
 -- s/./x/g, s/./x/2 and s/./x/2g on abc

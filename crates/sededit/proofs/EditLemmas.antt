@@ -9,14 +9,14 @@ use Rattle.sedengine.specs.State.{State, Setting}
 use Rattle.sedengine.specs.Move.{start, written}
 use Rattle.sedengine.specs.Devices.{part, FillsSink, GainedWithin}
 use Rattle.sedengine.specs.Ends.{WholeOrCut}
-use Rattle.sedengine.specs.Run.{Run, Ending, Sends, at_lines, setting, setting_of}
+use Rattle.sedengine.specs.Run.{RunState, Ending, Sends, at_lines, setting, setting_of}
 use Rattle.sedengine.specs.declared.ends.Ended.{Ended}
 use Rattle.sedengine.specs.declared.ends.Ended.TheVariants.{Done, OutputFull}
 use Rattle.sedengine.proofs.Metering.{Cause-as}
 use Rattle.sededit.specs.Editing.{Edits, GainsAll, GainsBeginning, nothing_before, start_over}
 
 -- an engine that was opened
-abbrev pub opened : Limits → Program → Run
+abbrev pub opened : Limits → Program → RunState
 opened l p = record { script = p; limits = l; state = start p.commands []; sent = replicate (length p.wfiles + 1) 0; ended = None }
 
 get_or_none : (n k : ℕ) → ◌≡◌ {A = ℕ} (get_or (replicate n 0) k 0) 0
@@ -34,7 +34,7 @@ full_from_start most n out (Err (OutputFull k)) h = rw (get_or_none n k) at h
 full_from_start most n out (Err other) h = tt
 
 -- since the engine was opened sinks have gained what they gained in this run
-from_start : (l : Limits) (p : Program) (e' : Run) (old new : ℕ → Option (List ℕ)) (r : Result Unit Ended) (out : List (ℕ × ℕ)) → Sends (opened l p) e' old new r out → GainedWithin l.output nothing_before old new r out
+from_start : (l : Limits) (p : Program) (e' : RunState) (old new : ℕ → Option (List ℕ)) (r : Result Unit Ended) (out : List (ℕ × ℕ)) → Sends (opened l p) e' old new r out → GainedWithin l.output nothing_before old new r out
 from_start l p e' old new r out h = record {
   gained = h.gains.gained;
   within = within_from_start l.output (length p.wfiles + 1) out h.gains.within;
@@ -42,7 +42,7 @@ from_start l p e' old new r out h = record {
 }
 
 -- a run of an opened engine over all lines is an edit
-pub Edits-run : (l : Limits) (p : Program) (files : ℕ → List ℕ) (e e' : Run) (x : List ℕ) (sinks sinks' : ℕ → Option (List ℕ)) (old old' new new' : Option (List ℕ)) (now : State) (end : Ended) →
+pub Edits-run : (l : Limits) (p : Program) (files : ℕ → List ℕ) (e e' : RunState) (x : List ℕ) (sinks sinks' : ℕ → Option (List ℕ)) (old old' new new' : Option (List ℕ)) (now : State) (end : Ended) →
     e ≡ opened l p → old' ≡ old → new' ≡ new → Ending e.limits (setting e files) (at_lines e (lines x)) (Sends e e' sinks sinks' (Err end)) old' new' now end →
     Edits l (setting_of p files) (start_over p x) (GainedWithin l.output nothing_before sinks sinks' (Err end)) old new end
 Edits-run l p files e e' x sinks sinks' old old' new new' now end is before after h =

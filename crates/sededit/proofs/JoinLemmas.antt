@@ -134,10 +134,6 @@ Notes (Some files) new left before after =
     (first : List (Option (List ℕ))) × (rest : List (Option (List ℕ))) × (files ≡ first ++ rest) × (new ≡ Some rest)
     × (after ≡ before ++ map is_none first) × OnlyLastGives first × FromLast first left
 
-notes_none : (x : Option (List (Option (List ℕ)))) (left : Option (List ℕ)) (m : List Bool) → Notes x x left m m
-notes_none None left m = tt
-notes_none (Some files) left m = ([], files, refl, refl, sym (append-nil m), tt, tt)
-
 notes_missed : (x y : Option (List (Option (List ℕ)))) (left : Option (List ℕ)) (a b : List Bool) → Notes x y left a b → NotesMissed x y a b
 notes_missed None y left a b h = tt
 notes_missed (Some files) y left a b h = (h.0, h.1, h.2, h.3, h.4, h.5)
@@ -181,11 +177,6 @@ module _ {I : Type 0} (current : I → Option (List ℕ)) (ahead : I → List (L
     pub opened : Opened ahead old new
     pub notes : Notes (ahead old.inputs old.names) (ahead new.inputs new.names) (left_of_file current new) old.missed new.missed
     pub waits : (new ≡ old) ⊎ IsAtEnd (left_of_file current old)
-
-  pub passed_none : (j : Joining I) → Passed j j
-  passed_none j =
-      let notes = notes_none (ahead j.inputs j.names) (left_of_file current j) j.missed in
-      record { none = Consumes-nil _; opened = (([], refl, omega arith), notes_missed _ _ _ _ _ notes); notes = notes; waits = inl refl }
 
   -- a read of the file changes nothing of those after it
   pub record Reads (now new : Joining I) : Type 0 where

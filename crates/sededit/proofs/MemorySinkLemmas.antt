@@ -64,10 +64,6 @@ failures_kept old new sink k h others = by (eqb_tells k sink)
     by (inl (e, here)) = rw here h
     by (inr (e, there)) = ap (λ s. unwrap_or (option_map (λ x. x.failures) s) 0) (others k there)
 
--- what a sink that is there holds
-pub contents_at : (s : SinkFiles) (k : ℕ) → k < s.created + 1 → contents_of s k ≡ sink_bytes s.outputs k
-contents_at s k inside = rw (le-ltb s.created k (omega (arith, inside))) refl
-
 -- a file that is created holds nothing, as it did before
 pub created_keeps : (s : SinkFiles) (k : ℕ) → s.created + 1 < length s.outputs.held → ((j : ℕ) → s.created < j → IfSome (slice_get s.outputs.held j) (λ sink. sink.bytes ≡ [])) →
     contents_of (record s { created = s.created + 1 }) k ≡ contents_of s k

@@ -106,24 +106,3 @@ file_added ws fs es gs i j f parts part all at later is h =
     let next : in_order (drop i ws) (drop i es) (drop j fs) (drop j gs) ≡ file f ∷ in_order (drop i ws) (drop i es) (drop (suc j) fs) (drop (suc j) gs) =
     rw (← drop_one gs j) (file_next (drop i ws) (drop j fs) (drop i es) (drop j gs) f (drop (suc j) fs) (split_at fs j f at) choice) in
     rw (one_more j) (added parts part (file f) _ all _ is next h)
-
-map-drop_one : {A B : Type 0} (f : A → B) (xs : List A) → map f (drop 1 xs) ≡ drop 1 (map f xs)
-map-drop_one f [] = refl
-map-drop_one f (x ∷ xs) = refl
-
-asks_first : (operands : List Text) (parts : List Given) (names : List Text) → parts ≡ map text (take 1 operands) → names ≡ drop 1 operands → Asks [] [] operands parts names
-asks_first [] parts names p n = (p, n)
-asks_first (operand ∷ operands) parts names p n = (p, n)
-
--- without -e and -f the first operand is the script
-pub asks_operands : {A : Type 0} (f : A → Text) (scripts files operands rest : List A) (parts : List Given) (names : List Text) → scripts ≡ [] → files ≡ [] →
-    parts ≡ map text (take 1 (map f operands)) → rest ≡ drop 1 operands → names ≡ map f rest → Asks (map f scripts) (map f files) (map f operands) parts names
-asks_operands f scripts files operands rest parts names no_script no_file p r n =
-    rw (no_script, no_file) (asks_first (map f operands) parts names p (n ∙ ap (map f) r ∙ map-drop_one f operands))
-
--- with one of them they are the script
-pub asks_options : {A : Type 0} (f : A → Text) (scripts files operands : List A) (es gs : List ℕ) (parts : List Given) (names : List Text) → (scripts ≡ [] → files ≡ [] → ⊥) →
-    parts ≡ in_order (map f scripts) es (map f files) gs → names ≡ map f operands → Asks (map f scripts) (map f files) (map f operands) parts names
-asks_options f [] [] operands es gs parts names some p n = absurd (some refl refl)
-asks_options f [] (x ∷ files) operands es gs parts names some p n = ((es, gs, p), n)
-asks_options f (x ∷ scripts) files operands es gs parts names some p n = ((es, gs, p), n)

@@ -31,11 +31,3 @@ all_first old new names all = (length names, rw (take_all (length names) names (
 not_true : (b : Bool) → (b ≡ true → ⊥) → b ≡ false
 not_true true h = absurd (h refl)
 not_true false h = refl
-
--- words that were refused with help have asked for it
-pub asks_help : (words : List Text) (r : Refused) (e : Error) → r ≡ Words e → IsRefusal words r →
-    (takes sed_command words ≡ true → r ≡ NoMemory) → kind_of e ≡ DisplayHelp → AsksHelp words
-asks_help words r e is refusal taken help =
-    let not_taken : takes sed_command words ≡ true → ⊥ = λ t. let bad : Words e ≡ NoMemory = sym is ∙ taken t in cc in
-    let among = rw is at refusal in
-    (not_true (takes sed_command words) not_taken, rw (← help) among)

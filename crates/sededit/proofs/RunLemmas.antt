@@ -35,7 +35,7 @@ pub has_failed : {E : Type 0} (input_old input_new : ℕ) (old mid new : ℕ →
     (r ≡ Ok InputBroken → Rose input_old input_new) → FailedSink old mid (Err end) → ((k : ℕ) → mid k ≤ new k) →
     HasFailed input_old input_new old new end
 has_failed input_old input_new old mid new r InputBroken is input failed more = input is
-has_failed input_old input_new old mid new r (OutputBroken k) is input failed more = Rose-more _ _ _ failed (more k)
+has_failed input_old input_new old mid new r (OutputBroken k) is input failed more = Rose-more _ _ _ failed.0 (more k)
 has_failed input_old input_new old mid new r _ is input failed more = tt
 
 -- a sink that failed after others had not has failed since

@@ -74,7 +74,7 @@ pub fn edit<R: ByteSource, O: Outputs, T: Texts>(
         (files : ℕ → List ℕ) → TellsFiles (T.text texts.old) files →
         GainsAll (setting_of script files) (start_over script bytes)
         (Gained (O.contents outputs.old) (O.contents outputs.new))) }
-    // A device that the end names has failed, whether it tells its bytes or not; where it names no broken sink, none has.
+    // A device that the end names has failed, whether it tells its bytes or not; and no other sink has.
     ensures input { result ≡ Ok Ended.InputBroken → Rose (R.failures source.old) (R.failures source.new) }
     ensures failed { IfOk result (λ end. FailedSink (O.failures outputs.old) (O.failures outputs.new) (Err end)) }
     ensures same_sinks { SameSinks O.count O.names outputs.old outputs.new }

@@ -11,10 +11,10 @@ use Rattle.sedengine.specs.Limits.{Limits}
 use Rattle.sedengine.specs.State.{Entry, Task, do_at, State, Move, Setting}
 use Rattle.sedengine.specs.Select.{Choice, selects}
 use Rattle.sedengine.specs.Move.{move, reach, performs, acts, passes, writing, quietly, queueing, then_do, none_left, in_table, is_active, tells_at}
-use Rattle.sedengine.specs.Ends.{Fits, reaches, reads, asks_last, is_next, names_last}
+use Rattle.sedengine.specs.Ends.{WithinLimits, reaches, reads, asks_last, is_next, names_last}
 use Rattle.sedengine.specs.Meters.{Sent, Tally}
 use Rattle.sedengine.specs.Calls.{Puts}
-use Rattle.sedengine.specs.Run.{Run, at_lines, setting}
+use Rattle.sedengine.specs.Run.{RunState, at_lines, setting}
 use Rattle.sedengine.specs.Choose.{Judges, as_choice, reached_with, current}
 use Rattle.sedengine.specs.Queueing.{QueuesOrFull, queued_more}
 use Rattle.sedengine.specs.Steps.{Reaches, HasAction, Moves, Performs, PerformsSteps, Steps, TakesLines}
@@ -29,33 +29,33 @@ use Rattle.sedengine.proofs.NextLines.{looked_moves, looked_then, none_taken}
 use Rattle.sedengine.proofs.Tasks.{fits_of, halts_here, reach_spent, steps_by_moves}
 
 -- what a command that takes no line does leaves the lines
-pub acts_here : {R : Type 0} (remaining : R → Option (List ℕ)) (old : Stream R) (ls : List (List ℕ)) (l : Limits) (g : Setting) (o : Option Move) (asks : Bool) (e e' : Run) (P : List (ℕ × ℕ) → Type 0) (r : Result Unit Ended) → lines_left remaining old ≡ Some ls →
+pub acts_here : {R : Type 0} (remaining : R → Option (List ℕ)) (old : Stream R) (ls : List (List ℕ)) (l : Limits) (g : Setting) (o : Option Move) (asks : Bool) (e e' : RunState) (P : List (ℕ × ℕ) → Type 0) (r : Result Unit Ended) → lines_left remaining old ≡ Some ls →
     Performs l g o (at_lines e ls) (at_lines e' ls) P r → PerformsSteps remaining old old ls l g o asks (at_lines e ls) e' P r
 acts_here {R} remaining old ls l g o asks e e' P r known h = λ s c asked first. looked_moves remaining old old ls l g s e' P r (lines_same remaining old ls known) c.lines (h s c first)
 
 -- the engine that goes on with these tasks
-abbrev pub going : Run → List Task → Run
+abbrev pub going : RunState → List Task → RunState
 going e ts = record e { state = record e.state { tasks = ts } }
 
 -- the engine after a `t` that goes to the target, or doesn't
-abbrev pub tested : Run → ℕ → Bool → Run
+abbrev pub tested : RunState → ℕ → Bool → RunState
 tested e target goes = record e { state = cond goes (record e.state { tasks = do_at target ∷ []; replaced = false }) e.state }
 
 -- the engine whose pattern space was replaced by a table
-abbrev pub translated : Run → Option (List ℕ) → Run
+abbrev pub translated : RunState → Option (List ℕ) → RunState
 translated e table = record e { state = record e.state { pattern = map (in_table table) e.state.pattern } }
 
 -- A command of an engine with the fields a that is seen as e.
-module _ (a : Inside) (e : Run) (seen : run_of a ≡ e) (i : IsRun a) (ls : List (List ℕ)) (g : Setting) (old new : Tally) (o : Option Move) where
-  fits : Fits e.limits (at_lines e ls)
-  fits = let Q : Run → Type 0 = λ e. Fits e.limits (at_lines e ls) in subst Q seen (fits_of a ls i)
+module _ (a : Inside) (e : RunState) (seen : run_of a ≡ e) (i : IsRun a) (ls : List (List ℕ)) (g : Setting) (old new : Tally) (o : Option Move) where
+  fits : WithinLimits e.limits (at_lines e ls)
+  fits = let Q : RunState → Type 0 = λ e. WithinLimits e.limits (at_lines e ls) in subst Q seen (fits_of a ls i)
 
   -- one that writes alone
   pub acts_writing : (out : List (ℕ × ℕ)) (r : Result Unit Ended) → o ≡ writing out (at_lines e ls) → Puts (Sent old new) out r → Performs e.limits g o (at_lines e ls) (at_lines e ls) (Sent old new) r
   acts_writing out r is put = λ s c first. moves_writing e.limits g s (at_lines e ls) old new out r c.fits (first ∙ is) fits c.lines put
 
   -- one that leads to another engine and writes nothing
-  pub acts_leading : (e' : Run) → Fits e.limits (at_lines e' ls) → o ≡ quietly (at_lines e' ls) → Performs e.limits g o (at_lines e ls) (at_lines e' ls) (Sent old old) (Ok tt)
+  pub acts_leading : (e' : RunState) → WithinLimits e.limits (at_lines e' ls) → o ≡ quietly (at_lines e' ls) → Performs e.limits g o (at_lines e ls) (at_lines e' ls) (Sent old old) (Ok tt)
   acts_leading e' there is = λ s c first. ran_quietly e.limits g s (at_lines e' ls) old c.fits (first ∙ is) there
 
   -- one that does nothing
@@ -63,16 +63,16 @@ module _ (a : Inside) (e : Run) (seen : run_of a ≡ e) (i : IsRun a) (ls : List
   acts_nothing is = acts_leading e fits is
 
   -- one that goes on elsewhere
-  pub acts_going : (ts : List Task) (e' : Run) → e' ≡ going e ts → o ≡ quietly (then_do ts (at_lines e ls)) → Performs e.limits g o (at_lines e ls) (at_lines e' ls) (Sent old old) (Ok tt)
+  pub acts_going : (ts : List Task) (e' : RunState) → e' ≡ going e ts → o ≡ quietly (then_do ts (at_lines e ls)) → Performs e.limits g o (at_lines e ls) (at_lines e' ls) (Sent old old) (Ok tt)
   acts_going ts e' same is =
-      let Q : Run → Type 0 = λ e'. Performs e.limits g o (at_lines e ls) (at_lines e' ls) (Sent old old) (Ok tt) in
+      let Q : RunState → Type 0 = λ e'. Performs e.limits g o (at_lines e ls) (at_lines e' ls) (Sent old old) (Ok tt) in
       subst Q (sym same) (acts_leading (going e ts) (record { pattern = fits.pattern; hold = fits.hold; queue = fits.queue; turns = fits.turns }) is)
 
   -- `t`
-  pub acts_testing : (target : ℕ) (e' : Run) → e' ≡ tested e target e.state.replaced → o ≡ quietly (cond e.state.replaced (then_do (do_at target ∷ []) (record (at_lines e ls) { replaced = false })) (at_lines e ls)) →
+  pub acts_testing : (target : ℕ) (e' : RunState) → e' ≡ tested e target e.state.replaced → o ≡ quietly (cond e.state.replaced (then_do (do_at target ∷ []) (record (at_lines e ls) { replaced = false })) (at_lines e ls)) →
       Performs e.limits g o (at_lines e ls) (at_lines e' ls) (Sent old old) (Ok tt)
   acts_testing target e' same is =
-      let Q : Run → Type 0 = λ e'. Performs e.limits g o (at_lines e ls) (at_lines e' ls) (Sent old old) (Ok tt) in
+      let Q : RunState → Type 0 = λ e'. Performs e.limits g o (at_lines e ls) (at_lines e' ls) (Sent old old) (Ok tt) in
       subst Q (sym same) (leads e.state.replaced is)
     where
       leads : (b : Bool) → o ≡ quietly (cond b (then_do (do_at target ∷ []) (record (at_lines e ls) { replaced = false })) (at_lines e ls)) →
@@ -81,21 +81,21 @@ module _ (a : Inside) (e : Run) (seen : run_of a ≡ e) (i : IsRun a) (ls : List
       leads false is = acts_leading e fits is
 
   -- `y`
-  pub acts_translating : (table : Option (List ℕ)) (e' : Run) → e' ≡ translated e table → o ≡ quietly (record (at_lines e ls) { pattern = map (in_table table) e.state.pattern }) →
+  pub acts_translating : (table : Option (List ℕ)) (e' : RunState) → e' ≡ translated e table → o ≡ quietly (record (at_lines e ls) { pattern = map (in_table table) e.state.pattern }) →
       Performs e.limits g o (at_lines e ls) (at_lines e' ls) (Sent old old) (Ok tt)
   acts_translating table e' same is =
-      let Q : Run → Type 0 = λ e'. Performs e.limits g o (at_lines e ls) (at_lines e' ls) (Sent old old) (Ok tt) in
+      let Q : RunState → Type 0 = λ e'. Performs e.limits g o (at_lines e ls) (at_lines e' ls) (Sent old old) (Ok tt) in
       let long : length (map (in_table table) e.state.pattern) ≡ length e.state.pattern = length-map e.state.pattern (in_table table) in
       subst Q (sym same) (acts_leading (translated e table) (record { pattern = rw long fits.pattern; hold = fits.hold; queue = fits.queue; turns = fits.turns }) is)
 
   -- `a` and `r`: an entry is put into the queue, or there is no room for it
-  pub acts_queueing : (entry : Entry) (e' : Run) (r : Result Unit Ended) → o ≡ quietly (queueing entry (at_lines e ls)) → QueuesOrFull e e' entry r → Performs e.limits g o (at_lines e ls) (at_lines e' ls) (Sent old old) r
+  pub acts_queueing : (entry : Entry) (e' : RunState) (r : Result Unit Ended) → o ≡ quietly (queueing entry (at_lines e ls)) → QueuesOrFull e e' entry r → Performs e.limits g o (at_lines e ls) (at_lines e' ls) (Sent old old) r
   acts_queueing entry e' (Ok u) is (same, room) =
-      let Q : Run → Type 0 = λ e'. Performs e.limits g o (at_lines e ls) (at_lines e' ls) (Sent old old) (Ok tt) in
+      let Q : RunState → Type 0 = λ e'. Performs e.limits g o (at_lines e ls) (at_lines e' ls) (Sent old old) (Ok tt) in
       let more : length (e.state.queue ++ entry ∷ []) ≤ e.limits.queue = omega (arith, length-append e.state.queue (entry ∷ [])) in
       subst Q (sym same) (acts_leading (queued_more e entry) (record { pattern = fits.pattern; hold = fits.hold; queue = more; turns = fits.turns }) is)
   acts_queueing entry e' (Err (QueueFull n)) is (same, number, full) =
-      let Q : Run → Type 0 = λ e'. Performs e.limits g o (at_lines e ls) (at_lines e' ls) (Sent old old) (Err (QueueFull n)) in
+      let Q : RunState → Type 0 = λ e'. Performs e.limits g o (at_lines e ls) (at_lines e' ls) (Sent old old) (Err (QueueFull n)) in
       let more : e.limits.queue < length (e.state.queue ++ entry ∷ []) = omega (arith, length-append e.state.queue (entry ∷ [])) in
       subst Q (sym same) (λ s c first. stopped_here e.limits g s (at_lines e ls) old (QueueFull n) c.fits refl (number ∙ sym c.number, c.turn, (_, first ∙ is, more)) c.same c.lines)
   acts_queueing entry e' (Err other) is h = absurd h
@@ -106,19 +106,19 @@ passes_other s (Block next) h = absurd (h next refl)
 passes_other s other h = refl
 
 -- a turn is left
-pub turn_left : (a : Inside) (e : Run) → run_of a ≡ e → IsRun a → (a.turns ≡ a.limits.turns → ⊥) → e.state.turns < e.limits.turns
+pub turn_left : (a : Inside) (e : RunState) → run_of a ≡ e → IsRun a → (a.turns ≡ a.limits.turns → ⊥) → e.state.turns < e.limits.turns
 turn_left a e seen i more =
     let most = i.turns in
     let less : a.turns < a.limits.turns = omega arith in
-    let Q : Run → Type 0 = λ e. e.state.turns < e.limits.turns in
+    let Q : RunState → Type 0 = λ e. e.state.turns < e.limits.turns in
     subst Q seen less
 
 -- the command of the script as it is seen
-pub command_seen : (a : Inside) (e : Run) (k : ℕ) (c : Command) → run_of a ≡ e → slice_get a.script.commands k ≡ Some c → slice_get e.script.commands k ≡ Some c
-command_seen a e k c seen is = let Q : Run → Type 0 = λ e. slice_get e.script.commands k ≡ Some c in subst Q seen is
+pub command_seen : (a : Inside) (e : RunState) (k : ℕ) (c : Command) → run_of a ≡ e → slice_get a.script.commands k ≡ Some c → slice_get e.script.commands k ≡ Some c
+command_seen a e k c seen is = let Q : RunState → Type 0 = λ e. slice_get e.script.commands k ≡ Some c in subst Q seen is
 
 -- no turn is left
-pub steps_spent : {R : Type 0} (remaining : R → Option (List ℕ)) (old : Stream R) (a : Inside) (e : Run) (seen : run_of a ≡ e) (i : IsRun a) (files : ℕ → List ℕ) (ls : List (List ℕ)) → lines_left remaining old ≡ Some ls → (sinks : Tally) (k : ℕ) →
+pub steps_spent : {R : Type 0} (remaining : R → Option (List ℕ)) (old : Stream R) (a : Inside) (e : RunState) (seen : run_of a ≡ e) (i : IsRun a) (files : ℕ → List ℕ) (ls : List (List ℕ)) → lines_left remaining old ≡ Some ls → (sinks : Tally) (k : ℕ) →
     e.state.tasks ≡ do_at k ∷ [] → k < length a.script.commands → a.turns ≡ a.limits.turns → Steps remaining old old ls e.limits (setting e files) e e (Sent sinks sinks) (Err TurnsSpent)
 steps_spent {R} remaining old a e seen i files ls known sinks k t there spent =
     steps_by_moves remaining old ls e.limits (setting e files) e e (Sent sinks sinks) (Err TurnsSpent) known (reach_spent a e seen i files ls k t sinks there spent)
@@ -133,10 +133,10 @@ either true y h = refl
 either false y h = absurd (false≢true h)
 
 -- Coming to the command c, of number k, with a turn left; a are the fields of the engine, which is seen as e.
-module _ {R : Type 0} (remaining : R → Option (List ℕ)) (old new : Stream R) (a : Inside) (e : Run) (seen : run_of a ≡ e) (i : IsRun a) (files : ℕ → List ℕ) (ls : List (List ℕ)) (k : ℕ) (c : Command)
+module _ {R : Type 0} (remaining : R → Option (List ℕ)) (old new : Stream R) (a : Inside) (e : RunState) (seen : run_of a ≡ e) (i : IsRun a) (files : ℕ → List ℕ) (ls : List (List ℕ)) (k : ℕ) (c : Command)
     (t : e.state.tasks ≡ do_at k ∷ []) (is : slice_get a.script.commands k ≡ Some c) (more : a.turns ≡ a.limits.turns → ⊥) (taken : TakesLines remaining old new ls ls) where
-  here : Fits e.limits (at_lines e ls)
-  here = let Q : Run → Type 0 = λ e. Fits e.limits (at_lines e ls) in subst Q seen (fits_of a ls i)
+  here : WithinLimits e.limits (at_lines e ls)
+  here = let Q : RunState → Type 0 = λ e. WithinLimits e.limits (at_lines e ls) in subst Q seen (fits_of a ls i)
 
   bytes_stay : (n : ℕ) → TakesAtMost (left remaining old) (left remaining new) n
   bytes_stay n = TakesAtMost-more _ _ _ _ (omega arith) (rw (none_taken taken.lines ls taken.are) at taken.bytes)
@@ -147,10 +147,10 @@ module _ {R : Type 0} (remaining : R → Option (List ℕ)) (old new : Stream R)
       move_at _ _ _ t ∙ ap (reach (setting e files) (at_lines e ls) k) (command_seen a e k c seen is) ∙ ap (option_and_then (performs (setting e files) (at_lines e ls) k c)) h
 
   -- the end comes where the addresses are judged
-  pub reach_stopping : (sinks : Tally) (used : Option ℕ) (end : Ended) (e' : Run) → e' ≡ e → Judges (current e (none_left ls)) (is_active e.state k) c used (Err end) →
+  pub reach_stopping : (sinks : Tally) (used : Option ℕ) (end : Ended) (e' : RunState) → e' ≡ e → Judges (current e (none_left ls)) (is_active e.state k) c used (Err end) →
       Steps remaining old new ls e.limits (setting e files) e e' (Sent sinks sinks) (Err end)
   reach_stopping sinks used end e' same h =
-      let Q : Run → Type 0 = λ e'. Steps remaining old new ls e.limits (setting e files) e e' (Sent sinks sinks) (Err end) in
+      let Q : RunState → Type 0 = λ e'. Steps remaining old new ls e.limits (setting e files) e e' (Sent sinks sinks) (Err end) in
       subst Q (sym same) (stops end h)
     where
       stops : (end : Ended) → Judges (current e (none_left ls)) (is_active e.state k) c used (Err end) → Steps remaining old new ls e.limits (setting e files) e e (Sent sinks sinks) (Err end)
@@ -163,7 +163,7 @@ module _ {R : Type 0} (remaining : R → Option (List ℕ)) (old new : Stream R)
       stops other h = absurd h
 
   -- The addresses chose.
-  module _ (choice : Chosen) (used : Option ℕ) (e1 e2 : Run) (chose : selects (current e (none_left ls)) (is_active e.state k) c ≡ Some (as_choice choice used)) (came : e1 ≡ reached_with e k (slice_set e.state.ranges k choice.active) used) where
+  module _ (choice : Chosen) (used : Option ℕ) (e1 e2 : RunState) (chose : selects (current e (none_left ls)) (is_active e.state k) c ≡ Some (as_choice choice used)) (came : e1 ≡ reached_with e k (slice_set e.state.ranges k choice.active) used) where
     moves_as : (b : Bool) → choice.yes ≡ b → move (setting e files) (at_lines e ls) ≡
         cond b (acts (setting e files) (at_lines (reached_with e k (slice_set e.state.ranges k choice.active) used) ls) (tells_at c choice.end) c.action) (passes (at_lines (reached_with e k (slice_set e.state.ranges k choice.active) used) ls) c.action)
     moves_as b chosen = reach_as (Some (as_choice choice used)) chose ∙
@@ -188,7 +188,7 @@ module _ {R : Type 0} (remaining : R → Option (List ℕ)) (old new : Stream R)
     pub reach_acting : (to : Stream R) (P : List (ℕ × ℕ) → Type 0) (r : Result Unit Ended) (tells : Bool) → choice.yes ≡ true → tells ≡ tells_at c choice.end →
         PerformsSteps remaining new to ls e1.limits (setting e1 files) (acts (setting e1 files) (at_lines e1 ls) tells c.action) (is_next c.action) (at_lines e1 ls) e2 P r → Steps remaining old to ls e.limits (setting e files) e e2 P r
     reach_acting to P r tells chosen tells_is h =
-        let Q : Run → Type 0 = λ e1. PerformsSteps remaining new to ls e1.limits (setting e1 files) (acts (setting e1 files) (at_lines e1 ls) tells c.action) (is_next c.action) (at_lines e1 ls) e2 P r in
+        let Q : RunState → Type 0 = λ e1. PerformsSteps remaining new to ls e1.limits (setting e1 files) (acts (setting e1 files) (at_lines e1 ls) tells c.action) (is_next c.action) (at_lines e1 ls) e2 P r in
         let now : State = at_lines (reached_with e k (slice_set e.state.ranges k choice.active) used) ls in
         let S : Bool → Type 0 = λ b. PerformsSteps remaining new to ls e.limits (setting e files) (acts (setting e files) now b c.action) (is_next c.action) now e2 P r in
         let there = subst S tells_is (subst Q came h) in
@@ -198,7 +198,7 @@ module _ {R : Type 0} (remaining : R → Option (List ℕ)) (old new : Stream R)
     pub reach_passing : (sinks : Tally) → choice.yes ≡ false →
         Performs e1.limits (setting e1 files) (passes (at_lines e1 ls) c.action) (at_lines e1 ls) (at_lines e2 ls) (Sent sinks sinks) (Ok tt) → Steps remaining old new ls e.limits (setting e files) e e2 (Sent sinks sinks) (Ok tt)
     reach_passing sinks passed h =
-        let Q : Run → Type 0 = λ e1. Performs e1.limits (setting e1 files) (passes (at_lines e1 ls) c.action) (at_lines e1 ls) (at_lines e2 ls) (Sent sinks sinks) (Ok tt) in
+        let Q : RunState → Type 0 = λ e1. Performs e1.limits (setting e1 files) (passes (at_lines e1 ls) c.action) (at_lines e1 ls) (at_lines e2 ls) (Sent sinks sinks) (Ok tt) in
         let there = subst Q came h in
         acted (Sent sinks sinks) (Ok tt) (there (at_lines e ls) here_reaches (moves_as false passed))
 

@@ -80,19 +80,6 @@ unfolding selects
 selects_none c active command h =
     ap (λ o. option_and_then (λ choice. Some (negated command.negate choice)) o) (of_addresses-as c active command.first command.second ∙ ap (λ o. option_and_then (follows c active command.first command.second) o) h)
 
--- the address that decides is one of the command's
-within_in : (n : ℕ) (first second : Address) (number : ℕ) (before : Bool) → AddressWithin n (Some first) → AddressWithin n (cond before None (Some first))
-within_in n first second number true h = tt
-within_in n first second number false h = h
-
-pub deciding_within : (n : ℕ) (first second : Option Address) (active : Bool) (number : ℕ) → AddressWithin n first → AddressWithin n second → AddressWithin n (deciding first second active number)
-deciding_within n None second active number h i = tt
-deciding_within n (Some first) None active number h i = h
-deciding_within n (Some first) (Some second) false number h i = h
-deciding_within n (Some first) (Some (Line line)) true number h i = within_in n first first number (nat_le number line) h
-deciding_within n (Some first) (Some Last) true number h i = tt
-deciding_within n (Some first) (Some (Match e)) true number h i = i
-
 dollar_in : (first : Address) (before : Bool) → is_dollar (cond before None (Some first)) ≡ true → is_dollar (Some first) ≡ true
 dollar_in first true h = cc
 dollar_in first false h = h

@@ -10,7 +10,7 @@ use Rattle.sedengine.specs.State.{Task, copy, State, Setting}
 use Rattle.sedengine.specs.Move.{move, after, written, next_or_stay, writes_of, to_sink, copies, quietly}
 use Rattle.sedengine.specs.Meters.{Sent, Tally}
 use Rattle.sedengine.specs.Calls.{Puts}
-use Rattle.sedengine.specs.Ends.{Fits, Within, WholeOrCut, Cut, takes_turn}
+use Rattle.sedengine.specs.Ends.{WithinLimits, Within, WholeOrCut, Cut, takes_turn}
 use Rattle.sedengine.specs.Held.{HoldsAt, SameLengths}
 use Rattle.sedengine.specs.Run.{InOneCycle}
 use Rattle.sedengine.specs.Steps.{Ran, Stopped}
@@ -108,29 +108,29 @@ module _ (g : Setting) (s : State) (k : ℕ) (rest : List Task) (at : s.tasks �
   one_copied : (o : ℕ) → o ≤ length (g.files k) → InOneCycle g s (o + 1)
   one_copied o h = λ j some lt. let at_j = after_copied j (omega arith) in rw at_j refl
 
-  within_copied : (l : Limits) (o : ℕ) → o ≤ length (g.files k) → Fits l s → s.turns + o ≤ l.turns → Within l g s o
+  within_copied : (l : Limits) (o : ℕ) → o ≤ length (g.files k) → WithinLimits l s → s.turns + o ≤ l.turns → Within l g s o
   unfolding Within
   within_copied l o h f turns = λ j le. let at_j = after_copied j (omega arith) in rw at_j (record { pattern = f.pattern; hold = f.hold; queue = f.queue; turns = omega arith })
 
   -- the file was written to its end
-  pub copied_all : (l : Limits) (old new : Tally) (o turns : ℕ) → Fits l s → turns ≡ s.turns + o → turns ≤ l.turns →
+  pub copied_all : (l : Limits) (old new : Tally) (o turns : ℕ) → WithinLimits l s → turns ≡ s.turns + o → turns ≤ l.turns →
       o ≤ length (g.files k) → length (g.files k) ≤ o → Sent old new (to_sink 0 (take o (g.files k))) →
       Ran l g s (record s { tasks = rest; turns = turns }) (Sent old new)
   copied_all l old new o turns f are fits inside all gained =
       let R : ℕ → Type 0 = λ n. Ran l g s (record s { tasks = rest; turns = n }) (Sent old new) in
-      let here : Fits l (copied s k rest o) = record { pattern = f.pattern; hold = f.hold; queue = f.queue; turns = omega arith } in
-      let there : Fits l (record s { tasks = rest; turns = s.turns + o }) = record { pattern = f.pattern; hold = f.hold; queue = f.queue; turns = omega arith } in
+      let here : WithinLimits l (copied s k rest o) = record { pattern = f.pattern; hold = f.hold; queue = f.queue; turns = omega arith } in
+      let there : WithinLimits l (record s { tasks = rest; turns = s.turns + o }) = record { pattern = f.pattern; hold = f.hold; queue = f.queue; turns = omega arith } in
       let last = ran_quietly l g (copied s k rest o) _ new here (at_end o all) there in
       let M : State → Type 0 = λ m. Ran l g m (record s { tasks = rest; turns = s.turns + o }) (Sent new new) in
       subst R (sym are) (chain l g s _ old new new o (Ok tt) (within_copied l o inside f (omega arith)) (one_copied o inside)
       (rw (written_copied o inside) gained) (subst M (sym (after_copied o inside)) last))
 
   -- a further byte is due, and no turn is left
-  pub copied_spent : (l : Limits) (now : State) (old new : Tally) (o : ℕ) → Fits l s → s.turns + o ≡ l.turns → o < length (g.files k) →
+  pub copied_spent : (l : Limits) (now : State) (old new : Tally) (o : ℕ) → WithinLimits l s → s.turns + o ≡ l.turns → o < length (g.files k) →
       Sent old new (to_sink 0 (take o (g.files k))) → SameLengths s now → s.lines ≡ now.lines → Stopped l g s now (Sent old new) TurnsSpent
   copied_spent l now old new o f spent inside gained same lines =
       let m : State = copied s k rest o in
-      let here : Fits l m = record { pattern = f.pattern; hold = f.hold; queue = f.queue; turns = omega arith } in
+      let here : WithinLimits l m = record { pattern = f.pattern; hold = f.hold; queue = f.queue; turns = omega arith } in
       let due : takes_turn g m m.tasks ≡ true = ap is_some (slice_get-get_or (g.files k) o 0 inside) in
       let last = stopped_here l g m now new TurnsSpent here refl (spent, due) (same_copied s now k rest o same) lines in
       let M : State → Type 0 = λ m. Stopped l g m now (Sent new new) TurnsSpent in
@@ -138,7 +138,7 @@ module _ (g : Setting) (s : State) (k : ℕ) (rest : List Task) (at : s.tasks �
       (rw (written_copied o (omega arith)) gained) (subst M (sym (after_copied o (omega arith))) last)
 
   -- the sink took no more at one of the first n bytes
-  pub copied_broken : (l : Limits) (now : State) (old new : Tally) (n : ℕ) (end : Ended) → Fits l s → s.turns + n ≤ l.turns → n ≤ length (g.files k) →
+  pub copied_broken : (l : Limits) (now : State) (old new : Tally) (n : ℕ) (end : Ended) → WithinLimits l s → s.turns + n ≤ l.turns → n ≤ length (g.files k) →
       Puts (Sent old new) (to_sink 0 (take n (g.files k))) (Err end) → SameLengths s now → s.lines ≡ now.lines → Stopped l g s now (Sent old new) end
   copied_broken l now old new n end f fits inside (j, b, byte, end_is, due, sent) same lines =
       let file : List ℕ = g.files k in

@@ -1,16 +1,17 @@
 -- The pattern space is deleted, or its first line, and a cycle starts.
 use Rattle.std.proofs.Common.{◌≡◌, ℕ, zero, suc, Bool, true, false, cond, List, [], ◌∷◌, length, Option, Some, Result, Err, refl, subst, sym, ap, ◌∙◌, arith}
 use Rattle.std.specs.Prelude.{slice_get, ◌||◌}
-use Rattle.std.specs.List.{Contains, after_first}
+use Rattle.std.specs.Option.{unwrap_or}
+use Rattle.std.specs.List.{Contains, after_first, list_any}
 use Rattle.sedscript.specs.declared.types.Action.TheVariants.{Change, Delete, DeleteFirst}
 use Rattle.sedspace.specs.Spaces.{Contents}
 use Rattle.sedspace.specs.Lines.{HasNoNewline, is_newline}
 use Rattle.sedengine.specs.State.{begin, rebegin, flush, State, Move}
-use Rattle.sedengine.specs.Move.{acts, has_newline, line_to, quietly, text_of, then_do, writing}
-use Rattle.sedengine.specs.Ends.{Fits}
+use Rattle.sedengine.specs.Move.{acts, line_to, quietly, then_do, writing}
+use Rattle.sedengine.specs.Ends.{WithinLimits}
 use Rattle.sedengine.specs.Meters.{Sent, Tally}
 use Rattle.sedengine.specs.Calls.{Puts}
-use Rattle.sedengine.specs.Run.{Run, at_lines, setting}
+use Rattle.sedengine.specs.Run.{RunState, at_lines, setting}
 use Rattle.sedengine.specs.Steps.{Moves, Performs}
 use Rattle.sedengine.specs.Inside.{run_of, tasks_of, IsRun}
 use Rattle.sedengine.specs.declared.machine.Machine.TheInside.{Inside}
@@ -22,78 +23,78 @@ use Rattle.sedengine.proofs.Ending.{acts_then, acts_stopping}
 use Rattle.sedengine.proofs.NextLines.{with_pattern}
 
 -- whether there is a newline
-pub newline_there : (bytes : List ℕ) → Contains bytes 10 → has_newline bytes ≡ true
+pub newline_there : (bytes : List ℕ) → Contains bytes 10 → list_any is_newline bytes ≡ true
 newline_there [] (k, lt, is) = absurd (omega arith)
 newline_there (b ∷ bs) (zero, lt, is) = rw is refl
 newline_there (b ∷ bs) (suc k, lt, is) = by (is_newline b) (newline_there bs (k, omega arith, is))
   where
-    by : (x : Bool) → has_newline bs ≡ true → x || has_newline bs ≡ true
+    by : (x : Bool) → list_any is_newline bs ≡ true → x || list_any is_newline bs ≡ true
     by true h = refl
     by false h = h
 
-pub newline_absent : (bytes : List ℕ) → HasNoNewline bytes → has_newline bytes ≡ false
+pub newline_absent : (bytes : List ℕ) → HasNoNewline bytes → list_any is_newline bytes ≡ false
 newline_absent [] h = refl
 newline_absent (b ∷ bs) h = rw (h 0 0 (omega arith)) (newline_absent bs (λ k d lt. h (suc k) d (omega arith)))
 
 -- A command that leaves c1 in the pattern space and writes these bytes, and what the call that ends the cycle says of it.
-pub deletes : (a : Inside) (e e2 : Run) (files : ℕ → List ℕ) (ls : List (List ℕ)) (o : Option Move) (place : Place) (c1 : Contents) (old mid new : Tally) (out : List (ℕ × ℕ)) (r : Result Unit Ended) → run_of a ≡ e →
+pub deletes : (a : Inside) (e e2 : RunState) (files : ℕ → List ℕ) (ls : List (List ℕ)) (o : Option Move) (place : Place) (c1 : Contents) (old mid new : Tally) (out : List (ℕ × ℕ)) (r : Result Unit Ended) → run_of a ≡ e →
     o ≡ writing out (then_do (flush ∷ tasks_of place) (at_lines (with_pattern e c1.bytes) ls)) → Sent old mid out →
     Moves a.limits (setting (run_of a) files) (then_do (flush ∷ tasks_of place) (at_lines (run_of (record a { pattern = c1 })) ls)) (at_lines e2 ls) (Sent mid new) r →
     Performs e.limits (setting e files) o (at_lines e ls) (at_lines e2 ls) (Sent old new) r
 deletes a e e2 files ls o place c1 old mid new out r seen is gained h =
-    let Q : Run → Type 0 = λ e. o ≡ writing out (then_do (flush ∷ tasks_of place) (at_lines (with_pattern e c1.bytes) ls)) → Performs e.limits (setting e files) o (at_lines e ls) (at_lines e2 ls) (Sent old new) r in
+    let Q : RunState → Type 0 = λ e. o ≡ writing out (then_do (flush ∷ tasks_of place) (at_lines (with_pattern e c1.bytes) ls)) → Performs e.limits (setting e files) o (at_lines e ls) (at_lines e2 ls) (Sent old new) r in
     let m : State = then_do (flush ∷ tasks_of place) (at_lines (run_of (record a { pattern = c1 })) ls) in
     subst Q seen (λ is. acts_then a.limits (setting (run_of a) files) o (at_lines (run_of a) ls) m (at_lines e2 ls) old mid new out r is (moves_fits a.limits (setting (run_of a) files) m (at_lines e2 ls) (Sent mid new) r h) gained refl h) is
 
 -- The text of `c` can't be written.
-pub change_stops : (a : Inside) (e : Run) (files : ℕ → List ℕ) (ls : List (List ℕ)) (o : Option Move) (c1 : Contents) (old new : Tally) (out : List (ℕ × ℕ)) (end : Ended) → run_of a ≡ e → IsRun a → c1.bytes ≡ [] →
+pub change_stops : (a : Inside) (e : RunState) (files : ℕ → List ℕ) (ls : List (List ℕ)) (o : Option Move) (c1 : Contents) (old new : Tally) (out : List (ℕ × ℕ)) (end : Ended) → run_of a ≡ e → IsRun a → c1.bytes ≡ [] →
     o ≡ writing out (then_do (flush ∷ begin ∷ []) (at_lines (with_pattern e c1.bytes) ls)) → Puts (Sent old new) out (Err end) →
     Performs e.limits (setting e files) o (at_lines e ls) (at_lines (run_of (record a { pattern = c1 })) ls) (Sent old new) (Err end)
 change_stops a e files ls o c1 old new out end seen i none is put =
-    let Q : Run → Type 0 = λ e. o ≡ writing out (then_do (flush ∷ begin ∷ []) (at_lines (with_pattern e c1.bytes) ls)) → Performs e.limits (setting e files) o (at_lines e ls) (at_lines (run_of (record a { pattern = c1 })) ls) (Sent old new) (Err end) in
+    let Q : RunState → Type 0 = λ e. o ≡ writing out (then_do (flush ∷ begin ∷ []) (at_lines (with_pattern e c1.bytes) ls)) → Performs e.limits (setting e files) o (at_lines e ls) (at_lines (run_of (record a { pattern = c1 })) ls) (Sent old new) (Err end) in
     let m : State = then_do (flush ∷ begin ∷ []) (at_lines (run_of (record a { pattern = c1 })) ls) in
     let f = fits_of a ls i in
     let empty = ap length none in
-    let fm : Fits a.limits m = record { pattern = omega arith; hold = f.hold; queue = f.queue; turns = f.turns } in
+    let fm : WithinLimits a.limits m = record { pattern = omega arith; hold = f.hold; queue = f.queue; turns = f.turns } in
     subst Q seen (λ is. acts_stopping a.limits (setting (run_of a) files) o (at_lines (run_of a) ls) m (at_lines (run_of (record a { pattern = c1 })) ls) old new out end is fm (record { pattern = refl; hold = refl; queue = λ _. refl; entries = omega arith }) refl put) is
 
 -- What the commands do, by what is left in the pattern space.
-pub change_is : (e : Run) (files : ℕ → List ℕ) (ls : List (List ℕ)) (text : ℕ) (tells b : Bool) (c1 : Contents) → c1.bytes ≡ [] → tells ≡ b →
-    acts (setting e files) (at_lines e ls) tells (Change text) ≡ writing (cond b (line_to 0 (text_of (slice_get e.script.texts text))) []) (then_do (flush ∷ begin ∷ []) (at_lines (with_pattern e c1.bytes) ls))
+pub change_is : (e : RunState) (files : ℕ → List ℕ) (ls : List (List ℕ)) (text : ℕ) (tells b : Bool) (c1 : Contents) → c1.bytes ≡ [] → tells ≡ b →
+    acts (setting e files) (at_lines e ls) tells (Change text) ≡ writing (cond b (line_to 0 (unwrap_or (slice_get e.script.texts text) [])) []) (then_do (flush ∷ begin ∷ []) (at_lines (with_pattern e c1.bytes) ls))
 change_is e files ls text tells b c1 none is = rw (none, is) refl
 
-pub delete_is : (e : Run) (files : ℕ → List ℕ) (ls : List (List ℕ)) (c1 : Contents) → c1.bytes ≡ [] →
+pub delete_is : (e : RunState) (files : ℕ → List ℕ) (ls : List (List ℕ)) (c1 : Contents) → c1.bytes ≡ [] →
     acts (setting e files) (at_lines e ls) true Delete ≡ quietly (then_do (flush ∷ begin ∷ []) (at_lines (with_pattern e c1.bytes) ls))
 delete_is e files ls c1 none = rw none refl
 
-pub cut_is : (e : Run) (files : ℕ → List ℕ) (ls : List (List ℕ)) (c1 : Contents) → has_newline e.state.pattern ≡ true → c1.bytes ≡ after_first is_newline e.state.pattern →
+pub cut_is : (e : RunState) (files : ℕ → List ℕ) (ls : List (List ℕ)) (c1 : Contents) → list_any is_newline e.state.pattern ≡ true → c1.bytes ≡ after_first is_newline e.state.pattern →
     acts (setting e files) (at_lines e ls) true DeleteFirst ≡ quietly (then_do (flush ∷ rebegin ∷ []) (at_lines (with_pattern e c1.bytes) ls))
 cut_is e files ls c1 there is = rw (there, is) refl
 
-pub uncut_is : (e : Run) (files : ℕ → List ℕ) (ls : List (List ℕ)) → has_newline e.state.pattern ≡ false →
+pub uncut_is : (e : RunState) (files : ℕ → List ℕ) (ls : List (List ℕ)) → list_any is_newline e.state.pattern ≡ false →
     acts (setting e files) (at_lines e ls) true DeleteFirst ≡ acts (setting e files) (at_lines e ls) true Delete
 uncut_is e files ls absent = rw absent refl
 
-pub cut_seen : (a : Inside) (e : Run) (files : ℕ → List ℕ) (ls : List (List ℕ)) (c1 : Contents) → run_of a ≡ e → Contains a.pattern.bytes 10 → c1 ≡ record a.pattern { bytes = after_first is_newline a.pattern.bytes } →
+pub cut_seen : (a : Inside) (e : RunState) (files : ℕ → List ℕ) (ls : List (List ℕ)) (c1 : Contents) → run_of a ≡ e → Contains a.pattern.bytes 10 → c1 ≡ record a.pattern { bytes = after_first is_newline a.pattern.bytes } →
     acts (setting e files) (at_lines e ls) true DeleteFirst ≡ quietly (then_do (flush ∷ rebegin ∷ []) (at_lines (with_pattern e c1.bytes) ls))
 cut_seen a e files ls c1 seen there is =
-    let same : a.pattern.bytes ≡ e.state.pattern = ap (λ (e : Run). e.state.pattern) seen in
-    let N : List ℕ → Type 0 = λ bytes. has_newline bytes ≡ true in
+    let same : a.pattern.bytes ≡ e.state.pattern = ap (λ (e : RunState). e.state.pattern) seen in
+    let N : List ℕ → Type 0 = λ bytes. list_any is_newline bytes ≡ true in
     cut_is e files ls c1 (subst N same (newline_there a.pattern.bytes there)) (ap (λ (c : Contents). c.bytes) is ∙ ap (λ bytes. after_first is_newline bytes) same)
 
 -- without a newline the space stays, and `D` is `d`
-pub uncut_performs : (a : Inside) (e e' : Run) (files : ℕ → List ℕ) (ls : List (List ℕ)) (c1 : Contents) (P : List (ℕ × ℕ) → Type 0) (r : Result Unit Ended) → run_of a ≡ e → HasNoNewline a.pattern.bytes → c1 ≡ a.pattern →
+pub uncut_performs : (a : Inside) (e e' : RunState) (files : ℕ → List ℕ) (ls : List (List ℕ)) (c1 : Contents) (P : List (ℕ × ℕ) → Type 0) (r : Result Unit Ended) → run_of a ≡ e → HasNoNewline a.pattern.bytes → c1 ≡ a.pattern →
     Performs a.limits (setting (run_of a) files) (acts (setting (run_of a) files) (at_lines (run_of (record a { pattern = c1 })) ls) true Delete) (at_lines (run_of (record a { pattern = c1 })) ls) (at_lines e' ls) P r →
     Performs e.limits (setting e files) (acts (setting e files) (at_lines e ls) true DeleteFirst) (at_lines e ls) (at_lines e' ls) P r
 uncut_performs a e e' files ls c1 P r seen absent is h =
-    let Q : Run → Type 0 = λ e. Performs e.limits (setting e files) (acts (setting e files) (at_lines e ls) true DeleteFirst) (at_lines e ls) (at_lines e' ls) P r in
+    let Q : RunState → Type 0 = λ e. Performs e.limits (setting e files) (acts (setting e files) (at_lines e ls) true DeleteFirst) (at_lines e ls) (at_lines e' ls) P r in
     let S : Contents → Type 0 = λ c1. Performs a.limits (setting (run_of a) files) (acts (setting (run_of a) files) (at_lines (run_of (record a { pattern = c1 })) ls) true Delete) (at_lines (run_of (record a { pattern = c1 })) ls) (at_lines e' ls) P r in
     let O : Option Move → Type 0 = λ o. Performs a.limits (setting (run_of a) files) o (at_lines (run_of a) ls) (at_lines e' ls) P r in
     subst Q seen (subst O (sym (uncut_is (run_of a) files ls (newline_absent a.pattern.bytes absent))) (subst S is h))
 
 -- the text of `c`, as the engine is seen
-pub text_put : (a : Inside) (e : Run) (text : ℕ) (bytes : List ℕ) (old new : Tally) (r : Result Unit Ended) → run_of a ≡ e → slice_get a.script.texts text ≡ Some bytes → Puts (Sent old new) (line_to 0 bytes) r →
-    Puts (Sent old new) (line_to 0 (text_of (slice_get e.script.texts text))) r
+pub text_put : (a : Inside) (e : RunState) (text : ℕ) (bytes : List ℕ) (old new : Tally) (r : Result Unit Ended) → run_of a ≡ e → slice_get a.script.texts text ≡ Some bytes → Puts (Sent old new) (line_to 0 bytes) r →
+    Puts (Sent old new) (line_to 0 (unwrap_or (slice_get e.script.texts text) [])) r
 text_put a e text bytes old new r seen there h =
-    let Q : Run → Type 0 = λ e. Puts (Sent old new) (line_to 0 (text_of (slice_get e.script.texts text))) r in
+    let Q : RunState → Type 0 = λ e. Puts (Sent old new) (line_to 0 (unwrap_or (slice_get e.script.texts text) [])) r in
     subst Q seen (rw there h)

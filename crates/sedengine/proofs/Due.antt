@@ -11,7 +11,7 @@ use Rattle.sedmatch.specs.Matching.{report}
 use Rattle.sedscript.specs.declared.substitution.Piece.{Piece}
 use Rattle.sedspace.specs.Spaces.{Contents}
 use Rattle.sedspace.specs.declared.errors.Full.{Full}
-use Rattle.sedengine.specs.Substitute.{Match, chosen, next_occurrence, occurrences, put_for, replaced_from}
+use Rattle.sedengine.specs.Substitute.{Occurrence, chosen, next_occurrence, occurrences, put_for, replaced_from}
 use Rattle.sedengine.specs.Run.{match_at, search_for}
 use Rattle.sedengine.specs.SubstituteParts.{Appends, GroupsOf, LiesAfter, Replaces, Skips, has_group, with_groups}
 use Rattle.sedengine.specs.SubstituteParts.{occurrence, occurrences_after, pending}
@@ -63,7 +63,7 @@ due_last old mid new all part (Err f) due full =
     (omega arith, full.1 ∙ due.0)
 
 -- what comes after an occurrence that is replaced
-abbrev pub rest_after : Written → List ℕ → Bool → ℕ → List Match
+abbrev pub rest_after : Written → List ℕ → Bool → ℕ → List Occurrence
 rest_after e w global q = if global then occurrences_after e w (Some q) else []
 
 -- for an occurrence the text before it is due, what stands for it, and what comes after it
@@ -96,7 +96,7 @@ due_cut old mid cut all e w ps qs global at groups o span is told same due befor
 
 -- and after that what comes after it
 pub due_after : (old mid cut new : Contents) (all : List ℕ) (e : Written) (w : List ℕ) (ps qs : List Piece)
-    (global : Bool) (at : ℕ) (groups : Groups) (o : Option (ℕ × ℕ)) (span : ℕ × ℕ) (ms : List Match) → o ≡ Some span →
+    (global : Bool) (at : ℕ) (groups : Groups) (o : Option (ℕ × ℕ)) (span : ℕ × ℕ) (ms : List Occurrence) → o ≡ Some span →
     GroupsOf e w (has_group ps) o groups → qs ≡ ps → Due old mid all (replaced_from w ps at (pending e w global o)) →
     cut ≡ record mid { bytes = mid.bytes ++ slice_range w at span.0 } →
     new ≡ record cut { bytes = cut.bytes ++ put_for w (with_groups span groups) qs } →
@@ -104,7 +104,7 @@ pub due_after : (old mid cut new : Contents) (all : List ℕ) (e : Written) (w :
 due_after old mid cut new all e w ps qs global at groups o span ms is told same due before put more =
     let left = due_cut old mid cut all e w ps qs global at groups o span is told same due before in
     let rest_is = due_less old cut new all (put_for w (with_groups span groups) qs) _ left put in
-    subst (λ (ms : List Match). Due old new all (replaced_from w ps span.1 ms)) more rest_is
+    subst (λ (ms : List Occurrence). Due old new all (replaced_from w ps span.1 ms)) more rest_is
 
 to_end : (w : List ℕ) (at : ℕ) → take (length w - at) (drop at w) ≡ drop at w
 to_end w at = ap (λ (n : ℕ). take n (drop at w)) (sym (length-drop at w)) ∙ take-length (drop at w)
@@ -149,21 +149,21 @@ chosen_is e w number global last r skips next = by_flag global r (skips.0 ∙ af
     by_flag false (Some span) is = ap (take 1) is
 
 -- what a substitution answers where the text was appended to the empty space
-pub replaces_made : (w : List ℕ) (ps : List Piece) (ms ns : List Match) (old empty new : Contents) → ms ≡ ns →
+pub replaces_made : (w : List ℕ) (ps : List Piece) (ms ns : List Occurrence) (old empty new : Contents) → ms ≡ ns →
     0 < length ns → empty ≡ record old { bytes = [] } →
     new ≡ record empty { bytes = empty.bytes ++ replaced_from w ps 0 ns } → Replaces w ps ms old.limit new.bytes (Ok true)
 replaces_made w ps ms ns old empty new same some cleared is =
     let made : new.bytes ≡ replaced_from w ps 0 ns =
     ap (λ (s : Contents). s.bytes) is ∙ ap (λ (s : Contents). s.bytes ++ replaced_from w ps 0 ns) cleared in
-    subst (λ (ms : List Match). (0 < length ms) × (new.bytes ≡ replaced_from w ps 0 ms)) (sym same) (some, made)
+    subst (λ (ms : List Occurrence). (0 < length ms) × (new.bytes ≡ replaced_from w ps 0 ms)) (sym same) (some, made)
 
 -- and where it doesn't fit
-pub replaces_full : (w : List ℕ) (ps : List Piece) (ms ns : List Match) (old empty new : Contents) (f : Full)
+pub replaces_full : (w : List ℕ) (ps : List Piece) (ms ns : List Occurrence) (old empty new : Contents) (f : Full)
     (r : Result Bool Full) → IsErr r → ms ≡ ns → 0 < length ns → empty ≡ record old { bytes = [] } →
     Appends empty new (replaced_from w ps 0 ns) (Err f) → Replaces w ps ms old.limit new.bytes r
 replaces_full w ps ms ns old empty new f (Ok b) is same some cleared full = absurd (false≢true is)
 replaces_full w ps ms ns old empty new f (Err g) is same some cleared full =
     let over = subst (λ (s : Contents). s.limit < length s.bytes + length (replaced_from w ps 0 ns)) cleared full.0 in
     let longer : old.limit < length (replaced_from w ps 0 ns) = omega arith in
-    subst (λ (ms : List Match). (0 < length ms) × (old.limit < length (replaced_from w ps 0 ms))) (sym same)
+    subst (λ (ms : List Occurrence). (0 < length ms) × (old.limit < length (replaced_from w ps 0 ms))) (sym same)
     (some, longer)

@@ -6,7 +6,7 @@ use Rattle.sedengine.specs.State.{Entry, text, file, Task, flush, copy, State, S
 use Rattle.sedengine.specs.Move.{move, after, written, flushes, line_to}
 use Rattle.sedengine.specs.Meters.{Sent, Tally}
 use Rattle.sedengine.specs.Calls.{Puts}
-use Rattle.sedengine.specs.Ends.{Fits, Within}
+use Rattle.sedengine.specs.Ends.{WithinLimits, Within}
 use Rattle.sedengine.specs.Held.{SameLengths}
 use Rattle.sedengine.specs.Run.{InOneCycle, TellsFiles, starts_cycle}
 use Rattle.sedengine.specs.Steps.{Ran, Moves}
@@ -29,7 +29,7 @@ abbrev pub at_entries : State → List Entry → List Task → ℕ → State
 at_entries s later tasks turns = record s { queue = later; tasks = tasks; turns = turns }
 
 -- what is left of the queue fits, and is told by a state that tells the whole
-pub fits_later : (l : Limits) (s : State) (later : List Entry) (tasks : List Task) (turns : ℕ) → Fits l s → length later ≤ length s.queue → turns ≤ l.turns → Fits l (at_entries s later tasks turns)
+pub fits_later : (l : Limits) (s : State) (later : List Entry) (tasks : List Task) (turns : ℕ) → WithinLimits l s → length later ≤ length s.queue → turns ≤ l.turns → WithinLimits l (at_entries s later tasks turns)
 fits_later l s later tasks turns f le most = record { pattern = f.pattern; hold = f.hold; queue = omega (arith, f.queue); turns = most }
 
 pub same_later : (s now : State) (later : List Entry) (rest : List Task) (turns : ℕ) → SameLengths s now → length later ≤ length s.queue → SameLengths (at_entries s later (flush ∷ rest) turns) now
@@ -39,7 +39,7 @@ same_opened : (s now : State) (later : List Entry) (k : ℕ) (rest : List Task) 
 same_opened s now later k rest h le = record { pattern = h.pattern; hold = h.hold; queue = λ goes. cc; entries = omega (arith, h.entries) }
 
 -- From the state s, which writes a queue with this first entry.
-module _ (l : Limits) (g : Setting) (s : State) (rest : List Task) (entry : Entry) (later : List Entry) (at : s.tasks ≡ flush ∷ rest) (queue : s.queue ≡ entry ∷ later) (f : Fits l s) where
+module _ (l : Limits) (g : Setting) (s : State) (rest : List Task) (entry : Entry) (later : List Entry) (at : s.tasks ≡ flush ∷ rest) (queue : s.queue ≡ entry ∷ later) (f : WithinLimits l s) where
   next_entry : move g s ≡ flushes s rest (entry ∷ later)
   next_entry = move_at g s (flush ∷ rest) at ∙ ap (flushes s rest) queue
 
@@ -60,7 +60,7 @@ module _ (l : Limits) (g : Setting) (s : State) (rest : List Task) (entry : Entr
 
   -- a file is written, by a call from the state in which it stands first
   pub file_written : (k : ℕ) (now : State) (old new : Tally) (turns : ℕ) (r : Result Unit Ended) → entry ≡ file k → SameLengths s now →
-      (Fits l (at_entries s later (copy k 0 ∷ flush ∷ rest) s.turns) → SameLengths (at_entries s later (copy k 0 ∷ flush ∷ rest) s.turns) now →
+      (WithinLimits l (at_entries s later (copy k 0 ∷ flush ∷ rest) s.turns) → SameLengths (at_entries s later (copy k 0 ∷ flush ∷ rest) s.turns) now →
       Copies l g (at_entries s later (copy k 0 ∷ flush ∷ rest) s.turns) (at_entries s later (flush ∷ rest) turns) now (Sent old new) r) →
       Copies l g s (at_entries s later (flush ∷ rest) turns) now (Sent old new) r
   file_written k now old new turns r is same call =
@@ -83,7 +83,7 @@ pub record Reached (l : Limits) (g : Setting) (s m : State) (old new : Tally) : 
   pub within : Within l g s t
   pub gained : Sent old new (written g s t)
 
-pub reached_none : (l : Limits) (g : Setting) (s : State) (sinks : Tally) → Fits l s → Reached l g s s sinks sinks
+pub reached_none : (l : Limits) (g : Setting) (s : State) (sinks : Tally) → WithinLimits l s → Reached l g s s sinks sinks
 reached_none l g s sinks f = record { t = 0; is = after_none g s; one = one_single g s; within = within_none l g s f; gained = rw written_none (Sent-none sinks) }
 
 -- a call that makes moves from there, within the cycle
@@ -107,7 +107,7 @@ reached_last l g s m now old mid new r a b =
     chain l g s now old mid new a.t r a.within a.one a.gained (subst M (sym a.is) b)
 
 -- a queue before its first entry is written
-pub flush_begun : (l : Limits) (g : Setting) (s : State) (later : List Entry) (rest : List Task) (turns : ℕ) (sinks : Tally) → s.tasks ≡ flush ∷ rest → s.queue ≡ later → s.turns ≡ turns → Fits l s →
+pub flush_begun : (l : Limits) (g : Setting) (s : State) (later : List Entry) (rest : List Task) (turns : ℕ) (sinks : Tally) → s.tasks ≡ flush ∷ rest → s.queue ≡ later → s.turns ≡ turns → WithinLimits l s →
     Reached l g s (at_entries s later (flush ∷ rest) turns) sinks sinks
 flush_begun l g s later rest turns sinks at queue same f =
     let R : State → Type 0 = λ m. Reached l g s m sinks sinks in
@@ -116,7 +116,7 @@ flush_begun l g s later rest turns sinks at queue same f =
     subst R is (reached_none l g s sinks f)
 
 -- a queue whose entries all were written
-pub flush_done : (l : Limits) (g : Setting) (s : State) (later : List Entry) (rest : List Task) (turns : ℕ) (old new : Tally) → Fits l s → turns ≤ l.turns → later ≡ [] →
+pub flush_done : (l : Limits) (g : Setting) (s : State) (later : List Entry) (rest : List Task) (turns : ℕ) (old new : Tally) → WithinLimits l s → turns ≤ l.turns → later ≡ [] →
     Reached l g s (at_entries s later (flush ∷ rest) turns) old new → Ran l g s (at_entries s [] rest turns) (Sent old new)
 flush_done l g s later rest turns old new f most none a =
     let R : List Entry → Type 0 = λ q. Reached l g s (at_entries s q (flush ∷ rest) turns) old new in

@@ -1,12 +1,10 @@
 -- What the commands of the hold space do is a move.
 use Rattle.std.proofs.Common.{◌≡◌, ℕ, suc, ◌+◌, ◌≤◌, Bool, true, false, not, List, [], ◌∷◌, length, take, Option, Result, Ok, Err, refl, subst, sym, ap, ◌∙◌, arith}
-use Rattle.std.specs.List.{before_first, prefix_len}
-use Rattle.sedspace.specs.Lines.{is_newline}
 use Rattle.sedengine.specs.State.{Move, Setting}
-use Rattle.sedengine.specs.Move.{first_line, quietly}
-use Rattle.sedengine.specs.Ends.{Fits}
+use Rattle.sedengine.specs.Move.{quietly}
+use Rattle.sedengine.specs.Ends.{WithinLimits}
 use Rattle.sedengine.specs.Meters.{Sent, Tally}
-use Rattle.sedengine.specs.Run.{Run, at_lines}
+use Rattle.sedengine.specs.Run.{RunState, at_lines}
 use Rattle.sedengine.specs.Steps.{Performs}
 use Rattle.sedengine.specs.Holding.{BecomesOrFull}
 use Rattle.sedengine.specs.Inside.{run_of, IsRun}
@@ -18,60 +16,47 @@ use Rattle.sedengine.proofs.Tasks.{fits_of}
 use Rattle.sedengine.proofs.Acts.{acts_leading}
 use Rattle.sedengine.proofs.SubstituteMoves.{reached_line}
 
-taken : (b : ℕ) (bs : List ℕ) (n : ℕ) → take (1 + n) (b ∷ bs) ≡ b ∷ take n bs
-taken b bs n = let more : 1 + n ≡ suc n = omega arith in rw more refl
-
--- the bytes before the first newline
-pub first_line_is : (bytes : List ℕ) → before_first is_newline bytes ≡ first_line bytes
-first_line_is [] = refl
-first_line_is (b ∷ bs) = by_first (is_newline b) refl (first_line_is bs)
-  where
-    by_first : (ends : Bool) → is_newline b ≡ ends → before_first is_newline bs ≡ first_line bs →
-        before_first is_newline (b ∷ bs) ≡ first_line (b ∷ bs)
-    by_first true is rest = rw is refl
-    by_first false is rest = rw is (taken b bs (prefix_len (λ x. not (is_newline x)) bs) ∙ ap (λ (line : List ℕ). b ∷ line) rest)
-
 -- the engine with these contents of its spaces
-abbrev pub holding : Run → List ℕ → List ℕ → Run
+abbrev pub holding : RunState → List ℕ → List ℕ → RunState
 holding e pattern hold = record e { state = record e.state { pattern = pattern; hold = hold } }
 
 -- A command of an engine with the fields a that is seen as e.
-module _ (a : Inside) (e : Run) (seen : run_of a ≡ e) (i : IsRun a) (ls : List (List ℕ)) (g : Setting) (sinks : Tally) (o : Option Move) where
-  fits : Fits e.limits (at_lines e ls)
-  fits = let Q : Run → Type 0 = λ e. Fits e.limits (at_lines e ls) in subst Q seen (fits_of a ls i)
+module _ (a : Inside) (e : RunState) (seen : run_of a ≡ e) (i : IsRun a) (ls : List (List ℕ)) (g : Setting) (sinks : Tally) (o : Option Move) where
+  fits : WithinLimits e.limits (at_lines e ls)
+  fits = let Q : RunState → Type 0 = λ e. WithinLimits e.limits (at_lines e ls) in subst Q seen (fits_of a ls i)
 
   -- one that leads to these contents, which fit
-  leads : (pattern hold : List ℕ) (e' : Run) → e' ≡ holding e pattern hold → length pattern ≤ e.limits.space → length hold ≤ e.limits.space → o ≡ quietly (at_lines (holding e pattern hold) ls) →
+  leads : (pattern hold : List ℕ) (e' : RunState) → e' ≡ holding e pattern hold → length pattern ≤ e.limits.space → length hold ≤ e.limits.space → o ≡ quietly (at_lines (holding e pattern hold) ls) →
       Performs e.limits g o (at_lines e ls) (at_lines e' ls) (Sent sinks sinks) (Ok tt)
   leads pattern hold e' same short short' is =
-      let Q : Run → Type 0 = λ e'. Performs e.limits g o (at_lines e ls) (at_lines e' ls) (Sent sinks sinks) (Ok tt) in
+      let Q : RunState → Type 0 = λ e'. Performs e.limits g o (at_lines e ls) (at_lines e' ls) (Sent sinks sinks) (Ok tt) in
       subst Q (sym same) (acts_leading a e seen i ls g sinks sinks o (holding e pattern hold) (record { pattern = short; hold = short'; queue = fits.queue; turns = fits.turns }) is)
 
   -- `g`
-  pub acts_copying : (e' : Run) → e' ≡ holding e e.state.hold e.state.hold → o ≡ quietly (at_lines (holding e e.state.hold e.state.hold) ls) →
+  pub acts_copying : (e' : RunState) → e' ≡ holding e e.state.hold e.state.hold → o ≡ quietly (at_lines (holding e e.state.hold e.state.hold) ls) →
       Performs e.limits g o (at_lines e ls) (at_lines e' ls) (Sent sinks sinks) (Ok tt)
   acts_copying e' same is = leads e.state.hold e.state.hold e' same fits.hold fits.hold is
 
   -- `h`
-  pub acts_holding : (e' : Run) → e' ≡ holding e e.state.pattern e.state.pattern → o ≡ quietly (at_lines (holding e e.state.pattern e.state.pattern) ls) →
+  pub acts_holding : (e' : RunState) → e' ≡ holding e e.state.pattern e.state.pattern → o ≡ quietly (at_lines (holding e e.state.pattern e.state.pattern) ls) →
       Performs e.limits g o (at_lines e ls) (at_lines e' ls) (Sent sinks sinks) (Ok tt)
   acts_holding e' same is = leads e.state.pattern e.state.pattern e' same fits.pattern fits.pattern is
 
   -- `x`
-  pub acts_exchanging : (e' : Run) → e' ≡ holding e e.state.hold e.state.pattern → o ≡ quietly (at_lines (holding e e.state.hold e.state.pattern) ls) →
+  pub acts_exchanging : (e' : RunState) → e' ≡ holding e e.state.hold e.state.pattern → o ≡ quietly (at_lines (holding e e.state.hold e.state.pattern) ls) →
       Performs e.limits g o (at_lines e ls) (at_lines e' ls) (Sent sinks sinks) (Ok tt)
   acts_exchanging e' same is = leads e.state.hold e.state.pattern e' same fits.hold fits.pattern is
 
   -- `G` and `H`: they lead to these contents, or end the run
-  pub acts_growing : (pattern hold : List ℕ) (e' : Run) (r : Result Unit Ended) → BecomesOrFull e (holding e pattern hold) e' r → o ≡ quietly (at_lines (holding e pattern hold) ls) →
+  pub acts_growing : (pattern hold : List ℕ) (e' : RunState) (r : Result Unit Ended) → BecomesOrFull e (holding e pattern hold) e' r → o ≡ quietly (at_lines (holding e pattern hold) ls) →
       Performs e.limits g o (at_lines e ls) (at_lines e' ls) (Sent sinks sinks) r
   acts_growing pattern hold e' (Ok u) (same, short, short') is = leads pattern hold e' same short short' is
   acts_growing pattern hold e' (Err (PatternFull n)) (same, number, more) is =
-      let Q : Run → Type 0 = λ e'. Performs e.limits g o (at_lines e ls) (at_lines e' ls) (Sent sinks sinks) (Err (PatternFull n)) in
+      let Q : RunState → Type 0 = λ e'. Performs e.limits g o (at_lines e ls) (at_lines e' ls) (Sent sinks sinks) (Err (PatternFull n)) in
       subst Q (sym same) (λ s c first. stopped_here e.limits g s (at_lines e ls) sinks (PatternFull n) c.fits refl
       (number ∙ sym c.number ∙ sym (reached_line s s.tasks c.reaches), c.turn, (_, first ∙ is, more)) c.same c.lines)
   acts_growing pattern hold e' (Err (HoldFull n)) (same, number, more) is =
-      let Q : Run → Type 0 = λ e'. Performs e.limits g o (at_lines e ls) (at_lines e' ls) (Sent sinks sinks) (Err (HoldFull n)) in
+      let Q : RunState → Type 0 = λ e'. Performs e.limits g o (at_lines e ls) (at_lines e' ls) (Sent sinks sinks) (Err (HoldFull n)) in
       subst Q (sym same) (λ s c first. stopped_here e.limits g s (at_lines e ls) sinks (HoldFull n) c.fits refl
       (number ∙ sym c.number, c.turn, (_, first ∙ is, more)) c.same c.lines)
   acts_growing pattern hold e' (Err other) h is = absurd h

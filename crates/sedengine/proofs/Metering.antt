@@ -7,7 +7,7 @@ use Rattle.sedengine.specs.State.{State, Setting}
 use Rattle.sedengine.specs.Devices.{part, FillsSink, GainedWithin}
 use Rattle.sedengine.specs.Ends.{Cause, WholeOrCut, named_sink}
 use Rattle.sedengine.specs.Meters.{Frame, FullSink, InLimit, Meter, Sent, Tally, counted}
-use Rattle.sedengine.specs.Run.{Cycles, Ending, Run, Sends, at_lines, outcome, setting}
+use Rattle.sedengine.specs.Run.{Cycles, Ending, RunState, Sends, at_lines, outcome, setting}
 use Rattle.sedengine.specs.declared.ends.Ended.{Ended}
 use Rattle.sedengine.specs.declared.ends.Ended.TheVariants.{OutputFull}
 use Rattle.sedengine.specs.declared.ends.Progress.{Progress}
@@ -24,7 +24,7 @@ Cause-as l g s P Q end t f h = WholeOrCut-as l g s P Q end t (named_sink end) f 
 Ending-as : (l : Limits) (g : Setting) (s : State) (P Q : List (ℕ × ℕ) → Type 0) (old new : Option (List ℕ)) (now : State) (end : Ended) → ((out : List (ℕ × ℕ)) → P out → Q out) → Ending l g s P old new now end → Ending l g s Q old new now end
 Ending-as l g s P Q old new now end f h = record { t = h.t; cause = Cause-as l g s P Q end h.t f h.cause; takes = h.takes; holds = h.holds }
 
-Cycles-as : (l : Limits) (g : Setting) (s : State) (P Q : List (ℕ × ℕ) → Type 0) (old new : Option (List ℕ)) (e : Run) (sent : List ℕ) (left : Option (List (List ℕ))) (r : Progress) → ((out : List (ℕ × ℕ)) → P out → Q out) →
+Cycles-as : (l : Limits) (g : Setting) (s : State) (P Q : List (ℕ × ℕ) → Type 0) (old new : Option (List ℕ)) (e : RunState) (sent : List ℕ) (left : Option (List (List ℕ))) (r : Progress) → ((out : List (ℕ × ℕ)) → P out → Q out) →
     Cycles l g s P old new e left r → Cycles l g s Q old new (record e { sent = sent }) left r
 unfolding Ending-as
 Cycles-as l g s P Q old new e sent left progress.More f (rest, are, h) =
@@ -56,7 +56,7 @@ module _ (sent sent' : List ℕ) (old new : ℕ → Option (List ℕ)) (f f' : �
   fills most (Err other) same full h = tt
 
 -- what the machine's sinks have gained by the meter is what the engine's have
-pub sends : (e e' : Run) (m m' : Meter) (old new : ℕ → Option (List ℕ)) (f f' : ℕ → ℕ) (a a' : Frame) (r : Result Unit Ended) (out : List (ℕ × ℕ)) → m.most ≡ e.limits.output → m'.most ≡ m.most → a'.most ≡ m'.most →
+pub sends : (e e' : RunState) (m m' : Meter) (old new : ℕ → Option (List ℕ)) (f f' : ℕ → ℕ) (a a' : Frame) (r : Result Unit Ended) (out : List (ℕ × ℕ)) → m.most ≡ e.limits.output → m'.most ≡ m.most → a'.most ≡ m'.most →
     m.sent ≡ e.sent → m'.sent ≡ e'.sent → InLimit m'.most m'.sent → FullSink (tally_of new f' m'.most m'.sent a') r → Sent (tally_of old f m.most m.sent a) (tally_of new f' m'.most m'.sent a') out → Sends e e' old new r out
 sends e e' m m' old new f f' a a' r out limit same frame before now within full h =
     let W : Option ℕ → Type 0 = λ o. InLimit o m'.sent in
@@ -79,7 +79,7 @@ sends e e' m m' old new f f' a a' r out limit same frame before now within full 
     }
 
 -- A call of the machine m by the meter, which became m' and led to the machine m', is one of the engine that is seen as e.
-module _ {O : Type 0} (contents : O → ℕ → Option (List ℕ)) (m m' : Run) (meter meter' : Meter) (e : Run) (before after now : O) (f f' : ℕ → ℕ) (a a' : Frame) (files : ℕ → List ℕ) (ls : List (List ℕ)) (old new : Option (List ℕ))
+module _ {O : Type 0} (contents : O → ℕ → Option (List ℕ)) (m m' : RunState) (meter meter' : Meter) (e : RunState) (before after now : O) (f f' : ℕ → ℕ) (a a' : Frame) (files : ℕ → List ℕ) (ls : List (List ℕ)) (old new : Option (List ℕ))
     (seen : record m { sent = meter.sent } ≡ e) (limit : meter.most ≡ m.limits.output) (is : now ≡ after) (same : meter'.most ≡ meter.most) (frame : a'.most ≡ meter'.most) (within : InLimit meter'.most meter'.sent) where
   sends_all : (r : Result Unit Ended) → FullSink (tally_of (contents after) f' meter'.most meter'.sent a') r → (out : List (ℕ × ℕ)) →
       Sent (tally_of (contents before) f meter.most meter.sent a) (tally_of (contents after) f' meter'.most meter'.sent a') out →
@@ -92,12 +92,12 @@ module _ {O : Type 0} (contents : O → ℕ → Option (List ℕ)) (m m' : Run) 
       Cycles m.limits (setting m files) (at_lines m ls) (Sent (tally_of (contents before) f meter.most meter.sent a) (tally_of (contents after) f' meter'.most meter'.sent a')) old new m' left r →
       Cycles e.limits (setting e files) (at_lines e ls) (Sends e (record m' { sent = meter'.sent }) (contents before) (contents now) (outcome r)) old new (record m' { sent = meter'.sent }) left r
   cycles_metered left r full h =
-      let Q : Run → Type 0 = λ e. Cycles e.limits (setting e files) (at_lines e ls) (Sends e (record m' { sent = meter'.sent }) (contents before) (contents now) (outcome r)) old new (record m' { sent = meter'.sent }) left r in
+      let Q : RunState → Type 0 = λ e. Cycles e.limits (setting e files) (at_lines e ls) (Sends e (record m' { sent = meter'.sent }) (contents before) (contents now) (outcome r)) old new (record m' { sent = meter'.sent }) left r in
       subst Q seen (Cycles-as m.limits (setting m files) (at_lines m ls) _ _ old new m' meter'.sent left r (sends_all (outcome r) full) h)
 
   pub ending_metered : (end : Ended) → FullSink (tally_of (contents after) f' meter'.most meter'.sent a') (Err end) →
       Ending m.limits (setting m files) (at_lines m ls) (Sent (tally_of (contents before) f meter.most meter.sent a) (tally_of (contents after) f' meter'.most meter'.sent a')) old new m'.state end →
       Ending e.limits (setting e files) (at_lines e ls) (Sends e (record m' { sent = meter'.sent }) (contents before) (contents now) (Err end)) old new m'.state end
   ending_metered end full h =
-      let Q : Run → Type 0 = λ e. Ending e.limits (setting e files) (at_lines e ls) (Sends e (record m' { sent = meter'.sent }) (contents before) (contents now) (Err end)) old new m'.state end in
+      let Q : RunState → Type 0 = λ e. Ending e.limits (setting e files) (at_lines e ls) (Sends e (record m' { sent = meter'.sent }) (contents before) (contents now) (Err end)) old new m'.state end in
       subst Q seen (Ending-as m.limits (setting m files) (at_lines m ls) _ _ old new m'.state end (sends_all (Err end) full) h)

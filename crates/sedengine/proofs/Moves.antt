@@ -6,7 +6,7 @@ use Rattle.sedengine.specs.State.{Task, State, Move, Setting}
 use Rattle.sedengine.specs.Move.{move, first_task, after, written, next_or_stay, writes_of, writing, quietly}
 use Rattle.sedengine.specs.Meters.{Sent, Tally}
 use Rattle.sedengine.specs.Calls.{Puts}
-use Rattle.sedengine.specs.Ends.{Fits, Within, WholeOrCut, Cause, Cut, Whole, IsCause, named_sink}
+use Rattle.sedengine.specs.Ends.{WithinLimits, Within, WholeOrCut, Cause, Cut, Whole, IsCause, named_sink}
 use Rattle.sedengine.specs.Held.{HoldsAt, SameLengths}
 use Rattle.sedengine.specs.Run.{InOneCycle, starts_cycle}
 use Rattle.sedengine.specs.Steps.{Ran, Stopped, Moves}
@@ -45,11 +45,11 @@ last_or_less zero t h = inl (omega arith)
 last_or_less (suc k) zero h = inr (omega arith)
 last_or_less (suc k) (suc t) h = elim (last_or_less k t (omega arith)) [ inl less ↦ inl (omega arith) | inr same ↦ inr (ap suc same) ]
 
-pub within_none : (l : Limits) (g : Setting) (s : State) → Fits l s → Within l g s 0
+pub within_none : (l : Limits) (g : Setting) (s : State) → WithinLimits l s → Within l g s 0
 unfolding Within after
 within_none l g s f = λ k h. let none : k ≡ 0 = omega arith in rw none f
 
-within_one : (l : Limits) (g : Setting) (s : State) → Fits l s → Fits l (after g s 1) → Within l g s 1
+within_one : (l : Limits) (g : Setting) (s : State) → WithinLimits l s → WithinLimits l (after g s 1) → Within l g s 1
 unfolding Within after
 within_one l g s f n = λ k h. elim (last_or_less k 0 h) [ inl less ↦ (let none : k ≡ 0 = omega arith in rw none f) | inr same ↦ rw same n ]
 
@@ -149,7 +149,7 @@ Moves-then l g s m now old mid new r a goes b =
     chain l g s now old mid new a.t r a.within (InOneCycle-more g s a.t a.one (subst S (sym a.is) goes)) a.sinks (subst Q (sym a.is) b)
 
 -- one move that writes these bytes
-pub ran_once : (l : Limits) (g : Setting) (s now : State) (old new : Tally) (out : List (ℕ × ℕ)) → Fits l s → move g s ≡ writing out now → Fits l now → Sent old new out → Ran l g s now (Sent old new)
+pub ran_once : (l : Limits) (g : Setting) (s now : State) (old new : Tally) (out : List (ℕ × ℕ)) → WithinLimits l s → move g s ≡ writing out now → WithinLimits l now → Sent old new out → Ran l g s now (Sent old new)
 ran_once l g s now old new out f is n gained =
     let m : Move = record { next = now; writes = out } in
     let at : after g s 1 ≡ now = after_one g s m is in
@@ -162,11 +162,11 @@ ran_once l g s now old new out f is n gained =
       sinks = rw (written_one g s m is) gained;
     }
 
-pub ran_quietly : (l : Limits) (g : Setting) (s now : State) (sinks : Tally) → Fits l s → move g s ≡ quietly now → Fits l now → Ran l g s now (Sent sinks sinks)
+pub ran_quietly : (l : Limits) (g : Setting) (s now : State) (sinks : Tally) → WithinLimits l s → move g s ≡ quietly now → WithinLimits l now → Ran l g s now (Sent sinks sinks)
 ran_quietly l g s now sinks f is n = ran_once l g s now sinks sinks [] f is n (Sent-none sinks)
 
 -- a sink took no more in the next move
-pub stopped_writing : (l : Limits) (g : Setting) (s next now : State) (old new : Tally) (out : List (ℕ × ℕ)) (end : Ended) → Fits l s → move g s ≡ writing out next → Fits l next →
+pub stopped_writing : (l : Limits) (g : Setting) (s next now : State) (old new : Tally) (out : List (ℕ × ℕ)) (end : Ended) → WithinLimits l s → move g s ≡ writing out next → WithinLimits l next →
     SameLengths next now → s.lines ≡ now.lines → Puts (Sent old new) out (Err end) → Stopped l g s now (Sent old new) end
 stopped_writing l g s next now old new out end f is n same lines (k, b, byte, end_is, due, sent) =
     let C : Option ℕ → Type 0 = λ o. WholeOrCut l g s (Sent old new) end 0 o in
@@ -192,13 +192,13 @@ stopped_writing l g s next now old new out end f is n same lines (k, b, byte, en
     }
 
 -- a move that writes these bytes, as far as the sink takes them
-pub moves_writing : (l : Limits) (g : Setting) (s now : State) (old new : Tally) (out : List (ℕ × ℕ)) (r : Result Unit Ended) → Fits l s → move g s ≡ writing out now → Fits l now → s.lines ≡ now.lines → Puts (Sent old new) out r →
+pub moves_writing : (l : Limits) (g : Setting) (s now : State) (old new : Tally) (out : List (ℕ × ℕ)) (r : Result Unit Ended) → WithinLimits l s → move g s ≡ writing out now → WithinLimits l now → s.lines ≡ now.lines → Puts (Sent old new) out r →
     Moves l g s now (Sent old new) r
 moves_writing l g s now old new out (Ok u) f is n lines put = ran_once l g s now old new out f is n put
 moves_writing l g s now old new out (Err end) f is n lines put = stopped_writing l g s now now old new out end f is n (same_self now) lines put
 
 -- the end has come
-pub stopped_here : (l : Limits) (g : Setting) (s now : State) (sinks : Tally) (end : Ended) → Fits l s → named_sink end ≡ None → IsCause l g s end → SameLengths s now → s.lines ≡ now.lines → Stopped l g s now (Sent sinks sinks) end
+pub stopped_here : (l : Limits) (g : Setting) (s now : State) (sinks : Tally) (end : Ended) → WithinLimits l s → named_sink end ≡ None → IsCause l g s end → SameLengths s now → s.lines ≡ now.lines → Stopped l g s now (Sent sinks sinks) end
 stopped_here l g s now sinks end f none cause same lines =
     let whole : Whole l g s (Sent sinks sinks) end 0 = record { within = within_none l g s f; sinks = rw written_none (Sent-none sinks); cause = rw after_none cause } in
     let C : Option ℕ → Type 0 = λ o. WholeOrCut l g s (Sent sinks sinks) end 0 o in
@@ -234,33 +234,33 @@ Stopped-as l g s m now P end p h q lines w = record {
 }
 
 -- a move, and what a call does after it
-pub moves_then : (l : Limits) (g : Setting) (s m now : State) (old mid new : Tally) (out : List (ℕ × ℕ)) (r : Result Unit Ended) → Fits l s → move g s ≡ writing out m → Fits l m → Sent old mid out → starts_cycle m.tasks ≡ false →
+pub moves_then : (l : Limits) (g : Setting) (s m now : State) (old mid new : Tally) (out : List (ℕ × ℕ)) (r : Result Unit Ended) → WithinLimits l s → move g s ≡ writing out m → WithinLimits l m → Sent old mid out → starts_cycle m.tasks ≡ false →
     Moves l g m now (Sent mid new) r → Moves l g s now (Sent old new) r
 moves_then l g s m now old mid new out r f is f' gained goes h = Moves-then l g s m now old mid new r (ran_once l g s m old mid out f is f' gained) goes h
 
-pub quietly_then : (l : Limits) (g : Setting) (s m now : State) (old new : Tally) (r : Result Unit Ended) → Fits l s → move g s ≡ quietly m → Fits l m → starts_cycle m.tasks ≡ false →
+pub quietly_then : (l : Limits) (g : Setting) (s m now : State) (old new : Tally) (r : Result Unit Ended) → WithinLimits l s → move g s ≡ quietly m → WithinLimits l m → starts_cycle m.tasks ≡ false →
     Moves l g m now (Sent old new) r → Moves l g s now (Sent old new) r
 quietly_then l g s m now old new r f is f' goes h = moves_then l g s m now old old new [] r f is f' (Sent-none old) goes h
 
 -- the states at which moves began, and to which they led, are within the limits
-fits_first : (l : Limits) (g : Setting) (s : State) (t : ℕ) → Within l g s t → Fits l s
+fits_first : (l : Limits) (g : Setting) (s : State) (t : ℕ) → Within l g s t → WithinLimits l s
 unfolding Within after
 fits_first l g s t w = w 0 (omega arith)
 
-fits_last : (l : Limits) (g : Setting) (s : State) (t : ℕ) → Within l g s t → Fits l (after g s t)
+fits_last : (l : Limits) (g : Setting) (s : State) (t : ℕ) → Within l g s t → WithinLimits l (after g s t)
 unfolding Within
 fits_last l g s t w = w t (omega arith)
 
-pub ran_fits : (l : Limits) (g : Setting) (s now : State) (P : List (ℕ × ℕ) → Type 0) → Ran l g s now P → Fits l s
+pub ran_fits : (l : Limits) (g : Setting) (s now : State) (P : List (ℕ × ℕ) → Type 0) → Ran l g s now P → WithinLimits l s
 ran_fits l g s now P h = fits_first l g s h.t h.within
 
-pub ran_fits_now : (l : Limits) (g : Setting) (s now : State) (P : List (ℕ × ℕ) → Type 0) → Ran l g s now P → Fits l now
-ran_fits_now l g s now P h = let Q : State → Type 0 = λ s. Fits l s in subst Q h.is (fits_last l g s h.t h.within)
+pub ran_fits_now : (l : Limits) (g : Setting) (s now : State) (P : List (ℕ × ℕ) → Type 0) → Ran l g s now P → WithinLimits l now
+ran_fits_now l g s now P h = let Q : State → Type 0 = λ s. WithinLimits l s in subst Q h.is (fits_last l g s h.t h.within)
 
-stopped_within : (l : Limits) (g : Setting) (s : State) (P : List (ℕ × ℕ) → Type 0) (end : Ended) (t : ℕ) (o : Option ℕ) → WholeOrCut l g s P end t o → Fits l s
+stopped_within : (l : Limits) (g : Setting) (s : State) (P : List (ℕ × ℕ) → Type 0) (end : Ended) (t : ℕ) (o : Option ℕ) → WholeOrCut l g s P end t o → WithinLimits l s
 stopped_within l g s P end t None h = fits_first l g s t h.within
 stopped_within l g s P end t (Some k) h = fits_first l g s (suc t) h.within
 
-pub moves_fits : (l : Limits) (g : Setting) (s now : State) (P : List (ℕ × ℕ) → Type 0) (r : Result Unit Ended) → Moves l g s now P r → Fits l s
+pub moves_fits : (l : Limits) (g : Setting) (s now : State) (P : List (ℕ × ℕ) → Type 0) (r : Result Unit Ended) → Moves l g s now P r → WithinLimits l s
 moves_fits l g s now P (Ok u) h = ran_fits l g s now P h
 moves_fits l g s now P (Err end) h = stopped_within l g s P end h.t (named_sink end) h.cause

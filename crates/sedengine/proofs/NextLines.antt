@@ -9,10 +9,10 @@ use Rattle.sedengine.specs.Limits.{Limits}
 use Rattle.sedscript.specs.declared.types.Action.TheVariants.{NextLine}
 use Rattle.sedengine.specs.State.{Task, print_pattern, flush, empty_pattern, fetch, join, State, Move, Setting}
 use Rattle.sedengine.specs.Move.{move, acts, newline, none_left, quietly, then_do, with_line}
-use Rattle.sedengine.specs.Ends.{Fits, IsCause, named_sink, line_at, reads, takes_turn}
+use Rattle.sedengine.specs.Ends.{WithinLimits, IsCause, named_sink, line_at, reads, takes_turn}
 use Rattle.sedengine.specs.Held.{SameLengths}
 use Rattle.sedengine.specs.Meters.{Sent, Tally}
-use Rattle.sedengine.specs.Run.{Run, at_lines, setting, size_of, starts_cycle}
+use Rattle.sedengine.specs.Run.{RunState, at_lines, setting, size_of, starts_cycle}
 use Rattle.sedengine.specs.Steps.{Moves, PerformsSteps, Ran, StepsFrom, TakesLines, lost}
 use Rattle.sedengine.specs.Bringing.{Brings, brought}
 use Rattle.sedengine.specs.Choose.{TellsLine}
@@ -27,7 +27,7 @@ use Rattle.sedengine.proofs.Moves.{Moves-then, move_at, moves_fits, ran_fits, ra
 use Rattle.sedengine.proofs.Tasks.{fits_of, fits_tasks, halts_here}
 
 -- moves, and then a call that may take lines
-pub steps_then : {R : Type 0} (remaining : R → Option (List ℕ)) (o n : Stream R) (ls : List (List ℕ)) (l : Limits) (g : Setting) (s m : State) (e' : Run) (old mid new : Tally) (r : Result Unit Ended) →
+pub steps_then : {R : Type 0} (remaining : R → Option (List ℕ)) (o n : Stream R) (ls : List (List ℕ)) (l : Limits) (g : Setting) (s m : State) (e' : RunState) (old mid new : Tally) (r : Result Unit Ended) →
     Ran l g s m (Sent old mid) → starts_cycle m.tasks ≡ false → s.lines ≡ m.lines → StepsFrom remaining o n ls l g m e' (Sent mid new) r → StepsFrom remaining o n ls l g s e' (Sent old new) r
 steps_then {R} remaining o n ls l g s m e' old mid new (Ok u) ran goes same (rest, taken, h) = (rest, taken, Moves-then l g s m (at_lines e' rest) old mid new (Ok tt) ran goes h)
 steps_then {R} remaining o n ls l g s m e' old mid new (Err end) ran goes same h = record {
@@ -43,7 +43,7 @@ none_taken [] ls h = refl
 none_taken (x ∷ xs) ls h = absurd (omega (arith, ap length h, length-append (x ∷ xs) ls))
 
 -- a call that looks at the input and takes no line, and then moves
-pub looked_moves : {R : Type 0} (remaining : R → Option (List ℕ)) (o n : Stream R) (ls : List (List ℕ)) (l : Limits) (g : Setting) (s : State) (e' : Run) (P : List (ℕ × ℕ) → Type 0) (r : Result Unit Ended) →
+pub looked_moves : {R : Type 0} (remaining : R → Option (List ℕ)) (o n : Stream R) (ls : List (List ℕ)) (l : Limits) (g : Setting) (s : State) (e' : RunState) (P : List (ℕ × ℕ) → Type 0) (r : Result Unit Ended) →
     TakesLines remaining o n ls ls → s.lines ≡ ls → Moves l g s (at_lines e' ls) P r → StepsFrom remaining o n ls l g s e' P r
 looked_moves {R} remaining o n ls l g s e' P (Ok u) taken are h = (ls, taken, h)
 looked_moves {R} remaining o n ls l g s e' P (Err end) taken are h = record {
@@ -55,7 +55,7 @@ looked_moves {R} remaining o n ls l g s e' P (Err end) taken are h = record {
 }
 
 -- a call that looks at the input and takes no line, and then one that may take lines
-pub looked_then : {R : Type 0} (remaining : R → Option (List ℕ)) (a b c : Stream R) (ls : List (List ℕ)) (l : Limits) (g : Setting) (s : State) (e' : Run) (P : List (ℕ × ℕ) → Type 0) (r : Result Unit Ended) →
+pub looked_then : {R : Type 0} (remaining : R → Option (List ℕ)) (a b c : Stream R) (ls : List (List ℕ)) (l : Limits) (g : Setting) (s : State) (e' : RunState) (P : List (ℕ × ℕ) → Type 0) (r : Result Unit Ended) →
     TakesLines remaining a b ls ls → StepsFrom remaining b c ls l g s e' P r → StepsFrom remaining a c ls l g s e' P r
 looked_then {R} remaining a b c ls l g s e' P (Ok u) taken (rest, more, h) = (rest, TakesLines-then remaining a b c ls ls rest taken more, h)
 looked_then {R} remaining a b c ls l g s e' P (Err end) taken h = record {
@@ -67,7 +67,7 @@ looked_then {R} remaining a b c ls l g s e' P (Err end) taken h = record {
 }
 
 -- the engine with these bytes in its pattern space
-abbrev pub with_pattern : Run → List ℕ → Run
+abbrev pub with_pattern : RunState → List ℕ → RunState
 with_pattern e bytes = record e { state = record e.state { pattern = bytes } }
 
 -- what a call that brings a line tells, without whether there was one
@@ -76,14 +76,14 @@ told (Ok got) = Ok tt
 told (Err end) = Err end
 
 -- how such a call leaves the engine
-abbrev pub AfterBringing : Run → Contents → Run → Result Got Ended → Type 0
+abbrev pub AfterBringing : RunState → Contents → RunState → Result Got Ended → Type 0
 AfterBringing e c e' (Ok got) = e' ≡ brought (with_pattern e c.bytes) got
 AfterBringing e c e' (Err end) = e' ≡ with_pattern e c.bytes
 
 -- The next line is brought to the pattern space of the engine e, in place of it or after it and a newline; s is the state
 -- at which this is due. Its move is `one` where a line is left, and `none` where there is none.
-module _ {R : Type 0} (remaining : R → Option (List ℕ)) (old new : Stream R) (ls : List (List ℕ)) (g : Setting) (e e' : Run) (sinks : Tally) (before : List ℕ) (c c' : Contents)
-    (f : Fits e.limits (at_lines e ls)) (limit : c.limit ≡ e.limits.space) (pattern : c.bytes ≡ e.state.pattern) (s : State) (same_lines : s.lines ≡ ls) (fits : Fits e.limits s)
+module _ {R : Type 0} (remaining : R → Option (List ℕ)) (old new : Stream R) (ls : List (List ℕ)) (g : Setting) (e e' : RunState) (sinks : Tally) (before : List ℕ) (c c' : Contents)
+    (f : WithinLimits e.limits (at_lines e ls)) (limit : c.limit ≡ e.limits.space) (pattern : c.bytes ≡ e.state.pattern) (s : State) (same_lines : s.lines ≡ ls) (fits : WithinLimits e.limits s)
     (hold : s.hold ≡ e.state.hold) (spaces : s.pattern ≡ e.state.pattern) (queue : s.queue ≡ e.state.queue)
     (line_is : line_at s s.tasks ≡ e.state.number + 1) (no_turn : takes_turn g s s.tasks ≡ false) (may_read : reads g s.tasks ≡ true)
     (one : (line : List ℕ) (rest : List (List ℕ)) → ls ≡ line ∷ rest → move g s ≡ quietly (with_line (before ++ line) rest (at_lines e ls)))
@@ -96,14 +96,14 @@ module _ {R : Type 0} (remaining : R → Option (List ℕ)) (old new : Stream R)
       StepsFrom remaining old new ls e.limits g s e' (Sent sinks sinks) (Err end)
   halts end after is no_sink loses gone cause =
       let bytes : c'.bytes ≡ e.state.pattern = ap (λ (c : Contents). c.bytes) is ∙ pattern in
-      let Q : Run → Type 0 = λ e'. StepsFrom remaining old new ls e.limits g s e' (Sent sinks sinks) (Err end) in
+      let Q : RunState → Type 0 = λ e'. StepsFrom remaining old new ls e.limits g s e' (Sent sinks sinks) (Err end) in
       let B : List ℕ → Type 0 = λ bytes. StepsFrom remaining old new ls e.limits g s (with_pattern e bytes) (Sent sinks sinks) (Err end) in
       let T : ℕ → Type 0 = λ n. TakesAtMost (left remaining old) (left remaining new) n in
       subst Q (sym after) (subst B (sym bytes) (halts_here remaining old new e.limits g s e sinks end fits no_sink cause here (subst T (sym loses) gone)))
 
   pub brings_steps : (r : Result Got Ended) → AfterBringing e c' e' r → Brings remaining old new ls before (e.state.number + 1) c c' r → StepsFrom remaining old new ls e.limits g s e' (Sent sinks sinks) (told r)
   brings_steps (Ok Line) after (line, rest, are, taken, is, fit) =
-      let Q : Run → Type 0 = λ e'. StepsFrom remaining old new ls e.limits g s e' (Sent sinks sinks) (Ok tt) in
+      let Q : RunState → Type 0 = λ e'. StepsFrom remaining old new ls e.limits g s e' (Sent sinks sinks) (Ok tt) in
       let bytes : c'.bytes ≡ before ++ line = ap (λ (c : Contents). c.bytes) is in
       let B : List ℕ → Type 0 = λ bytes. StepsFrom remaining old new ls e.limits g s (brought (with_pattern e bytes) Line) (Sent sinks sinks) (Ok tt) in
       subst Q (sym after) (subst B (sym bytes) (
@@ -113,7 +113,7 @@ module _ {R : Type 0} (remaining : R → Option (List ℕ)) (old new : Stream R)
             (record { pattern = omega (arith, fit, limit); hold = f.hold; queue = f.queue; turns = f.turns }),
       ))
   brings_steps (Ok End) after (are, taken, is) =
-      let Q : Run → Type 0 = λ e'. StepsFrom remaining old new ls e.limits g s e' (Sent sinks sinks) (Ok tt) in
+      let Q : RunState → Type 0 = λ e'. StepsFrom remaining old new ls e.limits g s e' (Sent sinks sinks) (Ok tt) in
       let bytes : c'.bytes ≡ e.state.pattern = ap (λ (c : Contents). c.bytes) is ∙ pattern in
       let B : List ℕ → Type 0 = λ bytes. StepsFrom remaining old new ls e.limits g s (brought (with_pattern e bytes) End) (Sent sinks sinks) (Ok tt) in
       let over : State = then_do [] (at_lines e []) in
@@ -124,16 +124,16 @@ module _ {R : Type 0} (remaining : R → Option (List ℕ)) (old new : Stream R)
   brings_steps (Err other) after h = absurd h
 
 -- `n`, `fetch`: the pattern space is emptied, and the next line comes in its place.
-pub fetch_steps : {R : Type 0} (remaining : R → Option (List ℕ)) (old new : Stream R) (ls : List (List ℕ)) (files : ℕ → List ℕ) (e e' : Run) (sinks : Tally) (c c' : Contents) (r : Result Got Ended) →
-    Fits e.limits (at_lines e ls) → c.limit ≡ e.limits.space → c.bytes ≡ [] → AfterBringing (with_pattern e []) c' e' r → Brings remaining old new ls c.bytes (e.state.number + 1) c c' r →
+pub fetch_steps : {R : Type 0} (remaining : R → Option (List ℕ)) (old new : Stream R) (ls : List (List ℕ)) (files : ℕ → List ℕ) (e e' : RunState) (sinks : Tally) (c c' : Contents) (r : Result Got Ended) →
+    WithinLimits e.limits (at_lines e ls) → c.limit ≡ e.limits.space → c.bytes ≡ [] → AfterBringing (with_pattern e []) c' e' r → Brings remaining old new ls c.bytes (e.state.number + 1) c c' r →
     StepsFrom remaining old new ls e.limits (setting e files) (then_do (empty_pattern ∷ fetch ∷ e.state.tasks) (at_lines e ls)) e' (Sent sinks sinks) (told r)
 fetch_steps {R} remaining old new ls files e e' sinks c c' r f limit none after brings =
     let g : Setting = setting e files in
-    let e1 : Run = with_pattern e [] in
+    let e1 : RunState = with_pattern e [] in
     let s : State = then_do (fetch ∷ e.state.tasks) (at_lines e1 ls) in
     let empty : length e1.state.pattern ≤ e.limits.space = omega arith in
-    let f1 : Fits e.limits (at_lines e1 ls) = record { pattern = empty; hold = f.hold; queue = f.queue; turns = f.turns } in
-    let fs : Fits e.limits s = record { pattern = empty; hold = f.hold; queue = f.queue; turns = f.turns } in
+    let f1 : WithinLimits e.limits (at_lines e1 ls) = record { pattern = empty; hold = f.hold; queue = f.queue; turns = f.turns } in
+    let fs : WithinLimits e.limits s = record { pattern = empty; hold = f.hold; queue = f.queue; turns = f.turns } in
     let B : List ℕ → Type 0 = λ before. Brings remaining old new ls before (e.state.number + 1) c c' r in
     steps_then remaining old new ls e.limits g (then_do (empty_pattern ∷ fetch ∷ e.state.tasks) (at_lines e ls)) s e' sinks sinks sinks (told r)
     (ran_quietly e.limits g (then_do (empty_pattern ∷ fetch ∷ e.state.tasks) (at_lines e ls)) s sinks (fits_tasks _ (at_lines e ls) _ f) (move_at _ _ _ refl) fs) refl refl
@@ -141,8 +141,8 @@ fetch_steps {R} remaining old new ls files e e' sinks c c' r f limit none after 
     (λ line rest are. rw are (move_at _ _ _ refl)) (λ are. rw are (move_at _ _ _ refl)) r after (subst B none brings))
 
 -- `N`, `join`: a newline and the next line come after the pattern space.
-pub join_steps : {R : Type 0} (remaining : R → Option (List ℕ)) (old new : Stream R) (ls : List (List ℕ)) (files : ℕ → List ℕ) (e e' : Run) (sinks : Tally) (c c' : Contents) (r : Result Got Ended) →
-    Fits e.limits (at_lines e ls) → c.limit ≡ e.limits.space → c.bytes ≡ e.state.pattern → AfterBringing e c' e' r → Brings remaining old new ls (c.bytes ++ newline ∷ []) (e.state.number + 1) c c' r →
+pub join_steps : {R : Type 0} (remaining : R → Option (List ℕ)) (old new : Stream R) (ls : List (List ℕ)) (files : ℕ → List ℕ) (e e' : RunState) (sinks : Tally) (c c' : Contents) (r : Result Got Ended) →
+    WithinLimits e.limits (at_lines e ls) → c.limit ≡ e.limits.space → c.bytes ≡ e.state.pattern → AfterBringing e c' e' r → Brings remaining old new ls (c.bytes ++ newline ∷ []) (e.state.number + 1) c c' r →
     StepsFrom remaining old new ls e.limits (setting e files) (then_do (join ∷ e.state.tasks) (at_lines e ls)) e' (Sent sinks sinks) (told r)
 join_steps {R} remaining old new ls files e e' sinks c c' r f limit same after brings =
     let g : Setting = setting e files in
@@ -152,17 +152,17 @@ join_steps {R} remaining old new ls files e e' sinks c c' r f limit same after b
     (λ line rest are. rw (are, append_assoc) (move_at _ _ _ refl)) (λ are. rw are (move_at _ _ _ refl)) r after (subst B same brings)
 
 -- The same for an engine with the fields a.
-module _ {R : Type 0} (remaining : R → Option (List ℕ)) (old new : Stream R) (ls : List (List ℕ)) (files : ℕ → List ℕ) (sinks : Tally) (a : Inside) (e e' : Run) (seen : run_of a ≡ e) (i : IsRun a) (c' : Contents) (r : Result Got Ended) where
+module _ {R : Type 0} (remaining : R → Option (List ℕ)) (old new : Stream R) (ls : List (List ℕ)) (files : ℕ → List ℕ) (sinks : Tally) (a : Inside) (e e' : RunState) (seen : run_of a ≡ e) (i : IsRun a) (c' : Contents) (r : Result Got Ended) where
   pub fetches_next : (c : Contents) → c ≡ record a.pattern { bytes = [] } → AfterBringing (run_of a) c' e' r → Brings remaining old new ls c.bytes (a.number + 1) c c' r →
       StepsFrom remaining old new ls e.limits (setting e files) (then_do (empty_pattern ∷ fetch ∷ e.state.tasks) (at_lines e ls)) e' (Sent sinks sinks) (told r)
   fetches_next c is after brings =
-      let Q : Run → Type 0 = λ e. StepsFrom remaining old new ls e.limits (setting e files) (then_do (empty_pattern ∷ fetch ∷ e.state.tasks) (at_lines e ls)) e' (Sent sinks sinks) (told r) in
+      let Q : RunState → Type 0 = λ e. StepsFrom remaining old new ls e.limits (setting e files) (then_do (empty_pattern ∷ fetch ∷ e.state.tasks) (at_lines e ls)) e' (Sent sinks sinks) (told r) in
       subst Q seen (fetch_steps remaining old new ls files (run_of a) e' sinks c c' r (fits_of a ls i) (ap (λ (c : Contents). c.limit) is ∙ i.pattern_limit) (ap (λ (c : Contents). c.bytes) is) after brings)
 
   pub joins_next : AfterBringing (run_of a) c' e' r → Brings remaining old new ls (a.pattern.bytes ++ newline ∷ []) (a.number + 1) a.pattern c' r →
       StepsFrom remaining old new ls e.limits (setting e files) (then_do (join ∷ e.state.tasks) (at_lines e ls)) e' (Sent sinks sinks) (told r)
   joins_next after brings =
-      let Q : Run → Type 0 = λ e. StepsFrom remaining old new ls e.limits (setting e files) (then_do (join ∷ e.state.tasks) (at_lines e ls)) e' (Sent sinks sinks) (told r) in
+      let Q : RunState → Type 0 = λ e. StepsFrom remaining old new ls e.limits (setting e files) (then_do (join ∷ e.state.tasks) (at_lines e ls)) e' (Sent sinks sinks) (told r) in
       subst Q seen (join_steps remaining old new ls files (run_of a) e' sinks a.pattern c' r (fits_of a ls i) i.pattern_limit refl after brings)
 
 -- A call for a line has brought it, or there is none.
@@ -213,45 +213,45 @@ brings_broken {R} remaining old new ls before number s InputBroken taken told = 
 brings_broken {R} remaining old new ls before number s other taken told = absurd told
 
 -- `n`: by whether a line is left
-pub next_quits : (e e' : Run) (files : ℕ → List ℕ) (ls : List (List ℕ)) (last : Bool) → last ≡ none_left ls → last ≡ true → acts (setting e files) (at_lines e ls) true NextLine ≡ quietly (then_do (print_pattern ∷ flush ∷ []) (at_lines e ls))
+pub next_quits : (e e' : RunState) (files : ℕ → List ℕ) (ls : List (List ℕ)) (last : Bool) → last ≡ none_left ls → last ≡ true → acts (setting e files) (at_lines e ls) true NextLine ≡ quietly (then_do (print_pattern ∷ flush ∷ []) (at_lines e ls))
 next_quits e e' files ls last told is = rw (sym told ∙ is) refl
 
-pub next_goes : (e e' : Run) (files : ℕ → List ℕ) (ls : List (List ℕ)) (last : Bool) → last ≡ none_left ls → last ≡ false →
+pub next_goes : (e e' : RunState) (files : ℕ → List ℕ) (ls : List (List ℕ)) (last : Bool) → last ≡ none_left ls → last ≡ false →
     acts (setting e files) (at_lines e ls) true NextLine ≡ quietly (then_do (print_pattern ∷ flush ∷ empty_pattern ∷ fetch ∷ e.state.tasks) (at_lines e ls))
 next_goes e e' files ls last told is = rw (sym told ∙ is) refl
 
 -- What is left of the tasks after the queue was written: F tells them by those of the engine.
-pub flushed_steps : {R : Type 0} (remaining : R → Option (List ℕ)) (o n : Stream R) (ls : List (List ℕ)) (files : ℕ → List ℕ) (F : List Task → List Task) (s : State) (e e1 e' : Run) (turns : ℕ) (old mid new : Tally) (r : Result Unit Ended) →
+pub flushed_steps : {R : Type 0} (remaining : R → Option (List ℕ)) (o n : Stream R) (ls : List (List ℕ)) (files : ℕ → List ℕ) (F : List Task → List Task) (s : State) (e e1 e' : RunState) (turns : ℕ) (old mid new : Tally) (r : Result Unit Ended) →
     e1 ≡ flushed e turns → starts_cycle (F e.state.tasks) ≡ false → s.lines ≡ ls → Ran e.limits (setting e files) s (then_do (F e.state.tasks) (at_lines e1 ls)) (Sent old mid) →
     StepsFrom remaining o n ls e1.limits (setting e1 files) (then_do (F e1.state.tasks) (at_lines e1 ls)) e' (Sent mid new) r → StepsFrom remaining o n ls e.limits (setting e files) s e' (Sent old new) r
 flushed_steps {R} remaining o n ls files F s e e1 e' turns old mid new r is goes lines =
-    let Q : Run → Type 0 = λ e1. Ran e.limits (setting e files) s (then_do (F e.state.tasks) (at_lines e1 ls)) (Sent old mid) → StepsFrom remaining o n ls e1.limits (setting e1 files) (then_do (F e1.state.tasks) (at_lines e1 ls)) e' (Sent mid new) r →
+    let Q : RunState → Type 0 = λ e1. Ran e.limits (setting e files) s (then_do (F e.state.tasks) (at_lines e1 ls)) (Sent old mid) → StepsFrom remaining o n ls e1.limits (setting e1 files) (then_do (F e1.state.tasks) (at_lines e1 ls)) e' (Sent mid new) r →
     StepsFrom remaining o n ls e.limits (setting e files) s e' (Sent old new) r in
     subst Q (sym is) (λ ran h. steps_then remaining o n ls e.limits (setting e files) s (then_do (F e.state.tasks) (at_lines (flushed e turns) ls)) e' old mid new r ran goes lines h)
 
-steps_fits : {R : Type 0} (remaining : R → Option (List ℕ)) (o n : Stream R) (ls : List (List ℕ)) (l : Limits) (g : Setting) (s : State) (e' : Run) (P : List (ℕ × ℕ) → Type 0) (r : Result Unit Ended) → StepsFrom remaining o n ls l g s e' P r → Fits l s
+steps_fits : {R : Type 0} (remaining : R → Option (List ℕ)) (o n : Stream R) (ls : List (List ℕ)) (l : Limits) (g : Setting) (s : State) (e' : RunState) (P : List (ℕ × ℕ) → Type 0) (r : Result Unit Ended) → StepsFrom remaining o n ls l g s e' P r → WithinLimits l s
 steps_fits {R} remaining o n ls l g s e' P (Ok u) (rest, taken, h) = ran_fits l g s (at_lines e' rest) P h
 steps_fits {R} remaining o n ls l g s e' P (Err end) h = moves_fits l g s (at_lines e' h.rest) P (Err end) h.stopped
 
 -- A command makes a quiet move, and then what h says.
-pub performs_then : {R : Type 0} (remaining : R → Option (List ℕ)) (o n : Stream R) (ls : List (List ℕ)) (l : Limits) (g : Setting) (first : Option Move) (asks : Bool) (there m : State) (e' : Run) (old new : Tally) (r : Result Unit Ended) →
+pub performs_then : {R : Type 0} (remaining : R → Option (List ℕ)) (o n : Stream R) (ls : List (List ℕ)) (l : Limits) (g : Setting) (first : Option Move) (asks : Bool) (there m : State) (e' : RunState) (old new : Tally) (r : Result Unit Ended) →
     first ≡ quietly m → starts_cycle m.tasks ≡ false → there.lines ≡ m.lines → StepsFrom remaining o n ls l g m e' (Sent old new) r → PerformsSteps remaining o n ls l g first asks there e' (Sent old new) r
 performs_then {R} remaining o n ls l g first asks there m e' old new r is goes lines h = λ s c asked move_is.
     steps_then remaining o n ls l g s m e' old old new r (ran_quietly l g s m old c.fits (move_is ∙ is) (steps_fits remaining o n ls l g m e' (Sent old new) r h)) goes (c.lines ∙ lines) h
 
 -- The source failed where `n` asked whether a line is left.
-pub next_broken : {R : Type 0} (remaining : R → Option (List ℕ)) (o n : Stream R) (ls : List (List ℕ)) (g : Setting) (first : Option Move) (e : Run) (sinks : Tally) (end : Ended) → TakesLines remaining o n ls ls → TellsLine (none_left ls) (Err end) →
+pub next_broken : {R : Type 0} (remaining : R → Option (List ℕ)) (o n : Stream R) (ls : List (List ℕ)) (g : Setting) (first : Option Move) (e : RunState) (sinks : Tally) (end : Ended) → TakesLines remaining o n ls ls → TellsLine (none_left ls) (Err end) →
     PerformsSteps remaining o n ls e.limits g first true (at_lines e ls) e (Sent sinks sinks) (Err end)
 next_broken {R} remaining o n ls g first e sinks InputBroken taken told = λ s c asked move_is.
     looked_moves remaining o n ls e.limits g s e (Sent sinks sinks) (Err InputBroken) taken c.lines (stopped_here e.limits g s (at_lines e ls) sinks InputBroken c.fits refl (asked refl) c.same c.lines)
 next_broken {R} remaining o n ls g first e sinks other taken told = absurd told
 
 -- `n` where no line is left
-pub next_stops : {R : Type 0} (remaining : R → Option (List ℕ)) (o n : Stream R) (ls : List (List ℕ)) (files : ℕ → List ℕ) (a : Inside) (e : Run) (sinks : Tally) (last : Bool) → run_of a ≡ e → IsRun a → TakesLines remaining o n ls ls → last ≡ none_left ls → last ≡ true →
+pub next_stops : {R : Type 0} (remaining : R → Option (List ℕ)) (o n : Stream R) (ls : List (List ℕ)) (files : ℕ → List ℕ) (a : Inside) (e : RunState) (sinks : Tally) (last : Bool) → run_of a ≡ e → IsRun a → TakesLines remaining o n ls ls → last ≡ none_left ls → last ≡ true →
     PerformsSteps remaining o n ls e.limits (setting e files) (acts (setting e files) (at_lines e ls) true NextLine) true (at_lines e ls) (run_of (record a { place = p.Quit })) (Sent sinks sinks) (Ok tt)
 next_stops {R} remaining o n ls files a e sinks last seen i taken told is =
-    let Q : Run → Type 0 = λ e. PerformsSteps remaining o n ls e.limits (setting e files) (acts (setting e files) (at_lines e ls) true NextLine) true (at_lines e ls) (run_of (record a { place = p.Quit })) (Sent sinks sinks) (Ok tt) in
-    let e0 : Run = run_of a in
+    let Q : RunState → Type 0 = λ e. PerformsSteps remaining o n ls e.limits (setting e files) (acts (setting e files) (at_lines e ls) true NextLine) true (at_lines e ls) (run_of (record a { place = p.Quit })) (Sent sinks sinks) (Ok tt) in
+    let e0 : RunState = run_of a in
     let now : State = then_do (print_pattern ∷ flush ∷ []) (at_lines e0 ls) in
     subst Q seen (λ s c asked first. looked_moves remaining o n ls a.limits (setting e0 files) s (run_of (record a { place = p.Quit })) (Sent sinks sinks) (Ok tt) taken c.lines
     (ran_quietly a.limits (setting e0 files) s now sinks c.fits (first ∙ next_quits e0 e0 files ls last told is) (fits_tasks a.limits (at_lines e0 ls) (print_pattern ∷ flush ∷ []) (fits_of a ls i))))

@@ -10,7 +10,7 @@ use Rattle.sedmatch.specs.Matching.{found}
 use Rattle.sedmatch.specs.Occurrences.{EndsWithin, next_span, unless_null_at}
 use Rattle.sedmatch.proofs.MatchingLemmas.{found-iff, Found-within}
 use Rattle.sedmatch.proofs.SpanLemmas.{Spans-forward, Spans-within}
-use Rattle.sedengine.specs.Substitute.{Match, unless_empty_at, next_occurrence, with_rest, occurrences_from}
+use Rattle.sedengine.specs.Substitute.{Occurrence, unless_empty_at, next_occurrence, with_rest, occurrences_from}
 use Rattle.sedengine.specs.Run.{match_at, search_for}
 use Rattle.sedengine.specs.SubstituteParts.{LiesAfter, Skips, occurrence, occurrences_after, pending}
 
@@ -23,14 +23,14 @@ found_lies e w p i j fits is =
     (f.after, Spans-forward (tree e) w i j f.spans, Spans-within (tree e) w i j within f.spans)
 
 -- a match from a place on, in a text of n bytes
-abbrev LiesFrom : ℕ → ℕ → Match → Type 0
+abbrev LiesFrom : ℕ → ℕ → Occurrence → Type 0
 LiesFrom n p m = (p ≤ m.start) × (m.start ≤ m.end) × (m.end ≤ n)
 
 -- where matches lie that are sought in a text of n bytes
-pub record Ordered (sought : ℕ → Option Match) (n : ℕ) : Type 0 where
-  pub lies : (p : ℕ) (m : Match) → p ≤ n → sought p ≡ Some m → LiesFrom n p m
+pub record Ordered (sought : ℕ → Option Occurrence) (n : ℕ) : Type 0 where
+  pub lies : (p : ℕ) (m : Occurrence) → p ≤ n → sought p ≡ Some m → LiesFrom n p m
 
-match_lies : (e : Written) (w : List ℕ) (p : ℕ) (r : Option (ℕ × ℕ)) (m : Match) → p ≤ length w →
+match_lies : (e : Written) (w : List ℕ) (p : ℕ) (r : Option (ℕ × ℕ)) (m : Occurrence) → p ≤ length w →
     found (tree e) w p ≡ r → match_at e w r ≡ Some m → LiesFrom (length w) p m
 match_lies e w p None m fits is at = let none : None ≡ Some m = at in cc
 match_lies e w p (Some span) m fits is at =
@@ -43,16 +43,16 @@ ordered e w = record { lies = λ p m fits is. match_lies e w p (found (tree e) w
 not_empty : (s e q : ℕ) → q ≤ s → s ≤ e → (nat_eq s q && nat_eq e q) ≡ false → q < e
 not_empty s e q from to test = grind (arith, nat_tests)
 
-later_test : (n q : ℕ) (b : Bool) (other : Option Match) (k m : Match) → LiesFrom n q k → (b ≡ false → q < k.end) →
-    ((m : Match) → other ≡ Some m → LiesFrom n (q + 1) m) → (if b then other else Some k) ≡ Some m →
+later_test : (n q : ℕ) (b : Bool) (other : Option Occurrence) (k m : Occurrence) → LiesFrom n q k → (b ≡ false → q < k.end) →
+    ((m : Occurrence) → other ≡ Some m → LiesFrom n (q + 1) m) → (if b then other else Some k) ≡ Some m →
     (q < m.end) × (m.end ≤ n)
 later_test n q true other k m here far there is = let at = there m is in omega arith
 later_test n q false other k m here far there is =
     let same : k ≡ m = cc in
-    subst (λ (m : Match). (q < m.end) × (m.end ≤ n)) same (far refl, here.2)
+    subst (λ (m : Occurrence). (q < m.end) × (m.end ≤ n)) same (far refl, here.2)
 
-later_match : (n q : ℕ) (r other : Option Match) (m : Match) → ((m : Match) → r ≡ Some m → LiesFrom n q m) →
-    ((m : Match) → other ≡ Some m → LiesFrom n (q + 1) m) → unless_empty_at q r other ≡ Some m →
+later_match : (n q : ℕ) (r other : Option Occurrence) (m : Occurrence) → ((m : Occurrence) → r ≡ Some m → LiesFrom n q m) →
+    ((m : Occurrence) → other ≡ Some m → LiesFrom n (q + 1) m) → unless_empty_at q r other ≡ Some m →
     (q < m.end) × (m.end ≤ n)
 later_match n q None other m here there is = let none : None ≡ Some m = is in cc
 later_match n q (Some k) other m here there is =
@@ -60,36 +60,36 @@ later_match n q (Some k) other m here there is =
     later_test n q (nat_eq k.start q && nat_eq k.end q) other k m at (not_empty k.start k.end q at.0 at.1) there is
 
 -- an occurrence after another ends after it
-later : (sought : ℕ → Option Match) (n q : ℕ) (m : Match) → Ordered sought n → q ≤ n →
+later : (sought : ℕ → Option Occurrence) (n q : ℕ) (m : Occurrence) → Ordered sought n → q ≤ n →
     next_occurrence sought n (Some q) ≡ Some m → (q < m.end) × (m.end ≤ n)
 later sought n q m o fits is =
     later_match n q (sought q) (if nat_lt q n then sought (q + 1) else None) m (λ k. o.lies q k fits)
     (other (nat_lt q n) (λ yes. grind (arith, nat_tests))) is
   where
-    other : (b : Bool) → (b ≡ true → q + 1 ≤ n) → (k : Match) → (if b then sought (q + 1) else None) ≡ Some k →
+    other : (b : Bool) → (b ≡ true → q + 1 ≤ n) → (k : Occurrence) → (if b then sought (q + 1) else None) ≡ Some k →
         LiesFrom n (q + 1) k
     other true fits k is = o.lies (q + 1) k (fits refl) is
     other false fits k is = let none : None ≡ Some k = is in cc
 
-with_rest_none : (o : Option Match) (f : Match → List Match) → o ≡ None → with_rest o f ≡ []
+with_rest_none : (o : Option Occurrence) (f : Occurrence → List Occurrence) → o ≡ None → with_rest o f ≡ []
 with_rest_none o f none = rw none refl
 
-with_rest_some : (o : Option Match) (f : Match → List Match) (m : Match) → o ≡ Some m → with_rest o f ≡ m ∷ f m
+with_rest_some : (o : Option Occurrence) (f : Occurrence → List Occurrence) (m : Occurrence) → o ≡ Some m → with_rest o f ≡ m ∷ f m
 with_rest_some o f m some = rw some refl
 
-with_rest_same : (o : Option Match) (f g : Match → List Match) → ((m : Match) → o ≡ Some m → f m ≡ g m) →
+with_rest_same : (o : Option Occurrence) (f g : Occurrence → List Occurrence) → ((m : Occurrence) → o ≡ Some m → f m ≡ g m) →
     with_rest o f ≡ with_rest o g
 with_rest_same None f g same = refl
-with_rest_same (Some m) f g same = ap (λ (ms : List Match). m ∷ ms) (same m refl)
+with_rest_same (Some m) f g same = ap (λ (ms : List Occurrence). m ∷ ms) (same m refl)
 
 -- no occurrence after the last place
-none_left : (o : Option Match) (n q : ℕ) → n ≤ q → ((m : Match) → o ≡ Some m → (q < m.end) × (m.end ≤ n)) →
-    (f : Match → List Match) → with_rest o f ≡ []
+none_left : (o : Option Occurrence) (n q : ℕ) → n ≤ q → ((m : Occurrence) → o ≡ Some m → (q < m.end) × (m.end ≤ n)) →
+    (f : Occurrence → List Occurrence) → with_rest o f ≡ []
 none_left None n q over lies f = refl
 none_left (Some m) n q over lies f = let at = lies m refl in absurd (omega arith)
 
 -- as many are enough as there are places left
-enough : (sought : ℕ → Option Match) (n : ℕ) → Ordered sought n → (most more q : ℕ) → q ≤ n → n ≤ most + q →
+enough : (sought : ℕ → Option Occurrence) (n : ℕ) → Ordered sought n → (most more q : ℕ) → q ≤ n → n ≤ most + q →
     n ≤ more + q → occurrences_from sought n most (Some q) ≡ occurrences_from sought n more (Some q)
 unfolding occurrences_from
 enough sought n o zero zero q fits some other = refl
@@ -106,7 +106,7 @@ enough sought n o (suc most) (suc more) q fits some other =
     enough sought n o most more m.end at.1 (omega arith) (omega arith))
 
 -- where none comes next there is none
-from_none : (sought : ℕ → Option Match) (n most : ℕ) (last : Option ℕ) → next_occurrence sought n last ≡ None →
+from_none : (sought : ℕ → Option Occurrence) (n most : ℕ) (last : Option ℕ) → next_occurrence sought n last ≡ None →
     occurrences_from sought n most last ≡ []
 unfolding occurrences_from
 from_none sought n zero last none = refl
@@ -114,13 +114,13 @@ from_none sought n (suc most) last none =
     with_rest_none (next_occurrence sought n last) (λ m. occurrences_from sought n most (Some m.end)) none
 
 -- the one that comes next, and those after it
-from_some : (sought : ℕ → Option Match) (n most : ℕ) (last : Option ℕ) (m : Match) → Ordered sought n → m.end ≤ n →
+from_some : (sought : ℕ → Option Occurrence) (n most : ℕ) (last : Option ℕ) (m : Occurrence) → Ordered sought n → m.end ≤ n →
     n ≤ most + m.end → next_occurrence sought n last ≡ Some m →
     occurrences_from sought n (suc most) last ≡ m ∷ occurrences_from sought n (n - m.end) (Some m.end)
 unfolding occurrences_from
 from_some sought n most last m o fits some is =
     with_rest_some (next_occurrence sought n last) (λ m. occurrences_from sought n most (Some m.end)) m is
-    ∙ ap (λ (ms : List Match). m ∷ ms) (enough sought n o most (n - m.end) m.end fits some (omega arith))
+    ∙ ap (λ (ms : List Occurrence). m ∷ ms) (enough sought n o most (n - m.end) m.end fits some (omega arith))
 
 -- the occurrences after a place are the one that comes next and those after it
 pub after_is : (e : Written) (w : List ℕ) (last : Option ℕ) (r : Option (ℕ × ℕ)) → EndsWithin (length w) last →
@@ -138,7 +138,7 @@ after_is e w (Some q) (Some span) fits is =
     rw most (from_some (search_for (Some e) w) (length w) (length w - q - 1) (Some q) (occurrence e w span)
     (ordered e w) at.1 (omega arith) (sym is))
 
-drop_more : (ms : List Match) (k count : ℕ) → k ≤ count → drop k ms ≡ [] → drop count ms ≡ []
+drop_more : (ms : List Occurrence) (k count : ℕ) → k ≤ count → drop k ms ≡ [] → drop count ms ≡ []
 drop_more ms k count more none =
     let parted : k + (count - k) ≡ count = omega arith in
     ap (λ (n : ℕ). drop n ms) (sym parted) ∙ sym (drop-drop (count - k) k ms)
@@ -165,25 +165,3 @@ skips_one e w last k span fits skipped is =
 pub ends_in : (n : ℕ) (last : Option ℕ) (span : ℕ × ℕ) → LiesAfter n last span → span.1 ≤ n
 ends_in n None span lies = lies.1
 ends_in n (Some q) span lies = lies.3
-
--- the next occurrence, told by its span
-next_unless : (e : Written) (w : List ℕ) (q : ℕ) (r other : Option (ℕ × ℕ)) →
-    match_at e w (unless_null_at q r other) ≡ unless_empty_at q (match_at e w r) (match_at e w other)
-next_unless e w q None other = refl
-next_unless e w q (Some f) other = by (nat_eq f.0 q && nat_eq f.1 q)
-  where
-    by : (b : Bool) → match_at e w (if b then other else Some f) ≡ (if b then match_at e w other else match_at e w (Some f))
-    by true = refl
-    by false = refl
-
-pub next_as : (e : Written) (w : List ℕ) (last : Option ℕ) →
-    match_at e w (next_span (found (tree e) w) (length w) last) ≡ next_occurrence (search_for (Some e) w) (length w) last
-next_as e w None = refl
-next_as e w (Some q) =
-    next_unless e w q (found (tree e) w q) (if nat_lt q (length w) then found (tree e) w (q + 1) else None)
-    ∙ ap (unless_empty_at q (match_at e w (found (tree e) w q))) (at (nat_lt q (length w)))
-  where
-    at : (b : Bool) → match_at e w (if b then found (tree e) w (q + 1) else None)
-        ≡ (if b then match_at e w (found (tree e) w (q + 1)) else None)
-    at true = refl
-    at false = refl

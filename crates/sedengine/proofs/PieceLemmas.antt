@@ -9,7 +9,7 @@ use Rattle.sedscript.specs.declared.substitution.Piece.TheVariants.{Literal as l
 use Rattle.sedscript.specs.Replacement.{pieces_in, GroupsWithin}
 use Rattle.sedscript.specs.declared.substitution.Part.{Part}
 use Rattle.sedscript.specs.declared.substitution.Part.TheVariants.{Literal, Whole, Group}
-use Rattle.sedengine.specs.Substitute.{Match, put_for}
+use Rattle.sedengine.specs.Substitute.{Occurrence, put_for}
 use Rattle.sedengine.specs.SubstituteParts.{has_group, with_groups}
 
 -- the parts from a place on are the one there and those after it
@@ -18,12 +18,12 @@ drop_next : {A : Type 0} (xs : List A) (k : ℕ) (x : A) → k < length xs → x
 drop_next xs k x inside is = rw add-one (drop-cons xs k x inside ∙ ap (λ y. y ∷ drop (suc k) xs) (sym is))
 
 -- bytes stand for themselves
-put_literals : (w : List ℕ) (m : Match) (bytes : List ℕ) (ps : List Piece) →
+put_literals : (w : List ℕ) (m : Occurrence) (bytes : List ℕ) (ps : List Piece) →
     put_for w m (map literal bytes ++ ps) ≡ bytes ++ put_for w m ps
 put_literals w m [] ps = refl
 put_literals w m (b ∷ bytes) ps = ap (λ (rest : List ℕ). b ∷ rest) (put_literals w m bytes ps)
 
-pub put_bytes : (w : List ℕ) (m : Match) (bytes : List ℕ) → bytes ≡ put_for w m (map literal bytes ++ [])
+pub put_bytes : (w : List ℕ) (m : Occurrence) (bytes : List ℕ) → bytes ≡ put_for w m (map literal bytes ++ [])
 put_bytes w m bytes = sym (put_literals w m bytes [] ∙ append-nil bytes)
 
 literals_have : (bytes : List ℕ) (ps : List Piece) → has_group (map literal bytes ++ ps) ≡ has_group ps
@@ -67,13 +67,13 @@ within_next parts k p inside is within =
     (subst (λ (ps : List Part). GroupsWithin 9 (pieces_in ps)) (drop_next parts k p inside is) within)
 
 -- what stands for a part, and for those after it
-put_parts : (w : List ℕ) (m : Match) (p : Part) (ps : List Part) →
+put_parts : (w : List ℕ) (m : Occurrence) (p : Part) (ps : List Part) →
     put_for w m (pieces_in (p ∷ ps)) ≡ put_for w m (pieces_in (p ∷ [])) ++ put_for w m (pieces_in ps)
 put_parts w m (Literal bytes) ps = simp (put_literals, append_assoc)
 put_parts w m Whole ps = simp append_assoc
 put_parts w m (Group k) ps = simp append_assoc
 
-pub put_next : (w : List ℕ) (m : Match) (parts : List Part) (k : ℕ) (p : Part) → k < length parts →
+pub put_next : (w : List ℕ) (m : Occurrence) (parts : List Part) (k : ℕ) (p : Part) → k < length parts →
     p ≡ get_or parts k p → put_for w m (pieces_in (drop k parts))
     ≡ put_for w m (pieces_in (p ∷ [])) ++ put_for w m (pieces_in (drop (k + 1) parts))
 put_next w m parts k p inside is =

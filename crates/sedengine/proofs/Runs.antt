@@ -6,9 +6,9 @@ use Rattle.sedengine.specs.Limits.{Limits}
 use Rattle.sedengine.specs.State.{State, Setting}
 use Rattle.sedengine.specs.Move.{after, written}
 use Rattle.sedengine.specs.Meters.{Sent, Tally}
-use Rattle.sedengine.specs.Ends.{Fits, Within, named_sink}
+use Rattle.sedengine.specs.Ends.{WithinLimits, Within, named_sink}
 use Rattle.sedengine.specs.Held.{HoldsAt, SameLengths}
-use Rattle.sedengine.specs.Run.{Run, setting, setting_of, at_lines, size_of, more_at, Takes, Ending, EndingInCycle, Cycled, InOneCycle, starts_cycle}
+use Rattle.sedengine.specs.Run.{RunState, setting, setting_of, at_lines, size_of, more_at, Takes, Ending, EndingInCycle, Cycled, InOneCycle, starts_cycle}
 use Rattle.sedengine.specs.Steps.{Ran, TakesLines, Halted, Steps, lost, KeepsRun}
 use Rattle.sedengine.specs.declared.ends.Ended.{Ended}
 use Rattle.sedengine.specs.declared.ends.Ended.TheVariants.{PatternFull, InputBroken}
@@ -16,17 +16,17 @@ use Rattle.sedengine.proofs.Sending.{Sent-append, Sent-none}
 use Rattle.sedengine.proofs.Streams.{TakesLines-then, TakesAtMost-then, TakesAtMost-more, source_takes, lines_same, size_of-append}
 use Rattle.sedengine.proofs.Moves.{after-add, written-add, Within-add, Cause-add, HoldsAt-add, InOneCycle-add, within_none, after_none, written_none}
 
-same_without : (s : State) (e : Run) (ls : List (List ℕ)) → SameLengths s (at_lines e ls) → SameLengths s e.state
+same_without : (s : State) (e : RunState) (ls : List (List ℕ)) → SameLengths s (at_lines e ls) → SameLengths s e.state
 same_without s e ls h = record { pattern = h.pattern; hold = h.hold; queue = h.queue; entries = h.entries }
 
 -- the lengths don't tell the lines
-pub without_lines : (g : Setting) (s : State) (t : ℕ) (e : Run) (ls : List (List ℕ)) (o : Option ℕ) → HoldsAt g s t (at_lines e ls) o → HoldsAt g s t e.state o
+pub without_lines : (g : Setting) (s : State) (t : ℕ) (e : RunState) (ls : List (List ℕ)) (o : Option ℕ) → HoldsAt g s t (at_lines e ls) o → HoldsAt g s t e.state o
 without_lines g s t e ls None h = same_without _ e ls h
 without_lines g s t e ls (Some k) (inl h) = inl (same_without _ e ls h)
 without_lines g s t e ls (Some k) (inr h) = inr (same_without _ e ls h)
 
 -- What the first t moves led to: `at` is where the lines stand, `from` where they stood.
-pub record Reached {R : Type 0} (remaining : R → Option (List ℕ)) (from at : Stream R) (l : Limits) (g : Setting) (s : State) (e : Run) (old new : Tally) : Type 0 where
+pub record Reached {R : Type 0} (remaining : R → Option (List ℕ)) (from at : Stream R) (l : Limits) (g : Setting) (s : State) (e : RunState) (old new : Tally) : Type 0 where
   pub t : ℕ
   pub rest : List (List ℕ)
   pub taken : TakesLines remaining from at s.lines rest
@@ -34,8 +34,8 @@ pub record Reached {R : Type 0} (remaining : R → Option (List ℕ)) (from at :
   pub within : Within l g s t
   pub gained : Sent old new (written g s t)
 
-abbrev pub Reached-none : {R : Type 0} (remaining : R → Option (List ℕ)) (from : Stream R) (l : Limits) (g : Setting) (e : Run) (ls : List (List ℕ)) (sinks : Tally) →
-    lines_left remaining from ≡ Some ls → Fits l (at_lines e ls) → Reached remaining from from l g (at_lines e ls) e sinks sinks
+abbrev pub Reached-none : {R : Type 0} (remaining : R → Option (List ℕ)) (from : Stream R) (l : Limits) (g : Setting) (e : RunState) (ls : List (List ℕ)) (sinks : Tally) →
+    lines_left remaining from ≡ Some ls → WithinLimits l (at_lines e ls) → Reached remaining from from l g (at_lines e ls) e sinks sinks
 Reached-none {R} remaining from l g e ls sinks known f = record {
   t = 0;
   rest = ls;
@@ -45,10 +45,10 @@ Reached-none {R} remaining from l g e ls sinks known f = record {
   gained = rw written_none (Sent-none sinks);
 }
 
-pub same_setting : (old new : Run) (files : ℕ → List ℕ) → KeepsRun old new → setting new files ≡ setting old files
+pub same_setting : (old new : RunState) (files : ℕ → List ℕ) → KeepsRun old new → setting new files ≡ setting old files
 same_setting old new files s = ap (λ p. setting_of p files) s.script
 
-pub KeepsRun-then : {a b c : Run} → KeepsRun a b → KeepsRun b c → KeepsRun a c
+pub KeepsRun-then : {a b c : RunState} → KeepsRun a b → KeepsRun b c → KeepsRun a c
 KeepsRun-then s t = record { script = t.script ∙ s.script; limits = t.limits ∙ s.limits; ended = t.ended ∙ s.ended }
 
 -- from the lines and the bytes ahead to what was taken from the source
@@ -67,17 +67,17 @@ lost_more l InputBroken = omega arith
 lost_more l other = omega arith
 
 -- The run that began with the engine a and the lines `from`, and came to the engine e.
-module _ {R : Type 0} (remaining : R → Option (List ℕ)) (from at to : Stream R) (files : ℕ → List ℕ) (a : Run) (s : State) (e : Run) (old mid new : Tally) (same : KeepsRun a e)
+module _ {R : Type 0} (remaining : R → Option (List ℕ)) (from at to : Stream R) (files : ℕ → List ℕ) (a : RunState) (s : State) (e : RunState) (old mid new : Tally) (same : KeepsRun a e)
     (r : Reached remaining from at a.limits (setting a files) s e old mid) where
   -- what a call answers, for the run's own limits, from the state reached
-  pub ran_on : (e' : Run) (rest : List (List ℕ)) → Ran e.limits (setting e files) (at_lines e r.rest) (at_lines e' rest) (Sent mid new) → Ran a.limits (setting a files) (after (setting a files) s r.t) (at_lines e' rest) (Sent mid new)
+  pub ran_on : (e' : RunState) (rest : List (List ℕ)) → Ran e.limits (setting e files) (at_lines e r.rest) (at_lines e' rest) (Sent mid new) → Ran a.limits (setting a files) (after (setting a files) s r.t) (at_lines e' rest) (Sent mid new)
   ran_on e' rest h =
       let P : Limits → Type 0 = λ l. Ran l (setting e files) (at_lines e r.rest) (at_lines e' rest) (Sent mid new) in
       let Q : Setting → Type 0 = λ g. Ran a.limits g (at_lines e r.rest) (at_lines e' rest) (Sent mid new) in
       let S : State → Type 0 = λ m. Ran a.limits (setting a files) m (at_lines e' rest) (Sent mid new) in
       subst S (sym r.is) (subst Q (same_setting a e files same) (subst P same.limits h))
 
-  pub halted_on : (e' : Run) (end : Ended) → Halted remaining at to e.limits (setting e files) (at_lines e r.rest) e' (Sent mid new) end →
+  pub halted_on : (e' : RunState) (end : Ended) → Halted remaining at to e.limits (setting e files) (at_lines e r.rest) e' (Sent mid new) end →
       Halted remaining at to a.limits (setting a files) (after (setting a files) s r.t) e' (Sent mid new) end
   halted_on e' end h =
       let P : Limits → Type 0 = λ l. Halted remaining at to l (setting e files) (at_lines e r.rest) e' (Sent mid new) end in
@@ -85,7 +85,7 @@ module _ {R : Type 0} (remaining : R → Option (List ℕ)) (from at to : Stream
       let S : State → Type 0 = λ m. Halted remaining at to a.limits (setting a files) m e' (Sent mid new) end in
       subst S (sym r.is) (subst Q (same_setting a e files same) (subst P same.limits h))
 
-  abbrev pub step_on : (e' : Run) → Steps remaining at to r.rest e.limits (setting e files) e e' (Sent mid new) (Ok tt) → Reached remaining from to a.limits (setting a files) s e' old new
+  abbrev pub step_on : (e' : RunState) → Steps remaining at to r.rest e.limits (setting e files) e e' (Sent mid new) (Ok tt) → Reached remaining from to a.limits (setting a files) s e' old new
   step_on e' (rest, taken, ran) =
       let g : Setting = setting a files in
       let h = ran_on e' rest ran in
@@ -98,7 +98,7 @@ module _ {R : Type 0} (remaining : R → Option (List ℕ)) (from at to : Stream
         gained = rw written-add (Sent-append r.gained h.sinks);
       }
 
-  abbrev pub stop_on : (e' : Run) (end : Ended) → Steps remaining at to r.rest e.limits (setting e files) e e' (Sent mid new) (Err end) →
+  abbrev pub stop_on : (e' : RunState) (end : Ended) → Steps remaining at to r.rest e.limits (setting e files) e e' (Sent mid new) (Err end) →
       (k : ℕ) × TakesAtMost (remaining from.source) (remaining to.source) k → length to.ahead ≤ max (length from.ahead) from.look → from.look ≡ a.limits.look →
       Ending a.limits (setting a files) s (Sent old new) (remaining from.source) (remaining to.source) e'.state end
   stop_on e' end halted shrinks ahead look =
@@ -118,13 +118,13 @@ module _ {R : Type 0} (remaining : R → Option (List ℕ)) (from at to : Stream
       }
 
   -- no cycle starts meanwhile
-  pub one_on : (e' : Run) (h : Steps remaining at to r.rest e.limits (setting e files) e e' (Sent mid new) (Ok tt)) → InOneCycle (setting a files) s (r.t + 1) → InOneCycle (setting a files) s (step_on e' h).t
+  pub one_on : (e' : RunState) (h : Steps remaining at to r.rest e.limits (setting e files) e e' (Sent mid new) (Ok tt)) → InOneCycle (setting a files) s (r.t + 1) → InOneCycle (setting a files) s (step_on e' h).t
   one_on e' (rest, taken, ran) one = let h = ran_on e' rest ran in InOneCycle-add (setting a files) s r.t h.t one h.one
 
-  pub some_on : (e' : Run) (h : Steps remaining at to r.rest e.limits (setting e files) e e' (Sent mid new) (Ok tt)) → 0 < (step_on e' h).t
+  pub some_on : (e' : RunState) (h : Steps remaining at to r.rest e.limits (setting e files) e e' (Sent mid new) (Ok tt)) → 0 < (step_on e' h).t
   some_on e' (rest, taken, ran) = let h = ran_on e' rest ran in let some = h.some in omega arith
 
-  pub one_stop : (e' : Run) (end : Ended) (h : Steps remaining at to r.rest e.limits (setting e files) e e' (Sent mid new) (Err end)) → InOneCycle (setting a files) s (r.t + 1) →
+  pub one_stop : (e' : RunState) (end : Ended) (h : Steps remaining at to r.rest e.limits (setting e files) e e' (Sent mid new) (Err end)) → InOneCycle (setting a files) s (r.t + 1) →
       InOneCycle (setting a files) s (r.t + (halted_on e' end h).stopped.t + 1)
   one_stop e' end halted one =
       let h = halted_on e' end halted in
@@ -132,7 +132,7 @@ module _ {R : Type 0} (remaining : R → Option (List ℕ)) (from at to : Stream
       rw all (InOneCycle-add (setting a files) s r.t (h.stopped.t + 1) one h.stopped.one)
 
 -- a cycle was made
-pub cycled : {R : Type 0} (remaining : R → Option (List ℕ)) (from to : Stream R) (l : Limits) (g : Setting) (s : State) (e : Run) (old new : Tally) →
+pub cycled : {R : Type 0} (remaining : R → Option (List ℕ)) (from to : Stream R) (l : Limits) (g : Setting) (s : State) (e : RunState) (old new : Tally) →
     (r : Reached remaining from to l g s e old new) → 0 < r.t → InOneCycle g s r.t → starts_cycle e.state.tasks ≡ true →
     (k : ℕ) × TakesAtMost (remaining from.source) (remaining to.source) k → length to.ahead ≤ max (length from.ahead) from.look → from.look ≡ l.look →
     (rest : List (List ℕ)) × (lines_left remaining to ≡ Some rest) × Cycled l g s (Sent old new) (remaining from.source) (remaining to.source) (at_lines e rest)
@@ -153,8 +153,8 @@ cycled {R} remaining from to l g s e old new r some one starts shrinks ahead loo
     )
 
 -- the end is that of the engine as it is seen
-pub ending_seen : {l : Limits} {g : Setting} {s : State} {P : List (ℕ × ℕ) → Type 0} {old new : Option (List ℕ)} {end : Ended} (e e' : Run) → e' ≡ e → Ending l g s P old new e.state end → Ending l g s P old new e'.state end
-ending_seen {l} {g} {s} {P} {old} {new} {end} e e' same h = let S : Run → Type 0 = λ e. Ending l g s P old new e.state end in subst S (sym same) h
+pub ending_seen : {l : Limits} {g : Setting} {s : State} {P : List (ℕ × ℕ) → Type 0} {old new : Option (List ℕ)} {end : Ended} (e e' : RunState) → e' ≡ e → Ending l g s P old new e.state end → Ending l g s P old new e'.state end
+ending_seen {l} {g} {s} {P} {old} {new} {end} e e' same h = let S : RunState → Type 0 = λ e. Ending l g s P old new e.state end in subst S (sym same) h
 
-pub cycle_seen : {l : Limits} {g : Setting} {s : State} {P : List (ℕ × ℕ) → Type 0} {old new : Option (List ℕ)} {end : Ended} (e e' : Run) → e' ≡ e → EndingInCycle l g s P old new e.state end → EndingInCycle l g s P old new e'.state end
-cycle_seen {l} {g} {s} {P} {old} {new} {end} e e' same h = let S : Run → Type 0 = λ e. EndingInCycle l g s P old new e.state end in subst S (sym same) h
+pub cycle_seen : {l : Limits} {g : Setting} {s : State} {P : List (ℕ × ℕ) → Type 0} {old new : Option (List ℕ)} {end : Ended} (e e' : RunState) → e' ≡ e → EndingInCycle l g s P old new e.state end → EndingInCycle l g s P old new e'.state end
+cycle_seen {l} {g} {s} {P} {old} {new} {end} e e' same h = let S : RunState → Type 0 = λ e. EndingInCycle l g s P old new e.state end in subst S (sym same) h

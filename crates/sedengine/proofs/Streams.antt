@@ -1,6 +1,7 @@
 -- What a call for a line does to the lines left.
-use Rattle.std.proofs.Common.{◌≡◌, ℕ, ◌+◌, ◌<◌, ◌≤◌, inl, inr, Bool, true, false, max, List, [], ◌∷◌, ◌++◌, length, Option, Some, None, Result, Ok, Err, refl, sym, subst, ap, ◌∙◌, arith, rules, length-append, append_assoc, append-nil}
+use Rattle.std.proofs.Common.{◌≡◌, ℕ, ◌+◌, ◌<◌, ◌≤◌, inl, inr, Bool, true, false, max, List, [], ◌∷◌, ◌++◌, length, Option, Some, None, Result, Ok, Err, refl, sym, subst, ap, ◌∙◌, arith, rules, length-append, append_assoc, append-nil, not}
 use Rattle.std.specs.Prelude.{OnOk}
+use Rattle.sedengine.specs.Move.{none_left}
 use Rattle.std.specs.Borrow.{GName}
 use Rattle.std.specs.List.{slice_split, onto_first}
 use Rattle.std.specs.Option.{option_map}
@@ -10,7 +11,6 @@ use Rattle.sedspace.specs.Lines.{lines, is_newline, without_empty_last}
 use Rattle.sedspace.specs.Stream.{Stream, left, lines_left, GivesLine, NoneLeft, KeepsLines, TakesLine, TakesAtMost, TellsLast}
 use Rattle.sedengine.specs.Calls.{Reads}
 use Rattle.sedengine.specs.Devices.{FailedSource}
-use Rattle.sedengine.specs.Ends.{any_left}
 use Rattle.sedengine.specs.Run.{size_of}
 use Rattle.sedengine.specs.Steps.{TakesLines}
 use Rattle.sedengine.specs.declared.ends.Ended.{Ended}
@@ -202,13 +202,13 @@ TakesAtMost-more None new n m h t = tt
 TakesAtMost-more (Some xs) None n m h t = absurd t
 TakesAtMost-more (Some xs) (Some ys) n m h (t, is, most) = (t, is, omega arith)
 
-pub some_told : (o : Option (List (List ℕ))) (ls : List (List ℕ)) (last : Bool) → o ≡ Some ls → TellsLast o last → last ≡ false → any_left ls ≡ true
+pub some_told : (o : Option (List (List ℕ))) (ls : List (List ℕ)) (last : Bool) → o ≡ Some ls → TellsLast o last → last ≡ false → not (none_left ls) ≡ true
 some_told None ls last known told is = cc
 some_told (Some ms) ls last known told is =
     let same : ms ≡ ls = cc in
     rw (← same) (none_or_any ms last told is)
   where
-    none_or_any : (ms : List (List ℕ)) (last : Bool) → TellsLast (Some ms) last → last ≡ false → any_left ms ≡ true
+    none_or_any : (ms : List (List ℕ)) (last : Bool) → TellsLast (Some ms) last → last ≡ false → not (none_left ms) ≡ true
     none_or_any [] last told is = grind (arith, told)
     none_or_any (m ∷ ms) last told is = refl
 

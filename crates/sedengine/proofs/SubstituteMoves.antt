@@ -11,14 +11,14 @@ use Rattle.sedspace.specs.Spaces.{Contents}
 use Rattle.sedspace.specs.declared.errors.Full.{Full}
 use Rattle.sedengine.specs.Limits.{Limits}
 use Rattle.sedengine.specs.State.{Task, begin, rebegin, do_at, print_pattern, empty_pattern, flush, copy, fetch, join, State, Move, Setting}
-use Rattle.sedengine.specs.Substitute.{Match, chosen, occurrences, replaced_from}
+use Rattle.sedengine.specs.Substitute.{Occurrence, chosen, occurrences, replaced_from}
 use Rattle.sedengine.specs.Select.{stands_for}
 use Rattle.sedengine.specs.Move.{move, becomes, chosen_in, quietly, writing, line_to, line_to_file, replaces, substitutes, written_by}
-use Rattle.sedengine.specs.Ends.{Fits, Leads, reaches, line_at}
+use Rattle.sedengine.specs.Ends.{WithinLimits, Leads, reaches, line_at}
 use Rattle.sedengine.specs.Held.{SameLengths}
 use Rattle.sedengine.specs.Meters.{Sent, Tally}
 use Rattle.sedengine.specs.Calls.{Puts}
-use Rattle.sedengine.specs.Run.{Run, at_lines, search_in, setting}
+use Rattle.sedengine.specs.Run.{RunState, at_lines, search_in, setting}
 use Rattle.sedengine.specs.Steps.{Reaches, Moves, Performs}
 use Rattle.sedengine.specs.SubstituteCalls.{Makes, ReplacesIn, same_but_replaced}
 use Rattle.sedengine.specs.Inside.{run_of, tasks_of, IsRun, IsEmptied}
@@ -68,17 +68,17 @@ replaced_is_run a pattern build scratch seeking matchers e replaced i at within 
 }
 
 -- a move whose pattern space has no room for what it makes
-leads_full : (s : State) (t : Substitution) (ms : List Match) (space : ℕ) → 0 < length ms → space < length (replaced_from s.pattern t.replacement 0 ms) →
+leads_full : (s : State) (t : Substitution) (ms : List Occurrence) (space : ℕ) → 0 < length ms → space < length (replaced_from s.pattern t.replacement 0 ms) →
     Leads (replaces s t ms) (λ m. space < length m.next.pattern)
 leads_full s t [] space some more = absurd (omega arith)
 leads_full s t (m ∷ ms) space some more = (_, refl, more)
 
-pub makes_full : (a : Inside) (r : Run) (seen : run_of a ≡ r) (es : List Written) (same : es ≡ a.script.expressions) (k e : ℕ) (files : ℕ → List ℕ) (ls : List (List ℕ)) (t : Substitution) (new : Contents) (now : State) (f : Full) → a.pattern.limit ≡ a.limits.space →
+pub makes_full : (a : Inside) (r : RunState) (seen : run_of a ≡ r) (es : List Written) (same : es ≡ a.script.expressions) (k e : ℕ) (files : ℕ → List ℕ) (ls : List (List ℕ)) (t : Substitution) (new : Contents) (now : State) (f : Full) → a.pattern.limit ≡ a.limits.space →
     slice_get r.script.substitutions k ≡ Some t →
     ((t : Substitution) → slice_get a.script.substitutions k ≡ Some t → ReplacesIn t (chosen t.number t.global (occurrences (search_in es e a.pattern.bytes) (length a.pattern.bytes))) a.pattern new (Err f)) →
     Makes r.limits (replaces (record (at_lines r ls) { used = Some e }) t (chosen_in (setting r files) t e r.state.pattern)) t (at_lines r ls) now (Err (PatternFull a.number))
 makes_full a r seen es same k e files ls t new now f limit is h =
-    let Q : Run → Type 0 = λ r. slice_get r.script.substitutions k ≡ Some t → Makes r.limits (replaces (record (at_lines r ls) { used = Some e }) t (chosen_in (setting r files) t e r.state.pattern)) t (at_lines r ls) now (Err (PatternFull a.number)) in
+    let Q : RunState → Type 0 = λ r. slice_get r.script.substitutions k ≡ Some t → Makes r.limits (replaces (record (at_lines r ls) { used = Some e }) t (chosen_in (setting r files) t e r.state.pattern)) t (at_lines r ls) now (Err (PatternFull a.number)) in
     subst Q seen
     (λ is.
     let made = rw same at (h t is) in
@@ -89,17 +89,11 @@ some_of : {A : Type 0} (x y : A) → Some x ≡ Some y → x ≡ y
 some_of x y h = cc
 
 -- the expression that the substitution k stands for
-pub stands : (a : Inside) (r : Run) (k e : ℕ) (t t' : Substitution) → run_of a ≡ r → slice_get r.script.substitutions k ≡ Some t → slice_get a.script.substitutions k ≡ Some t' → Some e ≡ option_or t'.expression a.used →
+pub stands : (a : Inside) (r : RunState) (k e : ℕ) (t t' : Substitution) → run_of a ≡ r → slice_get r.script.substitutions k ≡ Some t → slice_get a.script.substitutions k ≡ Some t' → Some e ≡ option_or t'.expression a.used →
     stands_for t.expression r.state.used ≡ Some e
 stands a r k e t t' seen is is' h =
-    let Q : Run → Type 0 = λ r. slice_get r.script.substitutions k ≡ Some t → stands_for t.expression r.state.used ≡ Some e in
+    let Q : RunState → Type 0 = λ r. slice_get r.script.substitutions k ≡ Some t → stands_for t.expression r.state.used ≡ Some e in
     subst Q seen (λ is. let same : t' ≡ t = some_of t' t (sym is' ∙ is) in sym (standing t.expression a.used) ∙ ap (λ (t : Substitution). option_or t.expression a.used) (sym same) ∙ sym h) is
-
-pub makes_standing : (l : Limits) (g : Setting) (s now : State) (t : Substitution) (e : ℕ) (told : Result Bool Ended) → stands_for t.expression s.used ≡ Some e →
-    Makes l (replaces (record s { used = Some e }) t (chosen_in g t e s.pattern)) t s now told → Makes l (substitutes g s (Some t)) t s now told
-makes_standing l g s now t e told is h =
-    let Q : Option ℕ → Type 0 = λ o. Makes l (option_and_then (λ e. replaces (record s { used = Some e }) t (chosen_in g t e s.pattern)) o) t s now told in
-    subst Q (sym is) h
 
 -- there is an element at each place
 pub there_is : {A : Type 0} (xs : List A) (k : ℕ) → k < length xs → (x : A) × (slice_get xs k ≡ Some x)
@@ -121,16 +115,16 @@ reached_line s (empty_pattern ∷ rest) h = cc
 reached_line s (flush ∷ rest) h = cc
 
 -- The engine with the fields a, which is seen as r, was led to the engine r' by a call that makes the move o of a substitution.
-module _ (a : Inside) (r r' : Run) (seen : run_of a ≡ r) (i : IsRun a) (same : r' ≡ same_but_replaced r r'.state) (within : length r'.state.pattern ≤ r'.limits.space) (ls : List (List ℕ)) (g : Setting) (old new : Tally) (o : Option Move) (t : Substitution) where
-  before : Fits r.limits (at_lines r ls)
-  before = let Q : Run → Type 0 = λ r. Fits r.limits (at_lines r ls) in subst Q seen (fits_of a ls i)
+module _ (a : Inside) (r r' : RunState) (seen : run_of a ≡ r) (i : IsRun a) (same : r' ≡ same_but_replaced r r'.state) (within : length r'.state.pattern ≤ r'.limits.space) (ls : List (List ℕ)) (g : Setting) (old new : Tally) (o : Option Move) (t : Substitution) where
+  before : WithinLimits r.limits (at_lines r ls)
+  before = let Q : RunState → Type 0 = λ r. WithinLimits r.limits (at_lines r ls) in subst Q seen (fits_of a ls i)
 
-  there : Fits r.limits (at_lines r' ls)
+  there : WithinLimits r.limits (at_lines r' ls)
   there =
-      let limits : r'.limits ≡ r.limits = ap (λ (r : Run). r.limits) same in
-      let hold : r'.state.hold ≡ r.state.hold = ap (λ (r : Run). r.state.hold) same in
-      let queue : r'.state.queue ≡ r.state.queue = ap (λ (r : Run). r.state.queue) same in
-      let turns : r'.state.turns ≡ r.state.turns = ap (λ (r : Run). r.state.turns) same in
+      let limits : r'.limits ≡ r.limits = ap (λ (r : RunState). r.limits) same in
+      let hold : r'.state.hold ≡ r.state.hold = ap (λ (r : RunState). r.state.hold) same in
+      let queue : r'.state.queue ≡ r.state.queue = ap (λ (r : RunState). r.state.queue) same in
+      let turns : r'.state.turns ≡ r.state.turns = ap (λ (r : RunState). r.state.turns) same in
       record { pattern = rw limits at within; hold = rw hold before.hold; queue = rw queue before.queue; turns = rw turns before.turns }
 
   -- nothing was replaced
@@ -151,9 +145,9 @@ module _ (a : Inside) (r r' : Run) (seen : run_of a ≡ r) (i : IsRun a) (same :
           let w = c.same in
           record {
             pattern = ap (λ (x : List ℕ). length x) kept ∙ w.pattern;
-            hold = ap (λ (r : Run). length r.state.hold) same ∙ w.hold;
-            queue = λ goes. ap (λ (r : Run). length r.state.queue) same ∙ w.queue goes;
-            entries = let more = w.entries in let queue = ap (λ (r : Run). length r.state.queue) same in omega arith;
+            hold = ap (λ (r : RunState). length r.state.hold) same ∙ w.hold;
+            queue = λ goes. ap (λ (r : RunState). length r.state.queue) same ∙ w.queue goes;
+            entries = let more = w.entries in let queue = ap (λ (r : RunState). length r.state.queue) same in omega arith;
           }
 
       stops : (s : State) (c : Reaches r.limits g s (at_lines r ls)) → move g s ≡ o → (end : Ended) → Makes r.limits o t (at_lines r ls) (at_lines r' ls) (Err end) → Moves r.limits g s (at_lines r' ls) (Sent old old) (Err end)
@@ -171,35 +165,35 @@ pub puts_first : (t : Substitution) (w : List ℕ) (old new : Tally) (end : Ende
 puts_first t w old new end h = Puts-left old new (cond t.print (line_to 0 w) []) (line_to_file t.file w) end h
 
 -- the substitution of a number, as the engine is seen
-one_seen : (a : Inside) (e : Run) (k : ℕ) (s t : Substitution) → run_of a ≡ e → slice_get a.script.substitutions k ≡ Some s → slice_get e.script.substitutions k ≡ Some t → s ≡ t
-one_seen a e k s t seen is is' = some_of s t (sym is ∙ ap (λ (r : Run). slice_get r.script.substitutions k) seen ∙ is')
+one_seen : (a : Inside) (e : RunState) (k : ℕ) (s t : Substitution) → run_of a ≡ e → slice_get a.script.substitutions k ≡ Some s → slice_get e.script.substitutions k ≡ Some t → s ≡ t
+one_seen a e k s t seen is is' = some_of s t (sym is ∙ ap (λ (r : RunState). slice_get r.script.substitutions k) seen ∙ is')
 
 -- what its flags write
-pub filed_seen : (a : Inside) (e : Run) (k : ℕ) (s t : Substitution) (sink : ℕ) (w : List ℕ) (P : List (ℕ × ℕ) → Type 0) (r : Result Unit Ended) → run_of a ≡ e → slice_get a.script.substitutions k ≡ Some s →
+pub filed_seen : (a : Inside) (e : RunState) (k : ℕ) (s t : Substitution) (sink : ℕ) (w : List ℕ) (P : List (ℕ × ℕ) → Type 0) (r : Result Unit Ended) → run_of a ≡ e → slice_get a.script.substitutions k ≡ Some s →
     slice_get e.script.substitutions k ≡ Some t → s.file ≡ Some sink → Puts P (line_to sink w) r → Puts P (line_to_file t.file w) r
 filed_seen a e k s t sink w P r seen is is' file h =
     let Q : Option ℕ → Type 0 = λ o. Puts P (line_to_file o w) r in
     subst Q (sym file ∙ ap (λ (x : Substitution). x.file) (one_seen a e k s t seen is is')) h
 
-pub printed_seen : (a : Inside) (e : Run) (k : ℕ) (s t : Substitution) (w : List ℕ) (P : List (ℕ × ℕ) → Type 0) (r : Result Unit Ended) → run_of a ≡ e → slice_get a.script.substitutions k ≡ Some s →
+pub printed_seen : (a : Inside) (e : RunState) (k : ℕ) (s t : Substitution) (w : List ℕ) (P : List (ℕ × ℕ) → Type 0) (r : Result Unit Ended) → run_of a ≡ e → slice_get a.script.substitutions k ≡ Some s →
     slice_get e.script.substitutions k ≡ Some t → s.print ≡ true → Puts P (line_to 0 w) r → Puts P (cond t.print (line_to 0 w) []) r
 printed_seen a e k s t w P r seen is is' print h =
     let Q : Bool → Type 0 = λ b. Puts P (cond b (line_to 0 w) []) r in
     subst Q (sym print ∙ ap (λ (x : Substitution). x.print) (one_seen a e k s t seen is is')) h
 
-replaces_some : (s : State) (t : Substitution) (ms : List Match) → 0 < length ms → replaces s t ms ≡ becomes s t (replaced_from s.pattern t.replacement 0 ms)
+replaces_some : (s : State) (t : Substitution) (ms : List Occurrence) → 0 < length ms → replaces s t ms ≡ becomes s t (replaced_from s.pattern t.replacement 0 ms)
 replaces_some s t [] some = absurd (omega arith)
 replaces_some s t (m ∷ ms) some = refl
 
 -- a substitution that replaces something, and one that replaces nothing
-pub makes_some : (a : Inside) (r : Run) (seen : run_of a ≡ r) (es : List Written) (same : es ≡ a.script.expressions) (k e : ℕ) (files : ℕ → List ℕ) (ls : List (List ℕ)) (t : Substitution) (new : Contents) →
+pub makes_some : (a : Inside) (r : RunState) (seen : run_of a ≡ r) (es : List Written) (same : es ≡ a.script.expressions) (k e : ℕ) (files : ℕ → List ℕ) (ls : List (List ℕ)) (t : Substitution) (new : Contents) →
     slice_get r.script.substitutions k ≡ Some t →
     ((t : Substitution) → slice_get a.script.substitutions k ≡ Some t → ReplacesIn t (chosen t.number t.global (occurrences (search_in es e a.pattern.bytes) (length a.pattern.bytes))) a.pattern new (Ok true)) →
     Makes r.limits (replaces (record (at_lines r ls) { used = Some e }) t (chosen_in (setting r files) t e r.state.pattern)) t (at_lines r ls)
     (record (at_lines (run_of a) ls) { pattern = new.bytes; used = Some e; replaced = true }) (Ok true)
 makes_some a r seen es same k e files ls t new is h =
     let now : State = record (at_lines (run_of a) ls) { pattern = new.bytes; used = Some e; replaced = true } in
-    let Q : Run → Type 0 = λ r. slice_get r.script.substitutions k ≡ Some t → replaces (record (at_lines r ls) { used = Some e }) t (chosen_in (setting r files) t e r.state.pattern) ≡ writing (written_by t now.pattern) now in
+    let Q : RunState → Type 0 = λ r. slice_get r.script.substitutions k ≡ Some t → replaces (record (at_lines r ls) { used = Some e }) t (chosen_in (setting r files) t e r.state.pattern) ≡ writing (written_by t now.pattern) now in
     let s : State = record (at_lines (run_of a) ls) { used = Some e } in
     let ms = chosen_in (setting (run_of a) files) t e a.pattern.bytes in
     subst Q seen
@@ -207,16 +201,16 @@ makes_some a r seen es same k e files ls t new is h =
     let made = rw same at (h t is) in
     replaces_some s t ms made.0 ∙ ap (λ (w : List ℕ). becomes s t w) (sym (ap (λ (x : Contents). x.bytes) made.1))) is
 
-pub makes_none : (a : Inside) (r : Run) (seen : run_of a ≡ r) (es : List Written) (same : es ≡ a.script.expressions) (k e : ℕ) (files : ℕ → List ℕ) (ls : List (List ℕ)) (t : Substitution) (new : Contents) →
+pub makes_none : (a : Inside) (r : RunState) (seen : run_of a ≡ r) (es : List Written) (same : es ≡ a.script.expressions) (k e : ℕ) (files : ℕ → List ℕ) (ls : List (List ℕ)) (t : Substitution) (new : Contents) →
     slice_get r.script.substitutions k ≡ Some t →
     ((t : Substitution) → slice_get a.script.substitutions k ≡ Some t → ReplacesIn t (chosen t.number t.global (occurrences (search_in es e a.pattern.bytes) (length a.pattern.bytes))) a.pattern new (Ok false)) →
     Makes r.limits (replaces (record (at_lines r ls) { used = Some e }) t (chosen_in (setting r files) t e r.state.pattern)) t (at_lines r ls)
     (record (at_lines (run_of a) ls) { pattern = new.bytes; used = Some e }) (Ok false)
 makes_none a r seen es same k e files ls t new is h =
     let now : State = record (at_lines (run_of a) ls) { pattern = new.bytes; used = Some e } in
-    let Q : Run → Type 0 = λ r. slice_get r.script.substitutions k ≡ Some t → replaces (record (at_lines r ls) { used = Some e }) t (chosen_in (setting r files) t e r.state.pattern) ≡ quietly now in
+    let Q : RunState → Type 0 = λ r. slice_get r.script.substitutions k ≡ Some t → replaces (record (at_lines r ls) { used = Some e }) t (chosen_in (setting r files) t e r.state.pattern) ≡ quietly now in
     let s : State = record (at_lines (run_of a) ls) { used = Some e } in
     subst Q seen
     (λ is.
     let made = rw same at (h t is) in
-    ap (λ (ms : List Match). replaces s t ms) made.0 ∙ ap (λ (w : List ℕ). quietly (record s { pattern = w })) (sym (ap (λ (x : Contents). x.bytes) made.1))) is
+    ap (λ (ms : List Occurrence). replaces s t ms) made.0 ∙ ap (λ (w : List ℕ). quietly (record s { pattern = w })) (sym (ap (λ (x : Contents). x.bytes) made.1))) is

@@ -1,5 +1,5 @@
 -- What the engine does with its fields are moves.
-use Rattle.std.proofs.Common.{◌≡◌, ℕ, suc, zero, ◌<◌, ◌+◌, ◌-◌, ◌≤◌, Bool, true, false, List, [], ◌∷◌, ◌++◌, length, map, Option, Some, None, Result, Ok, Err, refl, subst, sym, ap, ◌∙◌, arith, zero-add}
+use Rattle.std.proofs.Common.{◌≡◌, ℕ, suc, zero, ◌<◌, ◌+◌, ◌-◌, ◌≤◌, Bool, true, false, List, [], ◌∷◌, ◌++◌, length, map, Option, Some, None, Result, Ok, Err, refl, subst, sym, ap, ◌∙◌, arith, zero-add, not}
 use Rattle.std.specs.Prelude.{slice_get, is_some}
 use Rattle.std.specs.Io.KnownBytes.{Keeps}
 use Rattle.std.proofs.lemmas.List.{length-map}
@@ -8,11 +8,11 @@ use Rattle.sedspace.specs.Spaces.{Contents}
 use Rattle.sedspace.specs.Stream.{Stream, left, lines_left, TakesLine, GivesLine, NoneLeft, FirstIsLonger, KeepsLines, TakesAtMost}
 use Rattle.sedengine.specs.Limits.{Limits}
 use Rattle.sedengine.specs.State.{Task, begin, do_at, State, Setting}
-use Rattle.sedengine.specs.Move.{move, start, quietly, then_do}
-use Rattle.sedengine.specs.Ends.{Fits, IsCause, line_at, any_left, takes_turn, reads, named_sink}
+use Rattle.sedengine.specs.Move.{move, start, quietly, then_do, none_left}
+use Rattle.sedengine.specs.Ends.{WithinLimits, IsCause, line_at, takes_turn, reads, named_sink}
 use Rattle.sedengine.specs.Held.{SameLengths}
 use Rattle.sedengine.specs.Meters.{Sent, Tally}
-use Rattle.sedengine.specs.Run.{Run, at_lines, setting}
+use Rattle.sedengine.specs.Run.{RunState, at_lines, setting}
 use Rattle.sedengine.specs.Steps.{Ran, Moves, TakesLines, Halted, Steps, lost}
 use Rattle.sedengine.specs.Inside.{run_of, tasks_of, entries_of, IsRun, IsEmptied}
 use Rattle.sedengine.specs.declared.machine.Machine.TheInside.{Inside}
@@ -23,30 +23,23 @@ use Rattle.sedengine.specs.declared.ends.Ended.TheVariants.{Done, PatternFull, T
 use Rattle.sedengine.proofs.Streams.{line_taken, lines_end, lines_stay, lines_same, TakesAtMost-more, TakesAtMost-none, TakesAtMost-kept}
 use Rattle.sedengine.proofs.Moves.{move_at, ran_quietly, stopped_here}
 
-pub fits_at : (a : Inside) (ls : List (List ℕ)) → length a.pattern.bytes ≤ a.limits.space → length a.hold.bytes ≤ a.limits.space → length a.queue.items ≤ a.limits.queue → a.turns ≤ a.limits.turns → Fits a.limits (at_lines (run_of a) ls)
+pub fits_at : (a : Inside) (ls : List (List ℕ)) → length a.pattern.bytes ≤ a.limits.space → length a.hold.bytes ≤ a.limits.space → length a.queue.items ≤ a.limits.queue → a.turns ≤ a.limits.turns → WithinLimits a.limits (at_lines (run_of a) ls)
 fits_at a ls pattern hold queue turns = record { pattern = pattern; hold = hold; queue = rw length-map queue; turns = turns }
 
-pub fits_of : (a : Inside) (ls : List (List ℕ)) → IsRun a → Fits a.limits (at_lines (run_of a) ls)
+pub fits_of : (a : Inside) (ls : List (List ℕ)) → IsRun a → WithinLimits a.limits (at_lines (run_of a) ls)
 fits_of a ls i = fits_at a ls i.pattern i.hold i.queue i.turns
 
-pub fits_tasks : (l : Limits) (s : State) (ts : List Task) → Fits l s → Fits l (then_do ts s)
+pub fits_tasks : (l : Limits) (s : State) (ts : List Task) → WithinLimits l s → WithinLimits l (then_do ts s)
 fits_tasks l s ts f = record { pattern = f.pattern; hold = f.hold; queue = f.queue; turns = f.turns }
 
--- What holds of the fields holds of the value.
-seen_moves : (a : Inside) (e : Run) (ts : List Task) (files : ℕ → List ℕ) (ls : List (List ℕ)) (now : State) (P : List (ℕ × ℕ) → Type 0) (r : Result Unit Ended) →
-    run_of a ≡ e → e.state.tasks ≡ ts → (tasks_of a.place ≡ ts → Moves a.limits (setting (run_of a) files) (at_lines (run_of a) ls) now P r) →
-    Moves e.limits (setting e files) (at_lines e ls) now P r
-seen_moves a e ts files ls now P r seen t h =
-    let Q : Run → Type 0 = λ e. e.state.tasks ≡ ts → Moves e.limits (setting e files) (at_lines e ls) now P r in subst Q seen h t
-
-seen_steps : {R : Type 0} (remaining : R → Option (List ℕ)) (old new : Stream R) (a : Inside) (e e' : Run) (ts : List Task) (files : ℕ → List ℕ) (ls : List (List ℕ)) (P : List (ℕ × ℕ) → Type 0) (r : Result Unit Ended) →
+seen_steps : {R : Type 0} (remaining : R → Option (List ℕ)) (old new : Stream R) (a : Inside) (e e' : RunState) (ts : List Task) (files : ℕ → List ℕ) (ls : List (List ℕ)) (P : List (ℕ × ℕ) → Type 0) (r : Result Unit Ended) →
     run_of a ≡ e → e.state.tasks ≡ ts → (tasks_of a.place ≡ ts → Steps remaining old new ls a.limits (setting (run_of a) files) (run_of a) e' P r) →
     Steps remaining old new ls e.limits (setting e files) e e' P r
 seen_steps {R} remaining old new a e e' ts files ls P r seen t h =
-    let Q : Run → Type 0 = λ e. e.state.tasks ≡ ts → Steps remaining old new ls e.limits (setting e files) e e' P r in subst Q seen h t
+    let Q : RunState → Type 0 = λ e. e.state.tasks ≡ ts → Steps remaining old new ls e.limits (setting e files) e e' P r in subst Q seen h t
 
 -- The end comes at once, and no line was taken.
-pub halts_here : {R : Type 0} (remaining : R → Option (List ℕ)) (old new : Stream R) (l : Limits) (g : Setting) (s : State) (e : Run) (sinks : Tally) (end : Ended) → Fits l s → named_sink end ≡ None → IsCause l g s end → SameLengths s e.state →
+pub halts_here : {R : Type 0} (remaining : R → Option (List ℕ)) (old new : Stream R) (l : Limits) (g : Setting) (s : State) (e : RunState) (sinks : Tally) (end : Ended) → WithinLimits l s → named_sink end ≡ None → IsCause l g s end → SameLengths s e.state →
     TakesAtMost (left remaining old) (left remaining new) (lost l end) → Halted remaining old new l g s e (Sent sinks sinks) end
 halts_here {R} remaining old new l g s e sinks end f none cause same gone = record {
   rest = s.lines;
@@ -68,7 +61,7 @@ emptied_at p.Rebegin bytes t h = cc
 emptied_at p.Ended bytes t h = cc
 
 -- The fields a of an engine that stands before a cycle; `sinks` are what sinks hold, of which none gains anything.
-module _ {R : Type 0} (remaining : R → Option (List ℕ)) (old new : Stream R) (a : Inside) (e : Run) (seen : run_of a ≡ e) (i : IsRun a) (at : e.state.tasks ≡ begin ∷ [])
+module _ {R : Type 0} (remaining : R → Option (List ℕ)) (old new : Stream R) (a : Inside) (e : RunState) (seen : run_of a ≡ e) (i : IsRun a) (at : e.state.tasks ≡ begin ∷ [])
     (ls : List (List ℕ)) (known : lines_left remaining old ≡ Some ls) (files : ℕ → List ℕ) (sinks : Tally) where
   -- the fields that a line leads to, and those where there is none
   abbrev with : Contents → Inside
@@ -79,7 +72,7 @@ module _ {R : Type 0} (remaining : R → Option (List ℕ)) (old new : Stream R)
 
   ends : (pattern : Contents) → ls ≡ [] → pattern ≡ a.pattern → tasks_of a.place ≡ begin ∷ [] → Ran a.limits (setting (run_of a) files) (at_lines (run_of a) ls) (at_lines (run_of (without pattern)) []) (Sent sinks sinks)
   ends pattern none same t =
-      let f : Fits a.limits (at_lines (run_of (without a.pattern)) []) = fits_at (without a.pattern) [] i.pattern i.hold i.queue i.turns in
+      let f : WithinLimits a.limits (at_lines (run_of (without a.pattern)) []) = fits_at (without a.pattern) [] i.pattern i.hold i.queue i.turns in
       rw same (ran_quietly a.limits (setting (run_of a) files) (at_lines (run_of a) ls) (at_lines (run_of (without a.pattern)) []) sinks (fits_of a ls i) (rw none (move_at _ _ _ t)) f)
 
   takes : (line : List ℕ) (rest : List (List ℕ)) (pattern : Contents) → ls ≡ line ∷ rest → pattern.bytes ≡ line → tasks_of a.place ≡ begin ∷ [] →
@@ -139,10 +132,10 @@ module _ {R : Type 0} (remaining : R → Option (List ℕ)) (old new : Stream R)
       (record { pattern = ap (λ (c : Contents). length c.bytes) same; hold = refl; queue = λ _. refl; entries = omega arith }) (rw i.pattern_limit at gone))
 
   -- A line is left, and no turn.
-  pub begins_spent : any_left ls ≡ true → a.turns ≡ a.limits.turns → Keeps (left remaining old) (left remaining new) →
+  pub begins_spent : not (none_left ls) ≡ true → a.turns ≡ a.limits.turns → Keeps (left remaining old) (left remaining new) →
       Steps remaining old new ls e.limits (setting e files) e e (Sent sinks sinks) (Err TurnsSpent)
   begins_spent some spent kept =
-      let Q : Run → Type 0 = λ e. e.state.tasks ≡ begin ∷ [] → Steps remaining old new ls e.limits (setting e files) e e (Sent sinks sinks) (Err TurnsSpent) in
+      let Q : RunState → Type 0 = λ e. e.state.tasks ≡ begin ∷ [] → Steps remaining old new ls e.limits (setting e files) e e (Sent sinks sinks) (Err TurnsSpent) in
       subst Q seen (λ t. halts_here remaining old new a.limits (setting (run_of a) files) (at_lines (run_of a) ls) (run_of a) sinks TurnsSpent (fits_of a ls i) refl
       (spent, ap (takes_turn (setting (run_of a) files) (at_lines (run_of a) ls)) t ∙ some) (record { pattern = refl; hold = refl; queue = λ _. refl; entries = omega arith }) (TakesAtMost-kept _ _ kept)) at
 
@@ -156,17 +149,17 @@ module _ {R : Type 0} (remaining : R → Option (List ℕ)) (old new : Stream R)
 
   pub begins_failed : Keeps (left remaining old) (left remaining new) → Steps remaining old new ls e.limits (setting e files) e e (Sent sinks sinks) (Err InputBroken)
   begins_failed kept =
-      let Q : Run → Type 0 = λ e. e.state.tasks ≡ begin ∷ [] → Steps remaining old new ls e.limits (setting e files) e e (Sent sinks sinks) (Err InputBroken) in
+      let Q : RunState → Type 0 = λ e. e.state.tasks ≡ begin ∷ [] → Steps remaining old new ls e.limits (setting e files) e e (Sent sinks sinks) (Err InputBroken) in
       subst Q seen (λ t. halts_here remaining old new a.limits (setting (run_of a) files) (at_lines (run_of a) ls) (run_of a) sinks InputBroken (fits_of a ls i) refl
       (ap (reads (setting (run_of a) files)) t) (record { pattern = refl; hold = refl; queue = λ _. refl; entries = omega arith }) (TakesAtMost-more _ _ 0 _ (omega arith) (TakesAtMost-kept _ _ kept))) at
 
 -- An engine with the fields a that stands before command k, or before the end of the script.
-module _ (a : Inside) (e : Run) (seen : run_of a ≡ e) (i : IsRun a) (files : ℕ → List ℕ) (ls : List (List ℕ)) (k : ℕ) (at : e.state.tasks ≡ do_at k ∷ []) where
+module _ (a : Inside) (e : RunState) (seen : run_of a ≡ e) (i : IsRun a) (files : ℕ → List ℕ) (ls : List (List ℕ)) (k : ℕ) (at : e.state.tasks ≡ do_at k ∷ []) where
   -- a command with no turn left
   pub reach_spent : (sinks : Tally) → k < length a.script.commands → a.turns ≡ a.limits.turns →
       Moves e.limits (setting e files) (at_lines e ls) (at_lines e ls) (Sent sinks sinks) (Err TurnsSpent)
   reach_spent sinks there spent =
-      let Q : Run → Type 0 = λ e. e.state.tasks ≡ do_at k ∷ [] → Moves e.limits (setting e files) (at_lines e ls) (at_lines e ls) (Sent sinks sinks) (Err TurnsSpent) in
+      let Q : RunState → Type 0 = λ e. e.state.tasks ≡ do_at k ∷ [] → Moves e.limits (setting e files) (at_lines e ls) (at_lines e ls) (Sent sinks sinks) (Err TurnsSpent) in
       subst Q seen (λ t. stopped_here a.limits (setting (run_of a) files) (at_lines (run_of a) ls) (at_lines (run_of a) ls) sinks TurnsSpent (fits_of a ls i) refl
       (spent, ap (takes_turn (setting (run_of a) files) (at_lines (run_of a) ls)) t ∙ is_there a.script.commands k there) (record { pattern = refl; hold = refl; queue = λ _. refl; entries = omega arith }) refl) at
     where
@@ -176,14 +169,14 @@ module _ (a : Inside) (e : Run) (seen : run_of a ≡ e) (i : IsRun a) (files : �
       is_there (x ∷ xs) (suc k) h = is_there xs k (omega arith)
 
 -- Nothing is moved where the run has ended.
-pub ends_here : {R : Type 0} (remaining : R → Option (List ℕ)) (old : Stream R) (a : Inside) (e : Run) (seen : run_of a ≡ e) (i : IsRun a) (ls : List (List ℕ)) (files : ℕ → List ℕ) (sinks : Tally) → a.place ≡ p.Ended →
+pub ends_here : {R : Type 0} (remaining : R → Option (List ℕ)) (old : Stream R) (a : Inside) (e : RunState) (seen : run_of a ≡ e) (i : IsRun a) (ls : List (List ℕ)) (files : ℕ → List ℕ) (sinks : Tally) → a.place ≡ p.Ended →
     Steps remaining old old ls e.limits (setting e files) e e (Sent sinks sinks) (Err Done)
 ends_here {R} remaining old a e seen i ls files sinks over =
-    let Q : Run → Type 0 = λ e. Steps remaining old old ls e.limits (setting e files) e e (Sent sinks sinks) (Err Done) in
+    let Q : RunState → Type 0 = λ e. Steps remaining old old ls e.limits (setting e files) e e (Sent sinks sinks) (Err Done) in
     subst Q seen (halts_here remaining old old a.limits (setting (run_of a) files) (at_lines (run_of a) ls) (run_of a) sinks Done (fits_of a ls i) refl (ap tasks_of over) (record { pattern = refl; hold = refl; queue = λ _. refl; entries = omega arith }) (TakesAtMost-none _))
 
 -- What takes no lines keeps those that are left.
-pub steps_by_moves : {R : Type 0} (remaining : R → Option (List ℕ)) (old : Stream R) (ls : List (List ℕ)) (l : Limits) (g : Setting) (e e' : Run) (P : List (ℕ × ℕ) → Type 0) (r : Result Unit Ended) → lines_left remaining old ≡ Some ls →
+pub steps_by_moves : {R : Type 0} (remaining : R → Option (List ℕ)) (old : Stream R) (ls : List (List ℕ)) (l : Limits) (g : Setting) (e e' : RunState) (P : List (ℕ × ℕ) → Type 0) (r : Result Unit Ended) → lines_left remaining old ≡ Some ls →
     Moves l g (at_lines e ls) (at_lines e' ls) P r → Steps remaining old old ls l g e e' P r
 steps_by_moves {R} remaining old ls l g e e' P (Ok u) known ran = (ls, lines_same remaining old ls known, ran)
 steps_by_moves {R} remaining old ls l g e e' P (Err end) known stopped = record {
@@ -195,7 +188,7 @@ steps_by_moves {R} remaining old ls l g e e' P (Err end) known stopped = record 
 }
 
 -- an engine at the start, with this pattern space, hold space, queue and ranges
-abbrev pub starting : Program → Limits → List ℕ → List ℕ → List ℕ → List Bool → Run
+abbrev pub starting : Program → Limits → List ℕ → List ℕ → List ℕ → List Bool → RunState
 starting script l pattern hold queue ranges = record {
   script = script;
   limits = l;

@@ -13,8 +13,8 @@ use Rattle.sedengine.specs.Choose.{current}
 use Rattle.sedengine.specs.Inside.{run_of, IsRun}
 use Rattle.std.specs.Prelude.{slice_get, slice_set}
 use Rattle.std.proofs.lemmas.List.{set-get_or}
-use Rattle.sedengine.specs.SubstituteParts.{Replaces, TakesFor}
-use Rattle.sedengine.specs.Run.{Run, finds_in, search_for, search_in}
+use Rattle.sedengine.specs.SubstituteParts.{Replaces}
+use Rattle.sedengine.specs.Run.{RunState, finds_in, search_for, search_in}
 use Rattle.sedengine.specs.Select.{Answer, answer, stands_for}
 use Rattle.sedengine.specs.Substitute.{chosen, occurrences}
 use Rattle.sedengine.specs.declared.machine.Machine.TheInside.{Inside}
@@ -32,17 +32,17 @@ within_by n None (Some j) k h one is = let same : k ≡ j = some_of k j is in rw
 within_by n None None k h one is = cc
 
 -- an address tries an expression of the script
-pub tried_within : (a : Inside) (r : Run) (named : Option ℕ) (k : ℕ) → run_of a ≡ r → IsRun a → AddressWithin (length r.script.expressions) (Some (Match named)) → Some k ≡ option_or named a.used →
+pub tried_within : (a : Inside) (r : RunState) (named : Option ℕ) (k : ℕ) → run_of a ≡ r → IsRun a → AddressWithin (length r.script.expressions) (Some (Match named)) → Some k ≡ option_or named a.used →
     k < length a.script.expressions
 tried_within a r named k seen i h is =
-    let P : Run → Type 0 = λ r. AddressWithin (length r.script.expressions) (Some (Match named)) in
+    let P : RunState → Type 0 = λ r. AddressWithin (length r.script.expressions) (Some (Match named)) in
     within_by (length a.script.expressions) named a.used k (subst P (sym seen) h) i.used is
 
 -- what it answers
-pub answered : (a : Inside) (r : Run) (named : Option ℕ) (k : ℕ) (ms : List Written) (b last : Bool) → run_of a ≡ r → ms ≡ a.script.expressions → Some k ≡ option_or named a.used → b ≡ finds_in ms k a.pattern.bytes →
+pub answered : (a : Inside) (r : RunState) (named : Option ℕ) (k : ℕ) (ms : List Written) (b last : Bool) → run_of a ≡ r → ms ≡ a.script.expressions → Some k ≡ option_or named a.used → b ≡ finds_in ms k a.pattern.bytes →
     answer (current r last) (Match named) ≡ Some (record { yes = b; used = Some k })
 answered a r named k ms b last seen same is found =
-    let Q : Run → Type 0 = λ r. answer (current r last) (Match named) ≡ Some (record { yes = b; used = Some k }) in
+    let Q : RunState → Type 0 = λ r. answer (current r last) (Match named) ≡ Some (record { yes = b; used = Some k }) in
     let f : ℕ → Option Answer = λ j. Some (record { yes = finds_in a.script.expressions j a.pattern.bytes; used = Some j }) in
     let stands : stands_for named a.used ≡ Some k = sym (is ∙ standing named a.used) in
     let yes : finds_in a.script.expressions k a.pattern.bytes ≡ b = sym (found ∙ ap (λ (es : List Written). finds_in es k a.pattern.bytes) same) in
@@ -57,16 +57,9 @@ replaces_by ms e m w t limit made r inside is h =
     let P : Option Written → Type 0 = λ o. Replaces w t.replacement (chosen t.number t.global (occurrences (search_for o w) (length w))) limit made r in
     subst P (sym (slice_get_read ms (length ms) e m refl inside is)) h
 
-same_written : {x y : Written} → Some x ≡ Some y → x ≡ y
-same_written h = cc
-
 -- the matcher of a number is the one that stands there
 pub matcher_at : (ms : List Written) (e : ℕ) (m : Written) → e < length ms → m ≡ get_or ms e m → slice_get ms e ≡ Some m
 matcher_at ms e m inside is = slice_get_read ms (length ms) e m refl inside is
-
--- what the searches of the expression of a number take
-pub takes_for : (ms : List Written) (e : ℕ) (m : Written) (n n' s t : ℕ) → slice_get ms e ≡ Some m → n ≡ n' → Takes s t (416 * length m.nodes * (n + 1)) → TakesFor ms e n' s t
-takes_for ms e m n n' s t at same h = (h.0, λ x there. let one : x ≡ m = same_written (sym there ∙ at) in rw (one, ← same) h.1)
 
 -- a matcher that is as it was leaves all as they were
 pub matchers_kept : (ms : List Written) (e : ℕ) (m m' : Written) → m ≡ get_or ms e m → m' ≡ m → slice_set ms e m' ≡ ms

@@ -21,7 +21,7 @@ slice_get-append_add (x ∷ xs) ys n = rw suc-add (slice_get-append_add xs ys n)
 
 FailedSink-then : (a b c : ℕ → ℕ) (r : Result Unit Ended) → ((k : ℕ) → b k ≡ a k) → FailedSink b c r → FailedSink a c r
 FailedSink-then a b c (Ok u) h i = λ k. i k ∙ h k
-FailedSink-then a b c (Err (OutputBroken k)) h i = let e = h k in rw e at i
+FailedSink-then a b c (Err (OutputBroken k)) h (rose, others) = let e = h k in (rw e at rose, λ j not_k. others j not_k ∙ h j)
 FailedSink-then a b c (Err other) h i = λ k. i k ∙ h k
 
 -- one call after another

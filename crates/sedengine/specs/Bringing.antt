@@ -5,7 +5,7 @@ use Rattle.sedspace.specs.Spaces.{Contents}
 use Rattle.sedspace.specs.Stream.{Stream, left, TakesAtMost}
 use Rattle.sedspace.specs.declared.lines.Got.{Got}
 use Rattle.sedspace.specs.declared.lines.Got.TheVariants.{Line, End}
-use Rattle.sedengine.specs.Run.{Run}
+use Rattle.sedengine.specs.Run.{RunState}
 use Rattle.sedengine.specs.Steps.{TakesLines}
 use Rattle.sedengine.specs.declared.ends.Ended.{Ended}
 use Rattle.sedengine.specs.declared.ends.Ended.TheVariants.{PatternFull, InputBroken}
@@ -27,6 +27,6 @@ Brings remaining old new ls before number s s' (Err other) = ⊥
 
 -- the engine that goes on with the line that was brought, or whose run is over where there was none; its pattern space
 -- has the line already
-abbrev pub brought : Run → Got → Run
+abbrev pub brought : RunState → Got → RunState
 brought e Line = record e { state = record e.state { number = e.state.number + 1; replaced = false } }
 brought e End = record e { state = record e.state { tasks = [] } }

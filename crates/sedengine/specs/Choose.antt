@@ -7,7 +7,7 @@ use Rattle.sedscript.specs.declared.types.Command.{Command}
 use Rattle.sedengine.specs.Select.{Current, Answer, Choice, answer, selects}
 use Rattle.sedengine.specs.State.{do_at}
 use Rattle.sedengine.specs.Ends.{names_last}
-use Rattle.sedengine.specs.Run.{Run, finds_in}
+use Rattle.sedengine.specs.Run.{RunState, finds_in}
 use Rattle.sedengine.specs.declared.ends.Ended.{Ended}
 use Rattle.sedengine.specs.declared.ends.Ended.TheVariants.{NoPrevious, InputBroken}
 use Rattle.sedengine.specs.declared.select.Chosen.{Chosen}
@@ -66,7 +66,7 @@ decides c None = Some (record { yes = true; used = c.used })
 decides c (Some a) = answer c a
 
 -- what addresses are judged by, in this state of the engine
-abbrev pub current : Run → Bool → Current
+abbrev pub current : RunState → Bool → Current
 current e last = record {
   number = e.state.number;
   last = last;
@@ -76,7 +76,7 @@ current e last = record {
 }
 
 -- the engine with another expression last used
-abbrev pub with_used : Run → Option ℕ → Run
+abbrev pub with_used : RunState → Option ℕ → RunState
 with_used e used = record e { state = record e.state { used = used } }
 
 -- What a call that judges one address answers, used being the expression last used after it.
@@ -98,7 +98,7 @@ Judges c active command used (Err InputBroken) = names_last command ≡ true
 Judges c active command used (Err _) = ⊥
 
 -- the engine that has reached command k, with these ranges and this expression last used
-abbrev pub reached_with : Run → ℕ → List Bool → Option ℕ → Run
+abbrev pub reached_with : RunState → ℕ → List Bool → Option ℕ → RunState
 reached_with e k ranges used = record e {
   state = record e.state {
     ranges = ranges;
@@ -109,7 +109,7 @@ reached_with e k ranges used = record e {
 }
 
 -- how a call that judges the addresses of command k leaves the engine
-abbrev pub TakesTurn : Run → Run → ℕ → Result Chosen Ended → Type 0
+abbrev pub TakesTurn : RunState → RunState → ℕ → Result Chosen Ended → Type 0
 TakesTurn e e' k (Ok choice) = e' ≡ reached_with e k (slice_set e.state.ranges k choice.active) e'.state.used
 TakesTurn e e' k (Err end) = e' ≡ e
 

@@ -1,6 +1,6 @@
 -- What a run does to its devices: the bytes that sinks gain, and the failures, whether devices tell their bytes or not
 -- (this project's own).
-use Rattle.std.specs.Prelude.{◌≡◌, ℕ, ◌+◌, ◌≤◌, Option, Some, Result, Ok, Err, IfSome, List, [], ◌∷◌, length, nat_eq, if◌then◌else◌}
+use Rattle.std.specs.Prelude.{◌≡◌, ◌≢◌, ℕ, ◌+◌, ◌≤◌, Option, Some, Result, Ok, Err, IfSome, List, [], ◌∷◌, length, nat_eq, if◌then◌else◌}
 use Rattle.std.specs.Borrow.{GName}
 use Rattle.std.specs.Io.KnownBytes.{Appends}
 use Rattle.sedspace.specs.Failures.{Rose}
@@ -31,9 +31,9 @@ pub record GainedWithin (most : Option ℕ) (before : ℕ → ℕ) (old new : �
   pub within : IfSome most (λ n. (k : ℕ) → before k + length (part k out) ≤ n)
   pub full : FillsSink most before out r
 
--- A sink that an end names as broken has failed; where the run goes on, and at any other end, none has.
+-- A sink that an end names as broken has failed, and no other; where the run goes on, and at any other end, none has.
 abbrev pub FailedSink : (ℕ → ℕ) → (ℕ → ℕ) → Result Unit Ended → Type 0
-FailedSink old new (Err (OutputBroken k)) = Rose (old k) (new k)
+FailedSink old new (Err (OutputBroken k)) = Rose (old k) (new k) × ((j : ℕ) → j ≢ k → new j ≡ old j)
 FailedSink old new other = (k : ℕ) → new k ≡ old k
 
 -- The source hasn't failed where the run goes on, and has where an end says so.

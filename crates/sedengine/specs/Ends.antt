@@ -1,18 +1,18 @@
 -- How a run ends: the limits, the ends and their causes (this project's own; XCU sed names no limits).
-use Rattle.std.specs.Prelude.{◌≡◌, ℕ, suc, ◌+◌, ◌<◌, ◌≤◌, Bool, true, false, ◌||◌, Option, Some, None, List, [], ◌∷◌, length, take, slice_get, is_some}
+use Rattle.std.specs.Prelude.{◌≡◌, ℕ, suc, ◌+◌, ◌<◌, ◌≤◌, Bool, true, false, ◌||◌, Option, Some, None, List, [], ◌∷◌, length, take, slice_get, is_some, not}
 use Rattle.sedscript.specs.declared.types.Address.{Address}
-use Rattle.sedscript.specs.declared.types.Address.TheVariants.{Line, Last, Match}
+use Rattle.sedscript.specs.declared.types.Address.TheVariants.{Last}
 use Rattle.sedscript.specs.declared.types.Command.{Command}
 use Rattle.sedscript.specs.declared.types.Action.{Action}
 use Rattle.sedscript.specs.declared.types.Action.TheVariants.{NextLine}
 use Rattle.sedengine.specs.State.{Task, begin, rebegin, do_at, copy, fetch, join, State, Move, Setting}
-use Rattle.sedengine.specs.Move.{move, after, written}
+use Rattle.sedengine.specs.Move.{move, after, written, none_left}
 use Rattle.sedengine.specs.declared.limits.Limits.{Limits}
 use Rattle.sedengine.specs.declared.ends.Ended.{Ended}
 use Rattle.sedengine.specs.declared.ends.Ended.TheVariants.{Done, PatternFull, HoldFull, QueueFull, TurnsSpent, NoPrevious, InputBroken, OutputBroken, OutputFull}
 
 -- a state within the limits
-pub record Fits (l : Limits) (s : State) : Type 0 where
+pub record WithinLimits (l : Limits) (s : State) : Type 0 where
   pub pattern : length s.pattern ≤ l.space
   pub hold : length s.hold ≤ l.space
   pub queue : length s.queue ≤ l.queue
@@ -20,16 +20,12 @@ pub record Fits (l : Limits) (s : State) : Type 0 where
 
 -- each state up to the one after t moves is
 unfoldable pub Within : Limits → Setting → State → ℕ → Type 0
-Within l g s t = (k : ℕ) → k ≤ t → Fits l (after g s k)
-
-abbrev pub any_left : List (List ℕ) → Bool
-any_left [] = false
-any_left (line ∷ lines) = true
+Within l g s t = (k : ℕ) → k ≤ t → WithinLimits l (after g s k)
 
 -- whether the first task takes a turn: the start of a cycle that has a line, a command, a byte of a file
 abbrev pub takes_turn : Setting → State → List Task → Bool
 takes_turn g s [] = false
-takes_turn g s (begin ∷ rest) = any_left s.lines
+takes_turn g s (begin ∷ rest) = not (none_left s.lines)
 takes_turn g s (rebegin ∷ rest) = true
 takes_turn g s (do_at k ∷ rest) = is_some (slice_get g.commands k)
 takes_turn g s (copy k o ∷ rest) = is_some (slice_get (g.files k) o)
@@ -49,10 +45,8 @@ line_at s (other ∷ rest) = s.number
 
 -- whether an address is `$`
 abbrev pub is_dollar : Option Address → Bool
-is_dollar None = false
-is_dollar (Some (Line n)) = false
 is_dollar (Some Last) = true
-is_dollar (Some (Match e)) = false
+is_dollar other = false
 
 -- whether a command has an address `$`
 abbrev pub names_last : Command → Bool

@@ -5,16 +5,11 @@ use Rattle.std.specs.List.{All}
 use Rattle.sedre.specs.Arena.{Written}
 use Rattle.sedmatch.specs.declared.occurrences.Occurrences.{Occurrences}
 use Rattle.sedmatch.specs.Occurrences.{RoomFor}
-use Rattle.sedmatch.specs.Room.{Room}
 use Rattle.sedscript.specs.declared.substitution.Substitution.{Substitution}
 
 -- each of these expressions has at most so many nodes
 unfoldable pub AllFit : ℕ → List Written → Type 0
 AllFit most es = All (λ e. length e.nodes ≤ most) es
-
--- a text of so many bytes and each of these expressions fit into the room
-abbrev pub AllFitInto : ℕ → List Written → Room → Type 0
-AllFitInto text es room = (text ≤ room.text) × AllFit room.nodes es
 
 -- The matchers seek these expressions, of which each has at most so many nodes.
 unfoldable pub Seek : List Written → ℕ → List Written → Type 0

@@ -1,13 +1,13 @@
 -- Private to the proofs: no contract of a public item cites what stands here.
 -- What the engine's calls for the hold space promise one another.
 use Rattle.std.specs.Prelude.{◌≡◌, ◌<◌, ◌≤◌, Result, Ok, Err, length}
-use Rattle.sedengine.specs.Run.{Run}
+use Rattle.sedengine.specs.Run.{RunState}
 use Rattle.sedengine.specs.declared.ends.Ended.{Ended}
 use Rattle.sedengine.specs.declared.ends.Ended.TheVariants.{PatternFull, HoldFull}
 
 -- The engine becomes `made`, whose spaces are within the limit; or it stays, and the end names the space that is too
 -- long in `made`.
-abbrev pub BecomesOrFull : Run → Run → Run → Result Unit Ended → Type 0
+abbrev pub BecomesOrFull : RunState → RunState → RunState → Result Unit Ended → Type 0
 BecomesOrFull old made new (Ok u) =
     (new ≡ made) × (length made.state.pattern ≤ old.limits.space) × (length made.state.hold ≤ old.limits.space)
 BecomesOrFull old made new (Err (PatternFull n)) =

@@ -1,14 +1,14 @@
 -- Private to the proofs: no contract of a public item cites what stands here.
 -- The fields of the machine, and what they stand for.
 use Rattle.std.specs.Prelude.{◌≡◌, ℕ, ◌<◌, ◌≤◌, Bool, true, false, Option, Some, None, List, [], ◌∷◌, length, map, slice_get}
+use Rattle.std.specs.Option.{unwrap_or}
 use Rattle.sedscript.specs.declared.types.Command.{Command}
 use Rattle.sedscript.specs.declared.types.Action.{Action}
 use Rattle.sedscript.specs.declared.types.Action.TheVariants.{Append, Exchange, Hold, HoldMore, ReadFile}
 use Rattle.sedscript.specs.Ranges.{IsOneOf}
 use Rattle.sedscript.specs.Script.{Program}
 use Rattle.sedengine.specs.State.{Entry, text, file, Task, begin, rebegin, do_at, print_pattern, flush}
-use Rattle.sedengine.specs.Move.{text_of}
-use Rattle.sedengine.specs.Run.{Run}
+use Rattle.sedengine.specs.Run.{RunState}
 use Rattle.sedengine.specs.Fitting.{AllFit, RoomToSeek, Seek}
 use Rattle.sedengine.specs.declared.place.Place.{Place}
 use Rattle.sedengine.specs.declared.place.Place.TheVariants as p
@@ -24,7 +24,7 @@ tasks_of p.Ended = []
 
 -- the entry that an action puts into the queue: `a` a text, `r` a file, and no other any
 abbrev pub entry_for : List (List ℕ) → Action → Entry
-entry_for texts (Append k) = text (text_of (slice_get texts k))
+entry_for texts (Append k) = text (unwrap_or (slice_get texts k) [])
 entry_for texts (ReadFile k) = file k
 entry_for texts other = text []
 
@@ -36,7 +36,7 @@ entry_by texts (Some c) = entry_for texts c.action
 abbrev pub entries_of : Program → List ℕ → List Entry
 entries_of p is = map (λ i. entry_by p.texts (slice_get p.commands i)) is
 
-abbrev pub run_of : Inside → Run
+abbrev pub run_of : Inside → RunState
 run_of a = record {
   script = a.script;
   limits = a.limits;

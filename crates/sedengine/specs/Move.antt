@@ -1,6 +1,7 @@
 -- How the editor moves from one state to the next (XCU sed, Extended Description). Nothing is limited here.
 use Rattle.std.specs.Prelude.{ℕ, suc, zero, ◌+◌, Bool, true, false, ◌||◌, Option, Some, None, List, [], ◌∷◌, ◌++◌, map, decimal, is_none, length, slice_get, slice_set, slice_index_or, if◌then◌else◌, ◌==◌}
-use Rattle.std.specs.List.{after_first}
+use Rattle.std.specs.Option.{unwrap_or}
+use Rattle.std.specs.List.{after_first, before_first, list_any}
 use Rattle.sedspace.specs.Lines.{is_newline}
 use Rattle.sedscript.specs.declared.types.Command.{Command}
 use Rattle.sedscript.specs.declared.types.Action.{Action}
@@ -12,7 +13,7 @@ use Rattle.sedscript.specs.declared.types.Action.TheVariants.{List as listing}
 use Rattle.sedscript.specs.declared.substitution.Substitution.{Substitution}
 use Rattle.sedengine.specs.Select.{◌>>=◌, Current, Choice, selects, stands_for}
 use Rattle.sedengine.specs.Listing.{listed}
-use Rattle.sedengine.specs.Substitute.{Match, occurrences, chosen, replaced_from}
+use Rattle.sedengine.specs.Substitute.{Occurrence, occurrences, chosen, replaced_from}
 use Rattle.sedengine.specs.State.{Entry, text, file, Task, begin, rebegin, do_at, print_pattern, empty_pattern, flush, copy, fetch, join, State, Move, Setting}
 
 abbrev pub newline : ℕ
@@ -71,13 +72,8 @@ abbrev pub joins : State → List Task → List (List ℕ) → Option Move
 joins s rest [] = quietly (then_do [] s)
 joins s rest (line ∷ lines) = quietly (then_do rest (with_line (s.pattern ++ newline ∷ line) lines s))
 
--- the text of a number, as `a`, `i` and `c` have it
-abbrev pub text_of : Option (List ℕ) → List ℕ
-text_of None = []
-text_of (Some bytes) = bytes
-
 -- the occurrences in the pattern space that a substitution with the expression e replaces
-abbrev pub chosen_in : Setting → Substitution → ℕ → List ℕ → List Match
+abbrev pub chosen_in : Setting → Substitution → ℕ → List ℕ → List Occurrence
 chosen_in g t e w = chosen t.number t.global (occurrences (g.search e w) (length w))
 
 -- the text with a newline for the sink of a flag `w`, where the flag is given
@@ -95,7 +91,7 @@ abbrev pub becomes : State → Substitution → List ℕ → Option Move
 becomes s t w = writing (written_by t w) (record s { pattern = w; replaced = true })
 
 -- these occurrences are replaced, if there are any
-abbrev pub replaces : State → Substitution → List Match → Option Move
+abbrev pub replaces : State → Substitution → List Occurrence → Option Move
 replaces s t [] = quietly s
 replaces s t (m ∷ ms) = becomes s t (replaced_from s.pattern t.replacement 0 (m ∷ ms))
 
@@ -112,16 +108,6 @@ abbrev pub in_table : Option (List ℕ) → ℕ → ℕ
 in_table None b = b
 in_table (Some bytes) b = slice_index_or bytes b b
 
--- the bytes up to the first newline
-abbrev pub first_line : List ℕ → List ℕ
-first_line [] = []
-first_line (b ∷ bs) = if b == newline then [] else b ∷ first_line bs
-
--- whether a text has a newline
-abbrev pub has_newline : List ℕ → Bool
-has_newline [] = false
-has_newline (b ∷ bs) = is_newline b || has_newline bs
-
 -- whether no line of input is left
 abbrev pub none_left : List (List ℕ) → Bool
 none_left [] = true
@@ -137,14 +123,14 @@ abbrev pub acts : Setting → State → Bool → Action → Option Move
 -- `{`: "Execute a list of sed editing commands only when the pattern space is selected", so they come next
 acts g s tells (Block next) = quietly s
 -- `a`: "Write text to standard output as described previously": it waits in the queue
-acts g s tells (Append k) = quietly (queueing (text (text_of (slice_get g.texts k))) s)
+acts g s tells (Append k) = quietly (queueing (text (unwrap_or (slice_get g.texts k) [])) s)
 -- `b`: "Branch to the ':' command verb bearing the label"
 acts g s tells (Branch target) = quietly (then_do (do_at target ∷ []) s)
 -- `c`: "Delete the pattern space. With a 0 or 1 address or at the end of a 2-address range, place text on the output
 -- and start the next cycle." The next cycle starts within a range too, and before it starts, here as after `d` and `D`, what
 -- waits in the queue is written (this project's own).
 acts g s tells (Change k) =
-    writing (if tells then line_to 0 (text_of (slice_get g.texts k)) else [])
+    writing (if tells then line_to 0 (unwrap_or (slice_get g.texts k) []) else [])
     (record s { pattern = []; tasks = flush ∷ begin ∷ [] })
 -- `d`: "Delete the pattern space and start the next cycle."
 acts g s tells Delete = quietly (record s { pattern = []; tasks = flush ∷ begin ∷ [] })
@@ -152,10 +138,10 @@ acts g s tells Delete = quietly (record s { pattern = []; tasks = flush ∷ begi
 -- delete the initial segment of the pattern space through the first <newline> and start the next cycle with the resultant
 -- pattern space and without reading any new input."
 acts g s tells DeleteFirst = quietly (
-    if has_newline s.pattern then record s { pattern = after_first is_newline s.pattern; tasks = flush ∷ rebegin ∷ [] }
+    if list_any is_newline s.pattern then record s { pattern = after_first is_newline s.pattern; tasks = flush ∷ rebegin ∷ [] }
     else record s { pattern = []; tasks = flush ∷ begin ∷ [] })
 -- `i`: "Write text to standard output."
-acts g s tells (Insert k) = writing (line_to 0 (text_of (slice_get g.texts k))) s
+acts g s tells (Insert k) = writing (line_to 0 (unwrap_or (slice_get g.texts k) [])) s
 -- `g`: "Replace the contents of the pattern space by the contents of the hold space."
 acts g s tells CopyHold = quietly (record s { pattern = s.hold })
 -- `G`: "Append to the pattern space a <newline> followed by the contents of the hold space."
@@ -184,7 +170,7 @@ acts g s tells LineNumber = writing (line_to 0 (decimal s.number)) s
 -- `p`: "Write the pattern space to standard output."
 acts g s tells Print = writing (line_to 0 s.pattern) s
 -- `P`: "Write the pattern space, up to the first <newline>, to standard output."
-acts g s tells PrintFirst = writing (line_to 0 (first_line s.pattern)) s
+acts g s tells PrintFirst = writing (line_to 0 (before_first is_newline s.pattern)) s
 -- `q`: "Branch to the end of the script and quit without starting a new cycle."
 acts g s tells Quit = quietly (then_do (print_pattern ∷ flush ∷ []) s)
 -- `r`: "Copy the contents of rfile to standard output as described previously": its entry waits in the queue

@@ -6,7 +6,7 @@ use Rattle.sedscript.specs.Script.{Program}
 use Rattle.sedspace.specs.Stream.{TakesAtMost}
 use Rattle.sedengine.specs.Limits.{Limits}
 use Rattle.sedengine.specs.State.{Task, begin, rebegin, State, Setting}
-use Rattle.sedengine.specs.Substitute.{Match}
+use Rattle.sedengine.specs.Substitute.{Occurrence}
 use Rattle.sedengine.specs.Move.{after, written}
 use Rattle.sedengine.specs.Devices.{part, GainedWithin}
 use Rattle.sedengine.specs.Ends.{Within, Cause, named_sink}
@@ -18,7 +18,7 @@ use Rattle.sedengine.specs.declared.ends.Progress.TheVariants as progress
 
 -- an engine: its script, its limits, its state without the lines, how many bytes each sink has gained since it was opened,
 -- which is counted where a limit is set, and the end that its run came to
-pub record Run : Type 0 where
+pub record RunState : Type 0 where
   pub script : Program
   pub limits : Limits
   pub state : State
@@ -26,16 +26,16 @@ pub record Run : Type 0 where
   pub ended : Option Ended
 
 -- how many bytes a sink has gained since the engine was opened, where that is counted
-abbrev pub sent_to : Run → ℕ → ℕ
+abbrev pub sent_to : RunState → ℕ → ℕ
 sent_to e k = get_or e.sent k 0
 
 -- What the sinks gained in a call that led from one engine to another, which counts it.
-pub record Sends (e e' : Run) (old new : ℕ → Option (List ℕ)) (r : Result Unit Ended) (out : List (ℕ × ℕ)) : Type 0 where
+pub record Sends (e e' : RunState) (old new : ℕ → Option (List ℕ)) (r : Result Unit Ended) (out : List (ℕ × ℕ)) : Type 0 where
   pub gains : GainedWithin e.limits.output (sent_to e) old new r out
   pub counts : IfSome e.limits.output (λ most. (k : ℕ) → sent_to e' k ≡ sent_to e k + length (part k out))
 
 -- its state with the lines that are left
-abbrev pub at_lines : Run → List (List ℕ) → State
+abbrev pub at_lines : RunState → List (List ℕ) → State
 at_lines e ls = record e.state { lines = ls }
 
 -- whether an expression has a match in a text (XBD 9.1)
@@ -48,16 +48,16 @@ abbrev pub finds_in : List Written → ℕ → List ℕ → Bool
 finds_in expressions k w = has_match (slice_get expressions k) w
 
 -- the match of an expression in a text that has a span, with its groups (XBD 9.1)
-abbrev pub match_at : Written → List ℕ → Option (ℕ × ℕ) → Option Match
+abbrev pub match_at : Written → List ℕ → Option (ℕ × ℕ) → Option Occurrence
 match_at e w None = None
 match_at e w (Some span) = Some (record { start = span.0; end = span.1; groups = report (tree e) w span.0 span.1 })
 
 -- the match that is sought from a place on
-abbrev pub search_for : Option Written → List ℕ → ℕ → Option Match
+abbrev pub search_for : Option Written → List ℕ → ℕ → Option Occurrence
 search_for None w from = None
 search_for (Some e) w from = match_at e w (found (tree e) w from)
 
-abbrev pub search_in : List Written → ℕ → List ℕ → ℕ → Option Match
+abbrev pub search_in : List Written → ℕ → List ℕ → ℕ → Option Occurrence
 search_in expressions k w from = search_for (slice_get expressions k) w from
 
 abbrev pub setting_of : Program → (ℕ → List ℕ) → Setting
@@ -73,7 +73,7 @@ setting_of p files = record {
 }
 
 -- what doesn't change in its run
-abbrev pub setting : Run → (ℕ → List ℕ) → Setting
+abbrev pub setting : RunState → (ℕ → List ℕ) → Setting
 setting e files = setting_of e.script files
 
 -- the texts tell these files
@@ -137,7 +137,7 @@ pub record EndingInCycle (l : Limits) (g : Setting) (s : State) (gained : List (
 
 -- What one cycle answers; `left` are the lines left after it.
 abbrev pub Cycles : Limits → Setting → State → (List (ℕ × ℕ) → Type 0) → Option (List ℕ) → Option (List ℕ) →
-    Run → Option (List (List ℕ)) → Progress → Type 0
+    RunState → Option (List (List ℕ)) → Progress → Type 0
 Cycles l g s gained old new e left progress.More =
     (rest : List (List ℕ)) × (left ≡ Some rest) × Cycled l g s gained old new (at_lines e rest)
 Cycles l g s gained old new e left (progress.Ended end) = EndingInCycle l g s gained old new e.state end
@@ -153,6 +153,6 @@ outcome progress.More = Ok tt
 outcome (progress.Ended end) = Err end
 
 -- what a run leaves as it is
-pub record SameRun (old new : Run) : Type 0 where
+pub record SameRun (old new : RunState) : Type 0 where
   pub script : new.script ≡ old.script
   pub limits : new.limits ≡ old.limits

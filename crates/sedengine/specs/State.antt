@@ -2,7 +2,7 @@
 use Rattle.std.specs.Prelude.{ℕ, Bool, List, Option}
 use Rattle.sedscript.specs.declared.types.Command.{Command}
 use Rattle.sedscript.specs.declared.substitution.Substitution.{Substitution}
-use Rattle.sedengine.specs.Substitute.{Match}
+use Rattle.sedengine.specs.Substitute.{Occurrence}
 
 -- what the queue holds: a text, or the contents of a file by its number (the functions a and r)
 pub data Entry : Type 0 where
@@ -48,6 +48,6 @@ pub record Setting : Type 0 where
   pub substitutions : List Substitution
   pub tables : List (List ℕ)
   pub finds : ℕ → List ℕ → Bool
-  pub search : ℕ → List ℕ → ℕ → Option Match
+  pub search : ℕ → List ℕ → ℕ → Option Occurrence
   pub quiet : Bool
   pub files : ℕ → List ℕ

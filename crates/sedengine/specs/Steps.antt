@@ -9,9 +9,9 @@ use Rattle.sedengine.specs.Limits.{Limits}
 use Rattle.sedengine.specs.State.{Task, do_at, State, Move, Setting}
 use Rattle.sedengine.specs.Meters.{Sent, Tally}
 use Rattle.sedengine.specs.Move.{acts, move, after, written}
-use Rattle.sedengine.specs.Ends.{Fits, HasTurn, Within, Cause, named_sink, reaches, reads}
+use Rattle.sedengine.specs.Ends.{WithinLimits, HasTurn, Within, Cause, named_sink, reaches, reads}
 use Rattle.sedengine.specs.Held.{HoldsAt, SameLengths}
-use Rattle.sedengine.specs.Run.{Run, InOneCycle, at_lines, setting, size_of}
+use Rattle.sedengine.specs.Run.{RunState, InOneCycle, at_lines, setting, size_of}
 use Rattle.sedengine.specs.declared.ends.Ended.{Ended}
 use Rattle.sedengine.specs.declared.ends.Ended.TheVariants.{PatternFull, InputBroken}
 
@@ -39,7 +39,7 @@ Moves l g s now gained (Err end) = Stopped l g s now gained end
 
 -- A state in which a command is reached with a turn left. In the state `there` the turn is taken, and the command acts.
 pub record Reaches (l : Limits) (g : Setting) (s there : State) : Type 0 where
-  pub fits : Fits l s
+  pub fits : WithinLimits l s
   pub reaches : reaches s.tasks ≡ true
   pub turn : HasTurn l g s
   pub lines : s.lines ≡ there.lines
@@ -84,7 +84,7 @@ is_quiet (Transliterate k) = true
 is_quiet other = uses_hold other
 
 -- What a call answers that does what such a command does where it applies, from the engine e on.
-abbrev pub ActsQuietly : Run → Run → Action → Result Unit Ended → Type 0
+abbrev pub ActsQuietly : RunState → RunState → Action → Result Unit Ended → Type 0
 ActsQuietly e e' action r = (files : ℕ → List ℕ) (ls : List (List ℕ)) (tells : Bool) (sinks : Tally) →
     Performs e.limits (setting e files) (acts (setting e files) (at_lines e ls) tells action)
     (at_lines e ls) (at_lines e' ls) (Sent sinks sinks) r
@@ -105,7 +105,7 @@ lost l other = 0
 
 -- Moves were made that took these lines, and then the end came.
 pub record Halted {R : Type 0} (remaining : R → Option (List ℕ)) (old new : Stream R) (l : Limits) (g : Setting)
-    (s : State) (e : Run) (gained : List (ℕ × ℕ) → Type 0) (end : Ended) : Type 0 where
+    (s : State) (e : RunState) (gained : List (ℕ × ℕ) → Type 0) (end : Ended) : Type 0 where
   pub rest : List (List ℕ)
   pub stopped : Stopped l g s (at_lines e rest) gained end
   pub lines : List (List ℕ)
@@ -114,20 +114,20 @@ pub record Halted {R : Type 0} (remaining : R → Option (List ℕ)) (old new : 
 
 -- What a call that makes moves from the state s and may take lines answers, where ls are left before.
 abbrev pub StepsFrom : {R : Type 0} → (R → Option (List ℕ)) → Stream R → Stream R → List (List ℕ) → Limits → Setting →
-    State → Run → (List (ℕ × ℕ) → Type 0) → Result Unit Ended → Type 0
+    State → RunState → (List (ℕ × ℕ) → Type 0) → Result Unit Ended → Type 0
 StepsFrom remaining old new ls l g s e' gained (Ok u) =
     (rest : List (List ℕ)) × TakesLines remaining old new ls rest × Ran l g s (at_lines e' rest) gained
 StepsFrom remaining old new ls l g s e' gained (Err end) = Halted remaining old new l g s e' gained end
 
 -- the same from the state of an engine
 abbrev pub Steps : {R : Type 0} → (R → Option (List ℕ)) → Stream R → Stream R → List (List ℕ) → Limits → Setting →
-    Run → Run → (List (ℕ × ℕ) → Type 0) → Result Unit Ended → Type 0
+    RunState → RunState → (List (ℕ × ℕ) → Type 0) → Result Unit Ended → Type 0
 Steps remaining old new ls l g e e' gained r = StepsFrom remaining old new ls l g (at_lines e ls) e' gained r
 
 -- What a call answers that makes the move o, perhaps moves after it, and may take lines, from whichever state has that move
 -- and comes to the command that acts in the state `there`; `asks` says whether that command asks if a line is left.
 abbrev pub PerformsSteps : {R : Type 0} → (R → Option (List ℕ)) → Stream R → Stream R → List (List ℕ) → Limits →
-    Setting → Option Move → Bool → State → Run → (List (ℕ × ℕ) → Type 0) → Result Unit Ended → Type 0
+    Setting → Option Move → Bool → State → RunState → (List (ℕ × ℕ) → Type 0) → Result Unit Ended → Type 0
 PerformsSteps remaining old new ls l g o asks there e' gained r =
     (s : State) → Reaches l g s there → (asks ≡ true → reads g s.tasks ≡ true) → move g s ≡ o →
     StepsFrom remaining old new ls l g s e' gained r
@@ -141,11 +141,11 @@ abbrev pub costs : List Task → ℕ
 costs [] = 0
 costs (t ∷ ts) = cost t + costs ts
 
-abbrev pub weight : Run → ℕ
+abbrev pub weight : RunState → ℕ
 weight e = 16 * (e.limits.turns - e.state.turns) + costs e.state.tasks
 
 -- what a private call leaves as it is
-pub record KeepsRun (old new : Run) : Type 0 where
+pub record KeepsRun (old new : RunState) : Type 0 where
   pub script : new.script ≡ old.script
   pub limits : new.limits ≡ old.limits
   pub ended : new.ended ≡ old.ended

@@ -7,50 +7,50 @@ use Rattle.sedscript.specs.declared.substitution.Piece.{Piece}
 use Rattle.sedscript.specs.declared.substitution.Piece.TheVariants.{Literal as literal, Whole as whole, Group as group}
 
 -- where a match begins and ends, and which span each of its groups has
-pub record Match : Type 0 where
+pub record Occurrence : Type 0 where
   pub start : ℕ
   pub end : ℕ
   pub groups : Groups
 
 -- the match of the null string at a place is passed over for another one
-abbrev pub unless_empty_at : ℕ → Option Match → Option Match → Option Match
+abbrev pub unless_empty_at : ℕ → Option Occurrence → Option Occurrence → Option Occurrence
 unless_empty_at q None other = None
 unless_empty_at q (Some m) other = if nat_eq m.start q && nat_eq m.end q then other else Some m
 
 -- The next occurrence in a text of n bytes, after one that ended at a place, where there was one; `search` tells the match
 -- sought from a place. Occurrences don't overlap, and a match of the null string directly after one is none (this
 -- project's own): then the search goes on one byte further, as long as that is no place after the end.
-abbrev pub next_occurrence : (ℕ → Option Match) → ℕ → Option ℕ → Option Match
+abbrev pub next_occurrence : (ℕ → Option Occurrence) → ℕ → Option ℕ → Option Occurrence
 next_occurrence search n None = search 0
 next_occurrence search n (Some q) = unless_empty_at q (search q) (if nat_lt q n then search (q + 1) else None)
 
-abbrev pub with_rest : Option Match → (Match → List Match) → List Match
+abbrev pub with_rest : Option Occurrence → (Occurrence → List Occurrence) → List Occurrence
 with_rest None rest = []
 with_rest (Some m) rest = m ∷ rest m
 
 -- at most so many of the occurrences after a place
-unfoldable pub occurrences_from : (ℕ → Option Match) → ℕ → ℕ → Option ℕ → List Match
+unfoldable pub occurrences_from : (ℕ → Option Occurrence) → ℕ → ℕ → Option ℕ → List Occurrence
 occurrences_from search n zero last = []
 occurrences_from search n (suc most) last =
     with_rest (next_occurrence search n last) (λ m. occurrences_from search n most (Some m.end))
 
 -- all occurrences in a text of n bytes, from left to right. Each but the first ends after the one before
-abbrev pub occurrences : (ℕ → Option Match) → ℕ → List Match
+abbrev pub occurrences : (ℕ → Option Occurrence) → ℕ → List Occurrence
 occurrences search n = occurrences_from search n (n + 1) None
 
 -- those that are replaced: the one of a number, counted from 1 ("the nth occurrence only"), and with the flag `g`
 -- ("all non-overlapping instances") it and all later ones (the two together: this project's own)
-abbrev pub chosen : ℕ → Bool → List Match → List Match
+abbrev pub chosen : ℕ → Bool → List Occurrence → List Occurrence
 chosen number global ms = if global then drop (number - 1) ms else take 1 (drop (number - 1) ms)
 
 -- what stands for an occurrence in the text w: "&" is the matched text, "\\n" what the n-th group matched
-abbrev pub put_for : List ℕ → Match → List Piece → List ℕ
+abbrev pub put_for : List ℕ → Occurrence → List Piece → List ℕ
 put_for w m [] = []
 put_for w m (literal b ∷ ps) = b ∷ put_for w m ps
 put_for w m (whole ∷ ps) = slice_range w m.start m.end ++ put_for w m ps
 put_for w m (group k ∷ ps) = part_of w (span_of m.groups k) ++ put_for w m ps
 
 -- the text w from a place on, these occurrences replaced
-abbrev pub replaced_from : List ℕ → List Piece → ℕ → List Match → List ℕ
+abbrev pub replaced_from : List ℕ → List Piece → ℕ → List Occurrence → List ℕ
 replaced_from w ps at [] = drop at w
 replaced_from w ps at (m ∷ ms) = slice_range w at m.start ++ put_for w m ps ++ replaced_from w ps m.end ms

@@ -6,27 +6,21 @@ use Rattle.sedspace.specs.declared.errors.Full.{Full}
 use Rattle.sedspace.specs.Spaces.{Contents}
 use Rattle.sedengine.specs.Limits.{Limits}
 use Rattle.sedengine.specs.State.{State, Move}
-use Rattle.sedengine.specs.Substitute.{Match, replaced_from}
+use Rattle.sedengine.specs.Substitute.{Occurrence, replaced_from}
 use Rattle.sedengine.specs.Move.{quietly, writing, written_by}
 use Rattle.sedengine.specs.Ends.{Leads}
-use Rattle.sedengine.specs.Run.{Run}
+use Rattle.sedengine.specs.Run.{RunState}
 use Rattle.sedengine.specs.declared.ends.Ended.{Ended}
 use Rattle.sedengine.specs.declared.ends.Ended.TheVariants.{PatternFull, NoPrevious}
 
 -- A call replaces these occurrences in a space, and says whether there are any. Where there are none the space stays as
 -- it was; Full where it has no room for what would be made.
-abbrev pub ReplacesIn : Substitution → List Match → Contents → Contents → Result Bool Full → Type 0
+abbrev pub ReplacesIn : Substitution → List Occurrence → Contents → Contents → Result Bool Full → Type 0
 ReplacesIn t ms old new (Ok false) = (ms ≡ []) × (new ≡ old)
 ReplacesIn t ms old new (Ok true) =
     (0 < length ms) × (new ≡ record old { bytes = replaced_from old.bytes t.replacement 0 ms })
 ReplacesIn t ms old new (Err f) =
     (0 < length ms) × (old.limit < length (replaced_from old.bytes t.replacement 0 ms))
-
--- The limits of the two spaces are as before, and the first holds no more than its own; it stays as it was where the second
--- has no room for what would be made.
-abbrev pub KeepsSpaces : Contents → Contents → Contents → Contents → Result Bool Full → Type 0
-KeepsSpaces old new build build' r =
-    (new.limit ≡ old.limit) × (build'.limit ≡ build.limit) × (length new.bytes ≤ new.limit) × OnErr r (new ≡ old)
 
 -- What a call answers that makes the move o of a substitution, but for its writing: whether anything was replaced.
 abbrev pub Makes : Limits → Option Move → Substitution → State → State → Result Bool Ended → Type 0
@@ -37,7 +31,7 @@ Makes l o t s now (Err (PatternFull n)) = Leads o (λ m. l.space < length m.next
 Makes l o t s now (Err _) = ⊥
 
 -- the engine with nothing changed but what a substitution may change
-abbrev pub same_but_replaced : Run → State → Run
+abbrev pub same_but_replaced : RunState → State → RunState
 same_but_replaced e s = record e {
   state = record e.state { pattern = s.pattern; used = s.used; replaced = s.replaced };
 }

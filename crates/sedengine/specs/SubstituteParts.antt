@@ -13,12 +13,12 @@ use Rattle.sedscript.specs.declared.substitution.Piece.{Piece}
 use Rattle.sedscript.specs.declared.substitution.Piece.TheVariants.{Literal as literal, Whole as whole, Group as group}
 use Rattle.sedspace.specs.Spaces.{Contents}
 use Rattle.sedspace.specs.declared.errors.Full.{Full}
-use Rattle.sedengine.specs.Substitute.{Match, next_occurrence, occurrences_from, occurrences, replaced_from}
+use Rattle.sedengine.specs.Substitute.{Occurrence, next_occurrence, occurrences_from, occurrences, replaced_from}
 use Rattle.sedengine.specs.Run.{match_at, search_for}
 
 -- what a substitution answers where these occurrences are to be replaced in the text w: whether there are any, and then
 -- the text made; Full where that would be longer than the space
-abbrev pub Replaces : List ℕ → List Piece → List Match → ℕ → List ℕ → Result Bool Full → Type 0
+abbrev pub Replaces : List ℕ → List Piece → List Occurrence → ℕ → List ℕ → Result Bool Full → Type 0
 Replaces w ps ms limit made (Ok false) = ms ≡ []
 Replaces w ps ms limit made (Ok true) = (0 < length ms) × (made ≡ replaced_from w ps 0 ms)
 Replaces w ps ms limit made (Err f) = (0 < length ms) × (limit < length (replaced_from w ps 0 ms))
@@ -40,11 +40,11 @@ abbrev pub GroupsIn : ℕ → Groups → Type 0
 GroupsIn n groups = (k : ℕ) → SpanIn n (span_of groups k)
 
 -- the match with this span and these groups
-abbrev pub with_groups : ℕ × ℕ → Groups → Match
+abbrev pub with_groups : ℕ × ℕ → Groups → Occurrence
 with_groups span groups = record { start = span.0; end = span.1; groups = groups }
 
 -- the match of an expression that has this span in the text w
-abbrev pub occurrence : Written → List ℕ → ℕ × ℕ → Match
+abbrev pub occurrence : Written → List ℕ → ℕ × ℕ → Occurrence
 occurrence e w span = with_groups span (report (tree e) w span.0 span.1)
 
 -- where they are wanted, the groups are those of the occurrence that has the span, if there is one
@@ -64,7 +64,7 @@ IsNext e w last found =
     (match_at e w found ≡ next_occurrence (search_for (Some e) w) (length w) last) × IfSome found (LiesAfter (length w) last)
 
 -- the occurrences after the one that ended at a place, or all
-abbrev pub occurrences_after : Written → List ℕ → Option ℕ → List Match
+abbrev pub occurrences_after : Written → List ℕ → Option ℕ → List Occurrence
 occurrences_after e w None = occurrences (search_for (Some e) w) (length w)
 occurrences_after e w (Some q) = occurrences_from (search_for (Some e) w) (length w) (length w - q) (Some q)
 
@@ -76,7 +76,7 @@ Skips e w count (Some last) =
 
 -- the occurrences that are still to be replaced: the one that has the span, if there is one, and with the flag `g` all
 -- after it
-abbrev pub pending : Written → List ℕ → Bool → Option (ℕ × ℕ) → List Match
+abbrev pub pending : Written → List ℕ → Bool → Option (ℕ × ℕ) → List Occurrence
 pending e w global None = []
 pending e w global (Some span) = occurrence e w span ∷ (if global then occurrences_after e w (Some span.1) else [])
 
@@ -92,8 +92,3 @@ ServesAfter e w skipped old new = KeepsRoom old new × IfSome skipped (λ last. 
 abbrev pub owed_skipped : ℕ → ℕ → Option (Option ℕ) → Occurrences → ℕ
 owed_skipped m n None o = 0
 owed_skipped m n (Some last) o = owed m n last o
-
--- the steps grew from s to t, by no more than all occurrences of the expression of number k take in a text of n bytes
-abbrev pub TakesFor : List Written → ℕ → ℕ → ℕ → ℕ → Type 0
-TakesFor es k n s t =
-    (s ≤ t) × ((e : Written) → slice_get es k ≡ Some e → t ≤ s + 416 * length e.nodes * (n + 1))

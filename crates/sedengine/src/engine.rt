@@ -20,7 +20,7 @@ use std::marker::Model;
 
 /// An editor that runs a script over the lines of a stream.
 ///
-/// Contracts see it as a `Run`: its script, its limits, its state without the lines, what its sinks have gained, and how
+/// Contracts see it as a `RunState`: its script, its limits, its state without the lines, what its sinks have gained, and how
 /// it ended.
 #[derive(Drop)]
 pub struct Engine {
@@ -30,9 +30,9 @@ pub struct Engine {
 
 impl Model for Engine {
     ghost use Rattle.std.specs.Prelude.{◌≡◌, ◌+◌, length};
-    ghost use Rattle.sedengine.specs.Run.{Run};
+    ghost use Rattle.sedengine.specs.Run.{RunState};
 
-    ghost Value = { Run };
+    ghost Value = { RunState };
 
     ghost view = { λ s. record s.machine { sent = s.meter.sent } };
 
@@ -90,7 +90,7 @@ impl Engine {
             (Sends self.old self.new (O.contents outputs.old) (O.contents outputs.new) (outcome result))
             (R.remaining lines.old.source) (R.remaining lines.new.source)
             self.new (lines_left R.remaining lines.new) result) }
-        // A device that the end names has failed in this call; where a next cycle is due none has.
+        // A device that the end names has failed in this call, and no other sink has; where a next cycle is due none has.
         ensures input { IsNone self.old.ended → lines.old.fault ≡ None →
             FailedSource (R.failures lines.old.source) (R.failures lines.new.source) (outcome result) }
         ensures output { IsNone self.old.ended →
@@ -134,7 +134,7 @@ impl Engine {
             Ending self.old.limits (setting self.old files) (at_lines self.old ls)
             (Sends self.old self.new (O.contents outputs.old) (O.contents outputs.new) (Err result))
             (R.remaining lines.old.source) (R.remaining lines.new.source) self.new.state result) }
-        // The device that the end names has failed in this run; where it names no broken sink, none has.
+        // The device that the end names has failed in this run, and no other sink has.
         ensures input { result ≡ Ended.InputBroken → IsNone self.old.ended → lines.old.fault ≡ None →
             Rose (R.failures lines.old.source) (R.failures lines.new.source) }
         ensures output { IsNone self.old.ended →

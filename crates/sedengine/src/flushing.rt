@@ -4,7 +4,7 @@ ghost use Rattle.std.specs.Io.KnownBytes.{Keeps};
 ghost use Rattle.sedengine.specs.State.{Entry, Task, copy, flush, State, Setting};
 ghost use Rattle.sedengine.specs.Meters.{Sent};
 ghost use Rattle.sedengine.specs.Calls.{Delivers};
-ghost use Rattle.sedengine.specs.Ends.{Fits};
+ghost use Rattle.sedengine.specs.Ends.{WithinLimits};
 ghost use Rattle.sedengine.specs.Held.{SameLengths};
 ghost use Rattle.sedengine.specs.Run.{TellsFiles};
 ghost use Rattle.sedengine.specs.Inside.{AllQueue, Queues, entries_of, entry_by};
@@ -41,7 +41,7 @@ fn copy_file<O: Sinks, T: Texts>(
     requires room { build.old.limit ≡ limits.now.space }
     requires before { turns.old ≤ limits.now.turns }
     ensures copies { (g : Setting) → TellsFiles (T.text texts.old) g.files → (s now : State) (rest : List Task) →
-        s.tasks ≡ copy file 0 ∷ rest → s.turns ≡ turns.old → Fits limits.now s →
+        s.tasks ≡ copy file 0 ∷ rest → s.turns ≡ turns.old → WithinLimits limits.now s →
         SameLengths s now → s.lines ≡ now.lines →
         Copies limits.now g s (record s { tasks = rest; turns = turns.new }) now
         (Sent (O.tally outputs.old) (O.tally outputs.new)) result }
@@ -86,7 +86,7 @@ fn write_entry<O: Sinks, T: Texts>(
     ensures writes { (g : Setting) → TellsFiles (T.text texts.old) g.files → (s now : State) (rest : List Task)
         (later : List Entry) → s.tasks ≡ flush ∷ rest →
         s.queue ≡ entry_by script.now.texts (slice_get script.now.commands entry) ∷ later → s.turns ≡ turns.old →
-        Fits limits.now s → SameLengths s now → s.lines ≡ now.lines →
+        WithinLimits limits.now s → SameLengths s now → s.lines ≡ now.lines →
         Copies limits.now g s (record s { queue = later; tasks = flush ∷ rest; turns = turns.new }) now
         (Sent (O.tally outputs.old) (O.tally outputs.new)) result }
     ensures output { Delivers O.tally O.count outputs.old outputs.new result }
@@ -120,7 +120,7 @@ pub(crate) fn flush_queue<O: Sinks, T: Texts>(
     requires queued { AllQueue script.now queue.now.items }
     ensures flushes { (g : Setting) → TellsFiles (T.text texts.old) g.files → (s : State) (rest : List Task) →
         s.tasks ≡ flush ∷ rest → s.queue ≡ entries_of script.now queue.now.items → s.turns ≡ turns.old →
-        Fits limits.now s →
+        WithinLimits limits.now s →
         Flushes limits.now g s (record s { queue = []; tasks = rest; turns = turns.new })
         (Sent (O.tally outputs.old) (O.tally outputs.new)) result }
     ensures output { Delivers O.tally O.count outputs.old outputs.new result }

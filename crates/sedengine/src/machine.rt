@@ -34,7 +34,7 @@ use sedspace::{ByteSource, Lines, Queue, Space, Texts};
 use std::alloc::{AllocError, Global};
 use std::marker::Model;
 
-/// The editor without its counts of what sinks have gained: contracts see it as a `Run` that has none.
+/// The editor without its counts of what sinks have gained: contracts see it as a `RunState` that has none.
 #[derive(Drop)]
 pub(crate) struct Machine {
     script: Script,
@@ -61,10 +61,10 @@ pub(crate) struct Machine {
 }
 
 impl Model for Machine {
-    ghost use Rattle.sedengine.specs.Run.{Run};
+    ghost use Rattle.sedengine.specs.Run.{RunState};
     ghost use Rattle.sedengine.specs.Inside.{run_of, IsRun};
 
-    ghost Value = { Run };
+    ghost Value = { RunState };
 
     ghost view = { run_of };
 

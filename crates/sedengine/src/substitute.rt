@@ -10,10 +10,10 @@ ghost use Rattle.sedmatch.specs.Parts.{part_of, span_of};
 ghost use Rattle.sedmatch.specs.Spans.{Spans};
 ghost use Rattle.sedscript.specs.Replacement.{GroupsWithin, pieces_in};
 ghost use Rattle.sedengine.specs.Substitute.{chosen, occurrences, put_for, replaced_from};
-ghost use Rattle.sedengine.specs.Fitting.{AllFitInto, seeks_more};
+ghost use Rattle.sedengine.specs.Fitting.{seeks_more};
 ghost use Rattle.sedengine.specs.Run.{search_for, search_in};
 ghost use Rattle.sedengine.specs.SubstituteParts.{Appends, GroupsIn, GroupsOf, IsNext, LiesAfter, Replaces};
-ghost use Rattle.sedengine.specs.SubstituteParts.{SeeksAsBefore, ServesAfter, Skips, TakesFor, has_group, owed_skipped, pending, with_groups};
+ghost use Rattle.sedengine.specs.SubstituteParts.{SeeksAsBefore, ServesAfter, Skips, has_group, owed_skipped, pending, with_groups};
 
 use sedmatch::{Occurrences, Scratch, TableMatcher, Text};
 use sedre::Steps;

@@ -1,13 +1,15 @@
 //! The commands (XCU sed, "Editing Commands in sed"): each has a case in `act` and a function of its own.
 ghost use Rattle.std.specs.Prelude.{◌≡◌, ◌<◌, ◌≤◌, ◌+◌, [], ◌∷◌, None, Some, Ok, Err, OnOk, ℕ, Option, List, true, false, decimal, length, slice_get};
-ghost use Rattle.std.specs.Option.{ForSome};
+ghost use Rattle.sedspace.specs.Lines.{is_newline};
+ghost use Rattle.std.specs.List.{before_first};
+ghost use Rattle.std.specs.Option.{ForSome, unwrap_or};
 ghost use Rattle.std.specs.Io.KnownBytes.{Keeps};
 ghost use Rattle.sedscript.specs.Ranges.{ActionWithin, sizes_of};
 ghost use Rattle.sedscript.specs.declared.types.Action.TheVariants.{Change, Delete, DeleteFirst};
 ghost use Rattle.sedspace.specs.Stream.{lines_left};
 ghost use Rattle.sedengine.specs.State.{do_at, print_pattern, flush};
 ghost use Rattle.sedengine.specs.Listing.{listed};
-ghost use Rattle.sedengine.specs.Move.{acts, first_line, passes, line_to, tells_at, text_of, to_sink};
+ghost use Rattle.sedengine.specs.Move.{acts, passes, line_to, tells_at, to_sink};
 ghost use Rattle.sedengine.specs.Ends.{reaches, is_next};
 ghost use Rattle.sedengine.specs.Meters.{Sent, Tally};
 ghost use Rattle.sedengine.specs.Calls.{NoSinkFailed, Puts, Reads, Delivers};
@@ -212,7 +214,7 @@ impl Machine {
         requires text { text < length self.now.script.texts }
         requires sink { 0 < O.count outputs.old }
         ensures puts { Puts (Sent (O.tally outputs.old) (O.tally outputs.new))
-            (line_to 0 (text_of (slice_get self.now.script.texts text))) result }
+            (line_to 0 (unwrap_or (slice_get self.now.script.texts text) [])) result }
         ensures output { Delivers O.tally O.count outputs.old outputs.new result }
     {
         write_line(outputs, 0, self.script.text(text))
@@ -253,7 +255,7 @@ impl Machine {
     fn act_print_first<O: Sinks>(&self, outputs: &mut O) -> Result<(), Ended>
         requires { 0 < O.count outputs.old }
         ensures puts { Puts (Sent (O.tally outputs.old) (O.tally outputs.new))
-            (line_to 0 (first_line self.now.state.pattern)) result }
+            (line_to 0 (before_first is_newline self.now.state.pattern)) result }
         ensures output { Delivers O.tally O.count outputs.old outputs.new result }
     {
         outputs.write_all(0, self.pattern.first_line())

@@ -10,11 +10,11 @@ ghost use Rattle.sedengine.specs.Meters.{Sent};
 ghost use Rattle.sedengine.specs.Calls.{NoSinkFailed, Puts, Delivers};
 ghost use Rattle.sedre.specs.Arena.{Written};
 ghost use Rattle.sedmatch.specs.Occurrences.{KeepsRoom, RoomFor};
-ghost use Rattle.sedengine.specs.Fitting.{AllFitInto, seeks_more};
-ghost use Rattle.sedengine.specs.SubstituteParts.{SeeksAsBefore, TakesFor};
+ghost use Rattle.sedengine.specs.Fitting.{seeks_more};
+ghost use Rattle.sedengine.specs.SubstituteParts.{SeeksAsBefore};
 ghost use Rattle.sedengine.specs.Run.{at_lines, search_in, setting};
 ghost use Rattle.sedengine.specs.Steps.{KeepsRun, Performs, weight};
-ghost use Rattle.sedengine.specs.SubstituteCalls.{KeepsSpaces, Makes, ReplacesIn, same_but_replaced};
+ghost use Rattle.sedengine.specs.SubstituteCalls.{Makes, ReplacesIn, same_but_replaced};
 
 use super::Machine;
 use crate::ends::Ended;

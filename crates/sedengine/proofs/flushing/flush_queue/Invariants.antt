@@ -2,7 +2,7 @@ use Rattle.std.proofs.Common.{◌≡◌, ◌≤◌, ◌∷◌, ℕ, List, drop, 
 use Rattle.std.specs.Io.KnownBytes.{Keeps}
 use Rattle.sedengine.specs.State.{Task, flush, State, Setting}
 use Rattle.sedengine.specs.Calls.{Delivers}
-use Rattle.sedengine.specs.Ends.{Fits}
+use Rattle.sedengine.specs.Ends.{WithinLimits}
 use Rattle.sedengine.specs.Run.{TellsFiles}
 use Rattle.sedengine.specs.Inside.{entries_of}
 use Rattle.sedengine.proofs.Entries.{Reached, at_entries}
@@ -16,7 +16,7 @@ invariant-loop-index g l = record {
   kept : (j : ℕ) → Keeps (g.T.Texts.text l.fn.texts j) (g.T.Texts.text l.texts j);
   output : Delivers g.O.Sinks.tally g.O.Sinks.count l.fn.outputs l.outputs (Ok tt);
   reached : (setting : Setting) → TellsFiles (g.T.Texts.text l.fn.texts) setting.files → (s : State) (rest : List Task) →
-      s.tasks ≡ flush ∷ rest → s.queue ≡ entries_of l.script l.queue.items → s.turns ≡ l.fn.turns → Fits l.limits s →
+      s.tasks ≡ flush ∷ rest → s.queue ≡ entries_of l.script l.queue.items → s.turns ≡ l.fn.turns → WithinLimits l.limits s →
       Reached l.limits setting s (at_entries s (entries_of l.script (drop l.index l.queue.items)) (flush ∷ rest) l.turns)
       (g.O.Sinks.tally l.fn.outputs) (g.O.Sinks.tally l.outputs);
 }

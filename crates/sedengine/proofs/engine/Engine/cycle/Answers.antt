@@ -1,7 +1,7 @@
 use Rattle.std.proofs.Common.{refl, subst, sym, ap, rules}
 use Rattle.std.specs.Prelude.{IsNone}
 use Rattle.sedengine.specs.Meters.{Frame}
-use Rattle.sedengine.specs.Run.{Run}
+use Rattle.sedengine.specs.Run.{RunState}
 use Rattle.sedengine.proofs.Metering.{cycles_metered}
 use Rattle.sedengine.proofs.engine.Engine.cycle.Goals as goal
 
@@ -9,7 +9,7 @@ pub returns-clause-cycles : goal.returns-clause-cycles
 returns-clause-cycles g c = λ fresh sound ls known files told.
     let machine = c.self.inside.machine in
     let w = c.cycle-progress.ensures in
-    let N : Run → Type 0 = λ e. IsNone e.ended in
+    let N : RunState → Type 0 = λ e. IsNone e.ended in
     let unended = subst N (sym c.self.view_is) fresh in
     cycles_metered g.O.Outputs.contents machine c.cycle-progress.new.self c.self.inside.meter c.cycle-progress.new.outputs.meter.now c.args.self.now c.args.outputs.now c.cycle-progress.new.outputs.outputs.now _ _ _ _ _ files ls _ _
     c.self.view_is c.self.invariant.0 (search rules) (ap (λ (f : Frame). f.most) w.same_devices.1) refl c.limit.ensures.within _ _ (w.output unended).full

@@ -2,7 +2,7 @@ use Rattle.std.proofs.Common.{◌≡◌, Some, ap, ◌∙◌}
 use Rattle.std.proofs.lemmas.Result.{err_from_is_err_and}
 use Rattle.std.specs.Prelude.{slice_get}
 use Rattle.sedengine.specs.Move.{substitutes}
-use Rattle.sedengine.specs.Run.{Run, at_lines, setting}
+use Rattle.sedengine.specs.Run.{RunState, at_lines, setting}
 use Rattle.sedengine.proofs.Writing.{Delivers-unwritten}
 use Rattle.sedengine.proofs.SubstituteMoves.{there_is, replaced_nothing, replaced_some, replaced_not}
 use Rattle.sedengine.proofs.machine.Machine.act_substitute.Goals as goal
@@ -12,7 +12,7 @@ returns-then-branch-clause-acts g c = λ files ls s reaches first.
     let r = c.args.self.now in
     let w = c.in_ok-replace_occurrences.ensures in
     let x = there_is r.script.substitutions c.args.k c.requires.number in
-    let there : slice_get c.replace_occurrences.new.self.script.substitutions c.args.k ≡ Some x.0 = ap (λ (r : Run). slice_get r.script.substitutions c.args.k) w.same ∙ x.1 in
+    let there : slice_get c.replace_occurrences.new.self.script.substitutions c.args.k ≡ Some x.0 = ap (λ (r : RunState). slice_get r.script.substitutions c.args.k) w.same ∙ x.1 in
     replaced_some c.self.inside r c.replace_occurrences.new.self c.self.view_is c.self.invariant w.same w.fits ls (setting r files) (g.O.Sinks.tally c.args.outputs.now) (g.O.Sinks.tally c.write_replaced.new.outputs) _ x.0
     c.write_replaced.result (rw c.if-branch.true at w.makes x.0 x.1 files ls) (c.write_replaced.ensures.puts x.0 there) s reaches (first ∙ ap (substitutes (setting r files) (at_lines r ls)) x.1)
 

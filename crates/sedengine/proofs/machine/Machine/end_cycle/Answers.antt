@@ -3,7 +3,7 @@ use Rattle.std.proofs.lemmas.Result.{err_from_is_err_and}
 use Rattle.sedengine.specs.State.{State, flush}
 use Rattle.sedengine.specs.Move.{then_do}
 use Rattle.sedengine.specs.Meters.{Sent}
-use Rattle.sedengine.specs.Run.{Run, at_lines, setting}
+use Rattle.sedengine.specs.Run.{RunState, at_lines, setting}
 use Rattle.sedengine.specs.Steps.{Ran}
 use Rattle.sedengine.specs.Inside.{run_of, tasks_of}
 use Rattle.sedengine.proofs.Ending.{stopped_anyway, weight_ended}
@@ -13,7 +13,7 @@ pub returns-clause-moves : goal.returns-clause-moves
 returns-clause-moves g c = λ files told ls.
     let e = c.args.self.now in
     let s : State = then_do (flush ∷ tasks_of c.args.place) (at_lines e ls) in
-    let Q : Run → Type 0 = λ e'. Ran e.limits (setting e files) s (then_do (tasks_of c.args.place) (at_lines e' ls)) (Sent (g.O.Sinks.tally c.args.outputs.now) (g.O.Sinks.tally c.flush.new.outputs)) in
+    let Q : RunState → Type 0 = λ e'. Ran e.limits (setting e files) s (then_do (tasks_of c.args.place) (at_lines e' ls)) (Sent (g.O.Sinks.tally c.args.outputs.now) (g.O.Sinks.tally c.flush.new.outputs)) in
     subst Q (sym c.self.view_is) (c.in_ok-flush.ensures.moves files told ls (tasks_of c.args.place))
 
 pub returns-in_err-flush-clause-moves : goal.returns-in_err-flush-clause-moves
@@ -24,5 +24,5 @@ returns-in_err-flush-clause-moves g c = λ files told ls.
 pub returns-clause-falls : goal.returns-clause-falls
 returns-clause-falls g c =
     let e = c.args.self.now in
-    let L : Run → Type 0 = λ e'. e.state.turns ≤ e'.state.turns in
-    weight_ended e (run_of (record c.self.inside { place = c.args.place })) c.args.place (ap (λ (e : Run). e.limits) (c.self.view_is ∙ c.in_ok-flush.ensures.ok)) (subst L (sym c.self.view_is) c.in_ok-flush.ensures.later) refl
+    let L : RunState → Type 0 = λ e'. e.state.turns ≤ e'.state.turns in
+    weight_ended e (run_of (record c.self.inside { place = c.args.place })) c.args.place (ap (λ (e : RunState). e.limits) (c.self.view_is ∙ c.in_ok-flush.ensures.ok)) (subst L (sym c.self.view_is) c.in_ok-flush.ensures.later) refl

@@ -1,7 +1,7 @@
 use Rattle.std.proofs.Common.{◌∙◌, refl, sym, ap, subst, arith}
 use Rattle.sedengine.specs.State.{State}
-use Rattle.sedengine.specs.Ends.{Fits}
-use Rattle.sedengine.specs.Run.{Run, at_lines, setting, starts_cycle}
+use Rattle.sedengine.specs.Ends.{WithinLimits}
+use Rattle.sedengine.specs.Run.{RunState, at_lines, setting, starts_cycle}
 use Rattle.sedengine.proofs.Writing.{Delivers-none, Delivers-then}
 use Rattle.sedengine.proofs.Streams.{Reads-none, Reads-then}
 use Rattle.sedengine.proofs.Moves.{InOneCycle-more}
@@ -18,7 +18,7 @@ moves-init g c = record {
   output = Delivers-none _ _ _;
   kept = λ j. Keeps-refl _;
   reached = λ sound ls known files told.
-      let P : Run → Type 0 = λ e. Fits e.limits (at_lines e ls) in
+      let P : RunState → Type 0 = λ e. WithinLimits e.limits (at_lines e ls) in
       (Reached-none _ _ _ _ c.args.self.now ls _ known (subst P c.self.view_is (fits_of c.self.inside ls c.self.invariant)), λ k some lt. absurd (omega arith));
 }
 

@@ -3,7 +3,7 @@ use Rattle.std.proofs.lemmas.Result.{err_from_is_err_and}
 use Rattle.sedengine.specs.State.{State, print_pattern, flush}
 use Rattle.sedengine.specs.Move.{then_do}
 use Rattle.sedengine.specs.Meters.{Sent}
-use Rattle.sedengine.specs.Run.{Run, at_lines, setting}
+use Rattle.sedengine.specs.Run.{RunState, at_lines, setting}
 use Rattle.sedengine.specs.Steps.{Ran}
 use Rattle.sedengine.proofs.Ending.{quits, stopped_anyway}
 use Rattle.sedengine.proofs.machine.Machine.quit.Goals as goal
@@ -12,7 +12,7 @@ pub returns-clause-moves : goal.returns-clause-moves
 returns-clause-moves g c = λ files told ls.
     let e = c.args.self.now in
     let s : State = then_do (print_pattern ∷ flush ∷ []) (at_lines e ls) in
-    let Q : Run → Type 0 = λ e'. Ran e.limits (setting e files) s (then_do [] (at_lines e' ls)) (Sent (g.O.Sinks.tally c.args.outputs.now) (g.O.Sinks.tally c.print_and_flush.new.outputs)) in
+    let Q : RunState → Type 0 = λ e'. Ran e.limits (setting e files) s (then_do [] (at_lines e' ls)) (Sent (g.O.Sinks.tally c.args.outputs.now) (g.O.Sinks.tally c.print_and_flush.new.outputs)) in
     quits e e (setting e files) ls _ _ (Ok tt) c.requires.at (subst Q (sym c.self.view_is) (c.in_ok-print_and_flush.ensures.moves files told ls []))
 
 pub returns-in_err-print_and_flush-clause-moves : goal.returns-in_err-print_and_flush-clause-moves

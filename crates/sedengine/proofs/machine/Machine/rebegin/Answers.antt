@@ -1,5 +1,5 @@
 use Rattle.std.proofs.Common.{sym, ap, ◌∙◌, ◌+◌, ◌∷◌, []}
-use Rattle.sedengine.specs.Run.{Run}
+use Rattle.sedengine.specs.Run.{RunState}
 use Rattle.sedengine.specs.State.{do_at}
 use Rattle.sedengine.proofs.Ending.{rebegins, rebegin_spent}
 use Rattle.sedengine.proofs.machine.Machine.rebegin.Goals as goal
@@ -11,4 +11,4 @@ returns-then-self-turns-clause-moves c = λ files ls sinks.
 pub returns-clause-moves : goal.returns-clause-moves
 returns-clause-moves c = λ files ls sinks.
     rebegins c.self.inside c.args.self.now _ ls sinks _ c.self.view_is c.self.invariant c.requires (λ e. c.if-self-turns.false (e ∙ sym c.turns.ensures))
-    (ap (λ (e : Run). record e { state = record e.state { tasks = do_at 0 ∷ []; turns = e.state.turns + 1 } }) c.self.view_is)
+    (ap (λ (e : RunState). record e { state = record e.state { tasks = do_at 0 ∷ []; turns = e.state.turns + 1 } }) c.self.view_is)

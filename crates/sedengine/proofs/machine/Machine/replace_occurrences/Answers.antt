@@ -4,7 +4,7 @@ use Rattle.std.specs.Prelude.{slice_get}
 use Rattle.sedre.specs.Arena.{Written}
 use Rattle.sedscript.specs.declared.substitution.Substitution.{Substitution}
 use Rattle.sedengine.specs.Ends.{reaches}
-use Rattle.sedengine.specs.Run.{Run, at_lines, search_in}
+use Rattle.sedengine.specs.Run.{RunState, at_lines, search_in}
 use Rattle.sedengine.specs.Substitute.{chosen, occurrences}
 use Rattle.sedengine.specs.SubstituteCalls.{ReplacesIn}
 use Rattle.sedengine.proofs.Fitting.{fits_at, room_within, sought, sought_at}
@@ -56,7 +56,7 @@ invariant_of-self c =
     let h = c.index_mut.ensures.value in
     let is_m : m ≡ get_or a.matchers.items c.in-Some.e m = grind (arith, elements) in
     replaced_is_run a _ _ _ _ _ c.in-Some.e true c.self.invariant
-    (ap (λ (e : Run). reaches e.state.tasks) c.self.view_is ∙ c.requires.at) inside (search rules) (search rules) (search rules) (search rules) c.build_text-built.ensures.kept (matchers_kept a.matchers.items c.in-Some.e m c.build_text-built.new.matcher is_m c.build_text-built.ensures.same.0)
+    (ap (λ (e : RunState). reaches e.state.tasks) c.self.view_is ∙ c.requires.at) inside (search rules) (search rules) (search rules) (search rules) c.build_text-built.ensures.kept (matchers_kept a.matchers.items c.in-Some.e m c.build_text-built.new.matcher is_m c.build_text-built.ensures.same.0)
 
 pub invariant_of-self-in-Ok-false : goal.invariant_of-self-in-Ok-false
 invariant_of-self-in-Ok-false c =
@@ -67,7 +67,7 @@ invariant_of-self-in-Ok-false c =
     let h = c.index_mut.ensures.value in
     let is_m : m ≡ get_or a.matchers.items c.in-Some.e m = grind (arith, elements) in
     replaced_is_run a _ _ _ _ _ c.in-Some.e a.replaced c.self.invariant
-    (ap (λ (e : Run). reaches e.state.tasks) c.self.view_is ∙ c.requires.at) inside (search rules) (search rules) (search rules) (search rules) c.build_text-built.ensures.kept (matchers_kept a.matchers.items c.in-Some.e m c.build_text-built.new.matcher is_m c.build_text-built.ensures.same.0)
+    (ap (λ (e : RunState). reaches e.state.tasks) c.self.view_is ∙ c.requires.at) inside (search rules) (search rules) (search rules) (search rules) c.build_text-built.ensures.kept (matchers_kept a.matchers.items c.in-Some.e m c.build_text-built.new.matcher is_m c.build_text-built.ensures.same.0)
 
 pub invariant_of-self-in-Err : goal.invariant_of-self-in-Err
 invariant_of-self-in-Err c =
@@ -78,7 +78,7 @@ invariant_of-self-in-Err c =
     let h = c.index_mut.ensures.value in
     let is_m : m ≡ get_or a.matchers.items c.in-Some.e m = grind (arith, elements) in
     replaced_is_run a _ _ _ _ _ c.in-Some.e a.replaced c.self.invariant
-    (ap (λ (e : Run). reaches e.state.tasks) c.self.view_is ∙ c.requires.at) inside (search rules) (search rules) (search rules) (search rules) c.build_text-built.ensures.kept (matchers_kept a.matchers.items c.in-Some.e m c.build_text-built.new.matcher is_m c.build_text-built.ensures.same.0)
+    (ap (λ (e : RunState). reaches e.state.tasks) c.self.view_is ∙ c.requires.at) inside (search rules) (search rules) (search rules) (search rules) c.build_text-built.ensures.kept (matchers_kept a.matchers.items c.in-Some.e m c.build_text-built.new.matcher is_m c.build_text-built.ensures.same.0)
 
 pub returns-in-Ok-true-clause-makes : goal.returns-in-Ok-true-clause-makes
 returns-in-Ok-true-clause-makes c = λ t is files ls.
