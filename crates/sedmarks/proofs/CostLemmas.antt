@@ -77,14 +77,6 @@ square_cost m n s0 s some cost =
     let all = mul-le-mul_left (48 * m * (n + 1)) two in
     omega (arith, all)
 
--- the first start of a region, and the longest span from there
-pub region_cost : (m n start bound s0 s1 s2 s3 : ℕ) → bound ≤ n → s1 + 20 * m * start ≤ s0 + m + 20 * m * (bound + 1) → s2 ≤ s1 + 7 * m →
-    s3 ≤ s2 + 8 * m + 21 * m * (n + 1) → s3 + 20 * m * start ≤ s0 + 16 * m + 41 * m * (n + 1)
-region_cost m n start bound s0 s1 s2 s3 low first look rest =
-    let up : bound + 1 ≤ n + 1 = omega arith in
-    let all = mul-le-mul_left (20 * m) up in
-    omega (arith, all)
-
 -- the looks at one alternative more, of at most four
 pub turn_cost : (m turn s0 s1 s t : ℕ) → 1 ≤ m → turn ≤ 3 → s1 ≤ s0 + m → s + 2 * m ≤ s1 + 2 * m * turn → t ≤ s + 1 + m → t ≤ s0 + 8 * m
 turn_cost m turn s0 s1 s t some few first before here =

@@ -92,16 +92,6 @@ sight_cost m n s t some first =
     let all = mul-le-mul_left n one in
     omega (arith, first, all)
 
--- and of passes after it
-pub passes_cost : (m n s t u : ℕ) → 0 < m → 0 < n → t ≤ s + (n + 15) * m + 4 + n → u ≤ t + 44 * m * (n + 1) → u ≤ s + 23 * m * (n + 1) * (n + 2)
-passes_cost m n s t u some byte first rest =
-    let one : 1 ≤ m = omega arith in
-    let some_n : 1 ≤ n = omega arith in
-    let all = mul-le-mul_left n one in
-    let square = mul-le-mul_left (m * n) some_n in
-    let low = mul-le-mul_left m some_n in
-    omega (arith, first, rest, all, square, low)
-
 -- one more copy
 pub walk_step : (k copy end start s0 s t : ℕ) → copy < end → s + k * start ≤ s0 + k * copy → t ≤ s + k → t + k * start ≤ s0 + k * end
 walk_step k copy end start s0 s t up cost one =

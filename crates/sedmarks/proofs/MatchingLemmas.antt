@@ -126,9 +126,6 @@ module _ (step : ℕ → ℕ → Bool) (R : ℕ → ℕ → Type 0) (each : (i k
       (cases_Bool (ltb k j)))
       (cases_lt k j)
 
-any-true : (test : ℕ → Bool) (n : ℕ) (P : ℕ → Type 0) → ((k : ℕ) → test k ≡ true → P k) → any test n ≡ true → (k : ℕ) × P k
-any-true test n P each h = let k = any-some test n h in (k.0, each k.0 k.2)
-
 takes-some : (has : List Bool) (byte : Option ℕ) → takes byte has ≡ true → (b : ℕ) × (byte ≡ Some b) × (slice_index_or has b false ≡ true)
 takes-some has None h = absurd (true≢false (sym h))
 takes-some has (Some b) h = (b, refl, h)

@@ -61,14 +61,6 @@ Spans-unmirror e w i j a b left right s =
     let back : Spans (mirror (mirror e)) (reverse (reverse w)) i j = Spans-mirror (mirror e) (reverse w) b a j i (omega arith) (omega arith) s in
     subst (λ t. Spans t w i j) (mirror-mirror e) (subst (λ v. Spans (mirror (mirror e)) v i j) (reverse-reverse w) back)
 
--- the law whole: a span, and the span that mirrors it
-pub mirror_law : (e : Tree) (w : List ℕ) (i j : ℕ) → i ≤ length w → j ≤ length w →
-    Spans e w i j ↔ Spans (mirror e) (reverse w) (length w - j) (length w - i)
-mirror_law e w i j low high = (
-  Spans-mirror e w i j (length w - i) (length w - j) (omega arith) (omega arith),
-  Spans-unmirror e w i j (length w - i) (length w - j) (omega arith) (omega arith),
-)
-
 -- the same at the nodes of an expression
 pub At-mirror : (e nodes : Written) (w bytes : List ℕ) (x i j a b : ℕ) → nodes ≡ seen true e → bytes ≡ reverse w → i + a ≡ length w → j + b ≡ length w →
     At e.nodes w x i j ↔ At nodes.nodes bytes x b a

@@ -157,9 +157,6 @@ module _ (nodes : List Node) (w : List ℕ) (r : ℕ) (p : Starts) (arena : IsAr
       let high = loose.2 in
       omega arith
 
-  part_left : (a b : NodeId) → IsPart (Seq a b) a.index
-  part_left a b = inl refl
-
   -- the mark of the empty span at a node
   pub null_of-At : (j x : ℕ) (node : Node) → slice_get nodes x ≡ Some node →
       (begin end : Bool) → (IsTrue begin ↔ (j ≡ 0)) → (IsTrue end ↔ (j ≡ length w)) →

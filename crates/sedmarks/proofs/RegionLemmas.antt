@@ -63,19 +63,6 @@ module _ (e : Tree) (w : List ℕ) (r : Region) (is : IsRegion e w true r) where
             omega arith;
       }
 
--- where one place alone is left, it is the first
-pub earliest_alone : (e : Tree) (w : List ℕ) (r : Region) → IsRegion e w true r → r.start ≡ r.last → IsEarliest e w r r.start
-earliest_alone e w r is alone =
-    let lo = is.some.2 in
-    let hi = is.some.3 in
-    let same : is.some.0 ≡ r.start = omega arith in
-    record {
-      ordered = omega arith;
-      inside = omega arith;
-      some = (is.some.1, subst (λ v. Spans e w v is.some.1) same is.some.4);
-      none = λ h k low high s. omega arith;
-    }
-
 -- the first place of the first region at which a match begins is that of the first match
 pub earliest_found : (e : Tree) (w : List ℕ) (from : ℕ) (r : Region) (i j : ℕ) → from ≤ r.start → NoneIn e w from r.start → IsEarliest e w r i →
     Longest e w i (Some j) → Found e w from i j

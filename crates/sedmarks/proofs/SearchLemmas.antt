@@ -90,26 +90,3 @@ pub pass_whole : (q m n place s t : ℕ) → s ≤ t + m + q * m * place → pla
 pass_whole q m n place s t most last =
     let grown = mul-le-mul_left (q * m) last in
     omega (arith, grown)
-
--- the steps of a search for a cut: one pass from either end
-pub cut_cost : (m many n length s0 s1 s2 : ℕ) → many ≡ m → length ≡ n → s1 ≤ s0 + 22 * m * (n + 1) → s2 ≤ s1 + 22 * many * (length + 1) → s2 ≤ s0 + 44 * m * (n + 1)
-cut_cost m many n length s0 s1 s2 same long first second =
-    let here = subst (λ v. s2 ≤ s1 + 22 * v * (n + 1)) same (subst (λ v. s2 ≤ s1 + 22 * many * (v + 1)) long second) in
-    omega (arith, here)
-
-pub cut_square : (m n s0 s : ℕ) → s ≤ s0 + 44 * m * (n + 1) → s ≤ s0 + 22 * m * (n + 1) * (n + 2)
-cut_square m n s0 s cost =
-    let two : 2 ≤ n + 2 = omega arith in
-    let all = mul-le-mul_left (22 * m * (n + 1)) two in
-    omega (arith, all)
-
--- one task is done, at most C steps each
-pub task_cost : (C s t v w bound : ℕ) → t ≤ s + C → v + 1 ≤ w → s + C * w ≤ bound → t + C * v ≤ bound
-task_cost C s t v w bound here less loop =
-    let fewer = mul-le-mul_left C less in
-    omega (arith, fewer)
-
-pub first_cost : (C s w most : ℕ) → w ≤ most → s + C * w ≤ s + C * most
-first_cost C s w most le =
-    let all = mul-le-mul_left C le in
-    omega (arith, all)

@@ -15,15 +15,6 @@ use Rattle.sedmarks.proofs.SpanLemmas.{Copies-forward}
 use Rattle.sedmarks.proofs.ReachLemmas.{open_at, close_at}
 use Rattle.sedmarks.proofs.MirrorLemmas.{At-mirror}
 
-pub GreatestBelow-yes : (P : ℕ → Type 0) (n : ℕ) → P n → GreatestBelow P (n + 1) (Some n)
-GreatestBelow-yes P n here = (omega arith, here, λ k lt p. omega arith)
-
-pub GreatestBelow-not : (P : ℕ → Type 0) (n : ℕ) (best : Option ℕ) → (P n → ⊥) → GreatestBelow P n best → GreatestBelow P (n + 1) best
-GreatestBelow-not P n None missing old =
-    λ k lt p. ⊎_elim (λ (l : k < n). old k l p) (λ (g : n ≤ k). let same : k ≡ n = omega arith in missing (subst P same p)) (cases_lt k n)
-GreatestBelow-not P n (Some l) missing old =
-    (omega arith, old.1, λ k lt p. ⊎_elim (λ (h : k < n). old.2 k h p) (λ (g : n ≤ k). let same : k ≡ n = omega arith in absurd (missing (subst P same p))) (cases_lt k n))
-
 -- a mark for each place, counted from the other end of n bytes: those from a on and before q tell whether P holds of it
 abbrev pub ToldBelow : (ℕ → Type 0) → ℕ → List Bool → ℕ → ℕ → Type 0
 ToldBelow P n marks a q = (k : ℕ) → a ≤ k → k < q → IsTrue (slice_index_or marks (n - k) false) ↔ P k
@@ -37,31 +28,6 @@ module _ (P : ℕ → Type 0) (n a b place : ℕ) (marks after : List Bool) (v :
   kept : (k : ℕ) → k ≤ b → (k ≡ place → ⊥) → slice_index_or after (n - k) false ≡ slice_index_or marks (n - k) false
   kept k low other =
       ap (λ m. slice_index_or m (n - k) false) is ∙ get_or-set_other marks (n - place) (n - k) v false (λ (e : n - k ≡ n - place). other (omega arith))
-
-  -- one more place is told
-  pub told_step : (IsTrue v ↔ P place) → ToldBelow P n marks a place → ToldBelow P n after a (place + 1)
-  told_step value told k low up =
-      ⊎_elim
-      (λ (e : k ≡ place).
-      let at : slice_index_or after (n - place) false ≡ v = ap (λ m. slice_index_or m (n - place) false) is ∙ get_or-set_same marks (n - place) v false (omega arith) in
-      subst (λ q. IsTrue (slice_index_or after (n - q) false) ↔ P q) (sym e) (λ h. value.0 (sym at ∙ h), λ p. at ∙ value.1 p))
-      (λ (ne : k ≡ place → ⊥).
-      let at = kept k (omega arith) ne in
-      let old = told k low (omega arith) in
-      (λ h. old.0 (sym at ∙ h), λ p. at ∙ old.1 p))
-      (cases_eq k place)
-
-  pub unset_step : UnsetFrom n marks place b → UnsetFrom n after (place + 1) b
-  unset_step unset k low up = kept k up (λ e. omega arith) ∙ unset k (omega arith) up
-
-  -- where P holds of none of the rest, all are told
-  pub told_all : ((k : ℕ) → place < k → P k → ⊥) → ToldBelow P n after a (place + 1) → UnsetFrom n after (place + 1) b → (k : ℕ) → a ≤ k → k ≤ b →
-      IsTrue (slice_index_or after (n - k) false) ↔ P k
-  told_all none told unset k low up =
-      ⊎_elim
-      (λ (lt : k < place + 1). told k low lt)
-      (λ (ge : place + 1 ≤ k). (λ h. absurd (true≢false (sym h ∙ unset k ge up)), λ p. absurd (none k (omega arith) p)))
-      (cases_lt k (place + 1))
 
 -- what the marks tell, seen from the beginning
 pub starts_told : (e nodes : Written) (w bytes : List ℕ) (x start stop len : ℕ) (marks : List Bool) → nodes ≡ seen true e → bytes ≡ reverse w → len ≡ length w → start ≤ stop → stop ≤ length w →

@@ -16,54 +16,50 @@ use Rattle.sedmarks.proofs.SpanLemmas.{Spans-forward}
 use Rattle.sedmarks.specs.Caps.{Groups, forget, Caps, LastCut, LastCopy, only, then}
 use Rattle.sedmarks.specs.declared.scratch.Task.{Task}
 use Rattle.sedmarks.specs.declared.scratch.Task.TheVariants.{Enter, Close}
-use Rattle.sedmarks.specs.Work.{inner, inners, wholes, node_cost, IsStep, IsReady, weights, Run, forget_all, sizes, InRange, parts_of, forget_node, is_group, AllWithout, NoGroups}
+use Rattle.sedmarks.specs.Work.{inner, inners, wholes, node_cost, IsStep, IsReady, weights, DoesAll, forget_all, sizes, InRange, parts_of, forget_node, is_group, AllWithout, NoGroups}
 
 module _ (nodes : List Node) (w : List ℕ) (arena : IsArena nodes) (x : ℕ) where
   close_caps : (node : Node) → slice_get nodes x ≡ Some node → (i j : ℕ) (old new : Groups) → Caps (tree_of (tree_at nodes) node) w i j old new → Caps (tree_at nodes x) w i j old new
   close_caps node is i j old new caps = subst (λ t. Caps t w i j old new) (sym (tree_at-node nodes x node arena is)) caps
 
-  -- a node without parts leaves the groups
-  pub run_empty : slice_get nodes x ≡ Some Empty → (i j : ℕ) (tasks : List Task) (g f : Groups) → Run nodes w tasks g f → Run nodes w (Enter x i j ∷ tasks) g f
-  run_empty is i j tasks g f run = (g, close_caps Empty is i j g g refl, run)
-
   pub run_seq : (a b : NodeId) → slice_get nodes x ≡ Some (Seq a b) → (i k j : ℕ) (tasks : List Task) (g f : Groups) →
       LastCut (At nodes w a.index) (At nodes w b.index) i j k →
-      Run nodes w (Enter a.index i k ∷ Enter b.index k j ∷ tasks) g f → Run nodes w (Enter x i j ∷ tasks) g f
+      DoesAll nodes w (Enter a.index i k ∷ Enter b.index k j ∷ tasks) g f → DoesAll nodes w (Enter x i j ∷ tasks) g f
   run_seq a b is i k j tasks g f cut run =
       (run.2.0, close_caps (Seq a b) is i j g run.2.0 (k, cut, (run.0, run.1, run.2.1)), run.2.2)
 
   pub run_alt_left : (a b : NodeId) → slice_get nodes x ≡ Some (Alt a b) → (i j : ℕ) (tasks : List Task) (g f : Groups) →
-      At nodes w a.index i j → Run nodes w (Enter a.index i j ∷ tasks) g f → Run nodes w (Enter x i j ∷ tasks) g f
+      At nodes w a.index i j → DoesAll nodes w (Enter a.index i j ∷ tasks) g f → DoesAll nodes w (Enter x i j ∷ tasks) g f
   run_alt_left a b is i j tasks g f at run = (run.0, close_caps (Alt a b) is i j g run.0 (inl (at, run.1)), run.2)
 
   pub run_alt_right : (a b : NodeId) → slice_get nodes x ≡ Some (Alt a b) → (i j : ℕ) (tasks : List Task) (g f : Groups) →
-      (At nodes w a.index i j → ⊥) → Run nodes w (Enter b.index i j ∷ tasks) g f → Run nodes w (Enter x i j ∷ tasks) g f
+      (At nodes w a.index i j → ⊥) → DoesAll nodes w (Enter b.index i j ∷ tasks) g f → DoesAll nodes w (Enter x i j ∷ tasks) g f
   run_alt_right a b is i j tasks g f missing run = (run.0, close_caps (Alt a b) is i j g run.0 (inr (missing, run.1)), run.2)
 
   pub run_group : (k : ℕ) (a : NodeId) → slice_get nodes x ≡ Some (Group k a) → (i j : ℕ) (tasks : List Task) (g f : Groups) →
-      Run nodes w (Enter a.index i j ∷ Close k i j ∷ tasks) (forget (tree_at nodes a.index) (slice_set g k None)) f → Run nodes w (Enter x i j ∷ tasks) g f
+      DoesAll nodes w (Enter a.index i j ∷ Close k i j ∷ tasks) (forget (tree_at nodes a.index) (slice_set g k None)) f → DoesAll nodes w (Enter x i j ∷ tasks) g f
   run_group k a is i j tasks g f run =
       (run.2.0, close_caps (Group k a) is i j g run.2.0 (run.0, run.1, run.2.1), run.2.2)
 
   pub run_star : (a : NodeId) (first : Bool) → slice_get nodes x ≡ Some (Star a first) → (i c j : ℕ) (tasks : List Task) (g f : Groups) →
       i < j → LastCopy (At nodes w a.index) j i c →
-      Run nodes w (Enter a.index c j ∷ tasks) (forget (tree_at nodes a.index) g) f → Run nodes w (Enter x i j ∷ tasks) g f
+      DoesAll nodes w (Enter a.index c j ∷ tasks) (forget (tree_at nodes a.index) g) f → DoesAll nodes w (Enter x i j ∷ tasks) g f
   run_star a first is i c j tasks g f lt last run =
       (run.0, close_caps (Star a first) is i j g run.0 (inl (lt, (c, last, run.1))), run.2)
 
   pub run_star_empty : (a : NodeId) (first : Bool) → slice_get nodes x ≡ Some (Star a first) → (i : ℕ) (tasks : List Task) (g f : Groups) →
       IsTrue first → At nodes w a.index i i →
-      Run nodes w (Enter a.index i i ∷ tasks) (forget (tree_at nodes a.index) g) f → Run nodes w (Enter x i i ∷ tasks) g f
+      DoesAll nodes w (Enter a.index i i ∷ tasks) (forget (tree_at nodes a.index) g) f → DoesAll nodes w (Enter x i i ∷ tasks) g f
   run_star_empty a first is i tasks g f yes_first at run =
       (run.0, close_caps (Star a first) is i i g run.0 (inr (inl (refl, yes_first, at, run.1))), run.2)
 
   pub run_star_none : (a : NodeId) (first : Bool) → slice_get nodes x ≡ Some (Star a first) → (i : ℕ) (tasks : List Task) (g f : Groups) →
-      (IsTrue first → At nodes w a.index i i → ⊥) → Run nodes w tasks g f → Run nodes w (Enter x i i ∷ tasks) g f
+      (IsTrue first → At nodes w a.index i i → ⊥) → DoesAll nodes w tasks g f → DoesAll nodes w (Enter x i i ∷ tasks) g f
   run_star_none a first is i tasks g f missing run =
       (g, close_caps (Star a first) is i i g g (inr (inr (refl, (missing, refl)))), run)
 
   pub run_opt : (a : NodeId) (first : Bool) → slice_get nodes x ≡ Some (Opt a first) → (i j : ℕ) (tasks : List Task) (g f : Groups) →
-      i < j → Run nodes w (Enter a.index i j ∷ tasks) (forget (tree_at nodes a.index) g) f → Run nodes w (Enter x i j ∷ tasks) g f
+      i < j → DoesAll nodes w (Enter a.index i j ∷ tasks) (forget (tree_at nodes a.index) g) f → DoesAll nodes w (Enter x i j ∷ tasks) g f
   run_opt a first is i j tasks g f lt run = (run.0, close_caps (Opt a first) is i j g run.0 (inl (lt, run.1)), run.2)
 
 pub forget_all-append : (nodes : List Node) (xs ys : List ℕ) (g : Groups) → forget_all nodes (xs ++ ys) g ≡ forget_all nodes ys (forget_all nodes xs g)
@@ -225,7 +221,7 @@ module _ (nodes : List Node) (w : List ℕ) (arena : IsArena nodes) (x : ℕ) (i
       let low = arena.below x a.index (Group k a) is refl in
       record {
         run = λ rest g f run. run_group nodes w arena x k a is i j rest g f
-            (subst (λ h. Run nodes w (Enter a.index i j ∷ Close k i j ∷ rest) h f) (forget-parts nodes arena x (Group k a) is g) run);
+            (subst (λ h. DoesAll nodes w (Enter a.index i j ∷ Close k i j ∷ rest) h f) (forget-parts nodes arena x (Group k a) is g) run);
         ready = (omega arith, up, fits, open_at nodes w x (Group k a) arena is i j whole, tt);
         less = omega (arith, size-parts nodes arena x (Group k a) is);
         fewer = rw (tree_at-node nodes x (Group k a) arena is) (omega arith);
@@ -239,7 +235,7 @@ module _ (nodes : List Node) (w : List ℕ) (arena : IsArena nodes) (x : ℕ) (i
       let inner = open_at nodes w x (Group k a) arena is i j whole in
       record {
         run = λ rest g f run. run_group nodes w arena x k a is i j rest g f
-            (subst (λ h. Run nodes w (Enter a.index i j ∷ Close k i j ∷ rest) h f) (forget-parts nodes arena x (Group k a) is g)
+            (subst (λ h. DoesAll nodes w (Enter a.index i j ∷ Close k i j ∷ rest) h f) (forget-parts nodes arena x (Group k a) is g)
             (_, Caps-none (tree_at nodes a.index) none w i j _ inner, run));
         ready = tt;
         less = omega (arith, size-parts nodes arena x (Group k a) is, size-pos (tree_at nodes a.index));
@@ -254,7 +250,7 @@ module _ (nodes : List Node) (w : List ℕ) (arena : IsArena nodes) (x : ℕ) (i
       let copy = LastCopy-spans (At nodes w a.index) j i c last in
       record {
         run = λ rest g f run. run_star nodes w arena x a first is i c j rest g f lt last
-            (subst (λ h. Run nodes w (Enter a.index c j ∷ rest) h f) (forget-parts nodes arena x (Star a first) is g) run);
+            (subst (λ h. DoesAll nodes w (Enter a.index c j ∷ rest) h f) (forget-parts nodes arena x (Star a first) is g) run);
         ready = (omega arith, (let less = copy.0 in omega arith), fits, copy.1, tt);
         less = omega (arith, size-parts nodes arena x (Star a first) is);
         fewer = rw (tree_at-node nodes x (Star a first) arena is) (omega arith);
@@ -267,7 +263,7 @@ module _ (nodes : List Node) (w : List ℕ) (arena : IsArena nodes) (x : ℕ) (i
       let low = arena.below x a.index (Star a first) is refl in
       record {
         run = λ rest g f run. run_star_empty nodes w arena x a first is i rest g f is_first at
-            (subst (λ h. Run nodes w (Enter a.index i i ∷ rest) h f) (forget-parts nodes arena x (Star a first) is g) run);
+            (subst (λ h. DoesAll nodes w (Enter a.index i i ∷ rest) h f) (forget-parts nodes arena x (Star a first) is g) run);
         ready = (omega arith, omega arith, fits, at, tt);
         less = omega (arith, size-parts nodes arena x (Star a first) is);
         fewer = rw (tree_at-node nodes x (Star a first) arena is) (omega arith);
@@ -289,7 +285,7 @@ module _ (nodes : List Node) (w : List ℕ) (arena : IsArena nodes) (x : ℕ) (i
       let at : At nodes w a.index i j = ⊎_elim (λ (e : i ≡ j). absurd (omega arith)) (λ (r : At nodes w a.index i j). r) (open_at nodes w x (Opt a first) arena is i j whole) in
       record {
         run = λ rest g f run. run_opt nodes w arena x a first is i j rest g f lt
-            (subst (λ h. Run nodes w (Enter a.index i j ∷ rest) h f) (forget-parts nodes arena x (Opt a first) is g) run);
+            (subst (λ h. DoesAll nodes w (Enter a.index i j ∷ rest) h f) (forget-parts nodes arena x (Opt a first) is g) run);
         ready = (omega arith, omega arith, fits, at, tt);
         less = omega (arith, size-parts nodes arena x (Opt a first) is);
         fewer = rw (tree_at-node nodes x (Opt a first) arena is) (omega arith);

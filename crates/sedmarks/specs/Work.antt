@@ -23,9 +23,9 @@ Does nodes w (Enter x i j) old new = Caps (tree_at nodes x) w i j old new
 Does nodes w (Close k i j) old new = new ≡ slice_set old k (Some (i, j))
 
 -- the tasks, the first one first, take the groups from old to new
-abbrev pub Run : List Node → List ℕ → List Task → Groups → Groups → Type 0
-Run nodes w [] old new = new ≡ old
-Run nodes w (task ∷ tasks) old new = (mid : Groups) × Does nodes w task old mid × Run nodes w tasks mid new
+abbrev pub DoesAll : List Node → List ℕ → List Task → Groups → Groups → Type 0
+DoesAll nodes w [] old new = new ≡ old
+DoesAll nodes w (task ∷ tasks) old new = (mid : Groups) × Does nodes w task old mid × DoesAll nodes w tasks mid new
 
 -- each node to be entered is there, and matches its span within the text
 abbrev pub IsReady : List Node → List ℕ → List Task → Type 0
@@ -98,7 +98,7 @@ weights nodes (Close k i j ∷ tasks) = 1 + weights nodes tasks
 
 -- the tasks were begun: those left are ready, weigh less, and take the groups to where the tasks take them
 abbrev pub LeavesLess : List Node → List ℕ → List Task → Groups → List Task → Groups → Type 0
-LeavesLess nodes w tasks old rest new = ((f : Groups) → Run nodes w rest new f → Run nodes w tasks old f) × IsReady nodes w rest × (weights nodes rest + 1 ≤ weights nodes tasks)
+LeavesLess nodes w tasks old rest new = ((f : Groups) → DoesAll nodes w rest new f → DoesAll nodes w tasks old f) × IsReady nodes w rest × (weights nodes rest + 1 ≤ weights nodes tasks)
 
 -- how many nodes of a tree have parts
 abbrev pub inner : Tree → ℕ
@@ -135,7 +135,7 @@ forget_if before t g = (if before then forget t g else g)
 
 -- what is done in place of one task: the tasks, the first one first, and whether the groups inside are forgotten before
 pub record IsStep (nodes : List Node) (w : List ℕ) (x i j : ℕ) (forgets : Bool) (tasks : List Task) : Type 0 where
-  pub run : (rest : List Task) (g f : Groups) → Run nodes w (tasks ++ rest) (forget_if forgets (tree_at nodes x) g) f → Run nodes w (Enter x i j ∷ rest) g f
+  pub run : (rest : List Task) (g f : Groups) → DoesAll nodes w (tasks ++ rest) (forget_if forgets (tree_at nodes x) g) f → DoesAll nodes w (Enter x i j ∷ rest) g f
   pub ready : IsReady nodes w tasks
   pub less : weights nodes tasks + 1 ≤ 2 * size (tree_at nodes x)
   pub fewer : inners nodes tasks ≤ inner (tree_at nodes x) - 1

@@ -27,50 +27,8 @@ ahead_lies e w from start end sought = (Spans-forward e w start end ((sought.3.1
 pub none_from : (nodes : List Node) (w : List ℕ) (r start : ℕ) → (r + 1 ≡ length nodes) → NoneBefore nodes w r start (length w + 1) → NotFound (tree_at nodes (length nodes - 1)) w start
 none_from nodes w r start root before i k low within s = missed_end nodes w r start (length w) root refl before i k low (omega arith) s
 
--- the steps by tables
-module _ (m n start p bound s1 s2 s3 s4 : ℕ) (low : start ≤ n) (high : bound ≤ n) (bounded : p ≤ bound) (ordered : start ≤ p)
-    (sweep : s2 + 42 * m * start ≤ s1 + 40 * m + 42 * m * p) (on : s3 + 42 * m * p ≤ s2 + 6 * m + 42 * m * bound)
-    (rest : s4 + 84 * m * start ≤ s3 + 76 * m + 42 * m * bound + 42 * m * n) where
-  pub tables_steps : s4 + 126 * m * start ≤ s1 + 122 * m + 126 * m * n
-  tables_steps =
-      let up = mul-le-mul_left (84 * m) high in
-      omega (arith, up)
-
-  pub tables_short : (bound ≡ start → s4 ≡ s3) → start ≡ n → s4 ≤ s1 + 46 * m
-  tables_short short end =
-      let bound_is : bound ≡ start = omega arith in
-      let p_is : p ≡ start = omega arith in
-      let same = short bound_is in
-      let e1 = ap (λ v. 42 * m * v) bound_is in
-      let e2 = ap (λ v. 42 * m * v) p_is in
-      omega (arith, same, e1, e2)
-
--- the same where all matches end where the first one does
-module _ (m n start p bound s1 s2 s3 s4 : ℕ) (low : start ≤ p) (high : p ≤ n) (closed : bound ≡ p)
-    (sweep : s2 + 42 * m * start ≤ s1 + 40 * m + 42 * m * p) (on : s3 + 42 * m * p ≤ s2 + 6 * m + 42 * m * bound)
-    (back : s4 + 42 * m * start ≤ s3 + 38 * m + 42 * m * p) where
-  pub closed_steps : s4 + 126 * m * start ≤ s1 + 122 * m + 126 * m * n
-  closed_steps =
-      let e = ap (λ v. 42 * m * v) closed in
-      let up = mul-le-mul_left (84 * m) high in
-      let less : start ≤ n = omega arith in
-      let rest = mul-le-mul_left (42 * m) less in
-      omega (arith, e, up, rest)
-
-  pub closed_short : (start ≡ p → s4 ≡ s3) → start ≡ n → s4 ≤ s1 + 46 * m
-  closed_short short end =
-      let p_is : start ≡ p = omega arith in
-      let same = short p_is in
-      let e1 = ap (λ v. 42 * m * v) closed in
-      let e2 = ap (λ v. 42 * m * v) p_is in
-      omega (arith, same, e1, e2)
-
 -- the steps of the whole: up to a start, and by tables
 module _ (m n from start s0 s1 s2 : ℕ) (some : 0 < m) (low : start ≤ n) (skip : s1 + 8 * m * from ≤ s0 + 8 * m * start + m * n + 1) where
-  pub ahead_steps : s1 ≤ s0 + 9 * m * n + 1
-  ahead_steps =
-      let up = mul-le-mul_left (8 * m) low in
-      omega (arith, up)
 
   pub all_steps : s2 + 126 * m * start ≤ s1 + 122 * m + 126 * m * n → s2 ≤ s0 + 123 * m + 127 * m * n
   all_steps on = omega (arith, on)

@@ -8,8 +8,3 @@ pub counted_more : (s a t n : ℕ) → (n ≡ 0 → a ≡ s) → (0 < n → Coun
 unfolding Counted
 counted_more s a t n none some one =
     ⊎_elim (λ h. omega (arith, h, some h, one)) (λ h. omega (arith, h, none (omega (arith, h)), one)) (cases_lt 0 n)
-
--- as many looks, in other words
-pub counted_as : (s t n m : ℕ) → n ≡ m → Counted s t n → Counted s t m
-unfolding Counted
-counted_as s t n m same counted = omega (arith, same, counted)

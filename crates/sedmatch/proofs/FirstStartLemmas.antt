@@ -66,27 +66,3 @@ module _ (nodes : List Node) (w : List ℕ) (r from end : ℕ) (root : r + 1 ≡
             let near : length w - h ≤ p = told.1 (length w - h) t.0 t.1 in
             omega arith;
       }
-
-  -- where none ends before, and none after, the first start is the leftmost, and its match the longest
-  pub closed_found : (g : Region) (i : ℕ) → IsRegionTo whole w from end g → g.bound ≡ g.last → NoneBefore nodes w r from end → IsFirstStart whole w from end i → Found whole w from i end
-  closed_found g i is closed none first =
-      let start_is = is.0 in
-      let last_is = is.1 in
-      let region = is.2 in
-      let low = first.after in
-      let high = first.before in
-      record {
-        after = low;
-        spans = first.spans;
-        longest = λ k s.
-            let most = region.all refl i k (omega arith) (omega arith) s in
-            omega arith;
-        leftmost = λ h k up before s.
-            let most = region.all refl h k (omega arith) (omega arith) s in
-            ⊎_elim
-            (λ (lt : k < end). none h k up lt (from_tree nodes w r root h k s))
-            (λ (ge : end ≤ k).
-            let same : k ≡ end = omega arith in
-            first.first h up before (subst (λ v. Spans whole w h v) same s))
-            (cases_lt k end);
-      }

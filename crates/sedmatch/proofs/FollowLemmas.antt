@@ -147,27 +147,6 @@ pub ended_within : (nodes : List Node) (w : List ℕ) (r start : ℕ) (marks : L
 ended_within nodes w r start marks None none = omega arith
 ended_within nodes w r start marks (Some f) told = told.1
 
--- where none can begin before, one begins later
-pub some_later : (e : Tree) (w : List ℕ) (from start : ℕ) (begins : Begins) (b : Bool) → AllBegin e begins → from ≤ start → ((i : ℕ) → from ≤ i → i < start → CanBegin begins w i → ⊥) →
-    (IsTrue b ↔ SomeFound e w start) → IsTrue b ↔ SomeFound e w from
-some_later e w from start begins b all low none tells = (
-  λ h. let some = tells.0 h in (some.0, some.1, omega (arith, some.2), some.3, some.4),
-  λ some. ⊎_elim
-      (λ (lt : some.0 < start). absurd (none some.0 some.2 lt (all w some.0 some.1 some.4)))
-      (λ (ge : start ≤ some.0). tells.1 (some.0, some.1, ge, some.3, some.4))
-      (cases_lt some.0 start),
-)
-
-pub none_later : (e : Tree) (w : List ℕ) (from : ℕ) (begins : Begins) → AllBegin e begins → ((i : ℕ) → from ≤ i → i ≤ length w → CanBegin begins w i → ⊥) → IsTrue false ↔ SomeFound e w from
-none_later e w from begins all none = (λ h. absurd (true≢false (sym h)), λ some. absurd (none some.0 some.2 some.3 (all w some.0 some.1 some.4)))
-
--- the bytes that are passed over, and the rest
-pub some_cost : (m n from start p s0 s1 s2 : ℕ) → 0 < m → start ≤ n → p ≤ n → s1 + from ≤ s0 + (start + 1) → s2 + 42 * m * start ≤ s1 + 40 * m + 42 * m * p → s2 ≤ s0 + 41 * m + 43 * m * n
-some_cost m n from start p s0 s1 s2 some low high skip sweep =
-    let up = mul-le-mul_left (42 * m) high in
-    let most = mul-le-mul_left (n + 1) (let h : 1 ≤ m = omega arith in h) in
-    omega (arith, most, up)
-
 pub none_cost : (m n from s0 s1 : ℕ) → 0 < m → s1 + from ≤ s0 + (n + 1) → s1 ≤ s0 + 41 * m + 43 * m * n
 none_cost m n from s0 s1 some skip =
     let most = mul-le-mul_left (n + 1) (let h : 1 ≤ m = omega arith in h) in

@@ -131,11 +131,6 @@ back_steps m many len start bound s0 s1 same low high pass =
     let a_is : len - bound ≡ a = refl in
     omega (arith, here, e1, e2)
 
-pub alone_steps : (m start bound s : ℕ) → start ≤ bound → s + 42 * m * start ≤ s + 38 * m + 42 * m * bound
-alone_steps m start bound s low =
-    let all = mul-le-mul_left (42 * m) low in
-    omega (arith, all)
-
 -- a region of matches without a byte
 pub span_short : (e : Tree) (w : List ℕ) (r : Region) → IsRegion e w true r → r.bound ≡ r.start → Found e w r.start r.start r.start
 span_short e w r is short =
@@ -156,26 +151,6 @@ span_short e w r is short =
       longest = λ j t. let less = is.all refl r.start j (omega arith) (omega arith) t in omega arith;
       leftmost = λ h j up before t. absurd (omega arith);
     }
-
--- the first place of the region and the longest match from there
-pub span_long : (e : Tree) (w : List ℕ) (r : Region) (i j : ℕ) → IsEarliest e w r i → Longest e w i (Some j) → Found e w r.start i j
-span_long e w r i j first long = earliest_found e w r.start r i j (omega arith) (λ h k low high s. absurd (omega arith)) first long
-
-pub span_none : (e : Tree) (w : List ℕ) (r : Region) (i : ℕ) → IsEarliest e w r i → Longest e w i None → ⊥
-span_none e w r i first long = long first.some.0 first.some.1
-
--- the steps from a region on
-pub span_steps : (m start i bound n s0 s1 s2 : ℕ) → start ≤ i → s1 + 42 * m * start ≤ s0 + 38 * m + 42 * m * bound → s2 + 42 * m * i ≤ s1 + 38 * m + 42 * m * n →
-    s2 + 84 * m * start ≤ s0 + 76 * m + 42 * m * bound + 42 * m * n
-span_steps m start i bound n s0 s1 s2 low back on =
-    let all = mul-le-mul_left (42 * m) low in
-    omega (arith, all)
-
-pub short_steps : (m start bound n s : ℕ) → bound ≡ start → start ≤ n → s + 84 * m * start ≤ s + 76 * m + 42 * m * bound + 42 * m * n
-short_steps m start bound n s same low =
-    let all = mul-le-mul_left (42 * m) low in
-    let e = ap (λ v. 42 * m * v) same in
-    omega (arith, all, e)
 
 -- a literal was sought before
 module _ (m n s0 s1 s2 : ℕ) (some : 0 < m) (sought : s1 ≤ s0 + n) where
@@ -203,13 +178,6 @@ module _ (m n s0 s1 s2 : ℕ) (some : 0 < m) (sought : s1 ≤ s0 + n) where
       omega (arith, a, b, places, less))
       (λ (ge : n ≤ 0). omega (arith, short))
       (cases_lt 0 n)
-
--- not found, and so neither in the square of the places
-pub none_square : (m n s0 s : ℕ) → s ≤ s0 + 64 * m * (n + 1) → s ≤ s0 + 64 * m * (n + 1) * (n + 1)
-none_square m n s0 s less =
-    let one : 1 ≤ n + 1 = omega arith in
-    let all = mul-le-mul_left (64 * m * (n + 1)) one in
-    omega (arith, all, less)
 
 -- the same of an expression that is the same
 pub test_of : (e f : Written) (w : List ℕ) (p : ℕ) (t : Bool) → e ≡ f → p ≤ length w → (IsTrue t ↔ SomeFound (tree e) w p) → t ≡ is_some (found (tree f) w p)

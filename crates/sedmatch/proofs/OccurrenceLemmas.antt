@@ -17,13 +17,6 @@ abbrev pub owed_end : ℕ → ℕ → ℕ → Option (ℕ × ℕ) → ℕ
 owed_end m n c None = 0
 owed_end m n c (Some f) = 79 * m * (n + 1 - f.1) + c
 
--- nodes times places are few
-pub few_places : (m n : ℕ) → m ≤ 65536 → n ≤ 2 ^ 30 → m * (n + 1) ≤ 2 ^ 47
-few_places m n nodes places =
-    let up : n + 1 ≤ 2 ^ 31 = omega arith in
-    let one : m * (n + 1) ≤ m * (2 ^ 31) = mul-le-mul_left m up in
-    omega arith
-
 -- the pass from the end, and what is owed after it
 pub met_paid : (m n at low s t : ℕ) → low ≤ n → t ≤ s + 25 * m * (n + 1) → t + (79 * m * (n + 1 - at) + 24 * m * low) ≤ s + 128 * m * (n + 1)
 met_paid m n at low s t inside cost =
@@ -35,9 +28,6 @@ met_paid m n at low s t inside cost =
 
 pub owed_not_met : (m n q : ℕ) (o : Occurrences) → o.met ≡ false → owed_together m n q o ≡ 128 * m * (n + 1)
 owed_not_met m n q o is = ap (λ b. if b then owed_met m n q o else 128 * m * (n + 1)) is
-
-pub owed_is_met : (m n q : ℕ) (o : Occurrences) → IsTrue o.met → owed_together m n q o ≡ owed_met m n q o
-owed_is_met m n q o is = ap (λ b. if b then owed_met m n q o else 128 * m * (n + 1)) is
 
 pub behind_is_met : (m n q : ℕ) (o : Occurrences) → IsTrue o.met → owed_from m n q o ≡ owed_met m n q o
 behind_is_met m n q o is = ap (λ b. if b then owed_met m n q o else owed_apart m n o.left) is
@@ -56,19 +46,6 @@ owed_begun m n root len left nodes places is some =
     let e1 : 32 * (root + 1) * (len + 1) ≡ 32 * m * (len + 1) = ap (λ v. 32 * v * (len + 1)) nodes in
     let e2 : 32 * m * (len + 1) ≡ 32 * m * (n + 1) = ap (λ v. 32 * m * (v + 1)) places in
     rw (left_some m n left some) (omega (arith, e1, e2, is))
-
--- a search is paid for by what is left, or by what is kept for the last one
-pub counted_paid : (m n left s t : ℕ) → 0 < left → s ≤ t → t ≤ s + 256 * m * (n + 1) →
-    t + owed_apart m n (left - (t - s)) ≤ s + owed_apart m n left
-counted_paid m n left s t some grows cost =
-    ⊎_elim
-    (λ (more : t - s < left).
-    let rest : 0 < left - (t - s) = omega arith in
-    rw (left_some m n (left - (t - s)) rest) (rw (left_some m n left some) (omega arith)))
-    (λ (less : left ≤ t - s).
-    let none : left - (t - s) ≡ 0 = omega arith in
-    rw none (rw (left_some m n left some) (omega arith)))
-    (cases_lt (t - s) left)
 
 -- a search that finds none
 none_paid : (m at k b c s t : ℕ) → t + 25 * m * at + c ≤ s + 54 * m + 25 * m * (at + k) + b → t ≤ s + (79 * m * (k + 1) + b)
@@ -127,9 +104,3 @@ pub if_occurs : (e : Tree) (w : List ℕ) (last : Option ℕ) (r : Option (ℕ �
     r ≡ next_span (found e w) (length w) last → IfSome r (LiesOn (length w) last) → IfSome r (Occurs e w last)
 if_occurs e w last None inside is lies = tt
 if_occurs e w last (Some f) inside is lies = (next_spans e w last f inside (sym is), lies)
-
--- what is kept serves where no steps are left
-pub if_serves : (e : Written) (w : List ℕ) (r : Option (ℕ × ℕ)) (o : Occurrences) → o.left ≡ 0 →
-    IfSome r (λ f. Keeps e w f.1 o) → IfSome r (λ f. Serves e w (Some f.1) o)
-if_serves e w None o none kept = tt
-if_serves e w (Some f) o none kept = ((λ some. absurd (omega (arith, none, some))), kept)

@@ -58,10 +58,6 @@ module _ (nodes : List Node) (arena : IsArena nodes) (x last : ℕ) (whole : las
         (λ h. from_node w i j (close_at nodes w x (Set members) arena is i j (spans.1 h))),
       )
 
-  -- a run
-  pub sight_run : (members : List Bool) → AllRepeat nodes x members → IsSight (tree_at nodes last) (Run members)
-  sight_run members repeats w bytes i j within = ((λ s. (repeats w i j).0 (to_node w i j s)), (λ h. from_node w i j ((repeats w i j).1 h)))
-
   -- a byte of a set, and a run
   pub sight_led : (a b : NodeId) (these : List Bool) (first : First) (y : ℕ) (members : List Bool) → slice_get nodes x ≡ Some (Seq a b) → slice_get nodes a.index ≡ Some (Set these) → y ≡ b.index →
       AreFirst first these → AllRepeat nodes y members → IsSight (tree_at nodes last) (Led first members)
@@ -89,22 +85,6 @@ module _ (nodes : List Node) (arena : IsArena nodes) (x last : ℕ) (whole : las
         let right : At nodes w b.index h.0 j = close_at nodes w b.index (Set these) arena there h.0 j ((set_spans these first same w bytes h.0 j).1 (h.2, h.3)) in
         from_node w i j (close_at nodes w x (Seq a b) arena is i j (h.0, left, right))),
   )
-
-  -- so many bytes of a set
-  pub sight_times : (members : List Bool) (count : ℕ) → AllTimes nodes last members count → IsSight (tree_at nodes last) (Times members count)
-  sight_times members count times w bytes i j within = times w bytes i j
-
-  -- two literals, and others of the bytes between
-  pub sight_between : (b : Parted) → AllParted nodes last b → IsSight (tree_at nodes last) (Between b)
-  sight_between b parted = parted
-
-  -- a literal
-  pub sight_word : (literal : List ℕ) → AllWord nodes last literal → IsSight (tree_at nodes last) (Word literal)
-  sight_word literal all w bytes i j within = all w i j within
-
-  -- one of a few literals
-  pub sight_choice : (literals : List (List ℕ)) → AllChoice nodes last literals → IsSight (tree_at nodes last) (Choice literals)
-  sight_choice literals all w bytes i j within = all w i j within
 
 -- a literal after which nothing is left
 pub all_word : (nodes : List Node) (x last : ℕ) (l : Literal) (literal : List ℕ) → last ≡ x → literal ≡ l.bytes.items → IsLiteral nodes x l → l.rest ≡ None → AllWord nodes last literal
@@ -229,13 +209,6 @@ pub sight_steps : (m n s0 s : ℕ) → 0 < m → s ≤ s0 + 50 * (n + 1) → s �
 sight_steps m n s0 s some less =
     let one : 1 ≤ m = omega arith in
     let all = mul-le-mul_left (n + 1) one in
-    omega (arith, all)
-
--- they are few beside those that squares allow
-pub sight_squares : (m n s0 s : ℕ) → 0 < m → s ≤ s0 + 50 * (n + 1) → s ≤ s0 + 64 * m * (n + 1) * (n + 1)
-sight_squares m n s0 s some less =
-    let one : 1 ≤ m = omega arith in
-    let all = mul-le-mul_left ((n + 1) * (n + 1)) one in
     omega (arith, all)
 
 pub sight_miss : (m n s0 s : ℕ) → 0 < m → s ≤ s0 + 50 * (n + 1) → s ≤ s0 + 64 * m * m * (n + 1) * (n + 1)

@@ -12,12 +12,6 @@ use Rattle.sedmarks.specs.declared.ahead.Lead.TheVariants.{To}
 use Rattle.sedmatch.specs.declared.sight.Sight.{Sight}
 use Rattle.sedmatch.specs.Sight.{IsSight, IsSightOf}
 
--- where a look ahead tells its end
-pub some_at : (e : Tree) (w : List ℕ) (p start end : ℕ) (lead : Lead) → p ≤ start → start ≤ length w → lead ≡ To end → LeadsTo (length w) (Spans e w start) lead → IsTrue true ↔ SomeFound e w p
-some_at e w p start end lead low within is leads =
-    let h = subst (LeadsTo (length w) (Spans e w start)) is leads in
-    ((λ yes. (start, end, low, within, (h.1 end).1 refl)), (λ some. refl))
-
 -- a pass ends at its start or after it
 pub ended_after : (nodes : List Node) (w : List ℕ) (r start : ℕ) (marks : List Bool) (o : Option FirstEnd) → start ≤ length w → IsFirstEnd nodes w r start marks o → start ≤ ended_to (length w) o
 ended_after nodes w r start marks None within none = within
@@ -28,11 +22,6 @@ pub some_steps : (m n from start p s0 s1 s2 : ℕ) → 0 < m → start ≤ n →
     s2 ≤ s0 + 41 * m + 43 * m * n
 some_steps m n from start p s0 s1 s2 some low ordered high skip sweep =
     let up = mul-le-mul_left (42 * m) high in
-    omega (arith, up)
-
-pub seek_steps : (m n from start s0 s1 : ℕ) → 0 < m → start ≤ n → s1 + 8 * m * from ≤ s0 + 8 * m * start + m * n + 1 → s1 ≤ s0 + 41 * m + 43 * m * n
-seek_steps m n from start s0 s1 some low skip =
-    let up = mul-le-mul_left (8 * m) low in
     omega (arith, up)
 
 -- a literal was sought before

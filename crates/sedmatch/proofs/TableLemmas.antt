@@ -37,11 +37,6 @@ cell_inside columns q k n len low small is =
     let up : q + 1 ≤ n = omega arith in
     omega (arith, mul-le-mul_left columns up, is, small)
 
-pub row_end : (columns q n len : ℕ) → q < n → len ≡ columns * n → columns * q + columns ≤ len
-row_end columns q n len low is =
-    let up : q + 1 ≤ n = omega arith in
-    omega (arith, mul-le-mul_left columns up, is)
-
 -- the state whose cells begin at a place
 pub offset_state : (columns q : ℕ) → 0 < columns → (32768 + columns * q - 32768) / columns ≡ q
 offset_state columns q some =
@@ -344,37 +339,6 @@ module _ (nodes : List Node) (r : ℕ) (sweeps : Bool) (classes : List ℕ) (col
     begins = right.begins;
     goes_on = first_known false t there is;
   }
-
--- an empty table
-pub new_states : (nodes : List Node) (r : ℕ) (sweeps : Bool) (classes firsts : List ℕ) (rows : List (List Bool)) (ends : List Ends) (cells index : List ℕ) (states : ℕ) → states ≤ 64 →
-    length rows ≡ states → length ends ≡ states → length cells ≡ length firsts * states → ((q : ℕ) → q < states → length (row_of rows q) ≡ length nodes) → 0 < length index →
-    0 < length firsts → length firsts ≤ 256 → length classes ≡ 256 → ((b : ℕ) → b < 256 → slice_index_or classes b 0 < length firsts) →
-    (0 < states → (length firsts ≤ 2 * length nodes) × AreClasses nodes classes) →
-    AreStates nodes r sweeps classes (length firsts) rows ends 0 cells index 0 0
-new_states nodes r sweeps classes firsts rows ends cells index states few long_rows long_ends long_cells fit noted some few_columns long within whole = record {
-  rows_there = omega arith;
-  ends_there = long_ends ∙ sym long_rows;
-  few = omega arith;
-  some = some;
-  few_columns = few_columns;
-  cells_there = long_cells ∙ ap (λ n. length firsts * n) (sym long_rows);
-  classes_there = long;
-  within = within;
-  narrow = λ h. (whole (omega arith)).0;
-  fits = λ q lt. let e = fit q (omega arith) in omega arith;
-  alike = λ h. (whole (omega arith)).1;
-  noted = noted;
-  filled = λ q k low column is. absurd (omega arith);
-  begins = λ t is. absurd (omega arith);
-  goes_on = λ t is. absurd (omega arith);
-}
-
--- bytes that are alike to the same byte are alike
-pub one_class : (nodes : List Node) (classes firsts : List ℕ) →
-    ((x b : ℕ) (members : List Bool) → b < 256 → slice_get nodes x ≡ Some (Set members) → slice_index_or members b false ≡ slice_index_or members (slice_index_or firsts (slice_index_or classes b 0) 0) false) →
-    AreClasses nodes classes
-one_class nodes classes firsts alike a b x members low high same is =
-    alike x a members low is ∙ ap (λ c. slice_index_or members (slice_index_or firsts c 0) false) same ∙ sym (alike x b members high is)
 
 -- where a search doesn't stop, no match ends among bytes
 pub not_inner : (sweeps : Bool) (e : Ends) → stops sweeps e ≡ false → e.inner ≡ false

@@ -64,9 +64,6 @@ unfolding bytes_in
 more_bytes [] literal = omega arith
 more_bytes (other ∷ words) literal = let rest = more_bytes words literal in omega (arith, rest)
 
-no_spans : (w : List ℕ) (i j : ℕ) → ChoiceSpans [] w i j → ⊥
-no_spans w i j s = let inside : s.1 < 0 = slice_get_within [] s.1 s.0 s.2 in omega (arith, inside)
-
 module _ (nodes : List Node) (x : ℕ) where
   -- the branches of a node
   pub both_branches : IsArena nodes → (a b : NodeId) (y z : ℕ) → slice_get nodes x ≡ Some (Alt a b) → y ≡ a.index → z ≡ b.index → BranchesOf nodes x (Both y z)
@@ -98,25 +95,6 @@ module _ (nodes : List Node) (x : ℕ) where
           (λ h. close_at nodes w x (Group g a) arena is i j (subst (λ v. At nodes w v i j) y_is h)),
         ),
       )
-
-  -- no literals yet
-  pub choice_none : ChoiceOr nodes x [] x
-  choice_none w i j within = ((λ at. inr at), ⊎_elim (λ (s : ChoiceSpans [] w i j). absurd (no_spans w i j s)) (λ (at : At nodes w x i j). at))
-
-  -- the same in a group
-  pub choice_inner : (words : List (List ℕ)) (y z : ℕ) → ChoiceOr nodes x words y → BranchesOf nodes y (Inner z) → ChoiceOr nodes x words z
-  choice_inner words y z choice inner w i j within = (
-    (λ at.
-        ⊎_elim
-        (λ (s : ChoiceSpans words w i j). inl s)
-        (λ (h : At nodes w y i j). inr ((inner.1 w i j).0 h))
-        ((choice w i j within).0 at)),
-    (λ h.
-        (choice w i j within).1 (⊎_elim
-        (λ (s : ChoiceSpans words w i j). inl s)
-        (λ (k : At nodes w z i j). inr ((inner.1 w i j).1 k))
-        h)),
-  )
 
   -- one more literal, and what is left
   pub choice_both : (words : List (List ℕ)) (literal : List ℕ) (y a b : ℕ) → ChoiceOr nodes x words y → BranchesOf nodes y (Both a b) → AllWord nodes a literal → ChoiceOr nodes x (words ++ literal ∷ []) b
@@ -199,17 +177,6 @@ few_head few words w i are at =
     let fits = at.3.fits in
     let read : slice_index w i ≡ h.0 = ap (λ v. slice_index w v) (let e : i ≡ i + 0 = omega arith in e) ∙ at.3.reads 0 (omega (arith, inside)) ∙ get_or_from_slice_get at.0 0 h.0 0 h.1 in
     (h.0, slice_get-get_or w i 0 (omega (arith, inside, fits)) ∙ ap Some read, h.2)
-
--- one more literal begins with one of the few bytes
-pub few_more : (few : Option Few) (after : Few) (words : List (List ℕ)) (x byte : ℕ) (literal : List ℕ) → FewHeads few words x → slice_get words x ≡ Some literal → slice_get literal 0 ≡ Some byte →
-    ((c : ℕ) → (Gathered few c ⊎ (c ≡ byte)) → HasFew after c) → FewHeads (Some after) words (x + 1)
-few_more few after words x byte literal are is first with k other lt there =
-    ⊎_elim
-    (λ (old : k < x). let h = are k other old there in (h.0, h.1, with h.0 (inl h.2)))
-    (λ (new : x ≤ k).
-    let e = same_literal words x k literal other (omega arith) is there in
-    (byte, subst (λ l. slice_get l 0 ≡ Some byte) (sym e) first, with byte (inr refl)))
-    (cases_lt k x)
 
 -- a literal stands at none of the places passed where none of the few bytes does
 module _ (few : Few) (words : List (List ℕ)) (w : List ℕ) (from place : ℕ) (are : FewHeads (Some few) words (length words))

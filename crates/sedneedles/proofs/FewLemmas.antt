@@ -105,46 +105,6 @@ few_looked few w p s0 s1 (Some k) from first cost = let inside = few_inside few 
 abbrev pub AllGathered : List Bool → ℕ → Option Few → Type 0
 AllGathered set n few = (c : ℕ) → Gathered few c ↔ ((c < n) × IsIn c set)
 
-pub gather_none : (set : List Bool) → AllGathered set 0 None
-gather_none set c = ((λ h. absurd h), (λ h. absurd (omega (arith, h.0))))
-
-module _ (set : List Bool) (n byte : ℕ) (few : Option Few) (same : byte ≡ n) (before : AllGathered set n few) where
-  pub gather_more : (f : Few) → IsIn byte set → ((c : ℕ) → HasFew f c ↔ (Gathered few c ⊎ (c ≡ byte))) → AllGathered set (n + 1) (Some f)
-  gather_more f has joins c = (
-    (λ h.
-        ⊎_elim
-        (λ (old : Gathered few c). let is = (before c).0 old in (omega (arith, is.0), is.1))
-        (λ (new : c ≡ byte). (omega arith, subst (λ b. IsIn b set) (sym new) has))
-        ((joins c).0 h)),
-    (λ h.
-        ⊎_elim
-        (λ (lt : c < n). (joins c).1 (inl ((before c).1 (lt, h.1))))
-        (λ (ge : n ≤ c). (joins c).1 (inr (omega (arith, h.0))))
-        (cases_lt c n)),
-  )
-
-  pub gather_same : (IsIn byte set → ⊥) → AllGathered set (n + 1) few
-  gather_same lacks c = (
-    (λ h. let is = (before c).0 h in (omega (arith, is.0), is.1)),
-    (λ h.
-        ⊎_elim
-        (λ (lt : c < n). (before c).1 (lt, h.1))
-        (λ (ge : n ≤ c). absurd (lacks (subst (λ b. IsIn b set) (omega (arith, h.0)) h.1)))
-        (cases_lt c n)),
-  )
-
-pub gather_all : (set : List Bool) (few : Option Few) → AllGathered set 256 few → IfSome few (AreMembers set)
-gather_all set None all = tt
-gather_all set (Some few) all = λ c small. ((λ h. ((all c).0 h).1), (λ h. (all c).1 (small, h)))
-
--- what begins so begins with one of the few
-pub few_byte : (b : ℕ) → IsFewOf (WithByte b) (One b)
-few_byte b w bytes i can = (b, can, refl)
-
-pub few_set : (s : List Bool) (r : Option Few) → IfSome r (AreMembers s) → FewOf (WithSet s) r
-few_set s None are = tt
-few_set s (Some few) are = λ w bytes i can. (can.0, can.1, (are can.0 (bytes i can.0 can.1)).1 can.2)
-
 -- the few of two sets
 pub few_of_both : (these those both : List Bool) → ((b : ℕ) → has both b ≡ (has these b || has those b)) → (r : Option Few) → IfSome r (AreMembers both) →
     IfSome r (λ f. (c : ℕ) → c < 256 → HasFew f c ↔ (IsIn c these ⊎ IsIn c those))

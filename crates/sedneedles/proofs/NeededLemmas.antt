@@ -39,10 +39,6 @@ occurs_more w bytes i byte here is =
           (cases_lt j (length bytes));
     }
 
--- the empty literal
-pub occurs_empty : (w : List ℕ) (i : ℕ) → i ≤ length w → OccursAt w [] i
-occurs_empty w i within = record { fits = omega arith; reads = λ j lt. absurd (omega arith) }
-
 module _ (nodes : List Node) (arena : IsArena nodes) (x : ℕ) where
   -- a set
   pub node_set : (s : List Bool) → slice_get nodes x ≡ Some (Set s) → IsOfSet nodes x s
@@ -105,27 +101,6 @@ occurs_less w bytes i byte here =
     )
 
 module _ (nodes : List Node) (x : ℕ) where
-  -- no bytes yet
-  pub begins_empty : BeginsAs nodes x [] x
-  begins_empty w i j within =
-      let same : i ≡ i + 0 = omega arith in (
-        (λ at. (occurs_empty w i within, subst (λ v. At nodes w x v j) same at)),
-        (λ h. subst (λ v. At nodes w x v j) (sym same) h.1),
-      )
-
-  -- one more byte
-  pub begins_byte : (bytes : List ℕ) (s : List Bool) (y byte z : ℕ) → BeginsAs nodes x bytes y → LinksTo nodes y (OneOf s z) → IsSole s byte → BeginsAs nodes x (bytes ++ byte ∷ []) z
-  begins_byte bytes s y byte z begins link sole w i j within =
-      let long = length-append bytes (byte ∷ []) in
-      let same : i + length bytes + 1 ≡ i + length (bytes ++ byte ∷ []) = omega (arith, long) in (
-        (λ at.
-            let h = (begins w i j within).0 at in
-            let k = (link.1 w (i + length bytes) j).0 h.1 in
-            (occurs_more w bytes i byte h.0 (sole_stands s byte w (i + length bytes) sole k.0), subst (λ v. At nodes w z v j) same k.1)),
-        (λ h.
-            let less = occurs_less w bytes i byte h.0 in
-            (begins w i j within).1 (less.0, (link.1 w (i + length bytes) j).1 ((byte, less.1, sole.1), subst (λ v. At nodes w z v j) (sym same) h.1))),
-      )
 
   -- the last byte
   pub begins_last : (bytes : List ℕ) (s : List Bool) (y byte : ℕ) → BeginsAs nodes x bytes y → LinksTo nodes y (Last s) → IsSole s byte →
@@ -140,19 +115,6 @@ module _ (nodes : List Node) (x : ℕ) where
             let less = occurs_less w bytes i byte h.0 in
             (begins w i j within).1 (less.0, (link w (i + length bytes) j).1 ((byte, less.1, sole.1), omega (arith, long, h.1)))),
       )
-
-  -- the same in a group
-  pub begins_inner : (bytes : List ℕ) (y z : ℕ) → BeginsAs nodes x bytes y → LinksTo nodes y (Inner z) → BeginsAs nodes x bytes z
-  begins_inner bytes y z begins link w i j within = (
-    (λ at. let h = (begins w i j within).0 at in (h.0, (link.1 w (i + length bytes) j).0 h.1)),
-    (λ h. (begins w i j within).1 (h.0, (link.1 w (i + length bytes) j).1 h.1)),
-  )
-
-  pub ends_empty : AllEndWith nodes x x
-  ends_empty w i j within at = (i, omega arith, within, at)
-
-  pub hold_empty : AllHold nodes x []
-  hold_empty w i j within at = (i, omega arith, occurs_empty w i within)
 
   -- the longer of what it holds and what a part at its end begins with
   pub hold_longer : (y : ℕ) (l : Literal) (these result : List ℕ) → AllEndWith nodes x y → IsLiteral nodes y l → AllHold nodes x these →
@@ -208,9 +170,6 @@ module _ (w rest : List ℕ) (p : ℕ) (from : p ≤ length w) (e : rest ≡ tak
   pub literal_some : (k : ℕ) → FirstOf (OccursAt rest literal) 0 (length rest + 1) k → OccursAt rest literal k → FirstLiteral w literal p (Some (p + k))
   literal_some k least here = (omega arith, from_rest k here, λ h low high is. least.before (h - p) (omega arith) (omega arith) (to_rest h low is))
 
-  pub literal_steps : (k : ℕ) → OccursAt rest literal k → p + (k + length literal) ≤ length w
-  literal_steps k here = omega (arith, here.fits, length-rest)
-
 module _ (w part : List ℕ) (p q : ℕ) (from : p ≤ q) (to : q ≤ length w) (e : part ≡ take (q - p) (drop p w)) (literal : List ℕ) where
   length-part : length part ≡ q - p
   length-part = ap length e ∙ length-take (q - p) (drop p w) ∙ (let long = length-drop p w in omega (arith, long))
@@ -263,17 +222,3 @@ module _ (e : Tree) (w : List ℕ) (p : ℕ) (n : Needed) (holds : IsNeeded e (S
             let h = holds w i k (omega arith) s in
             first.2 i low lt (subst (OccursAt w n.finder) (h.2 leads) h.3),
       )
-
-module _ (nodes : List Node) (r last : ℕ) (same : last ≡ r) (n : Needed) where
-  -- a literal with which all spans begin
-  pub needed_leads : (l : Literal) → n.finder ≡ l.bytes.items → IsLiteral nodes r l → IsNeeded (tree_at nodes last) (Some n)
-  needed_leads l is literal w i j within s =
-      let at : At nodes w r i j = subst (λ x. At nodes w x i j) same s in
-      (i, omega arith, λ leads. refl, subst (λ v. OccursAt w v i) (sym is) ((literal w i j within).0 at).0)
-
-  -- one that they hold somewhere
-  pub needed_holds : (l : List ℕ) → n.finder ≡ l → n.leads ≡ false → AllHold nodes r l → IsNeeded (tree_at nodes last) (Some n)
-  needed_holds l is leads holds w i j within s =
-      let at : At nodes w r i j = subst (λ x. At nodes w x i j) same s in
-      let h = holds w i j within at in
-      (h.0, h.1, λ yes. absurd (true≢false (sym yes ∙ leads)), subst (λ v. OccursAt w v h.0) (sym is) h.2)

@@ -108,21 +108,6 @@ width_at nodes members widths x count are lt y there is =
     let same : slice_index widths x ≡ count = sym (is ∙ ap (λ v. slice_index_or widths v count) there ∙ default_same widths x count 0 lt) in
     subst (λ v. AllTimes nodes x members v) same (are x lt)
 
--- no widths yet
-pub widths_none : (nodes : List Node) (members : List Bool) → AreWidths nodes members []
-widths_none nodes members x lt = absurd (omega arith)
-
--- the width of one more node
-pub widths_more : (nodes : List Node) (members : List Bool) (widths : List ℕ) (count : ℕ) → AreWidths nodes members widths → AllTimes nodes (length widths) members count → AreWidths nodes members (widths ++ count ∷ [])
-widths_more nodes members widths count are new x lt =
-    let long = length-append widths (count ∷ []) in
-    ⊎_elim
-    (λ (old : x < length widths). subst (λ v. AllTimes nodes x members v) (sym (get_or_append_left widths (count ∷ []) 0 x old)) (are x old))
-    (λ (le : length widths ≤ x).
-    let same : length widths ≡ x = omega (arith, long) in
-    subst (λ v. AllTimes nodes x members v) (sym (get_or_push widths count 0 x same)) (subst (λ v. AllTimes nodes v members count) same new))
-    (cases_lt x (length widths))
-
 module _ (members : List Bool) (count : ℕ) (w : List ℕ) (from : ℕ) where
   -- no so many bytes begin up to a byte that isn't in the set and stands among those
   pub times_missed : (start place : ℕ) → start ≤ place → place < start + count → (CanBegin (WithSet members) w place → ⊥) →

@@ -6,9 +6,6 @@ use Rattle.sedre.proofs.ByteLemmas.{apart_false}
 use Rattle.sedre.specs.Brackets.{list_end}
 use Rattle.sedre.specs.Delimited.{next_place, first_delimiter}
 
-pub after_list : (d at : ℕ) (text : List ℕ) → at < length text → get_or text at 0 ≡ 91 → list_end (Some d) (at + 1) (drop (at + 1) text) ≡ next_place d at (drop at text)
-after_list d at text inside is = sym (at_drop_more (next_place d at) text at 0 inside ∙ ap (λ b. next_place d at (b ∷ drop (at + 1) text)) is)
-
 -- whether a newline stands in some bytes
 abbrev pub breaks : List ℕ → Bool
 breaks bytes = list_any (λ b. b == 10) bytes

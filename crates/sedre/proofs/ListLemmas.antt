@@ -286,9 +286,6 @@ pub closed_at : (d : Option ℕ) (text : List ℕ) (first : Bool) (place : ℕ) 
 closed_at d text first place inside is =
     closed_front d first place (drop place text) (omega (arith, length-drop place text)) (ap (λ b. b == 93 && not first) (front_at text place) ∙ is)
 
-pub ended_at : (d : Option ℕ) (text : List ℕ) (first : Bool) (place : ℕ) → length text ≤ place → items d first 0 place (drop place text) ≡ ([], None)
-ended_at d text first place past = ap (items d first 0 place) (drop_all place text past)
-
 pub union_none : (a b : List Bool) → union (union a b) no_byte ≡ union a b
 union_none a b =
     set_of-same (λ k. has (union a b) k || has no_byte k) (λ k. has a k || has b k)
@@ -345,18 +342,6 @@ pub list_fault : (d : Option ℕ) (text : List ℕ) (folded negated : Bool) (at 
 list_fault d text folded negated at start place set f whole so_far inside isnt here =
     sym (so_far ∙ one_step d text (place == start) folded negated at place set inside isnt ∙ ap (after d text folded negated at set) here)
 
-pub list_closed : (d : Option ℕ) (text : List ℕ) (folded negated : Bool) (at start place : ℕ) (set : List Bool) (whole : Result (ByteSet × ℕ) ExprFault) →
-    whole ≡ list_from d text folded negated at start place set → place < length text → is_closing text start place ≡ true → union set no_byte ≡ set →
-    whole ≡ Ok (matched folded negated set, place + 1)
-list_closed d text folded negated at start place set whole so_far inside is normal =
-    so_far ∙ ap (go_on folded negated at set) (closed_at d text (place == start) place inside is)
-    ∙ ap (λ (s : List Bool). Ok (matched folded negated s, place + 1)) normal
-
-pub list_open : (d : Option ℕ) (text : List ℕ) (folded negated : Bool) (at start place : ℕ) (set : List Bool) (whole : Result (ByteSet × ℕ) ExprFault) →
-    whole ≡ list_from d text folded negated at start place set → length text ≤ place → Err (record { place = at; reason = OpenBracket }) ≡ whole
-list_open d text folded negated at start place set whole so_far past =
-    sym (so_far ∙ ap (go_on folded negated at set) (ended_at d text (place == start) place past))
-
 -- ---- the loop over a list of which only the end is wanted
 
 pub end_begun : (d : Option ℕ) (text : List ℕ) (place start : ℕ) → start ≡ items_start place (drop place text) →
@@ -374,11 +359,3 @@ end_more d text start place width end so_far inside isnt is_width low some =
     so_far ∙ ap (λ (all : Items). all.1) (opened_at d (place == start) place text inside isnt)
     ∙ ap (λ w. (items d false 0 (place + w) (drop (place + w) text)).1) (sym is_width)
     ∙ ap (λ t. (items d t 0 (place + width) (drop (place + width) text)).1) (sym (apart_false (place + width) start (λ e. omega arith)))
-
-pub end_closed : (d : Option ℕ) (text : List ℕ) (start place : ℕ) (end : Option ℕ) → end ≡ (items d (place == start) 0 place (drop place text)).1 →
-    place < length text → is_closing text start place ≡ true → Some (place + 1) ≡ end
-end_closed d text start place end so_far inside is = sym (so_far ∙ ap (λ (all : Items). all.1) (closed_at d text (place == start) place inside is))
-
-pub end_open : (d : Option ℕ) (text : List ℕ) (start place : ℕ) (end : Option ℕ) → end ≡ (items d (place == start) 0 place (drop place text)).1 →
-    length text ≤ place → None ≡ end
-end_open d text start place end so_far past = sym (so_far ∙ ap (λ (all : Items). all.1) (ended_at d text (place == start) place past))

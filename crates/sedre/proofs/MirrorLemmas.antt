@@ -128,32 +128,6 @@ IsArena-mirror nodes arena = record {
       (of.0, mirror_node of.1, new_node nodes of.0 of.1 of.2, part_to of.1 c of.3);
 }
 
--- a group of a mirrored node is the node's own
-group_from : (old : Node) (k : ℕ) (a : NodeId) → mirror_node old ≡ Group k a → old ≡ Group k a
-group_from Empty k a e = cc
-group_from (Set s) k a e = cc
-group_from Begin k a e = cc
-group_from End k a e = cc
-group_from (Seq b c) k a e = cc
-group_from (Alt b c) k a e = cc
-group_from (Group n b) k a e = e
-group_from (Star b first) k a e = cc
-group_from (Opt b first) k a e = cc
-
-pub IsExpr-mirror : (nodes : List Node) (groups : ℕ) → IsExpr nodes groups → IsExpr (map mirror_node nodes) groups
-IsExpr-mirror nodes groups expr = record {
-  arena = IsArena-mirror nodes expr.arena;
-  sizes = λ x low.
-      let below : x < length nodes = (rw length-map at low) in
-      omega (arith, ap size (tree_at-mirror nodes x), size-mirror (tree_at nodes x), expr.sizes x below);
-  numbers = λ x k a is.
-      let old = old_node nodes x (Group k a) is in
-      expr.numbers x k a (old.1 ∙ ap (λ (n : Node). Some n) (group_from old.0 k a old.2));
-  whole =
-      rw length-map (ap size (tree_at-mirror nodes (length nodes - 1)) ∙ size-mirror (tree_at nodes (length nodes - 1)) ∙ expr.whole);
-  few = rw length-map expr.few;
-}
-
 -- the same of an expression that is mirrored or not
 pub seen-arena : (back : Bool) (e : Written) → IsArena e.nodes → IsArena (seen back e).nodes
 seen-arena true e arena = IsArena-mirror e.nodes arena

@@ -37,12 +37,6 @@ unopened_step items k n next i at e =
 pub none_after : (items : List Item) (n : ℕ) → [] ≡ reverse (unopened n (drop (length items) items))
 none_after items n = let e : drop (length items) items ≡ [] = drop_of_length-le items (omega arith) in rw e refl
 
--- the table after the last item
-pub ends_end : (items : List Item) (n : ℕ) (ends : List (Option ℕ)) → drop (length ends) ends ≡ ends_in n (drop (length items) items)
-ends_end items n ends =
-    let e : drop (length items) items ≡ [] = drop_of_length-le items (omega arith) in
-    rw e (drop_of_length-le ends (omega arith))
-
 -- the table one item further back
 pub ends_step : (items : List Item) (k n next : ℕ) (i : Item) (end : Option ℕ) (ends : List (Option ℕ)) → slice_get items k ≡ Some i → n ≡ counted next i →
     ends ≡ ends_in n (drop (k + 1) items) → (is_open i.function ≡ true → end ≡ slice_get (unopened n (drop (k + 1) items)) 0) →

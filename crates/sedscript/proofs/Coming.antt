@@ -207,10 +207,6 @@ line_comes text kind m old at b result e d h =
     subst (λ (o : Option ℕ). Comes text kind m old old as_addressed result (address_of text (length old) at o)) (sym e)
     (rw d (comes_plain text kind m old old as_addressed result _ refl h))
 
-pub answers_same : (n : ℕ) (result r : Result Here ScriptFault) → result ≡ r → Agrees as_here n result r
-answers_same n (Ok x) r e = sym e
-answers_same n (Err x) r e = sym e
-
 pub after_here : (text : List ℕ) (at start next : ℕ) (result : Result Here ScriptFault) → at ≤ start → start ≤ next → IfOk result (IsAfter next (length text)) → IfOk result (IsHere text at)
 after_here text at start next (Err x) a b h = tt
 after_here text at start next (Ok (Is i to)) a b h = (omega (arith, a, b, h.0), h.1)

@@ -21,15 +21,6 @@ clear_none bytes = record {
   last_clear = rw (drop_all (length bytes - 0) bytes (omega arith)) (λ k d inside. absurd (omega (arith, inside)));
 }
 
--- bytes that come after
-pub clear_append : (a b : ℕ) (xs ys : List ℕ) → IsClear a b xs → IsClear a 0 (xs ++ ys)
-clear_append a b xs ys h = record {
-  first_within = omega (arith, length-append xs ys, h.first_within);
-  last_within = omega arith;
-  first_clear = rw (take-append-le a xs ys h.first_within) h.first_clear;
-  last_clear = rw (drop_all (length (xs ++ ys) - 0) (xs ++ ys) (omega arith)) (λ k d inside. absurd (omega (arith, inside)));
-}
-
 last_more : (b : ℕ) (xs ys : List ℕ) → b ≤ length xs → HasNoNewline (drop (length xs - b) xs) → HasNoNewline ys → HasNoNewline (drop (length (xs ++ ys) - (b + length ys)) (xs ++ ys))
 last_more b xs ys within h none =
     let n : length (xs ++ ys) - (b + length ys) ≡ length xs - b = omega (arith, length-append xs ys) in

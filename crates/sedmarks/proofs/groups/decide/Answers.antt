@@ -2,7 +2,7 @@ use Rattle.std.proofs.Common.{◌≡◌, ◌+◌, ◌*◌, ◌≤◌, List, [], 
 use Rattle.std.proofs.lemmas.List.{reverse-append}
 use Rattle.sedre.specs.Arena.{tree_at}
 use Rattle.sedmarks.specs.Caps.{Caps}
-use Rattle.sedmarks.specs.Work.{Run, IsReady, weights}
+use Rattle.sedmarks.specs.Work.{DoesAll, IsReady, weights}
 use Rattle.sedmarks.specs.declared.scratch.Task.{Task}
 use Rattle.sedmarks.specs.declared.scratch.Task.TheVariants.{Enter}
 use Rattle.sedmarks.proofs.WorkLemmas.{decide_start, decide_next}
@@ -29,7 +29,7 @@ loop-task-init c =
           (reverse c.push_reserved.new.self.items) begun small;
       less = low;
       caps = λ f run.
-          let one : Run nodes w (first ∷ []) c.args.groups.now f = subst (λ ts. Run nodes w ts c.args.groups.now f) begun run in
+          let one : DoesAll nodes w (first ∷ []) c.args.groups.now f = subst (λ ts. DoesAll nodes w ts c.args.groups.now f) begun run in
           subst (λ g. Caps (tree_at nodes c.args.root) w c.args.start c.args.stop c.args.groups.now g) (sym one.2) one.1;
     }
 
@@ -50,5 +50,5 @@ loop-task-preserved c =
       cost = decide_next nodes (46 * length nodes * (length w + 1) * (length w + 1) + 1 + length nodes) (length nodes) c.args.steps.now c.loop-task.steps c.work.new.steps
           (reverse c.work.new.plan.tasks.items) (reverse c.loop-task.plan.tasks.items) (c.in-Some.task ∷ reverse old) popped (omega arith) c.loop-task.invariant.cost;
       less = omega (arith, less);
-      caps = λ f run. c.loop-task.invariant.caps f (subst (λ ts. Run nodes w ts c.loop-task.groups f) (sym popped) (c.work.ensures.less.0 f run));
+      caps = λ f run. c.loop-task.invariant.caps f (subst (λ ts. DoesAll nodes w ts c.loop-task.groups f) (sym popped) (c.work.ensures.less.0 f run));
     }
