@@ -29,7 +29,6 @@ none_from nodes w r start root before i k low within s = missed_end nodes w r st
 
 -- the steps of the whole: up to a start, and by tables
 module _ (m n from start s0 s1 s2 : ℕ) (some : 0 < m) (low : start ≤ n) (skip : s1 + 8 * m * from ≤ s0 + 8 * m * start + m * n + 1) where
-
   pub all_steps : s2 + 126 * m * start ≤ s1 + 122 * m + 126 * m * n → s2 ≤ s0 + 123 * m + 127 * m * n
   all_steps on = omega (arith, on)
 

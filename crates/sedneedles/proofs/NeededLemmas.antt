@@ -101,7 +101,6 @@ occurs_less w bytes i byte here =
     )
 
 module _ (nodes : List Node) (x : ℕ) where
-
   -- the last byte
   pub begins_last : (bytes : List ℕ) (s : List Bool) (y byte : ℕ) → BeginsAs nodes x bytes y → LinksTo nodes y (Last s) → IsSole s byte →
       (w : List ℕ) (i j : ℕ) → i ≤ length w → At nodes w x i j ↔ (OccursAt w (bytes ++ byte ∷ []) i × (i + length (bytes ++ byte ∷ []) ≡ j))
