@@ -1,8 +1,8 @@
-//! A literal, bytes of a set that lacks few, and another literal, as in `GET .* HTTP`: a match begins at the first literal
-//! after which the second stands, and ends with the last of the second.
+//! A literal, bytes of a set that lacks few, and another literal, as in `GET .* HTTP`: a match begins at the first
+//! literal after which the second stands, and ends with the last of the second.
 //!
-//! Both are sought by their own searches, the last one from the end, and the few bytes that can't stand between by a third:
-//! a match ends before the first of them.
+//! Both are sought by their own searches, the last one from the end, and the few bytes that can't stand between by a
+//! third: a match ends before the first of them.
 ghost use Rattle.std.specs.Prelude.{◌≡◌, ℕ, ◌+◌, ◌*◌, ◌^◌, ◌<◌, ◌≤◌, ◌-◌, length, None, IfOk, IfSome, IsTrue};
 ghost use Rattle.sedneedles.specs.Needed.{FirstLiteral};
 ghost use Rattle.sedmatch.specs.Between.{AreOutside, GoesClear, ClearTo, LastTail, AllParted, CanPart, PartedEnd, FirstParted, IsShort};
@@ -224,7 +224,8 @@ fn lacks_tail(head: &Finder, ahead: &Finder, text: &Text, from: usize, steps: &m
     }
 }
 
-/// The first place from `from` on at which a match begins, told at once where the second literal tells that there is none.
+/// The first place from `from` on at which a match begins, told at once where the second literal tells that there is
+/// none.
 fn parted_start(
     head: &Finder,
     outside: &Few,

@@ -8,9 +8,9 @@
 //!
 //! A [`TableMatcher`] keeps what such a search finds out of an expression, and looks it up in the next one: at most
 //! places that is one cell of a table in place of all nodes. Where a match begins and ends then takes steps in
-//! proportion to the text, whatever the answer: 128 times nodes times places at most. What an expression tells of all its
-//! matches is found out once, when such a matcher is made: a literal that they hold, the rarest bytes at fixed distances
-//! after their beginning (both in `sedneedles`), and whether they are seen at the first look.
+//! proportion to the text, whatever the answer: 128 times nodes times places at most. What an expression tells of all
+//! its matches is found out once, when such a matcher is made: a literal that they hold, the rarest bytes at fixed
+//! distances after their beginning (both in `sedneedles`), and whether they are seen at the first look.
 //!
 //! [`TableMatcher::next_occurrence`] goes over all occurrences in one text. They take at most 416 times nodes times
 //! places together, whatever the answers: where searches look far past their matches, one pass from the text's end

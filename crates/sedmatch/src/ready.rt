@@ -43,7 +43,8 @@ pub struct Tables {
     pub back_single: Table,
 }
 
-/// Finds out what all matches of the expression have in common. Nothing is sought where they are seen at the first look.
+/// Finds out what all matches of the expression have in common. Nothing is sought where they are seen at the first
+/// look.
 pub fn find_known(
     alloc: Global,
     expr: &Expr,

@@ -264,9 +264,9 @@ fn follow_noting(
 }
 
 /// Follows filled cells from a place on, and notes the end of the longest match so far: to the place `stop`, or to one
-/// before it where another look is needed. `inner` says whether a match ends at the first place, and `again` whether the
-/// last byte led from its state to itself: mostly no match ends there, and then the cells up to the next such place are
-/// followed faster, and so is a run at one state.
+/// before it where another look is needed. `inner` says whether a match ends at the first place, and `again` whether
+/// the last byte led from its state to itself: mostly no match ends there, and then the cells up to the next such place
+/// are followed faster, and so is a run at one state.
 fn follow_best(
     expr: &Nodes,
     root: usize,
@@ -466,9 +466,10 @@ const STATES: usize = 64;
 /// at all others, and in later texts, so that a byte mostly costs a few looks, whatever the expression.
 ///
 /// It holds a copy of the expression and four tables: for a pass in which every place is a start, for one from a
-/// single start, and for either backwards. All their room is taken in [`TableMatcher::new`], a few kilobytes for a common
-/// expression, and for each some 30 bytes a node. A literal that all matches hold, of 32 bytes at most, is found out then
-/// too. Where an expression is used once, [`crate::find`] and its like are the better choice: they need no table.
+/// single start, and for either backwards. All their room is taken in [`TableMatcher::new`], a few kilobytes for a
+/// common expression, and for each some 30 bytes a node. A literal that all matches hold, of 32 bytes at most, is found
+/// out then too. Where an expression is used once, [`crate::find`] and its like are the better choice: they need no
+/// table.
 #[derive(Drop)]
 pub struct TableMatcher {
     pub(crate) expr: Expr,
@@ -608,7 +609,8 @@ impl TableMatcher {
         )
     }
 
-    /// The leftmost-longest match that begins at `from` or later, with its groups. `None` exactly where there is no match.
+    /// The leftmost-longest match that begins at `from` or later, with its groups. `None` exactly where there is no
+    /// match.
     pub fn find(
         &mut self,
         text: &Text,
