@@ -1,8 +1,7 @@
 -- The copies of a repetition: from where they lead on to its end, and how far each goes.
-use Rattle.std.proofs.Common.{◌≡◌, ℕ, ◌+◌, ◌-◌, ◌*◌, ◌<◌, ◌≤◌, ◌⊎◌, ◌↔◌, Bool, true, false, List, length, reverse, Option, Some, None, IsTrue, refl, sym, ap, ◌∙◌, subst, inl, inr, ⊎_elim, true≢false, arith, mul-le-mul_left}
+use Rattle.std.proofs.Common.{◌≡◌, ℕ, ◌+◌, ◌-◌, ◌*◌, ◌<◌, ◌≤◌, ◌⊎◌, ◌↔◌, Bool, true, false, List, length, reverse, Some, None, IsTrue, refl, sym, ap, ◌∙◌, subst, inl, inr, ⊎_elim, arith, mul-le-mul_left}
 use Rattle.std.specs.Prelude.{slice_index_or, slice_set}
-use Rattle.std.proofs.lemmas.Bool.{cases_eq, cases_lt}
-use Rattle.std.proofs.lemmas.List.{get_or-set_same, get_or-set_other, length-reverse}
+use Rattle.std.proofs.lemmas.List.{get_or-set_other, length-reverse}
 use Rattle.sedre.specs.Arena.{Written, IsArena}
 use Rattle.sedre.specs.Mirror.{seen}
 use Rattle.sedre.specs.declared.types.Node.{Node}

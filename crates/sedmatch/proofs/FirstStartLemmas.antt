@@ -1,20 +1,17 @@
 -- The first place at which a match begins that ends at a known place, found from there backwards.
-use Rattle.std.proofs.Common.{◌≡◌, ℕ, ◌+◌, ◌-◌, ◌<◌, ◌≤◌, true, List, length, reverse, Option, Some, None, refl, ap, subst, ⊎_elim, ◌∙◌, arith}
-use Rattle.std.proofs.lemmas.Bool.{cases_lt}
+use Rattle.std.proofs.Common.{◌≡◌, ℕ, ◌+◌, ◌-◌, ◌<◌, ◌≤◌, true, List, length, reverse, Option, Some, None, ap, subst, ◌∙◌, arith}
 use Rattle.sedre.specs.Tree.{Tree}
 use Rattle.sedre.specs.Arena.{Written, tree, tree_at}
 use Rattle.sedre.specs.Mirror.{mirror, seen}
 use Rattle.sedre.proofs.MirrorLemmas.{seen-tree}
 use Rattle.sedre.specs.declared.types.Node.{Node}
-use Rattle.sedmarks.specs.Spans.{Spans, Found}
+use Rattle.sedmarks.specs.Spans.{Spans}
 use Rattle.sedmarks.specs.Reach.{SomeSpan, LongestBelow}
-use Rattle.sedmarks.specs.Search.{IsRegionTo}
 use Rattle.sedmatch.specs.Tables.{starts_from}
-use Rattle.sedmatch.specs.Linear.{NoneBefore, IsFirstStart}
-use Rattle.sedmarks.specs.declared.region.Region.{Region}
+use Rattle.sedmatch.specs.Linear.{IsFirstStart}
 use Rattle.sedmarks.proofs.SpanLemmas.{Spans-forward}
 use Rattle.sedmarks.proofs.MirrorLemmas.{Spans-mirror, Spans-unmirror}
-use Rattle.sedmarks.proofs.RegionLemmas.{to_tree, from_tree}
+use Rattle.sedmarks.proofs.RegionLemmas.{to_tree}
 
 -- what a pass over the mirrored expression and the text read from its end tells
 pub below_mirrored : (e nodes : Written) (w bytes : List ℕ) (len a b : ℕ) (best : Option ℕ) → nodes ≡ seen true e → bytes ≡ reverse w → len ≡ length w →

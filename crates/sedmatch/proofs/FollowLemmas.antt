@@ -11,11 +11,8 @@ use Rattle.sedmarks.specs.declared.states.Ends.{Ends}
 use Rattle.sedmatch.specs.declared.tables.Table.{Table}
 use Rattle.sedmatch.specs.declared.tables.Next.{Next}
 use Rattle.sedmatch.specs.declared.tables.Next.TheVariants.{To, Full}
-use Rattle.sedre.specs.Tree.{Tree}
 use Rattle.sedmarks.specs.Spans.{SomeFound}
 use Rattle.sedmarks.specs.Reach.{At, SomeSpan}
-use Rattle.sedmarks.specs.Beginnings.{AllBegin, CanBegin}
-use Rattle.sedmarks.specs.declared.beginnings.Begins.{Begins}
 use Rattle.sedmatch.specs.Tables.{StateAt, StartsAre, Follows, Stays, look_cost, LeadsFrom, NextIs, ends_of, starts_from}
 use Rattle.sedmarks.specs.Words.{row_of}
 use Rattle.sedmarks.proofs.SpanLemmas.{Spans-forward, Spans-within}

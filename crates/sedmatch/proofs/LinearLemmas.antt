@@ -13,12 +13,12 @@ use Rattle.sedmatch.specs.declared.tables.Table.{Table}
 use Rattle.sedmarks.specs.declared.region.Region.{Region}
 use Rattle.sedmarks.specs.Spans.{Spans, Found, NotFound, SomeFound}
 use Rattle.sedmarks.specs.Reach.{At, SomeSpan, OpenAt, TellBegun, Longest}
-use Rattle.sedmarks.specs.Search.{LastEnd, starts_to, IsRegion, IsEarliest}
+use Rattle.sedmarks.specs.Search.{LastEnd, starts_to, IsRegion}
 use Rattle.sedmarks.specs.States.{IsAt}
 use Rattle.sedmatch.specs.Tables.{StartsAre, starts_from}
 use Rattle.sedmatch.specs.Linear.{IsBound}
 use Rattle.sedmarks.proofs.SpanLemmas.{Spans-forward}
-use Rattle.sedmarks.proofs.RegionLemmas.{begun_restart, closed_at, closed_end, earliest_found}
+use Rattle.sedmarks.proofs.RegionLemmas.{begun_restart, closed_at, closed_end}
 
 -- the steps: bytes that are followed, and one that is not
 pub line_step : (m k from place p s0 s1 s2 : ℕ) → 0 < m → place ≤ p → s1 + 42 * m * from ≤ s0 + k + 42 * m * place → s2 + 2 * place ≤ s1 + 2 * p + 32 * m + 10 →

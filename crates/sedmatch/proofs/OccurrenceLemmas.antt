@@ -1,16 +1,14 @@
 -- What the searches for all occurrences in one text cost together.
-use Rattle.std.proofs.Common.{⊎_elim, Bool, true, List, length, ◌≡◌, ℕ, ◌+◌, ◌-◌, ◌*◌, ◌^◌, ◌<◌, ◌≤◌, false, Option, Some, None, IsTrue, IfSome, refl, sym, ap, subst, arith, mul-le-mul_left}
+use Rattle.std.proofs.Common.{Bool, true, List, length, ◌≡◌, ℕ, ◌+◌, ◌-◌, ◌*◌, ◌<◌, ◌≤◌, false, Option, Some, None, IsTrue, IfSome, refl, sym, ap, subst, arith, mul-le-mul_left}
 use Rattle.std.specs.Prelude.{◌&&◌, nat_eq, nat_lt, if◌then◌else◌}
-use Rattle.std.proofs.lemmas.Bool.{cases_lt}
 use Rattle.std.proofs.lemmas.Bool.Decides.{nat_tests}
 use Rattle.sedre.specs.Tree.{Tree}
-use Rattle.sedre.specs.Arena.{Written}
 use Rattle.sedmarks.specs.Spans.{Spans}
 use Rattle.sedmarks.specs.Matching.{found}
 use Rattle.sedmarks.proofs.MatchingLemmas.{found-iff}
 use Rattle.sedmatch.specs.declared.occurrences.Occurrences.{Occurrences}
 use Rattle.sedmatch.specs.BackPass.{blocks_cost, end_to}
-use Rattle.sedmatch.specs.Occurrences.{EndsWithin, Keeps, LiesOn, Occurs, Serves, next_span, unless_null_at, owed_met, owed_apart, owed_together, owed_from, owed_after}
+use Rattle.sedmatch.specs.Occurrences.{EndsWithin, LiesOn, Occurs, next_span, unless_null_at, owed_met, owed_apart, owed_together, owed_from, owed_after}
 
 -- what is owed after an answer, where c is what the blocks may cost
 abbrev pub owed_end : ℕ → ℕ → ℕ → Option (ℕ × ℕ) → ℕ

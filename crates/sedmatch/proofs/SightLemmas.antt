@@ -14,12 +14,12 @@ use Rattle.sedneedles.specs.declared.few.Few.{Few}
 use Rattle.sedmarks.specs.Reach.{At}
 use Rattle.sedmarks.specs.Beginnings.{CanBegin, NextStart}
 use Rattle.sedmarks.specs.declared.beginnings.Begins.TheVariants.{WithSet}
-use Rattle.sedneedles.specs.Times.{AllTimes, FirstTimes}
-use Rattle.sedmatch.specs.Between.{Parted, AllParted, FirstParted}
+use Rattle.sedneedles.specs.Times.{FirstTimes}
+use Rattle.sedmatch.specs.Between.{Parted, FirstParted}
 use Rattle.sedneedles.specs.Needed.{IsLiteral, GoesOnAs, FirstLiteral}
 use Rattle.sedneedles.specs.declared.needed.Literal.{Literal}
 use Rattle.sedneedles.specs.Word.{WordSpans, AllWord}
-use Rattle.sedneedles.specs.Choice.{AllChoice, FirstChoice}
+use Rattle.sedneedles.specs.Choice.{FirstChoice}
 use Rattle.sedmarks.specs.RunsAhead.{Repeated, AllRepeat, IsRun}
 use Rattle.sedmatch.specs.Sight.{IsFirst, StartsWith, SightSpans, IsSight, CanStart, FirstWith, FirstStart, EndsAt}
 use Rattle.sedmatch.specs.declared.sight.First.{First}

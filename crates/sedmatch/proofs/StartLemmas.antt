@@ -1,14 +1,10 @@
 -- Whether a match begins at the first place at which one can.
-use Rattle.std.proofs.Common.{◌≡◌, ℕ, ◌+◌, ◌*◌, ◌<◌, ◌≤◌, ◌↔◌, Bool, true, List, length, Option, Some, None, IsTrue, refl, subst, arith, mul-le-mul_left}
+use Rattle.std.proofs.Common.{◌≡◌, ℕ, ◌+◌, ◌*◌, ◌<◌, ◌≤◌, Bool, List, length, Option, Some, None, subst, arith, mul-le-mul_left}
 use Rattle.std.specs.Prelude.{IfNone}
 use Rattle.sedre.specs.Tree.{Tree}
 use Rattle.sedre.specs.declared.types.Node.{Node}
 use Rattle.sedmatch.specs.declared.linear.FirstEnd.{FirstEnd}
 use Rattle.sedmatch.specs.Linear.{IsFirstEnd, ended_to}
-use Rattle.sedmarks.specs.Spans.{Spans, SomeFound}
-use Rattle.sedmarks.specs.Ahead.{LeadsTo}
-use Rattle.sedmarks.specs.declared.ahead.Lead.{Lead}
-use Rattle.sedmarks.specs.declared.ahead.Lead.TheVariants.{To}
 use Rattle.sedmatch.specs.declared.sight.Sight.{Sight}
 use Rattle.sedmatch.specs.Sight.{IsSight, IsSightOf}
 

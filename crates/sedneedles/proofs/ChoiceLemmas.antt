@@ -12,7 +12,7 @@ use Rattle.sedmarks.specs.Spans.{IsIn}
 use Rattle.sedmarks.specs.Reach.{At}
 use Rattle.sedneedles.specs.Word.{WordSpans, AllWord}
 use Rattle.sedneedles.specs.Choice.{ChoiceAt, ChoiceSpans, ChoiceOr, AllChoice, BranchesOf, HeadsIn, AreHeads, FewHeads, LongestAt, FirstChoice, bytes_in}
-use Rattle.sedneedles.specs.Few.{HasFew, Gathered, FewAt, FirstFew}
+use Rattle.sedneedles.specs.Few.{FewAt, FirstFew}
 use Rattle.sedneedles.specs.declared.few.Few.{Few}
 use Rattle.sedneedles.specs.declared.choice.Branches.TheVariants.{Both, Inner}
 use Rattle.sedmarks.proofs.ReachLemmas.{open_at, close_at}

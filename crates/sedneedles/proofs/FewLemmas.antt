@@ -1,15 +1,14 @@
 -- A few bytes with which matches begin.
-use Rattle.std.proofs.Common.{◌≡◌, ℕ, ◌+◌, ◌-◌, ◌<◌, ◌≤◌, ◌↔◌, ◌⊎◌, ◌||◌, Bool, true, List, length, take, drop, Option, Some, None, refl, sym, ap, subst, ◌∙◌, inl, inr, ⊎_elim, arith, length-drop}
+use Rattle.std.proofs.Common.{◌≡◌, ℕ, ◌+◌, ◌-◌, ◌<◌, ◌≤◌, ◌↔◌, ◌⊎◌, ◌||◌, Bool, true, List, length, take, drop, Option, Some, None, sym, ap, ◌∙◌, inl, inr, ⊎_elim, arith, length-drop}
 use Rattle.std.specs.Prelude.{slice_index, eqb, IfSome}
-use Rattle.std.proofs.lemmas.Bool.{eqb-true, eq-eqb, or_left, or_right, or_cases, cases_lt}
+use Rattle.std.proofs.lemmas.Bool.{eqb-true, eq-eqb, or_left, or_right, or_cases}
 use Rattle.std.proofs.lemmas.List.{take_rest, get_or-drop}
 use Rattle.std.proofs.lemmas.Option.{slice_get_within, get_or_from_slice_get, slice_get-get_or}
 use Rattle.memchr.specs.Find.{Passes, IsFirstByte, is_byte, is_byte2, is_byte3}
 use Rattle.sedre.specs.Sets.{has}
 use Rattle.sedmarks.specs.Spans.{IsIn}
 use Rattle.sedmarks.specs.Bytes.{looked_at}
-use Rattle.sedmarks.specs.declared.beginnings.Begins.TheVariants.{WithByte, WithSet}
-use Rattle.sedneedles.specs.Few.{HasFew, FewAt, FirstFew, Gathered, AreMembers, IsFewOf, FewOf}
+use Rattle.sedneedles.specs.Few.{HasFew, FewAt, FirstFew, Gathered, AreMembers}
 use Rattle.sedneedles.specs.declared.few.Few.{Few}
 use Rattle.sedneedles.specs.declared.few.Few.TheVariants.{One, Two, Three}
 

@@ -1,9 +1,8 @@
 -- Stepping over what no delimiter ends.
 use Rattle.std.proofs.Common.{◌≡◌, ℕ, zero, suc, ◌+◌, ◌-◌, ◌<◌, ◌==◌, Bool, true, false, ◌||◌, List, [], ◌∷◌, length, take, drop, get_or, refl, sym, ap, ◌∙◌, arith, Option, Some, None, if◌then◌else◌, option_and_then}
 use Rattle.std.specs.List.{list_any}
-use Rattle.std.proofs.lemmas.List.{get_or-drop, length-drop, at_drop_more, drop-drop}
+use Rattle.std.proofs.lemmas.List.{get_or-drop, length-drop, drop-drop}
 use Rattle.sedre.proofs.ByteLemmas.{apart_false}
-use Rattle.sedre.specs.Brackets.{list_end}
 use Rattle.sedre.specs.Delimited.{next_place, first_delimiter}
 
 -- whether a newline stands in some bytes

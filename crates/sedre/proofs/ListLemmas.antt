@@ -1,7 +1,7 @@
 -- The items of a list, as the reader meets them: an item or a range, and the rest.
 use Rattle.std.proofs.Common.{◌≡◌, ℕ, zero, suc, ◌+◌, ◌-◌, ◌<◌, ◌≤◌, ◌==◌, eq-eqb, Bool, true, false, not, ◌||◌, ◌&&◌, List, [], ◌∷◌, length, drop, get_or, refl, sym, ap, subst, ◌∙◌, arith, Option, Some, None, Result, Ok, Err, if◌then◌else◌, length-drop, ⊎_elim, inl, inr, ◌⊎◌}
 use Rattle.std.proofs.lemmas.Bool.{eqb-true}
-use Rattle.std.proofs.lemmas.List.{drop-drop, get_or-drop, drop_all}
+use Rattle.std.proofs.lemmas.List.{drop-drop, get_or-drop}
 use Rattle.sedre.specs.WordLaws.{has-set_of}
 use Rattle.sedre.proofs.ByteLemmas.{set_of-same, apart_false}
 use Rattle.std.proofs.lemmas.Bool.Decides.{eqb_tells}
@@ -10,10 +10,9 @@ use Rattle.sedre.specs.Classes.{class_named}
 use Rattle.sedre.specs.declared.elements.Element.{Element}
 use Rattle.sedre.specs.declared.elements.Element.TheVariants.{Plain, Delimiter, Equivalent, Collating}
 use Rattle.sedre.specs.declared.types.ExprFault.{ExprFault}
-use Rattle.sedre.specs.declared.types.Reason.TheVariants.{OpenBracket}
 use Rattle.sedre.specs.declared.byte_set.ByteSet.{ByteSet}
 use Rattle.sedre.specs.Sets.{has, union, no_byte}
-use Rattle.sedre.specs.Brackets.{content, form, form_of, of_class, of_one, item, items, items_from, is_dash, goes_on, single, range, both, listed, judged, matched, is_negated, is_delimiter, Listing, list_at, list_end}
+use Rattle.sedre.specs.Brackets.{content, form, form_of, of_class, of_one, item, items, items_from, is_dash, goes_on, single, range, both, listed, judged, is_negated, is_delimiter, Listing, list_at, list_end}
 use Rattle.sedre.specs.ListReading.{is_range, located, members_at, items_start, is_closing}
 
 -- the items from a place on, and where the list ends

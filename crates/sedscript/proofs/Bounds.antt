@@ -1,5 +1,5 @@
 -- The numbers of a script are in range.
-use Rattle.std.proofs.Common.{◌≡◌, ℕ, zero, suc, ◌+◌, ◌<◌, ◌≤◌, ◌&&◌, ◌==◌, Bool, true, false, cond, not, ◌||◌, List, [], ◌∷◌, ◌++◌, length, filter_map, Option, Some, None, unwrap_or, Result, Ok, Err, IfOk, refl, sym, ap, subst, ◌∙◌, arith, if◌then◌else◌, slice_get, length-append, take, drop, is_some}
+use Rattle.std.proofs.Common.{◌≡◌, ℕ, zero, suc, ◌+◌, ◌<◌, ◌≤◌, ◌&&◌, ◌==◌, Bool, true, false, cond, not, ◌||◌, List, [], ◌∷◌, ◌++◌, length, filter_map, Option, Some, None, unwrap_or, Result, Ok, Err, IfOk, refl, sym, ap, subst, ◌∙◌, arith, if◌then◌else◌, slice_get, length-append, drop, is_some}
 use Rattle.std.specs.List.{list_any, position_from, cons_option, prefix_len, take_while}
 use Rattle.std.specs.Str.{bytes_eq}
 use Rattle.std.proofs.lemmas.Slice.Eq.{bytes_eq-Decides}
@@ -14,7 +14,7 @@ use Rattle.sedscript.specs.declared.types.Address.TheVariants.{Line, Last, Match
 use Rattle.sedscript.specs.declared.types.Action.{Action}
 use Rattle.sedscript.specs.declared.types.Command.{Command}
 use Rattle.sedscript.specs.declared.items.Simple.{Simple}
-use Rattle.sedscript.specs.declared.items.Simple.TheVariants.{AppendHold, CopyHold, Delete, Exchange, Hold, HoldMore, LineNumber, Print, PrintFirst, Quit, AppendNext, DeleteFirst, List as ListSpace, NextLine}
+use Rattle.sedscript.specs.declared.items.Simple.TheVariants.{Delete}
 use Rattle.sedscript.specs.declared.items.TextUse.{TextUse}
 use Rattle.sedscript.specs.declared.items.TextUse.TheVariants.{Append, Insert, Change}
 use Rattle.sedscript.specs.declared.items.FileUse.{FileUse}

@@ -1,5 +1,5 @@
 -- A fault is told in the text or at its end.
-use Rattle.std.proofs.Common.{◌≡◌, ℕ, zero, suc, ◌+◌, ◌-◌, ◌<◌, ◌≤◌, ◌&&◌, ◌||◌, ◌==◌, Bool, true, false, not, List, [], ◌∷◌, ◌++◌, length, Option, Some, None, is_some, is_none, option_map, option_and_then, Result, Ok, Err, refl, sym, ap, subst, ◌∙◌, arith, if◌then◌else◌, slice_get, take, drop, nat_lt, length-take, length-drop, ◌⊎◌, inl, inr, IfErr}
+use Rattle.std.proofs.Common.{◌≡◌, ℕ, zero, suc, ◌+◌, ◌-◌, ◌<◌, ◌≤◌, ◌&&◌, ◌==◌, Bool, true, false, not, List, [], ◌∷◌, ◌++◌, length, Option, Some, None, is_some, is_none, option_map, option_and_then, Result, Ok, Err, refl, subst, arith, if◌then◌else◌, slice_get, drop, nat_lt, length-take, length-drop, ◌⊎◌, inl, inr, IfErr}
 use Rattle.std.specs.Option.{option_len, option_or}
 use Rattle.sedre.specs.declared.types.Kind.{Kind}
 use Rattle.sedre.specs.declared.types.Reason.{Reason as ExprReason}
@@ -11,11 +11,9 @@ use Rattle.sedscript.specs.declared.bytes.Sort.TheVariants.{Blank, Name, Bang, D
 use Rattle.sedscript.specs.declared.types.ScriptFault.{ScriptFault}
 use Rattle.sedscript.specs.declared.types.TheConstants.{NO_MEMORY}
 use Rattle.sedscript.specs.declared.types.Reason.{Reason}
-use Rattle.sedscript.specs.declared.types.Reason.TheVariants.{UnknownCommand, TooManyAddresses, TrailingBytes, FlagOnEmpty, MissingLabel, LengthsDiffer}
+use Rattle.sedscript.specs.declared.types.Reason.TheVariants.{LengthsDiffer}
 use Rattle.sedscript.specs.declared.types.Address.{Address}
-use Rattle.sedscript.specs.declared.types.Address.TheVariants.{Match}
 use Rattle.sedscript.specs.declared.items.TextUse.{TextUse}
-use Rattle.sedscript.specs.declared.items.BranchUse.{BranchUse}
 use Rattle.sedscript.specs.declared.items.FileUse.{FileUse}
 use Rattle.sedscript.specs.declared.items.Flags.{Flags}
 use Rattle.sedscript.specs.declared.items.Strings.{Strings}
@@ -37,16 +35,16 @@ use Rattle.std.proofs.lemmas.List.Sums.{prefix_len-le-length}
 use Rattle.sedscript.specs.Bytes.{past, belongs, bytes_between, is_digit, is_byte, with_digits}
 use Rattle.sedscript.specs.Strings.{escapes, string_end}
 use Rattle.sedscript.specs.Letters.{verb_of, most_addresses}
-use Rattle.sedscript.specs.Functions.{fault, allowed, item_of, ended, may_end, stops, inside_after, text_end, ends_line, text_of, text_from, label_of, branch_of, file_of, name_from, ◌>>=◌ as ◌then◌}
+use Rattle.sedscript.specs.Functions.{allowed, item_of, ended, may_end, text_end, ends_line, text_of, text_from, label_of, file_of, name_from, ◌>>=◌ as ◌then◌}
 use Rattle.sedscript.specs.Replacement.{Piece, literal, whole, group, escaped_piece, exceeds, piece_fault, replacement_fault}
-use Rattle.sedscript.specs.Flags.{no_flags, numbered, with_number, with_flag, with_file, ends_flags, flags_from, folds}
+use Rattle.sedscript.specs.Flags.{no_flags, numbered, with_number, with_flag, with_file, ends_flags, flags_from}
 use Rattle.sedscript.specs.Transliteration.{escaped_byte, char_of, chars_from, chars_of, string_fault, is_among, repeated_in, repeated_fault, strings_fault}
 use Rattle.sedscript.specs.Between.{own_delimiter, strings_to, strings_after, substitute_strings, transliterate_strings, unless_fault, transliterate_at, flags_after, flagged, substituted}
-use Rattle.sedscript.specs.Reading.{Pattern, Reading, plainly, expression, ◌>>=◌}
-use Rattle.sedscript.specs.Addresses.{Addressed, Headed, headed, line_of, folds_at, past_flag, empty_match, match_to, match_at, own_match, address_of, address_at, with_second, second_at, after_first, addresses_at, with_bang}
+use Rattle.sedscript.specs.Reading.{Reading, plainly, expression, ◌>>=◌}
+use Rattle.sedscript.specs.Addresses.{Addressed, Headed, headed, line_of, folds_at, past_flag, match_to, match_at, own_match, address_of, address_at, with_second, second_at, after_first, addresses_at, with_bang}
 use Rattle.sedscript.specs.Items.{substitute_with, substitute_at, function_of, function_with, function_at, function_after, item_with, item_from, item_at}
 use Rattle.sedscript.specs.Expressions.{Gives, value, after_expression, Fails, own, no_expression, later}
-use Rattle.sedscript.specs.Targets.{fault_if, target_fault_at, target_fault_in, target_fault, depth_after, block_end, label_in}
+use Rattle.sedscript.specs.Targets.{fault_if, target_fault_at, target_fault_in, depth_after, block_end, label_in}
 use Rattle.sedscript.specs.Script.{Cut, done, item, Faulty, early, afterwards}
 
 -- places
