@@ -36,7 +36,7 @@ abbrev pub may_end : Option ℕ → Bool
 may_end None = true
 may_end (Some b) = b == 10 || b == 59 || b == 125 || b == 35
 
--- the function and the end of its command, which only blanks may stand before from a place on
+-- the function and the end of its command, if only blanks stand between a place and that end
 abbrev pub ended : List ℕ → Function → ℕ → Result (Function × ℕ) ScriptFault
 ended text f at =
     if may_end (slice_get text (past Blank text at)) then Ok (f, past Blank text at)
@@ -68,7 +68,7 @@ ends_line None = true
 ends_line (Some b) = b == 10
 
 -- where the text of `a`, `i` or `c` begins and ends that is expected at a place, after the blanks that follow its
--- letter. Without a backslash and a newline before it it is a one-line form (this project's own)
+-- letter. If no backslash and newline stand before it, it is a one-line form (this project's own)
 unfoldable pub text_from : List ℕ → ℕ → Option (ℕ × ℕ)
 text_from text from =
     if is_byte 92 (slice_get text from) && is_byte 10 (slice_get text (from + 1))

@@ -27,7 +27,7 @@ first_label text name k n (i ∷ is) =
     if is_label text name i.function then Some (record { item = k; number = n })
     else first_label text name (suc k) (counted n i) is
 
--- whether the first item with a label is another one than that at an index. No item has the label where there is none
+-- whether the first item with a label is another one than that at an index; false where no item has the label
 abbrev pub is_earlier : ℕ → Option FirstLabel → Bool
 is_earlier k None = false
 is_earlier k (Some l) = not (l.item == k)

@@ -23,7 +23,7 @@ pub fn may_end(next: Option<u8>) -> bool
     }
 }
 
-/// The function and the end of its command, which only blanks may stand before from `at` on.
+/// The function and the end of its command, if only blanks stand between `at` and that end.
 pub fn ended(text: &[u8], function: Function, at: usize) -> Result<(Function, usize), ScriptFault>
     requires { at ≤ length text.now }
     ensures is { result ≡ ended text.now function at }
