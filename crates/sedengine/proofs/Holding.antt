@@ -1,5 +1,5 @@
 -- What the commands of the hold space do is a move.
-use Rattle.std.proofs.Common.{◌≡◌, ℕ, suc, ◌+◌, ◌≤◌, Bool, true, false, not, List, [], ◌∷◌, length, take, Option, Result, Ok, Err, refl, subst, sym, ap, ◌∙◌, arith}
+use Rattle.std.proofs.Common.{◌≡◌, ℕ, ◌≤◌, List, length, Option, Result, Ok, Err, refl, subst, sym, ◌∙◌}
 use Rattle.sedengine.specs.State.{Move, Setting}
 use Rattle.sedengine.specs.Move.{quietly}
 use Rattle.sedengine.specs.Ends.{WithinLimits}

@@ -7,7 +7,7 @@ use Rattle.std.proofs.Math.Seq.{drop-nil}
 use Rattle.std.proofs.lemmas.Bool.Decides.{nat_tests}
 use Rattle.sedre.specs.Arena.{Written, tree}
 use Rattle.sedmatch.specs.Matching.{found}
-use Rattle.sedmatch.specs.Occurrences.{EndsWithin, next_span, unless_null_at}
+use Rattle.sedmatch.specs.Occurrences.{EndsWithin}
 use Rattle.sedmatch.proofs.MatchingLemmas.{found-iff, Found-within}
 use Rattle.sedmatch.proofs.SpanLemmas.{Spans-forward, Spans-within}
 use Rattle.sedengine.specs.Substitute.{Occurrence, unless_empty_at, next_occurrence, with_rest, occurrences_from}

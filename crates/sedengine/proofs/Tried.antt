@@ -1,10 +1,9 @@
 -- The expression that an address or a substitution tries.
-use Rattle.std.proofs.Common.{◌≡◌, ℕ, ◌+◌, ◌*◌, ◌<◌, ◌≤◌, Bool, List, length, get_or, Option, Some, None, Result, refl, sym, subst, ap, ◌∙◌}
+use Rattle.std.proofs.Common.{◌≡◌, ℕ, ◌<◌, Bool, List, length, get_or, Option, Some, None, Result, refl, sym, subst, ap, ◌∙◌}
 use Rattle.std.specs.Prelude.{option_and_then}
 use Rattle.std.specs.Option.{option_or}
 use Rattle.std.proofs.lemmas.Option.{slice_get_read}
 use Rattle.sedre.specs.Arena.{Written}
-use Rattle.sedre.specs.Steps.{Takes}
 use Rattle.sedscript.specs.Ranges.{AddressWithin, IsOneOf}
 use Rattle.sedscript.specs.declared.types.Address.TheVariants.{Match}
 use Rattle.sedscript.specs.declared.substitution.Substitution.{Substitution}

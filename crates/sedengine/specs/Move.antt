@@ -1,5 +1,5 @@
 -- How the editor moves from one state to the next (XCU sed, Extended Description). Nothing is limited here.
-use Rattle.std.specs.Prelude.{ℕ, suc, zero, ◌+◌, Bool, true, false, ◌||◌, Option, Some, None, List, [], ◌∷◌, ◌++◌, map, decimal, is_none, length, slice_get, slice_set, slice_index_or, if◌then◌else◌, ◌==◌}
+use Rattle.std.specs.Prelude.{ℕ, suc, zero, ◌+◌, Bool, true, false, ◌||◌, Option, Some, None, List, [], ◌∷◌, ◌++◌, map, decimal, is_none, length, slice_get, slice_set, slice_index_or, if◌then◌else◌}
 use Rattle.std.specs.Option.{unwrap_or}
 use Rattle.std.specs.List.{after_first, before_first, list_any}
 use Rattle.sedspace.specs.Lines.{is_newline}
