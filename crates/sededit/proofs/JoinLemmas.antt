@@ -1,8 +1,8 @@
 -- Laws of files that are joined.
-use Rattle.std.proofs.Common.{String, unwrap_or, ◌⊎◌, inl, inr, if◌then◌else◌, drop, ◌≡◌, ℕ, zero, suc, ◌+◌, ◌-◌, ◌<◌, ◌≤◌, Bool, true, false, not, List, [], ◌∷◌, ◌++◌, length, map, take, get_or, Option, None, Some, refl, sym, ap, ◌∙◌, arith, eqb, append_assoc, append-nil, length-append}
+use Rattle.std.proofs.Common.{String, unwrap_or, ◌⊎◌, inl, inr, if◌then◌else◌, drop, ◌≡◌, ℕ, zero, suc, ◌+◌, ◌-◌, ◌<◌, ◌≤◌, Bool, true, false, not, List, [], ◌∷◌, ◌++◌, length, map, take, get_or, Option, None, Some, refl, sym, ap, ◌∙◌, arith, eqb, append_assoc, length-append}
 use Rattle.std.proofs.lemmas.List.{drop_more, take_more_set, map-append}
 use Rattle.std.proofs.Math.ListN.{get_or-map}
-use Rattle.std.proofs.KnownBytes.{Consumes-nil, Consumes-trans}
+use Rattle.std.proofs.KnownBytes.{Consumes-trans}
 use Rattle.std.specs.Prelude.{slice_set}
 use Rattle.std.specs.String.{string_bytes}
 use Rattle.std.specs.Option.{option_map, is_none}

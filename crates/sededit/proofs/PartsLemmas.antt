@@ -1,9 +1,9 @@
 -- The parts of a script, put into order one after another.
-use Rattle.std.proofs.Common.{◌≡◌, ◌∙◌, ◌⊎◌, inl, inr, ◌<◌, ◌+◌, ◌&&◌, ◌||◌, ℕ, zero, suc, Bool, true, false, not, List, [], ◌∷◌, ◌++◌, Some, drop, map, length, nat_lt, slice_get, take, refl, sym, ap, arith, append_assoc, ◌≤◌}
+use Rattle.std.proofs.Common.{◌≡◌, ◌∙◌, ◌⊎◌, inl, inr, ◌<◌, ◌+◌, ◌&&◌, ◌||◌, ℕ, zero, suc, Bool, true, false, not, List, [], ◌∷◌, ◌++◌, Some, drop, map, length, nat_lt, slice_get, refl, sym, ap, arith, append_assoc, ◌≤◌}
 use Rattle.std.proofs.lemmas.Bool.{ltb-false}
 use Rattle.std.proofs.lemmas.List.{map-append}
 use Rattle.clap.specs.Words.{Text}
-use Rattle.sededit.specs.CommandLine.{Asks, Given, file, first_place, given, in_order, text}
+use Rattle.sededit.specs.CommandLine.{Given, file, first_place, given, in_order, text}
 use Rattle.sededit.specs.CommandLineParts.{comes_first, place_at}
 use Rattle.sededit.specs.declared.asked.Part.{Part}
 
