@@ -5,7 +5,8 @@ use Rattle.sedscript.specs.Strings.{string_end}
 use Rattle.sedscript.specs.declared.substitution.Piece.{Piece}
 use Rattle.sedscript.specs.declared.substitution.Piece.TheVariants.{Literal as literal, Whole as whole, Group as group}
 use Rattle.examples.specs.Strings.{written}
-use Rattle.examples.specs.Replacements.{written_pieces, GroupsFit}
+use Rattle.sedscript.specs.Replacement.{GroupsWithin}
+use Rattle.examples.specs.Replacements.{written_pieces}
 
 no_break : (t : Bool) → (t && false) ≡ false
 no_break true = refl
@@ -62,7 +63,7 @@ past_literal false d at b ys zs other f h =
     let r = parts_false (b == d) (b == 92) q.0 in
     past_plain true d at b (ys ++ zs) p.1 r.0 r.1 ∙ (h (suc at) ∙ some_place (suc at + length ys) (at + suc (length ys)) (omega arith))
 
-pub replacement_whole : (d : ℕ) (ps : List Piece) (after : List ℕ) (at : ℕ) → (d ≡ 92 → ⊥) → (d ≡ 10 → ⊥) → (d ≡ 38 → ⊥) → GroupsFit ps →
+pub replacement_whole : (d : ℕ) (ps : List Piece) (after : List ℕ) (at : ℕ) → (d ≡ 92 → ⊥) → (d ≡ 10 → ⊥) → (d ≡ 38 → ⊥) → GroupsWithin 9 ps →
     string_end true d false at (written_pieces d ps ++ d ∷ after) ≡ Some (at + length (written_pieces d ps))
 replacement_whole d [] after at other line match fit = at_end true d at after line ∙ some_place at (at + 0) (omega arith)
 replacement_whole d (literal b ∷ ps) after at other line match fit =

@@ -9,7 +9,7 @@ use Rattle.sedscript.specs.declared.substitution.Piece.TheVariants.{Literal as l
 use Rattle.sedscript.specs.Transliteration.{escaped_byte, string_fault}
 use Rattle.sedscript.specs.Replacement.{escaped_piece, piece_fault, replacement_fault, GroupsWithin}
 use Rattle.examples.specs.Strings.{written}
-use Rattle.examples.specs.Replacements.{written_pieces, GroupsFit}
+use Rattle.examples.specs.Replacements.{written_pieces}
 use Rattle.examples.proofs.PieceReading.{special, group_escape}
 
 -- ---- strings of `y`
@@ -72,7 +72,7 @@ past_literal false d limit at b rest other f h = past_letter d limit at b rest (
 group_there : (n at k : ℕ) → k ≤ n → piece_fault (Some n) at (Some (group k)) ≡ None
 group_there n at k h = rw (le-ltb n k h) refl
 
-pub replacement_faultless : (d groups : ℕ) (ps : List Piece) (at : ℕ) → (48 ≤ d → d ≤ 57 → ⊥) → GroupsFit ps → GroupsWithin groups ps → replacement_fault d (Some groups) false at (written_pieces d ps) ≡ None
+pub replacement_faultless : (d groups : ℕ) (ps : List Piece) (at : ℕ) → (48 ≤ d → d ≤ 57 → ⊥) → GroupsWithin 9 ps → GroupsWithin groups ps → replacement_fault d (Some groups) false at (written_pieces d ps) ≡ None
 replacement_faultless d groups [] at other fit there = refl
 replacement_faultless d groups (literal b ∷ ps) at other fit there =
     past_literal (b == d || b == 92 || b == 38 || b == 10) d (Some groups) at b (written_pieces d ps) other refl (λ n. replacement_faultless d groups ps n other fit there)

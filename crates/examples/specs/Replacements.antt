@@ -1,5 +1,5 @@
 -- Replacements as they are written (XCU sed, "Editing Commands in sed": `s`).
-use Rattle.std.specs.Prelude.{◌≤◌, ℕ, ◌+◌, List, [], ◌∷◌, ◌++◌, if◌then◌else◌, ◌==◌, ◌||◌}
+use Rattle.std.specs.Prelude.{ℕ, ◌+◌, List, [], ◌∷◌, ◌++◌, if◌then◌else◌, ◌==◌, ◌||◌}
 use Rattle.sedscript.specs.declared.substitution.Piece.{Piece}
 use Rattle.sedscript.specs.declared.substitution.Piece.TheVariants.{Literal as literal, Whole as whole, Group as group}
 
@@ -14,10 +14,3 @@ written_piece delimiter (group k) = 92 ∷ (48 + k) ∷ []
 abbrev pub written_pieces : ℕ → List Piece → List ℕ
 written_pieces delimiter [] = []
 written_pieces delimiter (p ∷ ps) = written_piece delimiter p ++ written_pieces delimiter ps
-
--- the groups are from 1 to 9
-abbrev pub GroupsFit : List Piece → Type 0
-GroupsFit [] = Unit {0}
-GroupsFit (literal b ∷ ps) = GroupsFit ps
-GroupsFit (whole ∷ ps) = GroupsFit ps
-GroupsFit (group k ∷ ps) = (1 ≤ k) × (k ≤ 9) × GroupsFit ps

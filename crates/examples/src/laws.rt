@@ -19,7 +19,7 @@ ghost use Rattle.examples.specs.Texts.{backslashed};
 ghost use Rattle.examples.specs.Strings.{NoneTwice, written};
 ghost use Rattle.examples.specs.Among.{stands_among};
 ghost use Rattle.examples.specs.Lists.{ArePlain};
-ghost use Rattle.examples.specs.Replacements.{written_pieces, GroupsFit};
+ghost use Rattle.examples.specs.Replacements.{written_pieces};
 
 /// A text of `a`, `i` or `c` ends at the first newline with an even number of backslashes directly before it, or at the
 /// end of the script.
@@ -93,7 +93,7 @@ pub fn string_faultless()
 
 /// A replacement that is written out is read as its pieces, unless its delimiter is a digit.
 pub fn replacement_read()
-    ensures { (delimiter : ℕ) (pieces : List Piece) → (48 ≤ delimiter → delimiter ≤ 57 → ⊥) → GroupsFit pieces →
+    ensures { (delimiter : ℕ) (pieces : List Piece) → (48 ≤ delimiter → delimiter ≤ 57 → ⊥) → GroupsWithin 9 pieces →
         pieces_of delimiter (written_pieces delimiter pieces) ≡ pieces }
 {}
 
@@ -101,7 +101,7 @@ pub fn replacement_read()
 /// an `&`.
 pub fn replacement_whole()
     ensures { (delimiter : ℕ) (pieces : List Piece) (after : List ℕ) (at : ℕ) →
-        (delimiter ≡ 92 → ⊥) → (delimiter ≡ 10 → ⊥) → (delimiter ≡ 38 → ⊥) → GroupsFit pieces →
+        (delimiter ≡ 92 → ⊥) → (delimiter ≡ 10 → ⊥) → (delimiter ≡ 38 → ⊥) → GroupsWithin 9 pieces →
         string_end true delimiter false at (written_pieces delimiter pieces ++ delimiter ∷ after)
         ≡ Some (at + length (written_pieces delimiter pieces)) }
 {}
@@ -109,7 +109,7 @@ pub fn replacement_whole()
 /// A replacement that is written out has no fault where the expression has its groups, unless its delimiter is a digit.
 pub fn replacement_faultless()
     ensures { (delimiter groups : ℕ) (pieces : List Piece) (at : ℕ) → (48 ≤ delimiter → delimiter ≤ 57 → ⊥) →
-        GroupsFit pieces → GroupsWithin groups pieces →
+        GroupsWithin 9 pieces → GroupsWithin groups pieces →
         replacement_fault delimiter (Some groups) false at (written_pieces delimiter pieces) ≡ None }
 {}
 
