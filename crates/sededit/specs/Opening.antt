@@ -16,7 +16,7 @@ abbrev pub KeepsFiles : Option (List (Option (List ℕ))) → Option (List (Opti
 KeepsFiles None new = ⊤
 KeepsFiles (Some files) new = new ≡ Some files
 
--- what files give: one that can't be opened is as an empty one
+-- what files give: one that can't be opened is as an empty one (this project's own)
 abbrev pub contents : List (Option (List ℕ)) → List (List ℕ)
 contents files = map (λ file. unwrap_or file []) files
 

@@ -28,7 +28,7 @@ kind_with true = Extended
 kind_with false = Basic
 
 -- The text that the parts of a script make, after those before: the texts of -e and what the files of -f hold, a newline
--- after each that doesn't end with one (XCU sed, "Options"). Of a file that isn't told, the bytes are any.
+-- after each that doesn't end with one (XCU sed, "Options"). A file that isn't told may hold any bytes.
 abbrev pub MakesText : (List ℕ → Option (Option (List ℕ))) → List ℕ → List Given → List ℕ → Type 0
 MakesText files before [] whole = whole ≡ before
 MakesText files before (text part ∷ parts) whole = MakesText files (with_part before part) parts whole
@@ -65,7 +65,8 @@ RunsLine scripts ahead named others nodes l created P =
     (p : Program) × GivesScript scripts l nodes p × created p.wfiles
     × P p (input_of ahead (map string_bytes l.operands.items)) (texts_of named others p)
 
--- the same for the words of a command line
+-- the words are a command line, and the script that its line gives does what `P` says, over the input and the texts that
+-- the line names
 abbrev pub Runs : (List ℕ → Option (Option (List ℕ))) → (List (List ℕ) → Option (List (Option (List ℕ)))) →
     (List ℕ → Option (List ℕ)) → (ℕ → Option (List ℕ)) → ℕ → List Text → (List (List ℕ) → Type 0) →
     (Program → Option (List ℕ) → (ℕ → Option (List ℕ)) → Type 0) → Type 0
@@ -78,7 +79,7 @@ abbrev pub WritesAll : Program → Option (List ℕ) → (ℕ → Option (List �
 WritesAll p input texts gained = ForSome input (λ bytes.
     (files : ℕ → List ℕ) → TellsFiles texts files → GainsAll (setting_of p files) (start_over p bytes) gained)
 
--- the same for a beginning of what it writes
+-- The sinks have gained a beginning of what a script writes over an input, where it and the texts are told.
 abbrev pub WritesBeginning : Program → Option (List ℕ) → (ℕ → Option (List ℕ)) → (List (ℕ × ℕ) → Type 0) → Type 0
 WritesBeginning p input texts gained = ForSome input (λ bytes.
     (files : ℕ → List ℕ) → TellsFiles texts files → GainsBeginning (setting_of p files) (start_over p bytes) gained)

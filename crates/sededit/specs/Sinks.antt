@@ -17,11 +17,11 @@ AddsName false name old new = new ≡ old
 abbrev pub Creates : List (List ℕ) → List (List ℕ) → List (List ℕ) → Type 0
 Creates old new names = new ≡ old ++ names
 
--- so were the first of these names, if any
+-- files of the first of these names, perhaps of none, were created in this order, after those that were there
 abbrev pub CreatesFirst : List (List ℕ) → List (List ℕ) → List (List ℕ) → Type 0
 CreatesFirst old new names = (count : ℕ) × Creates old new (take count names)
 
--- so were those before this one of the names
+-- files of the names before this one were created in their order, after those that were there
 abbrev pub CreatesUpTo : List (List ℕ) → List (List ℕ) → List (List ℕ) → List ℕ → Type 0
 CreatesUpTo old new names name = (k : ℕ) × (slice_get names k ≡ Some name) × Creates old new (take k names)
 

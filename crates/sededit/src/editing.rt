@@ -43,8 +43,9 @@ pub fn script(alloc: Global, text: &[u8], kind: Kind, nodes: usize) -> Result<Sc
 /// the first of its `rfiles`. The script's expressions have at most `limits.nodes()` nodes, as where `script` read it with
 /// that number.
 ///
-/// Whatever the input, what the engine holds and what each sink gains stay within the limits. What was written is never
-/// taken back, however the run ends. `own_limits.rt` of the crate `hosts` is an example.
+/// What the engine holds stays within the limits, whatever the input, and so does what each sink gains, where the source
+/// tells contracts its bytes. What was written is never taken back, however the run ends. `own_limits.rt` of the crate
+/// `hosts` is an example.
 ///
 /// # Errors
 /// `AllocError` where a request for memory was refused. Nothing was read or written then.

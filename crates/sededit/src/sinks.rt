@@ -14,7 +14,7 @@ pub trait Sinks: Outputs {
         ensures failed { (k : ℕ) → Self.failures self.new k ≡ Self.failures self.old k };
 
     /// Writes out all bytes that were taken and are still held back. An `Err` is the number of a sink where that failed,
-    /// and raises that sink's number of failures by one.
+    /// whose number of failures it raises. No number of failures falls, and at an `Ok` none rises.
     fn flush(&mut self) -> Result<(), usize>
         ensures count { Self.count self.new ≡ Self.count self.old }
         ensures same_names { Self.names self.new ≡ Self.names self.old }
