@@ -5,7 +5,7 @@ use Rattle.sedengine.specs.Limits.{Limits}
 use Rattle.sedengine.specs.State.{Setting, State}
 use Rattle.sedengine.specs.Move.{written, to_sink}
 use Rattle.sedengine.specs.Devices.{part, Gained, GainedWithin}
-use Rattle.sedengine.specs.Ends.{WholeOrCut, named_sink}
+use Rattle.sedengine.specs.Ends.{WholeOrBrokenOff, named_sink}
 use Rattle.sedengine.specs.Run.{setting_of}
 use Rattle.sedengine.specs.declared.ends.Ended.{Ended}
 use Rattle.sedengine.specs.declared.ends.Ended.TheVariants.{Done, PatternFull, HoldFull, QueueFull, TurnsSpent, NoPrevious, InputBroken, OutputBroken, OutputFull}
@@ -50,7 +50,7 @@ module _ (held held' : Option (List ℕ)) (bytes : List ℕ) (before : held ≡ 
   Gains-written g s (t, over, gained) = (t, over, Are-written _ gained)
 
 -- what the sinks gained at an end, whole or cut
-sinks_at : (l : Limits) (g : Setting) (s : State) (gained : List (ℕ × ℕ) → Type 0) (end : Ended) (t : ℕ) (k : Option ℕ) → WholeOrCut l g s gained end t k → (out : List (ℕ × ℕ)) × gained out
+sinks_at : (l : Limits) (g : Setting) (s : State) (gained : List (ℕ × ℕ) → Type 0) (end : Ended) (t : ℕ) (k : Option ℕ) → WholeOrBrokenOff l g s gained end t k → (out : List (ℕ × ℕ)) × gained out
 sinks_at l g s gained end t None w = (written g s t, w.sinks)
 sinks_at l g s gained end t (Some k) w = (take w.b (written g s (suc t)), w.sinks)
 

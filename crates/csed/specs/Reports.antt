@@ -42,7 +42,7 @@ blank = record { written = 0; place = 0; line = 0; fault = 0; expression = 0; ca
 abbrev pub of_bytes : ℕ → SedReport
 of_bytes written = record blank { written = written }
 
--- the same, and the run came to this end
+-- so many bytes were written, and the run came to this end
 abbrev pub of_end : ℕ → Ended → SedReport
 of_end written end = record blank { written = written; line = line_of end; cause = cause_of end }
 

@@ -16,7 +16,7 @@ pub const SED_QUIET: u32 = 2;
 #[repr(C)]
 #[derive(Clone, Copy)]
 pub struct SedLimits {
-    /// The bytes that the pattern space, the hold space and the build space may hold each, 1 to 2^30.
+    /// The bytes that each of the pattern space, the hold space and the build space may hold, 1 to 2^30.
     pub space: usize,
     /// The entries that wait for the end of a cycle, 0 to 2^24.
     pub queue: usize,

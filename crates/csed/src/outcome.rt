@@ -40,14 +40,14 @@ pub struct SedReport {
     pub expression: u32,
     /// The number of the cause for which a run stopped, as 4 of F4.
     pub cause: u32,
-    /// Nothing: it fills the struct up.
+    /// Padding, always 0.
     pub spare: u32,
 }
 
 /// What a call came to.
 #[derive(Clone, Copy)]
 pub(crate) enum Outcome {
-    /// All is done, and so many bytes were written.
+    /// All went well, and this many bytes were written.
     Done(usize),
     /// The script has this fault.
     Faulty(ScriptFault),
@@ -57,7 +57,7 @@ pub(crate) enum Outcome {
     BadLimits,
     /// A request for memory was refused.
     NoMemory,
-    /// The run came to this end before its time, with so many bytes written.
+    /// The run came to this end before its time, and this many bytes were written.
     Stopped(usize, Ended),
 }
 

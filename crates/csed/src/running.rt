@@ -58,7 +58,7 @@ fn deliver(bytes: &[u8], output: &mut [u8])
     output[..bytes.len()].copy_from_slice(bytes);
 }
 
-/// What a run came to that ended so, with so many bytes written.
+/// What a run came to that ended with `end` and wrote `written` bytes.
 fn outcome_of(end: Ended, written: usize) -> Outcome
     ensures { result ≡ outcome_of end written }
 {

@@ -13,7 +13,7 @@ pub(crate) struct StandardOutput {
 }
 
 impl StandardOutput {
-    /// A sink with room for so many bytes.
+    /// A sink with room for `room` bytes.
     pub(crate) fn with_room(alloc: Global, room: usize) -> Result<StandardOutput, AllocError>
         ensures { IfOk result (λ o. sink_bytes o.sinks 0 ≡ Some []) }
     {

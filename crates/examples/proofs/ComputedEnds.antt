@@ -11,7 +11,7 @@ use Rattle.sedengine.specs.Limits.{Limits}
 use Rattle.sedengine.specs.State.{State, Task, Move, Setting}
 use Rattle.sedengine.specs.Move.{move, after, start, to_sink}
 use Rattle.sedengine.specs.Run.{setting_of}
-use Rattle.sedengine.specs.Ends.{WithinLimits, Within, HasTurn, IsCause, Cause, WholeOrCut, Whole, Cut, named_sink, takes_turn, line_at, reaches, reads}
+use Rattle.sedengine.specs.Ends.{WithinLimits, Within, HasTurn, IsCause, Cause, WholeOrBrokenOff, Whole, BrokenOff, named_sink, takes_turn, line_at, reaches, reads}
 use Rattle.sedengine.specs.declared.ends.Ended.{Ended}
 use Rattle.sedengine.specs.declared.ends.Ended.TheVariants.{Done, PatternFull, HoldFull, QueueFull, TurnsSpent, NoPrevious, InputBroken}
 use Rattle.examples.proofs.ComputedRun.{course, course_so, stays, after_first}
@@ -149,14 +149,14 @@ pub record Stops (l : Limits) (g : Setting) (s : State) (end : Ended) (out : Lis
   pub cause : Cause l g s (λ bytes. bytes ≡ out) end moves
 
 whole_or_cut : (l : Limits) (g : Setting) (s : State) (end : Ended) (out : List (ℕ × ℕ)) (t : ℕ) (o : Option ℕ) → o ≡ None →
-    IsWhole l g s out end t → WholeOrCut l g s (λ bytes. bytes ≡ out) end t o
+    IsWhole l g s out end t → WholeOrBrokenOff l g s (λ bytes. bytes ≡ out) end t o
 whole_or_cut l g s end out t None e h = h
 whole_or_cut l g s end out t (Some k) e h = absurd cc
 
 cut_there : (l : Limits) (g : Setting) (s : State) (end : Ended) (out : List (ℕ × ℕ)) (t k : ℕ) (o : Option ℕ) → o ≡ Some k →
-    Cut l g s (λ bytes. bytes ≡ out) k t → WholeOrCut l g s (λ bytes. bytes ≡ out) end t o
+    BrokenOff l g s (λ bytes. bytes ≡ out) k t → WholeOrBrokenOff l g s (λ bytes. bytes ≡ out) end t o
 cut_there l g s end out t k None e h = absurd cc
-cut_there l g s end out t k (Some j) e h = subst (λ (o : Option ℕ). WholeOrCut l g s (λ bytes. bytes ≡ out) end t o) (sym e) h
+cut_there l g s end out t k (Some j) e h = subst (λ (o : Option ℕ). WholeOrBrokenOff l g s (λ bytes. bytes ≡ out) end t o) (sym e) h
 
 pub stops_after : {l : Limits} {g : Setting} {s : State} {end : Ended} {out : List (ℕ × ℕ)} (n : ℕ) →
     (course g n s).writes ≡ out → is_cause l g (course g n s).last end ≡ true → all_fit l g n s ≡ true →

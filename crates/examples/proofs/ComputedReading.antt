@@ -15,7 +15,7 @@ use Rattle.sedre.specs.Repeats.{alternation}
 use Rattle.sedre.specs.Items.{item_at}
 use Rattle.sedre.specs.Arena.{Written, tree}
 use Rattle.sedre.specs.Grammar.{ReadsAs, FaultyWith, ExprFaulty}
-use Rattle.sedre.specs.Stacks.{Level, State, start, step, all_alternatives, postorder}
+use Rattle.sedre.specs.Stacks.{Level, Nesting, start, step, all_alternatives, postorder}
 use Rattle.sedre.proofs.Exclusive.{no_fault}
 use Rattle.sedre.proofs.Folding.{faulty_alike}
 use Rattle.sedre.proofs.Holding.{whole_tree}
@@ -36,7 +36,7 @@ limited true false len t groups = faulty len TooManyNodes
 limited true true len t groups = reads t groups
 
 -- at the end of a text
-abbrev pub ended : (len max_nodes : ℕ) → State → List Level → Outcome
+abbrev pub ended : (len max_nodes : ℕ) → Nesting → List Level → Outcome
 ended len max_nodes s [] =
     let t = alternation (all_alternatives s.top) in
     limited (nat_le (depth t) 600) (nat_le (size t) max_nodes) len t s.opened
@@ -48,14 +48,14 @@ taken at rest Close next [] = faulty at StrayClose
 taken at rest i next ls = rest i next
 
 -- what stands at a place
-abbrev pub met : (len max_nodes at : ℕ) → State → (Item → ℕ → Outcome) → Here → Outcome
+abbrev pub met : (len max_nodes at : ℕ) → Nesting → (Item → ℕ → Outcome) → Here → Outcome
 met len max_nodes at s rest (Is i next) = taken at rest i next s.below
 met len max_nodes at s rest Ends = ended len max_nodes s s.below
 met len max_nodes at s rest (Bad f) = faulty f.place f.reason
 
 module _ (kind : Kind) (folded : Bool) (delimiter : Option ℕ) (text : List ℕ) (max_nodes : ℕ) where
   -- the rest of a text after an item, with at most so many items
-  unfoldable pub rest_of : ℕ → Option Item → (at : ℕ) → State → Outcome
+  unfoldable pub rest_of : ℕ → Option Item → (at : ℕ) → Nesting → Outcome
   rest_of zero before at s = unfinished
   rest_of (suc n) before at s =
       met (length text) max_nodes at s (λ i next. rest_of n (Some i) next (step i s)) (item_at kind folded delimiter text before at)
@@ -70,7 +70,7 @@ module _ (kind : Kind) (folded : Bool) (delimiter : Option ℕ) (text : List ℕ
   Holds (faulty place reason) = FaultyWith kind folded delimiter text max_nodes place reason
   Holds unfinished = Unit {0}
 
-  ended_holds : {before : Option Item} {at : ℕ} (s : State) (ls : List Level) → s.below ≡ ls →
+  ended_holds : {before : Option Item} {at : ℕ} (s : Nesting) (ls : List Level) → s.below ≡ ls →
       Reading kind folded delimiter text before at s → item_at kind folded delimiter text before at ≡ Ends →
       Holds (ended (length text) max_nodes s ls)
   ended_holds s [] e r f =
@@ -88,7 +88,7 @@ module _ (kind : Kind) (folded : Bool) (delimiter : Option ℕ) (text : List ℕ
       ]
   ended_holds s (l ∷ ls) e r f = reading_unclosed kind folded delimiter text max_nodes r f (omega (arith, ap length e))
 
-  taken_holds : {before : Option Item} {at next : ℕ} (s : State) (rest : Item → ℕ → Outcome) (i : Item) (ls : List Level) →
+  taken_holds : {before : Option Item} {at next : ℕ} (s : Nesting) (rest : Item → ℕ → Outcome) (i : Item) (ls : List Level) →
       s.below ≡ ls → Reading kind folded delimiter text before at s →
       item_at kind folded delimiter text before at ≡ Is i next →
       (Reading kind folded delimiter text (Some i) next (step i s) → Holds (rest i next)) →
@@ -106,7 +106,7 @@ module _ (kind : Kind) (folded : Bool) (delimiter : Option ℕ) (text : List ℕ
   taken_holds s rest AtBegin ls e r f on = on (reading_step kind folded delimiter text r f (λ c. absurd cc))
   taken_holds s rest AtEnd ls e r f on = on (reading_step kind folded delimiter text r f (λ c. absurd cc))
 
-  met_holds : {before : Option Item} {at : ℕ} (s : State) (rest : Item → ℕ → Outcome) (h : Here) →
+  met_holds : {before : Option Item} {at : ℕ} (s : Nesting) (rest : Item → ℕ → Outcome) (h : Here) →
       Reading kind folded delimiter text before at s → item_at kind folded delimiter text before at ≡ h →
       ((i : Item) (next : ℕ) → Reading kind folded delimiter text (Some i) next (step i s) → Holds (rest i next)) →
       Holds (met (length text) max_nodes at s rest h)
@@ -114,7 +114,7 @@ module _ (kind : Kind) (folded : Bool) (delimiter : Option ℕ) (text : List ℕ
   met_holds s rest Ends r f on = ended_holds s s.below refl r f
   met_holds s rest (Bad fault) r f on = reading_bad kind folded delimiter text max_nodes r f
 
-  rest_holds : (n : ℕ) {before : Option Item} {at : ℕ} (s : State) → Reading kind folded delimiter text before at s →
+  rest_holds : (n : ℕ) {before : Option Item} {at : ℕ} (s : Nesting) → Reading kind folded delimiter text before at s →
       Holds (rest_of n before at s)
   unfolding rest_of
   rest_holds zero s r = tt

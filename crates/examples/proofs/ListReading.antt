@@ -9,7 +9,7 @@ use Rattle.sedre.specs.declared.elements.Element.TheVariants.{Plain}
 use Rattle.sedre.specs.declared.types.ExprFault.{ExprFault}
 use Rattle.sedre.specs.declared.byte_set.ByteSet.{ByteSet}
 use Rattle.sedre.specs.Sets.{set_of, has, only, union, complement}
-use Rattle.sedre.specs.Brackets.{item, items, items_from, single, both, listed, judged, matched, is_negated, Listing, list_at}
+use Rattle.sedre.specs.Brackets.{item, items, items_from, single, both, listed, judged, matched, is_negated, ListedBytes, list_at}
 use Rattle.examples.specs.Among.{stands_among}
 use Rattle.examples.specs.Lists.{ArePlain}
 
@@ -73,7 +73,7 @@ all_listed place [] p = refl
 all_listed place (b ∷ bs) p =
     one_by_one place b bs p.4
     ∙ (ap (both (single (place, Plain b))) (all_listed (place + 1) bs p.4)
-    ∙ ap (λ (s : List Bool). let x : Listing = Ok s in x) (one_more b bs))
+    ∙ ap (λ (s : List Bool). let x : ListedBytes = Ok s in x) (one_more b bs))
 
 -- ---- the whole list
 

@@ -52,7 +52,7 @@ pub(crate) struct Gathered {
 }
 
 impl Gathered {
-    /// Gathers up to so many bytes.
+    /// Gathers up to `room` bytes.
     pub(crate) fn new(alloc: Global, device: Device, room: usize) -> io::Result<Gathered> {
         let is_terminal = device.is_terminal();
         Ok(Gathered {

@@ -14,7 +14,7 @@ use std::rt::Stdout;
 /// How many bytes are gathered before they are written to the standard output.
 const OUTPUT_ROOM: usize = 65536;
 
-/// The same for a file that the script writes.
+/// How many bytes are gathered before they are written to a file.
 const FILE_ROOM: usize = 8192;
 
 /// The devices of the sinks, by number.

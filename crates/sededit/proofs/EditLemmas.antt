@@ -8,7 +8,7 @@ use Rattle.sedengine.specs.Limits.{Limits}
 use Rattle.sedengine.specs.State.{State, Setting}
 use Rattle.sedengine.specs.Move.{start, written}
 use Rattle.sedengine.specs.Devices.{part, FillsSink, GainedWithin}
-use Rattle.sedengine.specs.Ends.{WholeOrCut}
+use Rattle.sedengine.specs.Ends.{WholeOrBrokenOff}
 use Rattle.sedengine.specs.Run.{RunState, Ending, Sends, at_lines, setting, setting_of}
 use Rattle.sedengine.specs.declared.ends.Ended.{Ended}
 use Rattle.sedengine.specs.declared.ends.Ended.TheVariants.{Done, OutputFull}
@@ -51,7 +51,7 @@ Edits-run l p files e e' x sinks sinks' old old' new new' now end is before afte
 
 -- what the sinks gained is a beginning of what is written
 pub Gains-beginning : (l : Limits) (g : Setting) (s : State) (gained : List (ℕ × ℕ) → Type 0) (end : Ended) (t : ℕ) (k : Option ℕ) →
-    WholeOrCut l g s gained end t k → GainsBeginning g s gained
+    WholeOrBrokenOff l g s gained end t k → GainsBeginning g s gained
 Gains-beginning l g s gained end t None w = (t, length (written g s t), rw take-length w.sinks)
 Gains-beginning l g s gained end t (Some k) w = (suc t, w.b, w.sinks)
 

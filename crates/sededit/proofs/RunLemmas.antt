@@ -5,7 +5,7 @@ use Rattle.sedscript.specs.Script.{Program}
 use Rattle.sedengine.specs.Limits.{Limits}
 use Rattle.sedengine.specs.State.{State, Setting}
 use Rattle.sedengine.specs.Devices.{FailedSink, Gained}
-use Rattle.sedengine.specs.Ends.{WholeOrCut}
+use Rattle.sedengine.specs.Ends.{WholeOrBrokenOff}
 use Rattle.sedengine.specs.declared.ends.Ended.{Ended}
 use Rattle.sedengine.specs.declared.ends.Ended.TheVariants.{Done, InputBroken, OutputBroken}
 use Rattle.std.specs.Option.{option_map}
@@ -17,7 +17,7 @@ use Rattle.sededit.specs.Program.{HasFailed, SinkFailed, StopsEarly, WritesAll, 
 pub Gained-same : (old mid new : ℕ → Option (List ℕ)) (out : List (ℕ × ℕ)) → ((k : ℕ) → new k ≡ mid k) → Gained old mid out → Gained old new out
 Gained-same old mid new out same h = record { each = λ k. rw (same k) (h.each k) }
 
-pub WholeOrCut-same : (l : Limits) (g : Setting) (s : State) (old mid new : ℕ → Option (List ℕ)) (end : Ended) (t : ℕ) (k : Option ℕ) → ((j : ℕ) → new j ≡ mid j) → WholeOrCut l g s (Gained old mid) end t k → WholeOrCut l g s (Gained old new) end t k
+pub WholeOrCut-same : (l : Limits) (g : Setting) (s : State) (old mid new : ℕ → Option (List ℕ)) (end : Ended) (t : ℕ) (k : Option ℕ) → ((j : ℕ) → new j ≡ mid j) → WholeOrBrokenOff l g s (Gained old mid) end t k → WholeOrBrokenOff l g s (Gained old new) end t k
 WholeOrCut-same l g s old mid new end t None same w = record { within = w.within; sinks = Gained-same old mid new _ same w.sinks; cause = w.cause }
 WholeOrCut-same l g s old mid new end t (Some k) same w = record { within = w.within; b = w.b; byte = w.byte; past = w.past; due = w.due; sinks = Gained-same old mid new _ same w.sinks }
 
@@ -90,7 +90,7 @@ WritesBeginning-from p f0 f1 t0 t1 s0 s1 new r h = λ bytes known files tells.
     (w.0, w.1, Gained-from s0 s1 new _ r.same_sinks w.2)
 
 WholeOrCut-from : (l : Limits) (g : Setting) (s : State) (a b new : ℕ → Option (List ℕ)) (end : Ended) (t : ℕ) (k : Option ℕ) → ((j : ℕ) → b j ≡ a j) →
-    WholeOrCut l g s (Gained b new) end t k → WholeOrCut l g s (Gained a new) end t k
+    WholeOrBrokenOff l g s (Gained b new) end t k → WholeOrBrokenOff l g s (Gained a new) end t k
 WholeOrCut-from l g s a b new end t None same w = record { within = w.within; sinks = Gained-from a b new _ same w.sinks; cause = w.cause }
 WholeOrCut-from l g s a b new end t (Some k) same w = record { within = w.within; b = w.b; byte = w.byte; past = w.past; due = w.due; sinks = Gained-from a b new _ same w.sinks }
 

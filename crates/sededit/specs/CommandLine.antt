@@ -1,4 +1,5 @@
 -- The command line `sed [-n] [-E] [-e script].. [-f file].. [script] [file..]`, as `clap` reads it (XCU sed, Synopsis).
+-- That options may stand after operands too is this project's own.
 use Rattle.std.specs.Prelude.{◌≡◌, ℕ, Bool, true, List, [], ◌∷◌, map, drop, Some, codes, if◌then◌else◌, nat_lt, slice_get, unwrap_or}
 use Rattle.std.specs.String.{string_bytes}
 use Rattle.clap.specs.Words.{App, IsAmong, Row, Rule, Text, all_of, count_of, fault_of, kind_of, new_app, new_rule}

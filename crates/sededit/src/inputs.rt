@@ -68,7 +68,7 @@ pub trait Inputs {
         ensures failed { failures self.new ≡ failures self.old }
         ensures same_reference { reference self.new ≡ reference self.old };
 
-    /// No name tells no file.
+    /// Where there are no names, there are no files.
     ghost none_ahead: { (inputs : Self) → IfSome (ahead inputs []) (λ files. files ≡ []) };
 }
 

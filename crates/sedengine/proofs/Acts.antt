@@ -12,13 +12,13 @@ use Rattle.sedengine.specs.State.{Entry, Task, do_at, State, Move, Setting}
 use Rattle.sedengine.specs.Select.{Choice, selects}
 use Rattle.sedengine.specs.Move.{move, reach, performs, acts, passes, writing, quietly, queueing, then_do, none_left, in_table, is_active, tells_at}
 use Rattle.sedengine.specs.Ends.{WithinLimits, reaches, reads, asks_last, is_next, names_last}
-use Rattle.sedengine.specs.Meters.{Sent, Tally}
+use Rattle.sedengine.specs.Meters.{Sent, SinkView}
 use Rattle.sedengine.specs.Calls.{Puts}
 use Rattle.sedengine.specs.Run.{RunState, at_lines, setting}
 use Rattle.sedengine.specs.Choose.{Judges, as_choice, reached_with, current}
 use Rattle.sedengine.specs.Queueing.{QueuesOrFull, queued_more}
 use Rattle.sedengine.specs.Steps.{Reaches, HasAction, Moves, Performs, PerformsSteps, Steps, TakesLines}
-use Rattle.sedengine.specs.Inside.{run_of, entry_by, entry_for, IsRun}
+use Rattle.sedengine.specs.Inside.{run_of, entry_by, entry_for, IsConsistent}
 use Rattle.sedengine.specs.declared.machine.Machine.TheInside.{Inside}
 use Rattle.sedengine.specs.declared.select.Chosen.{Chosen}
 use Rattle.sedengine.specs.declared.ends.Ended.{Ended}
@@ -46,7 +46,7 @@ abbrev pub translated : RunState → Option (List ℕ) → RunState
 translated e table = record e { state = record e.state { pattern = map (in_table table) e.state.pattern } }
 
 -- A command of an engine with the fields a that is seen as e.
-module _ (a : Inside) (e : RunState) (seen : run_of a ≡ e) (i : IsRun a) (ls : List (List ℕ)) (g : Setting) (old new : Tally) (o : Option Move) where
+module _ (a : Inside) (e : RunState) (seen : run_of a ≡ e) (i : IsConsistent a) (ls : List (List ℕ)) (g : Setting) (old new : SinkView) (o : Option Move) where
   fits : WithinLimits e.limits (at_lines e ls)
   fits = let Q : RunState → Type 0 = λ e. WithinLimits e.limits (at_lines e ls) in subst Q seen (fits_of a ls i)
 
@@ -106,7 +106,7 @@ passes_other s (Block next) h = absurd (h next refl)
 passes_other s other h = refl
 
 -- a turn is left
-pub turn_left : (a : Inside) (e : RunState) → run_of a ≡ e → IsRun a → (a.turns ≡ a.limits.turns → ⊥) → e.state.turns < e.limits.turns
+pub turn_left : (a : Inside) (e : RunState) → run_of a ≡ e → IsConsistent a → (a.turns ≡ a.limits.turns → ⊥) → e.state.turns < e.limits.turns
 turn_left a e seen i more =
     let most = i.turns in
     let less : a.turns < a.limits.turns = omega arith in
@@ -118,7 +118,7 @@ pub command_seen : (a : Inside) (e : RunState) (k : ℕ) (c : Command) → run_o
 command_seen a e k c seen is = let Q : RunState → Type 0 = λ e. slice_get e.script.commands k ≡ Some c in subst Q seen is
 
 -- no turn is left
-pub steps_spent : {R : Type 0} (remaining : R → Option (List ℕ)) (old : Stream R) (a : Inside) (e : RunState) (seen : run_of a ≡ e) (i : IsRun a) (files : ℕ → List ℕ) (ls : List (List ℕ)) → lines_left remaining old ≡ Some ls → (sinks : Tally) (k : ℕ) →
+pub steps_spent : {R : Type 0} (remaining : R → Option (List ℕ)) (old : Stream R) (a : Inside) (e : RunState) (seen : run_of a ≡ e) (i : IsConsistent a) (files : ℕ → List ℕ) (ls : List (List ℕ)) → lines_left remaining old ≡ Some ls → (sinks : SinkView) (k : ℕ) →
     e.state.tasks ≡ do_at k ∷ [] → k < length a.script.commands → a.turns ≡ a.limits.turns → Steps remaining old old ls e.limits (setting e files) e e (Sent sinks sinks) (Err TurnsSpent)
 steps_spent {R} remaining old a e seen i files ls known sinks k t there spent =
     steps_by_moves remaining old ls e.limits (setting e files) e e (Sent sinks sinks) (Err TurnsSpent) known (reach_spent a e seen i files ls k t sinks there spent)
@@ -133,7 +133,7 @@ either true y h = refl
 either false y h = absurd (false≢true h)
 
 -- Coming to the command c, of number k, with a turn left; a are the fields of the engine, which is seen as e.
-module _ {R : Type 0} (remaining : R → Option (List ℕ)) (old new : Stream R) (a : Inside) (e : RunState) (seen : run_of a ≡ e) (i : IsRun a) (files : ℕ → List ℕ) (ls : List (List ℕ)) (k : ℕ) (c : Command)
+module _ {R : Type 0} (remaining : R → Option (List ℕ)) (old new : Stream R) (a : Inside) (e : RunState) (seen : run_of a ≡ e) (i : IsConsistent a) (files : ℕ → List ℕ) (ls : List (List ℕ)) (k : ℕ) (c : Command)
     (t : e.state.tasks ≡ do_at k ∷ []) (is : slice_get a.script.commands k ≡ Some c) (more : a.turns ≡ a.limits.turns → ⊥) (taken : TakesLines remaining old new ls ls) where
   here : WithinLimits e.limits (at_lines e ls)
   here = let Q : RunState → Type 0 = λ e. WithinLimits e.limits (at_lines e ls) in subst Q seen (fits_of a ls i)
@@ -147,7 +147,7 @@ module _ {R : Type 0} (remaining : R → Option (List ℕ)) (old new : Stream R)
       move_at _ _ _ t ∙ ap (reach (setting e files) (at_lines e ls) k) (command_seen a e k c seen is) ∙ ap (option_and_then (performs (setting e files) (at_lines e ls) k c)) h
 
   -- the end comes where the addresses are judged
-  pub reach_stopping : (sinks : Tally) (used : Option ℕ) (end : Ended) (e' : RunState) → e' ≡ e → Judges (current e (none_left ls)) (is_active e.state k) c used (Err end) →
+  pub reach_stopping : (sinks : SinkView) (used : Option ℕ) (end : Ended) (e' : RunState) → e' ≡ e → Judges (current e (none_left ls)) (is_active e.state k) c used (Err end) →
       Steps remaining old new ls e.limits (setting e files) e e' (Sent sinks sinks) (Err end)
   reach_stopping sinks used end e' same h =
       let Q : RunState → Type 0 = λ e'. Steps remaining old new ls e.limits (setting e files) e e' (Sent sinks sinks) (Err end) in
@@ -195,7 +195,7 @@ module _ {R : Type 0} (remaining : R → Option (List ℕ)) (old new : Stream R)
         looked_then remaining old new to ls e.limits (setting e files) (at_lines e ls) e2 P r taken (there (at_lines e ls) here_reaches (λ asks. ap (reads (setting e files)) t ∙ ap asks_last (command_seen a e k c seen is) ∙ or_else (names_last c) (is_next c.action) asks) (moves_as true chosen))
 
     -- it doesn't
-    pub reach_passing : (sinks : Tally) → choice.yes ≡ false →
+    pub reach_passing : (sinks : SinkView) → choice.yes ≡ false →
         Performs e1.limits (setting e1 files) (passes (at_lines e1 ls) c.action) (at_lines e1 ls) (at_lines e2 ls) (Sent sinks sinks) (Ok tt) → Steps remaining old new ls e.limits (setting e files) e e2 (Sent sinks sinks) (Ok tt)
     reach_passing sinks passed h =
         let Q : RunState → Type 0 = λ e1. Performs e1.limits (setting e1 files) (passes (at_lines e1 ls) c.action) (at_lines e1 ls) (at_lines e2 ls) (Sent sinks sinks) (Ok tt) in

@@ -8,9 +8,9 @@ use Rattle.sedspace.specs.Reading.{ReadsAt}
 use Rattle.sedengine.specs.Limits.{Limits}
 use Rattle.sedengine.specs.State.{Task, copy, State, Setting}
 use Rattle.sedengine.specs.Move.{move, after, written, next_or_stay, writes_of, to_sink, copies, quietly}
-use Rattle.sedengine.specs.Meters.{Sent, Tally}
+use Rattle.sedengine.specs.Meters.{Sent, SinkView}
 use Rattle.sedengine.specs.Calls.{Puts}
-use Rattle.sedengine.specs.Ends.{WithinLimits, Within, WholeOrCut, Cut, takes_turn}
+use Rattle.sedengine.specs.Ends.{WithinLimits, Within, WholeOrBrokenOff, BrokenOff, takes_turn}
 use Rattle.sedengine.specs.Held.{HoldsAt, SameLengths}
 use Rattle.sedengine.specs.Run.{InOneCycle}
 use Rattle.sedengine.specs.Steps.{Ran, Stopped}
@@ -64,7 +64,7 @@ reads_end (Some xs) (Some ys) bytes o n told keeps ends none =
     omega (arith, ap length same)
 
 -- the bytes written, and a piece after them
-pub put_on : (old mid new : Tally) (bytes piece : List ℕ) (o n : ℕ) (r : Result Unit Ended) → Sent old mid (to_sink 0 (take o bytes)) → piece ≡ take n (drop o bytes) →
+pub put_on : (old mid new : SinkView) (bytes piece : List ℕ) (o n : ℕ) (r : Result Unit Ended) → Sent old mid (to_sink 0 (take o bytes)) → piece ≡ take n (drop o bytes) →
     Puts (Sent mid new) (to_sink 0 piece) r → Puts (Sent old new) (to_sink 0 (take (o + n) bytes)) r
 put_on old mid new bytes piece o n r gained is put =
     let Q : List (ℕ × ℕ) → Type 0 = λ out. Puts (Sent old new) out r in
@@ -113,7 +113,7 @@ module _ (g : Setting) (s : State) (k : ℕ) (rest : List Task) (at : s.tasks �
   within_copied l o h f turns = λ j le. let at_j = after_copied j (omega arith) in rw at_j (record { pattern = f.pattern; hold = f.hold; queue = f.queue; turns = omega arith })
 
   -- the file was written to its end
-  pub copied_all : (l : Limits) (old new : Tally) (o turns : ℕ) → WithinLimits l s → turns ≡ s.turns + o → turns ≤ l.turns →
+  pub copied_all : (l : Limits) (old new : SinkView) (o turns : ℕ) → WithinLimits l s → turns ≡ s.turns + o → turns ≤ l.turns →
       o ≤ length (g.files k) → length (g.files k) ≤ o → Sent old new (to_sink 0 (take o (g.files k))) →
       Ran l g s (record s { tasks = rest; turns = turns }) (Sent old new)
   copied_all l old new o turns f are fits inside all gained =
@@ -126,7 +126,7 @@ module _ (g : Setting) (s : State) (k : ℕ) (rest : List Task) (at : s.tasks �
       (rw (written_copied o inside) gained) (subst M (sym (after_copied o inside)) last))
 
   -- a further byte is due, and no turn is left
-  pub copied_spent : (l : Limits) (now : State) (old new : Tally) (o : ℕ) → WithinLimits l s → s.turns + o ≡ l.turns → o < length (g.files k) →
+  pub copied_spent : (l : Limits) (now : State) (old new : SinkView) (o : ℕ) → WithinLimits l s → s.turns + o ≡ l.turns → o < length (g.files k) →
       Sent old new (to_sink 0 (take o (g.files k))) → SameLengths s now → s.lines ≡ now.lines → Stopped l g s now (Sent old new) TurnsSpent
   copied_spent l now old new o f spent inside gained same lines =
       let m : State = copied s k rest o in
@@ -138,18 +138,18 @@ module _ (g : Setting) (s : State) (k : ℕ) (rest : List Task) (at : s.tasks �
       (rw (written_copied o (omega arith)) gained) (subst M (sym (after_copied o (omega arith))) last)
 
   -- the sink took no more at one of the first n bytes
-  pub copied_broken : (l : Limits) (now : State) (old new : Tally) (n : ℕ) (end : Ended) → WithinLimits l s → s.turns + n ≤ l.turns → n ≤ length (g.files k) →
+  pub copied_broken : (l : Limits) (now : State) (old new : SinkView) (n : ℕ) (end : Ended) → WithinLimits l s → s.turns + n ≤ l.turns → n ≤ length (g.files k) →
       Puts (Sent old new) (to_sink 0 (take n (g.files k))) (Err end) → SameLengths s now → s.lines ≡ now.lines → Stopped l g s now (Sent old new) end
   copied_broken l now old new n end f fits inside (j, b, byte, end_is, due, sent) same lines =
       let file : List ℕ = g.files k in
-      let C : Option ℕ → Type 0 = λ o. WholeOrCut l g s (Sent old new) end b o in
+      let C : Option ℕ → Type 0 = λ o. WholeOrBrokenOff l g s (Sent old new) end b o in
       let H : Option ℕ → Type 0 = λ o. HoldsAt g s b now o in
       let lt : b < n = let within = slice_get_within (to_sink 0 (take n file)) b (j, byte) due in omega (arith, length-to_sink 0 (take n file), length-take-le n file inside) in
       let less : b ≤ length file = omega arith in
       let more : suc b ≤ length file = omega arith in
       let due_at = first_due 0 b n file lt in
       let part = first_done 0 b n file lt in
-      let cut : Cut l g s (Sent old new) j b = record {
+      let cut : BrokenOff l g s (Sent old new) j b = record {
         within = within_copied l (suc b) more f (omega arith);
         b = b;
         byte = byte;

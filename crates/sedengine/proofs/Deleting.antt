@@ -9,11 +9,11 @@ use Rattle.sedspace.specs.Lines.{HasNoNewline, is_newline}
 use Rattle.sedengine.specs.State.{begin, rebegin, flush, State, Move}
 use Rattle.sedengine.specs.Move.{acts, line_to, quietly, then_do, writing}
 use Rattle.sedengine.specs.Ends.{WithinLimits}
-use Rattle.sedengine.specs.Meters.{Sent, Tally}
+use Rattle.sedengine.specs.Meters.{Sent, SinkView}
 use Rattle.sedengine.specs.Calls.{Puts}
 use Rattle.sedengine.specs.Run.{RunState, at_lines, setting}
 use Rattle.sedengine.specs.Steps.{Moves, Performs}
-use Rattle.sedengine.specs.Inside.{run_of, tasks_of, IsRun}
+use Rattle.sedengine.specs.Inside.{run_of, tasks_of, IsConsistent}
 use Rattle.sedengine.specs.declared.machine.Machine.TheInside.{Inside}
 use Rattle.sedengine.specs.declared.place.Place.{Place}
 use Rattle.sedengine.specs.declared.ends.Ended.{Ended}
@@ -37,7 +37,7 @@ newline_absent [] h = refl
 newline_absent (b ∷ bs) h = rw (h 0 0 (omega arith)) (newline_absent bs (λ k d lt. h (suc k) d (omega arith)))
 
 -- A command that leaves c1 in the pattern space and writes these bytes, and what the call that ends the cycle says of it.
-pub deletes : (a : Inside) (e e2 : RunState) (files : ℕ → List ℕ) (ls : List (List ℕ)) (o : Option Move) (place : Place) (c1 : Contents) (old mid new : Tally) (out : List (ℕ × ℕ)) (r : Result Unit Ended) → run_of a ≡ e →
+pub deletes : (a : Inside) (e e2 : RunState) (files : ℕ → List ℕ) (ls : List (List ℕ)) (o : Option Move) (place : Place) (c1 : Contents) (old mid new : SinkView) (out : List (ℕ × ℕ)) (r : Result Unit Ended) → run_of a ≡ e →
     o ≡ writing out (then_do (flush ∷ tasks_of place) (at_lines (with_pattern e c1.bytes) ls)) → Sent old mid out →
     Moves a.limits (setting (run_of a) files) (then_do (flush ∷ tasks_of place) (at_lines (run_of (record a { pattern = c1 })) ls)) (at_lines e2 ls) (Sent mid new) r →
     Performs e.limits (setting e files) o (at_lines e ls) (at_lines e2 ls) (Sent old new) r
@@ -47,7 +47,7 @@ deletes a e e2 files ls o place c1 old mid new out r seen is gained h =
     subst Q seen (λ is. acts_then a.limits (setting (run_of a) files) o (at_lines (run_of a) ls) m (at_lines e2 ls) old mid new out r is (moves_fits a.limits (setting (run_of a) files) m (at_lines e2 ls) (Sent mid new) r h) gained refl h) is
 
 -- The text of `c` can't be written.
-pub change_stops : (a : Inside) (e : RunState) (files : ℕ → List ℕ) (ls : List (List ℕ)) (o : Option Move) (c1 : Contents) (old new : Tally) (out : List (ℕ × ℕ)) (end : Ended) → run_of a ≡ e → IsRun a → c1.bytes ≡ [] →
+pub change_stops : (a : Inside) (e : RunState) (files : ℕ → List ℕ) (ls : List (List ℕ)) (o : Option Move) (c1 : Contents) (old new : SinkView) (out : List (ℕ × ℕ)) (end : Ended) → run_of a ≡ e → IsConsistent a → c1.bytes ≡ [] →
     o ≡ writing out (then_do (flush ∷ begin ∷ []) (at_lines (with_pattern e c1.bytes) ls)) → Puts (Sent old new) out (Err end) →
     Performs e.limits (setting e files) o (at_lines e ls) (at_lines (run_of (record a { pattern = c1 })) ls) (Sent old new) (Err end)
 change_stops a e files ls o c1 old new out end seen i none is put =
@@ -93,7 +93,7 @@ uncut_performs a e e' files ls c1 P r seen absent is h =
     subst Q seen (subst O (sym (uncut_is (run_of a) files ls (newline_absent a.pattern.bytes absent))) (subst S is h))
 
 -- the text of `c`, as the engine is seen
-pub text_put : (a : Inside) (e : RunState) (text : ℕ) (bytes : List ℕ) (old new : Tally) (r : Result Unit Ended) → run_of a ≡ e → slice_get a.script.texts text ≡ Some bytes → Puts (Sent old new) (line_to 0 bytes) r →
+pub text_put : (a : Inside) (e : RunState) (text : ℕ) (bytes : List ℕ) (old new : SinkView) (r : Result Unit Ended) → run_of a ≡ e → slice_get a.script.texts text ≡ Some bytes → Puts (Sent old new) (line_to 0 bytes) r →
     Puts (Sent old new) (line_to 0 (unwrap_or (slice_get e.script.texts text) [])) r
 text_put a e text bytes old new r seen there h =
     let Q : RunState → Type 0 = λ e. Puts (Sent old new) (line_to 0 (unwrap_or (slice_get e.script.texts text) [])) r in

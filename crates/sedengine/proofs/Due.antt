@@ -8,12 +8,13 @@ use Rattle.std.proofs.lemmas.Bool.{false≢true}
 use Rattle.sedre.specs.Arena.{Written, tree}
 use Rattle.sedmatch.specs.Caps.{Groups}
 use Rattle.sedmatch.specs.Matching.{report}
+use Rattle.sedmatch.specs.Occurrences.{LiesOn}
 use Rattle.sedscript.specs.declared.substitution.Piece.{Piece}
 use Rattle.sedspace.specs.Spaces.{Contents}
 use Rattle.sedspace.specs.declared.errors.Full.{Full}
-use Rattle.sedengine.specs.Substitute.{Occurrence, chosen, next_occurrence, occurrences, put_for, replaced_from}
+use Rattle.sedengine.specs.Substitute.{Occurrence, to_replace, next_occurrence, occurrences, put_for, replaced_from}
 use Rattle.sedengine.specs.Run.{match_at, search_for}
-use Rattle.sedengine.specs.SubstituteParts.{Appends, GroupsOf, LiesAfter, Replaces, Skips, has_group, with_groups}
+use Rattle.sedengine.specs.SubstituteParts.{Appends, GroupsOf, Replaces, Skips, has_group, with_groups}
 use Rattle.sedengine.specs.SubstituteParts.{occurrence, occurrences_after, pending}
 use Rattle.sedengine.proofs.Occurrences.{after_is}
 use Rattle.sedengine.proofs.PieceLemmas.{put_same}
@@ -130,20 +131,20 @@ none_pending e w true q is = absurd (false≢true (sym is))
 none_pending e w false q is = refl
 
 -- where an occurrence lies after which another was
-pub lies_on : (n q : ℕ) (r : Option (ℕ × ℕ)) → IfSome r (LiesAfter n (Some q)) →
+pub lies_on : (n q : ℕ) (r : Option (ℕ × ℕ)) → IfSome r (LiesOn n (Some q)) →
     IfSome r (λ span. (q ≤ span.0) × (span.0 ≤ span.1) × (span.1 ≤ n))
 lies_on n q None lies = tt
-lies_on n q (Some span) lies = (lies.0, lies.2, lies.3)
+lies_on n q (Some span) lies = (lies.2.0, lies.0, lies.1)
 
 -- the chosen occurrences are pending where the first of them comes next
 pub chosen_is : (e : Written) (w : List ℕ) (number : ℕ) (global : Bool) (last : Option ℕ) (r : Option (ℕ × ℕ)) →
     Skips e w (number - 1) (Some last) → match_at e w r ≡ next_occurrence (search_for (Some e) w) (length w) last →
-    chosen number global (occurrences (search_for (Some e) w) (length w)) ≡ pending e w global r
+    to_replace number global (occurrences (search_for (Some e) w) (length w)) ≡ pending e w global r
 chosen_is e w number global last r skips next = by_flag global r (skips.0 ∙ after_is e w last r skips.1 next)
   where
     by_flag : (global : Bool) (r : Option (ℕ × ℕ)) →
         drop (number - 1) (occurrences (search_for (Some e) w) (length w)) ≡ pending e w true r →
-        chosen number global (occurrences (search_for (Some e) w) (length w)) ≡ pending e w global r
+        to_replace number global (occurrences (search_for (Some e) w) (length w)) ≡ pending e w global r
     by_flag true r is = is
     by_flag false None is = ap (take 1) is
     by_flag false (Some span) is = ap (take 1) is

@@ -9,13 +9,13 @@ use Rattle.sedengine.specs.State.{Task, begin, rebegin, do_at, print_pattern, em
 use Rattle.sedengine.specs.Move.{reach, writing, then_do, at_end, line_to}
 use Rattle.sedengine.specs.Ends.{WithinLimits, takes_turn}
 use Rattle.sedengine.specs.Held.{SameLengths}
-use Rattle.sedengine.specs.Meters.{Sent, Tally}
+use Rattle.sedengine.specs.Meters.{Sent, SinkView}
 use Rattle.sedengine.specs.Calls.{Puts}
 use Rattle.sedengine.specs.Run.{RunState, at_lines, setting, starts_cycle}
 use Rattle.sedengine.specs.Steps.{Moves, Performs, costs, weight}
 use Rattle.sedengine.specs.Flushing.{Flushes}
 use Rattle.sedengine.specs.Queueing.{flushed, with_turns}
-use Rattle.sedengine.specs.Inside.{run_of, tasks_of, entries_of, IsRun, Queues}
+use Rattle.sedengine.specs.Inside.{run_of, tasks_of, entries_of, IsConsistent, Queues}
 use Rattle.sedengine.specs.declared.machine.Machine.TheInside.{Inside}
 use Rattle.sedengine.specs.declared.place.Place.{Place}
 use Rattle.sedengine.specs.declared.place.Place.TheVariants as p
@@ -26,7 +26,7 @@ use Rattle.sedengine.proofs.Queueing.{AllQueue-snoc}
 use Rattle.sedengine.proofs.Tasks.{fits_of, fits_tasks}
 
 -- what is known of the fields holds of the engine as it is seen
-pub fits_seen : (a : Inside) (e : RunState) (ls : List (List ℕ)) → run_of a ≡ e → IsRun a → WithinLimits e.limits (at_lines e ls)
+pub fits_seen : (a : Inside) (e : RunState) (ls : List (List ℕ)) → run_of a ≡ e → IsConsistent a → WithinLimits e.limits (at_lines e ls)
 fits_seen a e ls seen i = let Q : RunState → Type 0 = λ e. WithinLimits e.limits (at_lines e ls) in subst Q seen (fits_of a ls i)
 
 -- a state that has these tasks already
@@ -34,7 +34,7 @@ pub then_same : (s : State) (ts : List Task) → s.tasks ≡ ts → then_do ts s
 then_same s ts h = let Q : List Task → Type 0 = λ ts. then_do ts s ≡ s in subst Q h refl
 
 -- The queue of an engine with the fields a is written.
-pub flush_moves : (a : Inside) (e e' : RunState) (g : Setting) (ls : List (List ℕ)) (rest : List Task) (turns : ℕ) (P : List (ℕ × ℕ) → Type 0) (r : Result Unit Ended) → run_of a ≡ e → IsRun a →
+pub flush_moves : (a : Inside) (e e' : RunState) (g : Setting) (ls : List (List ℕ)) (rest : List Task) (turns : ℕ) (P : List (ℕ × ℕ) → Type 0) (r : Result Unit Ended) → run_of a ≡ e → IsConsistent a →
     ((s : State) (rest : List Task) → s.tasks ≡ flush ∷ rest → s.queue ≡ entries_of a.script a.queue.items → s.turns ≡ a.turns → WithinLimits a.limits s → Flushes a.limits g s (record s { queue = []; tasks = rest; turns = turns }) P r) →
     OnOk r (e' ≡ flushed e turns) → OnErr r (e' ≡ with_turns e turns) →
     Moves e.limits g (then_do (flush ∷ rest) (at_lines e ls)) (then_do rest (at_lines e' ls)) P r
@@ -51,7 +51,7 @@ flush_moves a e e' g ls rest turns P (Err end) seen i h ok err =
     subst Q (sym err) (subst S seen (Stopped-as a.limits g s s (then_do rest (at_lines (with_turns (run_of a) turns) ls)) P end refl refl refl refl (h s rest refl refl refl f)))
 
 -- The pattern space is written, and then what comes after it.
-pub print_moves : (e e' : RunState) (files : ℕ → List ℕ) (ls : List (List ℕ)) (rest : List Task) (old mid new : Tally) (r : Result Unit Ended) → WithinLimits e.limits (at_lines e ls) →
+pub print_moves : (e e' : RunState) (files : ℕ → List ℕ) (ls : List (List ℕ)) (rest : List Task) (old mid new : SinkView) (r : Result Unit Ended) → WithinLimits e.limits (at_lines e ls) →
     Sent old mid (cond e.script.quiet [] (line_to 0 e.state.pattern)) →
     Moves e.limits (setting e files) (then_do (flush ∷ rest) (at_lines e ls)) (then_do rest (at_lines e' ls)) (Sent mid new) r →
     Moves e.limits (setting e files) (then_do (print_pattern ∷ flush ∷ rest) (at_lines e ls)) (then_do rest (at_lines e' ls)) (Sent old new) r
@@ -59,7 +59,7 @@ print_moves e e' files ls rest old mid new r f gained h =
     moves_then e.limits (setting e files) (then_do (print_pattern ∷ flush ∷ rest) (at_lines e ls)) (then_do (flush ∷ rest) (at_lines e ls)) (then_do rest (at_lines e' ls)) old mid new (cond e.script.quiet [] (line_to 0 e.state.pattern)) r
     (fits_tasks _ (at_lines e ls) _ f) (move_at _ _ _ refl) (fits_tasks _ (at_lines e ls) _ f) gained refl h
 
-pub print_stops : (e : RunState) (files : ℕ → List ℕ) (ls : List (List ℕ)) (rest : List Task) (old new : Tally) (end : Ended) → WithinLimits e.limits (at_lines e ls) →
+pub print_stops : (e : RunState) (files : ℕ → List ℕ) (ls : List (List ℕ)) (rest : List Task) (old new : SinkView) (end : Ended) → WithinLimits e.limits (at_lines e ls) →
     Puts (Sent old new) (cond e.script.quiet [] (line_to 0 e.state.pattern)) (Err end) →
     Moves e.limits (setting e files) (then_do (print_pattern ∷ flush ∷ rest) (at_lines e ls)) (then_do rest (at_lines e ls)) (Sent old new) (Err end)
 print_stops e files ls rest old new end f put =
@@ -67,7 +67,7 @@ print_stops e files ls rest old new end f put =
     (fits_tasks _ (at_lines e ls) _ f) (move_at _ _ _ refl) (fits_tasks _ (at_lines e ls) _ f) (record { pattern = refl; hold = refl; queue = λ _. refl; entries = omega arith }) refl put
 
 -- The end of the script: command k isn't there. What follows the first move is h.
-pub end_moves : (e : RunState) (files : ℕ → List ℕ) (ls : List (List ℕ)) (k : ℕ) (now : State) (old new : Tally) (r : Result Unit Ended) → WithinLimits e.limits (at_lines e ls) → e.state.tasks ≡ do_at k ∷ [] → length e.script.commands ≤ k →
+pub end_moves : (e : RunState) (files : ℕ → List ℕ) (ls : List (List ℕ)) (k : ℕ) (now : State) (old new : SinkView) (r : Result Unit Ended) → WithinLimits e.limits (at_lines e ls) → e.state.tasks ≡ do_at k ∷ [] → length e.script.commands ≤ k →
     Moves e.limits (setting e files) (then_do at_end (at_lines e ls)) now (Sent old new) r → Moves e.limits (setting e files) (at_lines e ls) now (Sent old new) r
 end_moves e files ls k now old new r f at over h =
     quietly_then e.limits (setting e files) (at_lines e ls) (then_do at_end (at_lines e ls)) now old new r f
@@ -78,7 +78,7 @@ abbrev pub emptied : RunState → RunState
 emptied e = record e { state = record e.state { pattern = []; tasks = begin ∷ [] } }
 
 -- the cycle has ended
-pub finished : (e e' final : RunState) (files : ℕ → List ℕ) (ls : List (List ℕ)) (k : ℕ) (old new : Tally) → e.state.tasks ≡ do_at k ∷ [] → length e.script.commands ≤ k →
+pub finished : (e e' final : RunState) (files : ℕ → List ℕ) (ls : List (List ℕ)) (k : ℕ) (old new : SinkView) → e.state.tasks ≡ do_at k ∷ [] → length e.script.commands ≤ k →
     Moves e.limits (setting e files) (then_do at_end (at_lines e ls)) (then_do (empty_pattern ∷ begin ∷ []) (at_lines e' ls)) (Sent old new) (Ok tt) → final ≡ emptied e' →
     Moves e.limits (setting e files) (at_lines e ls) (at_lines final ls) (Sent old new) (Ok tt)
 finished e e' final files ls k old new at over h is =
@@ -92,7 +92,7 @@ finished e e' final files ls k old new at over h is =
     (ran_quietly e.limits g m (at_lines (emptied e') ls) new f' (move_at _ _ _ refl) (record { pattern = omega arith; hold = f'.hold; queue = f'.queue; turns = f'.turns }))))
 
 -- the end came before the cycle's
-pub finish_stopped : (e e' : RunState) (files : ℕ → List ℕ) (ls : List (List ℕ)) (k : ℕ) (rest : List Task) (old new : Tally) (end : Ended) → e.state.tasks ≡ do_at k ∷ [] → length e.script.commands ≤ k →
+pub finish_stopped : (e e' : RunState) (files : ℕ → List ℕ) (ls : List (List ℕ)) (k : ℕ) (rest : List Task) (old new : SinkView) (end : Ended) → e.state.tasks ≡ do_at k ∷ [] → length e.script.commands ≤ k →
     Moves e.limits (setting e files) (then_do at_end (at_lines e ls)) (then_do rest (at_lines e' ls)) (Sent old new) (Err end) →
     Moves e.limits (setting e files) (at_lines e ls) (at_lines e' ls) (Sent old new) (Err end)
 finish_stopped e e' files ls k rest old new end at over h =
@@ -108,7 +108,7 @@ quits e e' g ls P now r at h =
     subst Q (then_same (at_lines e ls) (print_pattern ∷ flush ∷ []) at) h
 
 -- a cycle starts with the pattern space as it is
-pub rebegins : (a : Inside) (e : RunState) (g : Setting) (ls : List (List ℕ)) (sinks : Tally) (e' : RunState) → run_of a ≡ e → IsRun a → e.state.tasks ≡ rebegin ∷ [] → (a.turns ≡ a.limits.turns → ⊥) →
+pub rebegins : (a : Inside) (e : RunState) (g : Setting) (ls : List (List ℕ)) (sinks : SinkView) (e' : RunState) → run_of a ≡ e → IsConsistent a → e.state.tasks ≡ rebegin ∷ [] → (a.turns ≡ a.limits.turns → ⊥) →
     e' ≡ record e { state = record e.state { tasks = do_at 0 ∷ []; turns = e.state.turns + 1 } } → Moves e.limits g (at_lines e ls) (at_lines e' ls) (Sent sinks sinks) (Ok tt)
 rebegins a e g ls sinks e' seen i at more is =
     let Q : RunState → Type 0 = λ e'. Moves e.limits g (at_lines e ls) (at_lines e' ls) (Sent sinks sinks) (Ok tt) in
@@ -118,7 +118,7 @@ rebegins a e g ls sinks e' seen i at more is =
     let L : RunState → Type 0 = λ e. e.state.turns + 1 ≤ e.limits.turns in
     subst Q (sym is) (ran_quietly e.limits g (at_lines e ls) _ sinks f (move_at _ _ _ at) (record { pattern = f.pattern; hold = f.hold; queue = f.queue; turns = subst L seen less }))
 
-pub rebegin_spent : (a : Inside) (e : RunState) (g : Setting) (ls : List (List ℕ)) (sinks : Tally) → run_of a ≡ e → IsRun a → e.state.tasks ≡ rebegin ∷ [] → a.turns ≡ a.limits.turns →
+pub rebegin_spent : (a : Inside) (e : RunState) (g : Setting) (ls : List (List ℕ)) (sinks : SinkView) → run_of a ≡ e → IsConsistent a → e.state.tasks ≡ rebegin ∷ [] → a.turns ≡ a.limits.turns →
     Moves e.limits g (at_lines e ls) (at_lines e ls) (Sent sinks sinks) (Err TurnsSpent)
 rebegin_spent a e g ls sinks seen i at spent =
     let f = fits_seen a e ls seen i in
@@ -127,18 +127,18 @@ rebegin_spent a e g ls sinks seen i at spent =
     stopped_here e.limits g (at_lines e ls) (at_lines e ls) sinks TurnsSpent f refl (subst L seen spent, subst T (sym at) refl) (record { pattern = refl; hold = refl; queue = λ _. refl; entries = omega arith }) refl
 
 -- A command that makes a move which writes these bytes, and then what h says.
-pub acts_then : (l : Limits) (g : Setting) (o : Option Move) (there m now : State) (old mid new : Tally) (out : List (ℕ × ℕ)) (r : Result Unit Ended) → o ≡ writing out m → WithinLimits l m → Sent old mid out → starts_cycle m.tasks ≡ false →
+pub acts_then : (l : Limits) (g : Setting) (o : Option Move) (there m now : State) (old mid new : SinkView) (out : List (ℕ × ℕ)) (r : Result Unit Ended) → o ≡ writing out m → WithinLimits l m → Sent old mid out → starts_cycle m.tasks ≡ false →
     Moves l g m now (Sent mid new) r → Performs l g o there now (Sent old new) r
 acts_then l g o there m now old mid new out r is f gained goes h = λ s c first. moves_then l g s m now old mid new out r c.fits (first ∙ is) f gained goes h
 
 -- The sink failed in that move.
-pub acts_stopping : (l : Limits) (g : Setting) (o : Option Move) (there m now : State) (old new : Tally) (out : List (ℕ × ℕ)) (end : Ended) → o ≡ writing out m → WithinLimits l m → SameLengths m now → there.lines ≡ now.lines →
+pub acts_stopping : (l : Limits) (g : Setting) (o : Option Move) (there m now : State) (old new : SinkView) (out : List (ℕ × ℕ)) (end : Ended) → o ≡ writing out m → WithinLimits l m → SameLengths m now → there.lines ≡ now.lines →
     Puts (Sent old new) out (Err end) → Performs l g o there now (Sent old new) (Err end)
 acts_stopping l g o there m now old new out end is f same lines put = λ s c first. stopped_writing l g s m now old new out end c.fits (first ∙ is) f same (c.lines ∙ lines) put
 
 -- a number is put into the queue
-pub queue_is_run : (a : Inside) (q : Entries) (k : ℕ) (r : Result Unit Full) → IsRun a → Queues (slice_get a.script.commands k) → OnOk r (q ≡ record a.queue { items = a.queue.items ++ k ∷ [] }) → OnOk r (length a.queue.items < a.queue.limit) → OnErr r (q ≡ a.queue) →
-    IsRun (record a { queue = q })
+pub queue_is_run : (a : Inside) (q : Entries) (k : ℕ) (r : Result Unit Full) → IsConsistent a → Queues (slice_get a.script.commands k) → OnOk r (q ≡ record a.queue { items = a.queue.items ++ k ∷ [] }) → OnOk r (length a.queue.items < a.queue.limit) → OnErr r (q ≡ a.queue) →
+    IsConsistent (record a { queue = q })
 queue_is_run a q k (Ok u) i h ok room err = let same = i.queue_limit in rw ok (record {
   number = i.number;
   turns = i.turns;
@@ -183,7 +183,7 @@ pub queues_seen : (a : Inside) (e : RunState) (k : ℕ) → run_of a ≡ e → Q
 queues_seen a e k seen h = let Q : RunState → Type 0 = λ e. Queues (slice_get e.script.commands k) in subst Q (sym seen) h
 
 -- what is printed by default, as the engine is seen
-pub printed_by : (a : Inside) (e : RunState) (old new : Tally) (r : Result Unit Ended) → run_of a ≡ e → Puts (Sent old new) (cond a.script.quiet [] (line_to 0 a.pattern.bytes)) r →
+pub printed_by : (a : Inside) (e : RunState) (old new : SinkView) (r : Result Unit Ended) → run_of a ≡ e → Puts (Sent old new) (cond a.script.quiet [] (line_to 0 a.pattern.bytes)) r →
     Puts (Sent old new) (cond e.script.quiet [] (line_to 0 e.state.pattern)) r
 printed_by a e old new r seen h = let Q : RunState → Type 0 = λ e. Puts (Sent old new) (cond e.script.quiet [] (line_to 0 e.state.pattern)) r in subst Q seen h
 

@@ -4,13 +4,13 @@ use Rattle.std.specs.Io.KnownBytes.{Keeps}
 use Rattle.sedengine.specs.Limits.{Limits}
 use Rattle.sedengine.specs.State.{Entry, text, file, Task, flush, copy, State, Setting}
 use Rattle.sedengine.specs.Move.{move, after, written, flushes, line_to}
-use Rattle.sedengine.specs.Meters.{Sent, Tally}
+use Rattle.sedengine.specs.Meters.{Sent, SinkView}
 use Rattle.sedengine.specs.Calls.{Puts}
 use Rattle.sedengine.specs.Ends.{WithinLimits, Within}
 use Rattle.sedengine.specs.Held.{SameLengths}
 use Rattle.sedengine.specs.Run.{InOneCycle, TellsFiles, starts_cycle}
 use Rattle.sedengine.specs.Steps.{Ran, Moves}
-use Rattle.sedengine.specs.Flushing.{Copies}
+use Rattle.sedengine.specs.Flushing.{CopiesEntry}
 use Rattle.sedengine.specs.declared.ends.Ended.{Ended}
 use Rattle.sedengine.proofs.Sending.{Sent-append, Sent-none}
 use Rattle.sedengine.proofs.Moves.{chain, ran_once, ran_quietly, stopped_writing, Moves-then, move_at, after-add, written-add, Within-add, InOneCycle-add, InOneCycle-more, after_none, written_none, within_none, one_single}
@@ -47,8 +47,8 @@ module _ (l : Limits) (g : Setting) (s : State) (rest : List Task) (entry : Entr
   shorter = omega (arith, ap length queue)
 
   -- a text is written
-  pub text_written : (bytes : List ℕ) (now : State) (old new : Tally) (turns : ℕ) (r : Result Unit Ended) → entry ≡ text bytes → turns ≡ s.turns → SameLengths s now → s.lines ≡ now.lines →
-      Puts (Sent old new) (line_to 0 bytes) r → Copies l g s (at_entries s later (flush ∷ rest) turns) now (Sent old new) r
+  pub text_written : (bytes : List ℕ) (now : State) (old new : SinkView) (turns : ℕ) (r : Result Unit Ended) → entry ≡ text bytes → turns ≡ s.turns → SameLengths s now → s.lines ≡ now.lines →
+      Puts (Sent old new) (line_to 0 bytes) r → CopiesEntry l g s (at_entries s later (flush ∷ rest) turns) now (Sent old new) r
   text_written bytes now old new turns (Ok u) is same_turns same lines put =
       let T : ℕ → Type 0 = λ n. Ran l g s (at_entries s later (flush ∷ rest) n) (Sent old new) in
       let next = at_entries s later (flush ∷ rest) s.turns in
@@ -59,10 +59,10 @@ module _ (l : Limits) (g : Setting) (s : State) (rest : List Task) (entry : Entr
       (same_later s now later rest s.turns same shorter) lines put
 
   -- a file is written, by a call from the state in which it stands first
-  pub file_written : (k : ℕ) (now : State) (old new : Tally) (turns : ℕ) (r : Result Unit Ended) → entry ≡ file k → SameLengths s now →
+  pub file_written : (k : ℕ) (now : State) (old new : SinkView) (turns : ℕ) (r : Result Unit Ended) → entry ≡ file k → SameLengths s now →
       (WithinLimits l (at_entries s later (copy k 0 ∷ flush ∷ rest) s.turns) → SameLengths (at_entries s later (copy k 0 ∷ flush ∷ rest) s.turns) now →
-      Copies l g (at_entries s later (copy k 0 ∷ flush ∷ rest) s.turns) (at_entries s later (flush ∷ rest) turns) now (Sent old new) r) →
-      Copies l g s (at_entries s later (flush ∷ rest) turns) now (Sent old new) r
+      CopiesEntry l g (at_entries s later (copy k 0 ∷ flush ∷ rest) s.turns) (at_entries s later (flush ∷ rest) turns) now (Sent old new) r) →
+      CopiesEntry l g s (at_entries s later (flush ∷ rest) turns) now (Sent old new) r
   file_written k now old new turns r is same call =
       let m = at_entries s later (copy k 0 ∷ flush ∷ rest) s.turns in
       let fits = fits_later l s later (copy k 0 ∷ flush ∷ rest) s.turns f shorter f.turns in
@@ -70,24 +70,24 @@ module _ (l : Limits) (g : Setting) (s : State) (rest : List Task) (entry : Entr
       go r opened (call fits (same_opened s now later k (flush ∷ rest) same shorter))
     where
       go : (r : Result Unit Ended) → Ran l g s (at_entries s later (copy k 0 ∷ flush ∷ rest) s.turns) (Sent old old) →
-          Copies l g (at_entries s later (copy k 0 ∷ flush ∷ rest) s.turns) (at_entries s later (flush ∷ rest) turns) now (Sent old new) r →
-          Copies l g s (at_entries s later (flush ∷ rest) turns) now (Sent old new) r
+          CopiesEntry l g (at_entries s later (copy k 0 ∷ flush ∷ rest) s.turns) (at_entries s later (flush ∷ rest) turns) now (Sent old new) r →
+          CopiesEntry l g s (at_entries s later (flush ∷ rest) turns) now (Sent old new) r
       go (Ok u) opened h = Moves-then l g s _ _ old old new (Ok u) opened refl h
       go (Err end) opened h = Moves-then l g s _ _ old old new (Err end) opened refl h
 
 -- The first t moves from the state s led to the state m. None of them starts a cycle.
-pub record Reached (l : Limits) (g : Setting) (s m : State) (old new : Tally) : Type 0 where
+pub record Reached (l : Limits) (g : Setting) (s m : State) (old new : SinkView) : Type 0 where
   pub t : ℕ
   pub is : after g s t ≡ m
   pub one : InOneCycle g s (t + 1)
   pub within : Within l g s t
   pub gained : Sent old new (written g s t)
 
-pub reached_none : (l : Limits) (g : Setting) (s : State) (sinks : Tally) → WithinLimits l s → Reached l g s s sinks sinks
+pub reached_none : (l : Limits) (g : Setting) (s : State) (sinks : SinkView) → WithinLimits l s → Reached l g s s sinks sinks
 reached_none l g s sinks f = record { t = 0; is = after_none g s; one = one_single g s; within = within_none l g s f; gained = rw written_none (Sent-none sinks) }
 
 -- a call that makes moves from there, within the cycle
-pub reached_more : (l : Limits) (g : Setting) (s m m' : State) (old mid new : Tally) → Reached l g s m old mid → Ran l g m m' (Sent mid new) → starts_cycle m'.tasks ≡ false → Reached l g s m' old new
+pub reached_more : (l : Limits) (g : Setting) (s m m' : State) (old mid new : SinkView) → Reached l g s m old mid → Ran l g m m' (Sent mid new) → starts_cycle m'.tasks ≡ false → Reached l g s m' old new
 reached_more l g s m m' old mid new a b goes =
     let M : State → Type 0 = λ m. Ran l g m m' (Sent mid new) in
     let h = subst M (sym a.is) b in
@@ -101,13 +101,13 @@ reached_more l g s m m' old mid new a b goes =
     }
 
 -- the last call
-pub reached_last : (l : Limits) (g : Setting) (s m now : State) (old mid new : Tally) (r : Result Unit Ended) → Reached l g s m old mid → Moves l g m now (Sent mid new) r → Moves l g s now (Sent old new) r
+pub reached_last : (l : Limits) (g : Setting) (s m now : State) (old mid new : SinkView) (r : Result Unit Ended) → Reached l g s m old mid → Moves l g m now (Sent mid new) r → Moves l g s now (Sent old new) r
 reached_last l g s m now old mid new r a b =
     let M : State → Type 0 = λ m. Moves l g m now (Sent mid new) r in
     chain l g s now old mid new a.t r a.within a.one a.gained (subst M (sym a.is) b)
 
 -- a queue before its first entry is written
-pub flush_begun : (l : Limits) (g : Setting) (s : State) (later : List Entry) (rest : List Task) (turns : ℕ) (sinks : Tally) → s.tasks ≡ flush ∷ rest → s.queue ≡ later → s.turns ≡ turns → WithinLimits l s →
+pub flush_begun : (l : Limits) (g : Setting) (s : State) (later : List Entry) (rest : List Task) (turns : ℕ) (sinks : SinkView) → s.tasks ≡ flush ∷ rest → s.queue ≡ later → s.turns ≡ turns → WithinLimits l s →
     Reached l g s (at_entries s later (flush ∷ rest) turns) sinks sinks
 flush_begun l g s later rest turns sinks at queue same f =
     let R : State → Type 0 = λ m. Reached l g s m sinks sinks in
@@ -116,7 +116,7 @@ flush_begun l g s later rest turns sinks at queue same f =
     subst R is (reached_none l g s sinks f)
 
 -- a queue whose entries all were written
-pub flush_done : (l : Limits) (g : Setting) (s : State) (later : List Entry) (rest : List Task) (turns : ℕ) (old new : Tally) → WithinLimits l s → turns ≤ l.turns → later ≡ [] →
+pub flush_done : (l : Limits) (g : Setting) (s : State) (later : List Entry) (rest : List Task) (turns : ℕ) (old new : SinkView) → WithinLimits l s → turns ≤ l.turns → later ≡ [] →
     Reached l g s (at_entries s later (flush ∷ rest) turns) old new → Ran l g s (at_entries s [] rest turns) (Sent old new)
 flush_done l g s later rest turns old new f most none a =
     let R : List Entry → Type 0 = λ q. Reached l g s (at_entries s q (flush ∷ rest) turns) old new in

@@ -3,11 +3,11 @@ use Rattle.std.proofs.Common.{◌≡◌, ℕ, ◌≤◌, List, length, Option, R
 use Rattle.sedengine.specs.State.{Move, Setting}
 use Rattle.sedengine.specs.Move.{quietly}
 use Rattle.sedengine.specs.Ends.{WithinLimits}
-use Rattle.sedengine.specs.Meters.{Sent, Tally}
+use Rattle.sedengine.specs.Meters.{Sent, SinkView}
 use Rattle.sedengine.specs.Run.{RunState, at_lines}
 use Rattle.sedengine.specs.Steps.{Performs}
 use Rattle.sedengine.specs.Holding.{BecomesOrFull}
-use Rattle.sedengine.specs.Inside.{run_of, IsRun}
+use Rattle.sedengine.specs.Inside.{run_of, IsConsistent}
 use Rattle.sedengine.specs.declared.machine.Machine.TheInside.{Inside}
 use Rattle.sedengine.specs.declared.ends.Ended.{Ended}
 use Rattle.sedengine.specs.declared.ends.Ended.TheVariants.{PatternFull, HoldFull}
@@ -21,7 +21,7 @@ abbrev pub holding : RunState → List ℕ → List ℕ → RunState
 holding e pattern hold = record e { state = record e.state { pattern = pattern; hold = hold } }
 
 -- A command of an engine with the fields a that is seen as e.
-module _ (a : Inside) (e : RunState) (seen : run_of a ≡ e) (i : IsRun a) (ls : List (List ℕ)) (g : Setting) (sinks : Tally) (o : Option Move) where
+module _ (a : Inside) (e : RunState) (seen : run_of a ≡ e) (i : IsConsistent a) (ls : List (List ℕ)) (g : Setting) (sinks : SinkView) (o : Option Move) where
   fits : WithinLimits e.limits (at_lines e ls)
   fits = let Q : RunState → Type 0 = λ e. WithinLimits e.limits (at_lines e ls) in subst Q seen (fits_of a ls i)
 

@@ -4,10 +4,10 @@ use Rattle.std.proofs.lemmas.Bool.Decides.{nat_tests}
 use Rattle.std.proofs.lemmas.List.{length-take, take-append-drop, take-take, take_more}
 use Rattle.std.proofs.lemmas.Grind.{common_steps}
 use Rattle.sedengine.specs.Move.{to_sink}
-use Rattle.sedengine.specs.Meters.{Sent, Tally}
+use Rattle.sedengine.specs.Meters.{Sent, SinkView}
 use Rattle.sedengine.specs.Calls.{Puts}
 use Rattle.sedengine.specs.Listing.{item, listed, listed_from, most_listed}
-use Rattle.sedengine.specs.ListingParts.{Listing, ArePlain, Lists, Written, plain, with_run}
+use Rattle.sedengine.specs.ListingParts.{Listing, ArePlain, Lists, WrittenInPart, plain, with_run}
 use Rattle.sedengine.specs.declared.ends.Ended.{Ended}
 use Rattle.sedengine.proofs.Sending.{Sent-append, Sent-none}
 use Rattle.sedengine.proofs.Gains.{to_sink-append}
@@ -84,9 +84,9 @@ due g l rest part after empty is s =
     ap (listed_from g.column) is ∙ ap (λ t. t ++ listed_from g.column (part ++ after)) (sym empty) ∙ s after
 
 -- a part was written
-pub written_more : (old mid new : Tally) (bytes rest part after : List ℕ) (g l : Listing) →
-    Written (Sent old mid) bytes rest g.column → g.bytes ≡ [] → rest ≡ part ++ after → Lists g part l →
-    Sent mid new (to_sink 0 l.bytes) → Written (Sent old new) bytes after l.column
+pub written_more : (old mid new : SinkView) (bytes rest part after : List ℕ) (g l : Listing) →
+    WrittenInPart (Sent old mid) bytes rest g.column → g.bytes ≡ [] → rest ≡ part ++ after → Lists g part l →
+    Sent mid new (to_sink 0 l.bytes) → WrittenInPart (Sent old new) bytes after l.column
 written_more old mid new bytes rest part after g l w empty is s gained = record {
   beginning = w.beginning ++ l.bytes;
   gains = rw to_sink-append (Sent-append w.gains gained);
@@ -94,8 +94,8 @@ written_more old mid new bytes rest part after g l w empty is s gained = record 
 }
 
 -- a part was not written
-pub written_not : (old mid new : Tally) (bytes rest part after : List ℕ) (g l : Listing) (end : Ended) →
-    Written (Sent old mid) bytes rest g.column → g.bytes ≡ [] → rest ≡ part ++ after → Lists g part l →
+pub written_not : (old mid new : SinkView) (bytes rest part after : List ℕ) (g l : Listing) (end : Ended) →
+    WrittenInPart (Sent old mid) bytes rest g.column → g.bytes ≡ [] → rest ≡ part ++ after → Lists g part l →
     Puts (Sent mid new) (to_sink 0 l.bytes) (Err end) → Puts (Sent old new) (to_sink 0 (listed bytes)) (Err end)
 written_not old mid new bytes rest part after g l end w empty is s p =
     let tail = listed_from l.column after in
@@ -107,8 +107,8 @@ written_not old mid new bytes rest part after g l end w empty is s p =
     subst (λ (out : List (ℕ × ℕ)). Puts (Sent old new) out (Err end)) (sym whole) all
 
 -- the last part, with the end of the listing
-pub written_end : (old mid new : Tally) (bytes rest : List ℕ) (g l : Listing) (r : Result Unit Ended) →
-    Written (Sent old mid) bytes rest g.column → g.bytes ≡ [] → Lists g rest l →
+pub written_end : (old mid new : SinkView) (bytes rest : List ℕ) (g l : Listing) (r : Result Unit Ended) →
+    WrittenInPart (Sent old mid) bytes rest g.column → g.bytes ≡ [] → Lists g rest l →
     Puts (Sent mid new) (to_sink 0 (l.bytes ++ 36 ∷ 10 ∷ [])) r → Puts (Sent old new) (to_sink 0 (listed bytes)) r
 written_end old mid new bytes rest g l r w empty s p =
     let out = l.bytes ++ 36 ∷ 10 ∷ [] in
@@ -119,7 +119,7 @@ written_end old mid new bytes rest g l r w empty s p =
     (Puts-append old mid new (to_sink 0 w.beginning) (to_sink 0 out) r w.gains p)
 
 -- nothing was written yet
-pub written_none : (old : Tally) (bytes : List ℕ) (column : ℕ) → column ≡ 0 → Written (Sent old old) bytes bytes column
+pub written_none : (old : SinkView) (bytes : List ℕ) (column : ℕ) → column ≡ 0 → WrittenInPart (Sent old old) bytes bytes column
 unfolding listed
 written_none old bytes column e = record {
   beginning = [];

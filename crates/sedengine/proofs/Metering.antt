@@ -5,8 +5,8 @@ use Rattle.std.specs.List.{All}
 use Rattle.sedengine.specs.Limits.{Limits}
 use Rattle.sedengine.specs.State.{State, Setting}
 use Rattle.sedengine.specs.Devices.{part, FillsSink, GainedWithin}
-use Rattle.sedengine.specs.Ends.{Cause, WholeOrCut, named_sink}
-use Rattle.sedengine.specs.Meters.{Frame, FullSink, InLimit, Meter, Sent, Tally, counted}
+use Rattle.sedengine.specs.Ends.{Cause, WholeOrBrokenOff, named_sink}
+use Rattle.sedengine.specs.Meters.{Frame, FullSink, InLimit, Meter, Sent, SinkView, counted}
 use Rattle.sedengine.specs.Run.{Cycles, Ending, RunState, Sends, at_lines, outcome, setting}
 use Rattle.sedengine.specs.declared.ends.Ended.{Ended}
 use Rattle.sedengine.specs.declared.ends.Ended.TheVariants.{OutputFull}
@@ -14,7 +14,7 @@ use Rattle.sedengine.specs.declared.ends.Progress.{Progress}
 use Rattle.sedengine.specs.declared.ends.Progress.TheVariants as progress
 
 -- an end has its cause whatever more is said of what the sinks gained
-WholeOrCut-as : (l : Limits) (g : Setting) (s : State) (P Q : List (ℕ × ℕ) → Type 0) (end : Ended) (t : ℕ) (o : Option ℕ) → ((out : List (ℕ × ℕ)) → P out → Q out) → WholeOrCut l g s P end t o → WholeOrCut l g s Q end t o
+WholeOrCut-as : (l : Limits) (g : Setting) (s : State) (P Q : List (ℕ × ℕ) → Type 0) (end : Ended) (t : ℕ) (o : Option ℕ) → ((out : List (ℕ × ℕ)) → P out → Q out) → WholeOrBrokenOff l g s P end t o → WholeOrBrokenOff l g s Q end t o
 WholeOrCut-as l g s P Q end t None f h = record { within = h.within; sinks = f _ h.sinks; cause = h.cause }
 WholeOrCut-as l g s P Q end t (Some k) f h = record { within = h.within; b = h.b; byte = h.byte; past = h.past; due = h.due; sinks = f _ h.sinks }
 
@@ -37,7 +37,7 @@ within_limit n (x ∷ xs) zero h = h 0 0 (omega arith)
 within_limit n (x ∷ xs) (suc k) h = within_limit n xs k (λ j d lt. h (suc j) d (omega (arith, lt)))
 
 -- sinks with these contents, failures and counts
-abbrev pub tally_of : (ℕ → Option (List ℕ)) → (ℕ → ℕ) → Option ℕ → List ℕ → Frame → Tally
+abbrev pub tally_of : (ℕ → Option (List ℕ)) → (ℕ → ℕ) → Option ℕ → List ℕ → Frame → SinkView
 tally_of contents failures most sent frame = record { contents = contents; failures = failures; sent = counted most sent; frame = frame }
 
 module _ (sent sent' : List ℕ) (old new : ℕ → Option (List ℕ)) (f f' : ℕ → ℕ) (a a' : Frame) (out : List (ℕ × ℕ)) where

@@ -4,9 +4,9 @@ use Rattle.std.proofs.Math.Seq.{take-append-add}
 use Rattle.sedengine.specs.Limits.{Limits}
 use Rattle.sedengine.specs.State.{Task, State, Move, Setting}
 use Rattle.sedengine.specs.Move.{move, first_task, after, written, next_or_stay, writes_of, writing, quietly}
-use Rattle.sedengine.specs.Meters.{Sent, Tally}
+use Rattle.sedengine.specs.Meters.{Sent, SinkView}
 use Rattle.sedengine.specs.Calls.{Puts}
-use Rattle.sedengine.specs.Ends.{WithinLimits, Within, WholeOrCut, Cause, Cut, Whole, IsCause, named_sink}
+use Rattle.sedengine.specs.Ends.{WithinLimits, Within, WholeOrBrokenOff, Cause, BrokenOff, Whole, IsCause, named_sink}
 use Rattle.sedengine.specs.Held.{HoldsAt, SameLengths}
 use Rattle.sedengine.specs.Run.{InOneCycle, starts_cycle}
 use Rattle.sedengine.specs.Steps.{Ran, Stopped, Moves}
@@ -93,8 +93,8 @@ InOneCycle-more g s zero h goes = λ k some k_lt. absurd (omega arith)
 InOneCycle-more g s (suc t) h goes = λ k some k_lt. elim (last_or_less k t (omega arith)) [ inl less ↦ h k some (omega arith) | inr same ↦ rw same goes ]
 
 -- An end that comes u moves after the first t comes after t + u moves.
-WholeOrCut-add : (l : Limits) (g : Setting) (s : State) (old mid new : Tally) (end : Ended) (t u : ℕ) (o : Option ℕ) → Within l g s t → Sent old mid (written g s t) →
-    WholeOrCut l g (after g s t) (Sent mid new) end u o → WholeOrCut l g s (Sent old new) end (t + u) o
+WholeOrCut-add : (l : Limits) (g : Setting) (s : State) (old mid new : SinkView) (end : Ended) (t u : ℕ) (o : Option ℕ) → Within l g s t → Sent old mid (written g s t) →
+    WholeOrBrokenOff l g (after g s t) (Sent mid new) end u o → WholeOrBrokenOff l g s (Sent old new) end (t + u) o
 WholeOrCut-add l g s old mid new end t u None v a h =
     record { within = Within-add l g s t u v h.within; sinks = rw written-add (Sent-append a h.sinks); cause = rw after-add h.cause }
 WholeOrCut-add l g s old mid new end t u (Some k) v a h =
@@ -108,7 +108,7 @@ WholeOrCut-add l g s old mid new end t u (Some k) v a h =
       sinks = rw (all, take-append-add) (Sent-append a h.sinks);
     }
 
-pub Cause-add : (l : Limits) (g : Setting) (s : State) (old mid new : Tally) (end : Ended) (t u : ℕ) → Within l g s t → Sent old mid (written g s t) →
+pub Cause-add : (l : Limits) (g : Setting) (s : State) (old mid new : SinkView) (end : Ended) (t u : ℕ) → Within l g s t → Sent old mid (written g s t) →
     Cause l g (after g s t) (Sent mid new) end u → Cause l g s (Sent old new) end (t + u)
 Cause-add l g s old mid new end t u v a h = WholeOrCut-add l g s old mid new end t u (named_sink end) v a h
 
@@ -119,7 +119,7 @@ HoldsAt-add g s now t u (Some k) (inr h) =
     let at : after g s (suc (t + u)) ≡ after g (after g s t) (suc u) = rw (← add-suc) (after-add g s t (suc u)) in inr (rw at h)
 
 -- what a call does after the first t moves
-pub chain : (l : Limits) (g : Setting) (s now : State) (old mid new : Tally) (t : ℕ) (r : Result Unit Ended) → Within l g s t → InOneCycle g s (t + 1) → Sent old mid (written g s t) →
+pub chain : (l : Limits) (g : Setting) (s now : State) (old mid new : SinkView) (t : ℕ) (r : Result Unit Ended) → Within l g s t → InOneCycle g s (t + 1) → Sent old mid (written g s t) →
     Moves l g (after g s t) now (Sent mid new) r → Moves l g s now (Sent old new) r
 chain l g s now old mid new t (Ok u) within one gained b = let some = b.some in record {
   t = t + b.t;
@@ -141,7 +141,7 @@ chain l g s now old mid new t (Err end) within one gained b = record {
     append_one = omega arith
 
 -- one call after another, within a cycle
-pub Moves-then : (l : Limits) (g : Setting) (s m now : State) (old mid new : Tally) (r : Result Unit Ended) → Ran l g s m (Sent old mid) → starts_cycle m.tasks ≡ false →
+pub Moves-then : (l : Limits) (g : Setting) (s m now : State) (old mid new : SinkView) (r : Result Unit Ended) → Ran l g s m (Sent old mid) → starts_cycle m.tasks ≡ false →
     Moves l g m now (Sent mid new) r → Moves l g s now (Sent old new) r
 Moves-then l g s m now old mid new r a goes b =
     let Q : State → Type 0 = λ m. Moves l g m now (Sent mid new) r in
@@ -149,7 +149,7 @@ Moves-then l g s m now old mid new r a goes b =
     chain l g s now old mid new a.t r a.within (InOneCycle-more g s a.t a.one (subst S (sym a.is) goes)) a.sinks (subst Q (sym a.is) b)
 
 -- one move that writes these bytes
-pub ran_once : (l : Limits) (g : Setting) (s now : State) (old new : Tally) (out : List (ℕ × ℕ)) → WithinLimits l s → move g s ≡ writing out now → WithinLimits l now → Sent old new out → Ran l g s now (Sent old new)
+pub ran_once : (l : Limits) (g : Setting) (s now : State) (old new : SinkView) (out : List (ℕ × ℕ)) → WithinLimits l s → move g s ≡ writing out now → WithinLimits l now → Sent old new out → Ran l g s now (Sent old new)
 ran_once l g s now old new out f is n gained =
     let m : Move = record { next = now; writes = out } in
     let at : after g s 1 ≡ now = after_one g s m is in
@@ -162,19 +162,19 @@ ran_once l g s now old new out f is n gained =
       sinks = rw (written_one g s m is) gained;
     }
 
-pub ran_quietly : (l : Limits) (g : Setting) (s now : State) (sinks : Tally) → WithinLimits l s → move g s ≡ quietly now → WithinLimits l now → Ran l g s now (Sent sinks sinks)
+pub ran_quietly : (l : Limits) (g : Setting) (s now : State) (sinks : SinkView) → WithinLimits l s → move g s ≡ quietly now → WithinLimits l now → Ran l g s now (Sent sinks sinks)
 ran_quietly l g s now sinks f is n = ran_once l g s now sinks sinks [] f is n (Sent-none sinks)
 
 -- a sink took no more in the next move
-pub stopped_writing : (l : Limits) (g : Setting) (s next now : State) (old new : Tally) (out : List (ℕ × ℕ)) (end : Ended) → WithinLimits l s → move g s ≡ writing out next → WithinLimits l next →
+pub stopped_writing : (l : Limits) (g : Setting) (s next now : State) (old new : SinkView) (out : List (ℕ × ℕ)) (end : Ended) → WithinLimits l s → move g s ≡ writing out next → WithinLimits l next →
     SameLengths next now → s.lines ≡ now.lines → Puts (Sent old new) out (Err end) → Stopped l g s now (Sent old new) end
 stopped_writing l g s next now old new out end f is n same lines (k, b, byte, end_is, due, sent) =
-    let C : Option ℕ → Type 0 = λ o. WholeOrCut l g s (Sent old new) end 0 o in
+    let C : Option ℕ → Type 0 = λ o. WholeOrBrokenOff l g s (Sent old new) end 0 o in
     let H : Option ℕ → Type 0 = λ o. HoldsAt g s 0 now o in
     let m : Move = record { next = next; writes = out } in
     let at : after g s 1 ≡ next = after_one g s m is in
     let all : written g s 1 ≡ out = written_one g s m is in
-    let cut : Cut l g s (Sent old new) k 0 = record {
+    let cut : BrokenOff l g s (Sent old new) k 0 = record {
       within = within_one l g s f (rw at n);
       b = b;
       byte = byte;
@@ -192,16 +192,16 @@ stopped_writing l g s next now old new out end f is n same lines (k, b, byte, en
     }
 
 -- a move that writes these bytes, as far as the sink takes them
-pub moves_writing : (l : Limits) (g : Setting) (s now : State) (old new : Tally) (out : List (ℕ × ℕ)) (r : Result Unit Ended) → WithinLimits l s → move g s ≡ writing out now → WithinLimits l now → s.lines ≡ now.lines → Puts (Sent old new) out r →
+pub moves_writing : (l : Limits) (g : Setting) (s now : State) (old new : SinkView) (out : List (ℕ × ℕ)) (r : Result Unit Ended) → WithinLimits l s → move g s ≡ writing out now → WithinLimits l now → s.lines ≡ now.lines → Puts (Sent old new) out r →
     Moves l g s now (Sent old new) r
 moves_writing l g s now old new out (Ok u) f is n lines put = ran_once l g s now old new out f is n put
 moves_writing l g s now old new out (Err end) f is n lines put = stopped_writing l g s now now old new out end f is n (same_self now) lines put
 
 -- the end has come
-pub stopped_here : (l : Limits) (g : Setting) (s now : State) (sinks : Tally) (end : Ended) → WithinLimits l s → named_sink end ≡ None → IsCause l g s end → SameLengths s now → s.lines ≡ now.lines → Stopped l g s now (Sent sinks sinks) end
+pub stopped_here : (l : Limits) (g : Setting) (s now : State) (sinks : SinkView) (end : Ended) → WithinLimits l s → named_sink end ≡ None → IsCause l g s end → SameLengths s now → s.lines ≡ now.lines → Stopped l g s now (Sent sinks sinks) end
 stopped_here l g s now sinks end f none cause same lines =
     let whole : Whole l g s (Sent sinks sinks) end 0 = record { within = within_none l g s f; sinks = rw written_none (Sent-none sinks); cause = rw after_none cause } in
-    let C : Option ℕ → Type 0 = λ o. WholeOrCut l g s (Sent sinks sinks) end 0 o in
+    let C : Option ℕ → Type 0 = λ o. WholeOrBrokenOff l g s (Sent sinks sinks) end 0 o in
     let here : SameLengths (after g s 0) now = rw after_none same in
     let H : Option ℕ → Type 0 = λ o. HoldsAt g s 0 now o in
     record { t = 0; cause = subst C (sym none) whole; holds = subst H (sym none) here; one = one_single g s; lines = ap (λ (x : State). x.lines) (after_none g s) ∙ lines }
@@ -234,11 +234,11 @@ Stopped-as l g s m now P end p h q lines w = record {
 }
 
 -- a move, and what a call does after it
-pub moves_then : (l : Limits) (g : Setting) (s m now : State) (old mid new : Tally) (out : List (ℕ × ℕ)) (r : Result Unit Ended) → WithinLimits l s → move g s ≡ writing out m → WithinLimits l m → Sent old mid out → starts_cycle m.tasks ≡ false →
+pub moves_then : (l : Limits) (g : Setting) (s m now : State) (old mid new : SinkView) (out : List (ℕ × ℕ)) (r : Result Unit Ended) → WithinLimits l s → move g s ≡ writing out m → WithinLimits l m → Sent old mid out → starts_cycle m.tasks ≡ false →
     Moves l g m now (Sent mid new) r → Moves l g s now (Sent old new) r
 moves_then l g s m now old mid new out r f is f' gained goes h = Moves-then l g s m now old mid new r (ran_once l g s m old mid out f is f' gained) goes h
 
-pub quietly_then : (l : Limits) (g : Setting) (s m now : State) (old new : Tally) (r : Result Unit Ended) → WithinLimits l s → move g s ≡ quietly m → WithinLimits l m → starts_cycle m.tasks ≡ false →
+pub quietly_then : (l : Limits) (g : Setting) (s m now : State) (old new : SinkView) (r : Result Unit Ended) → WithinLimits l s → move g s ≡ quietly m → WithinLimits l m → starts_cycle m.tasks ≡ false →
     Moves l g m now (Sent old new) r → Moves l g s now (Sent old new) r
 quietly_then l g s m now old new r f is f' goes h = moves_then l g s m now old old new [] r f is f' (Sent-none old) goes h
 
@@ -257,7 +257,7 @@ ran_fits l g s now P h = fits_first l g s h.t h.within
 pub ran_fits_now : (l : Limits) (g : Setting) (s now : State) (P : List (ℕ × ℕ) → Type 0) → Ran l g s now P → WithinLimits l now
 ran_fits_now l g s now P h = let Q : State → Type 0 = λ s. WithinLimits l s in subst Q h.is (fits_last l g s h.t h.within)
 
-stopped_within : (l : Limits) (g : Setting) (s : State) (P : List (ℕ × ℕ) → Type 0) (end : Ended) (t : ℕ) (o : Option ℕ) → WholeOrCut l g s P end t o → WithinLimits l s
+stopped_within : (l : Limits) (g : Setting) (s : State) (P : List (ℕ × ℕ) → Type 0) (end : Ended) (t : ℕ) (o : Option ℕ) → WholeOrBrokenOff l g s P end t o → WithinLimits l s
 stopped_within l g s P end t None h = fits_first l g s t h.within
 stopped_within l g s P end t (Some k) h = fits_first l g s (suc t) h.within
 

@@ -11,7 +11,7 @@ use Rattle.sedengine.specs.State.{Task, print_pattern, flush, empty_pattern, fet
 use Rattle.sedengine.specs.Move.{move, acts, newline, none_left, quietly, then_do, with_line}
 use Rattle.sedengine.specs.Ends.{WithinLimits, IsCause, named_sink, line_at, reads, takes_turn}
 use Rattle.sedengine.specs.Held.{SameLengths}
-use Rattle.sedengine.specs.Meters.{Sent, Tally}
+use Rattle.sedengine.specs.Meters.{Sent, SinkView}
 use Rattle.sedengine.specs.Run.{RunState, at_lines, setting, size_of, starts_cycle}
 use Rattle.sedengine.specs.Steps.{Moves, PerformsSteps, Ran, StepsFrom, TakesLines, lost}
 use Rattle.sedengine.specs.Bringing.{Brings, brought}
@@ -19,7 +19,7 @@ use Rattle.sedengine.specs.Choose.{TellsLine}
 use Rattle.sedengine.specs.declared.place.Place.TheVariants as p
 use Rattle.sedengine.specs.declared.ends.Ended.{Ended}
 use Rattle.sedengine.specs.declared.ends.Ended.TheVariants.{PatternFull, InputBroken}
-use Rattle.sedengine.specs.Inside.{run_of, IsRun}
+use Rattle.sedengine.specs.Inside.{run_of, IsConsistent}
 use Rattle.sedengine.specs.declared.machine.Machine.TheInside.{Inside}
 use Rattle.sedengine.proofs.Streams.{TakesAtMost-more, TakesAtMost-then, TakesLines-then, line_taken, lines_end}
 use Rattle.sedengine.specs.Queueing.{flushed}
@@ -27,7 +27,7 @@ use Rattle.sedengine.proofs.Moves.{Moves-then, move_at, moves_fits, ran_fits, ra
 use Rattle.sedengine.proofs.Tasks.{fits_of, fits_tasks, halts_here}
 
 -- moves, and then a call that may take lines
-pub steps_then : {R : Type 0} (remaining : R → Option (List ℕ)) (o n : Stream R) (ls : List (List ℕ)) (l : Limits) (g : Setting) (s m : State) (e' : RunState) (old mid new : Tally) (r : Result Unit Ended) →
+pub steps_then : {R : Type 0} (remaining : R → Option (List ℕ)) (o n : Stream R) (ls : List (List ℕ)) (l : Limits) (g : Setting) (s m : State) (e' : RunState) (old mid new : SinkView) (r : Result Unit Ended) →
     Ran l g s m (Sent old mid) → starts_cycle m.tasks ≡ false → s.lines ≡ m.lines → StepsFrom remaining o n ls l g m e' (Sent mid new) r → StepsFrom remaining o n ls l g s e' (Sent old new) r
 steps_then {R} remaining o n ls l g s m e' old mid new (Ok u) ran goes same (rest, taken, h) = (rest, taken, Moves-then l g s m (at_lines e' rest) old mid new (Ok tt) ran goes h)
 steps_then {R} remaining o n ls l g s m e' old mid new (Err end) ran goes same h = record {
@@ -82,7 +82,7 @@ AfterBringing e c e' (Err end) = e' ≡ with_pattern e c.bytes
 
 -- The next line is brought to the pattern space of the engine e, in place of it or after it and a newline; s is the state
 -- at which this is due. Its move is `one` where a line is left, and `none` where there is none.
-module _ {R : Type 0} (remaining : R → Option (List ℕ)) (old new : Stream R) (ls : List (List ℕ)) (g : Setting) (e e' : RunState) (sinks : Tally) (before : List ℕ) (c c' : Contents)
+module _ {R : Type 0} (remaining : R → Option (List ℕ)) (old new : Stream R) (ls : List (List ℕ)) (g : Setting) (e e' : RunState) (sinks : SinkView) (before : List ℕ) (c c' : Contents)
     (f : WithinLimits e.limits (at_lines e ls)) (limit : c.limit ≡ e.limits.space) (pattern : c.bytes ≡ e.state.pattern) (s : State) (same_lines : s.lines ≡ ls) (fits : WithinLimits e.limits s)
     (hold : s.hold ≡ e.state.hold) (spaces : s.pattern ≡ e.state.pattern) (queue : s.queue ≡ e.state.queue)
     (line_is : line_at s s.tasks ≡ e.state.number + 1) (no_turn : takes_turn g s s.tasks ≡ false) (may_read : reads g s.tasks ≡ true)
@@ -124,7 +124,7 @@ module _ {R : Type 0} (remaining : R → Option (List ℕ)) (old new : Stream R)
   brings_steps (Err other) after h = absurd h
 
 -- `n`, `fetch`: the pattern space is emptied, and the next line comes in its place.
-pub fetch_steps : {R : Type 0} (remaining : R → Option (List ℕ)) (old new : Stream R) (ls : List (List ℕ)) (files : ℕ → List ℕ) (e e' : RunState) (sinks : Tally) (c c' : Contents) (r : Result Got Ended) →
+pub fetch_steps : {R : Type 0} (remaining : R → Option (List ℕ)) (old new : Stream R) (ls : List (List ℕ)) (files : ℕ → List ℕ) (e e' : RunState) (sinks : SinkView) (c c' : Contents) (r : Result Got Ended) →
     WithinLimits e.limits (at_lines e ls) → c.limit ≡ e.limits.space → c.bytes ≡ [] → AfterBringing (with_pattern e []) c' e' r → Brings remaining old new ls c.bytes (e.state.number + 1) c c' r →
     StepsFrom remaining old new ls e.limits (setting e files) (then_do (empty_pattern ∷ fetch ∷ e.state.tasks) (at_lines e ls)) e' (Sent sinks sinks) (told r)
 fetch_steps {R} remaining old new ls files e e' sinks c c' r f limit none after brings =
@@ -141,7 +141,7 @@ fetch_steps {R} remaining old new ls files e e' sinks c c' r f limit none after 
     (λ line rest are. rw are (move_at _ _ _ refl)) (λ are. rw are (move_at _ _ _ refl)) r after (subst B none brings))
 
 -- `N`, `join`: a newline and the next line come after the pattern space.
-pub join_steps : {R : Type 0} (remaining : R → Option (List ℕ)) (old new : Stream R) (ls : List (List ℕ)) (files : ℕ → List ℕ) (e e' : RunState) (sinks : Tally) (c c' : Contents) (r : Result Got Ended) →
+pub join_steps : {R : Type 0} (remaining : R → Option (List ℕ)) (old new : Stream R) (ls : List (List ℕ)) (files : ℕ → List ℕ) (e e' : RunState) (sinks : SinkView) (c c' : Contents) (r : Result Got Ended) →
     WithinLimits e.limits (at_lines e ls) → c.limit ≡ e.limits.space → c.bytes ≡ e.state.pattern → AfterBringing e c' e' r → Brings remaining old new ls (c.bytes ++ newline ∷ []) (e.state.number + 1) c c' r →
     StepsFrom remaining old new ls e.limits (setting e files) (then_do (join ∷ e.state.tasks) (at_lines e ls)) e' (Sent sinks sinks) (told r)
 join_steps {R} remaining old new ls files e e' sinks c c' r f limit same after brings =
@@ -152,7 +152,7 @@ join_steps {R} remaining old new ls files e e' sinks c c' r f limit same after b
     (λ line rest are. rw (are, append_assoc) (move_at _ _ _ refl)) (λ are. rw are (move_at _ _ _ refl)) r after (subst B same brings)
 
 -- The same for an engine with the fields a.
-module _ {R : Type 0} (remaining : R → Option (List ℕ)) (old new : Stream R) (ls : List (List ℕ)) (files : ℕ → List ℕ) (sinks : Tally) (a : Inside) (e e' : RunState) (seen : run_of a ≡ e) (i : IsRun a) (c' : Contents) (r : Result Got Ended) where
+module _ {R : Type 0} (remaining : R → Option (List ℕ)) (old new : Stream R) (ls : List (List ℕ)) (files : ℕ → List ℕ) (sinks : SinkView) (a : Inside) (e e' : RunState) (seen : run_of a ≡ e) (i : IsConsistent a) (c' : Contents) (r : Result Got Ended) where
   pub fetches_next : (c : Contents) → c ≡ record a.pattern { bytes = [] } → AfterBringing (run_of a) c' e' r → Brings remaining old new ls c.bytes (a.number + 1) c c' r →
       StepsFrom remaining old new ls e.limits (setting e files) (then_do (empty_pattern ∷ fetch ∷ e.state.tasks) (at_lines e ls)) e' (Sent sinks sinks) (told r)
   fetches_next c is after brings =
@@ -221,7 +221,7 @@ pub next_goes : (e e' : RunState) (files : ℕ → List ℕ) (ls : List (List �
 next_goes e e' files ls last told is = rw (sym told ∙ is) refl
 
 -- What is left of the tasks after the queue was written: F tells them by those of the engine.
-pub flushed_steps : {R : Type 0} (remaining : R → Option (List ℕ)) (o n : Stream R) (ls : List (List ℕ)) (files : ℕ → List ℕ) (F : List Task → List Task) (s : State) (e e1 e' : RunState) (turns : ℕ) (old mid new : Tally) (r : Result Unit Ended) →
+pub flushed_steps : {R : Type 0} (remaining : R → Option (List ℕ)) (o n : Stream R) (ls : List (List ℕ)) (files : ℕ → List ℕ) (F : List Task → List Task) (s : State) (e e1 e' : RunState) (turns : ℕ) (old mid new : SinkView) (r : Result Unit Ended) →
     e1 ≡ flushed e turns → starts_cycle (F e.state.tasks) ≡ false → s.lines ≡ ls → Ran e.limits (setting e files) s (then_do (F e.state.tasks) (at_lines e1 ls)) (Sent old mid) →
     StepsFrom remaining o n ls e1.limits (setting e1 files) (then_do (F e1.state.tasks) (at_lines e1 ls)) e' (Sent mid new) r → StepsFrom remaining o n ls e.limits (setting e files) s e' (Sent old new) r
 flushed_steps {R} remaining o n ls files F s e e1 e' turns old mid new r is goes lines =
@@ -234,20 +234,20 @@ steps_fits {R} remaining o n ls l g s e' P (Ok u) (rest, taken, h) = ran_fits l 
 steps_fits {R} remaining o n ls l g s e' P (Err end) h = moves_fits l g s (at_lines e' h.rest) P (Err end) h.stopped
 
 -- A command makes a quiet move, and then what h says.
-pub performs_then : {R : Type 0} (remaining : R → Option (List ℕ)) (o n : Stream R) (ls : List (List ℕ)) (l : Limits) (g : Setting) (first : Option Move) (asks : Bool) (there m : State) (e' : RunState) (old new : Tally) (r : Result Unit Ended) →
+pub performs_then : {R : Type 0} (remaining : R → Option (List ℕ)) (o n : Stream R) (ls : List (List ℕ)) (l : Limits) (g : Setting) (first : Option Move) (asks : Bool) (there m : State) (e' : RunState) (old new : SinkView) (r : Result Unit Ended) →
     first ≡ quietly m → starts_cycle m.tasks ≡ false → there.lines ≡ m.lines → StepsFrom remaining o n ls l g m e' (Sent old new) r → PerformsSteps remaining o n ls l g first asks there e' (Sent old new) r
 performs_then {R} remaining o n ls l g first asks there m e' old new r is goes lines h = λ s c asked move_is.
     steps_then remaining o n ls l g s m e' old old new r (ran_quietly l g s m old c.fits (move_is ∙ is) (steps_fits remaining o n ls l g m e' (Sent old new) r h)) goes (c.lines ∙ lines) h
 
 -- The source failed where `n` asked whether a line is left.
-pub next_broken : {R : Type 0} (remaining : R → Option (List ℕ)) (o n : Stream R) (ls : List (List ℕ)) (g : Setting) (first : Option Move) (e : RunState) (sinks : Tally) (end : Ended) → TakesLines remaining o n ls ls → TellsLine (none_left ls) (Err end) →
+pub next_broken : {R : Type 0} (remaining : R → Option (List ℕ)) (o n : Stream R) (ls : List (List ℕ)) (g : Setting) (first : Option Move) (e : RunState) (sinks : SinkView) (end : Ended) → TakesLines remaining o n ls ls → TellsLine (none_left ls) (Err end) →
     PerformsSteps remaining o n ls e.limits g first true (at_lines e ls) e (Sent sinks sinks) (Err end)
 next_broken {R} remaining o n ls g first e sinks InputBroken taken told = λ s c asked move_is.
     looked_moves remaining o n ls e.limits g s e (Sent sinks sinks) (Err InputBroken) taken c.lines (stopped_here e.limits g s (at_lines e ls) sinks InputBroken c.fits refl (asked refl) c.same c.lines)
 next_broken {R} remaining o n ls g first e sinks other taken told = absurd told
 
 -- `n` where no line is left
-pub next_stops : {R : Type 0} (remaining : R → Option (List ℕ)) (o n : Stream R) (ls : List (List ℕ)) (files : ℕ → List ℕ) (a : Inside) (e : RunState) (sinks : Tally) (last : Bool) → run_of a ≡ e → IsRun a → TakesLines remaining o n ls ls → last ≡ none_left ls → last ≡ true →
+pub next_stops : {R : Type 0} (remaining : R → Option (List ℕ)) (o n : Stream R) (ls : List (List ℕ)) (files : ℕ → List ℕ) (a : Inside) (e : RunState) (sinks : SinkView) (last : Bool) → run_of a ≡ e → IsConsistent a → TakesLines remaining o n ls ls → last ≡ none_left ls → last ≡ true →
     PerformsSteps remaining o n ls e.limits (setting e files) (acts (setting e files) (at_lines e ls) true NextLine) true (at_lines e ls) (run_of (record a { place = p.Quit })) (Sent sinks sinks) (Ok tt)
 next_stops {R} remaining o n ls files a e sinks last seen i taken told is =
     let Q : RunState → Type 0 = λ e. PerformsSteps remaining o n ls e.limits (setting e files) (acts (setting e files) (at_lines e ls) true NextLine) true (at_lines e ls) (run_of (record a { place = p.Quit })) (Sent sinks sinks) (Ok tt) in

@@ -7,12 +7,13 @@ use Rattle.std.proofs.Math.Seq.{drop-nil}
 use Rattle.std.proofs.lemmas.Bool.Decides.{nat_tests}
 use Rattle.sedre.specs.Arena.{Written, tree}
 use Rattle.sedmatch.specs.Matching.{found}
-use Rattle.sedmatch.specs.Occurrences.{EndsWithin}
+use Rattle.sedmatch.specs.NextMatch.{unless_null_at}
+use Rattle.sedmatch.specs.Occurrences.{EndsWithin, LiesOn}
 use Rattle.sedmatch.proofs.MatchingLemmas.{found-iff, Found-within}
 use Rattle.sedmatch.proofs.SpanLemmas.{Spans-forward, Spans-within}
-use Rattle.sedengine.specs.Substitute.{Occurrence, unless_empty_at, next_occurrence, with_rest, occurrences_from}
+use Rattle.sedengine.specs.Substitute.{Occurrence, whole_span, next_occurrence, with_rest, occurrences_from}
 use Rattle.sedengine.specs.Run.{match_at, search_for}
-use Rattle.sedengine.specs.SubstituteParts.{LiesAfter, Skips, occurrence, occurrences_after, pending}
+use Rattle.sedengine.specs.SubstituteParts.{Skips, occurrence, occurrences_after, pending}
 
 -- a match lies in the text, after the place from which it is sought
 pub found_lies : (e : Written) (w : List ℕ) (p i j : ℕ) → p ≤ length w → found (tree e) w p ≡ Some (i, j) →
@@ -52,7 +53,7 @@ later_test n q false other k m here far there is =
     subst (λ (m : Occurrence). (q < m.end) × (m.end ≤ n)) same (far refl, here.2)
 
 later_match : (n q : ℕ) (r other : Option Occurrence) (m : Occurrence) → ((m : Occurrence) → r ≡ Some m → LiesFrom n q m) →
-    ((m : Occurrence) → other ≡ Some m → LiesFrom n (q + 1) m) → unless_empty_at q r other ≡ Some m →
+    ((m : Occurrence) → other ≡ Some m → LiesFrom n (q + 1) m) → unless_null_at whole_span q r other ≡ Some m →
     (q < m.end) × (m.end ≤ n)
 later_match n q None other m here there is = let none : None ≡ Some m = is in cc
 later_match n q (Some k) other m here there is =
@@ -162,6 +163,5 @@ skips_one e w last k span fits skipped is =
     sym (drop-drop 1 k (occurrences_after e w None)) ∙ ap (drop 1) (skipped ∙ after_is e w last (Some span) fits is)
 
 -- an occurrence ends in the text
-pub ends_in : (n : ℕ) (last : Option ℕ) (span : ℕ × ℕ) → LiesAfter n last span → span.1 ≤ n
-ends_in n None span lies = lies.1
-ends_in n (Some q) span lies = lies.3
+pub ends_in : (n : ℕ) (last : Option ℕ) (span : ℕ × ℕ) → LiesOn n last span → span.1 ≤ n
+ends_in n last span lies = lies.1

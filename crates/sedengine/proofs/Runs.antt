@@ -5,10 +5,10 @@ use Rattle.sedspace.specs.Stream.{Stream, left, lines_left, TakesAtMost}
 use Rattle.sedengine.specs.Limits.{Limits}
 use Rattle.sedengine.specs.State.{State, Setting}
 use Rattle.sedengine.specs.Move.{after, written}
-use Rattle.sedengine.specs.Meters.{Sent, Tally}
+use Rattle.sedengine.specs.Meters.{Sent, SinkView}
 use Rattle.sedengine.specs.Ends.{WithinLimits, Within, named_sink}
 use Rattle.sedengine.specs.Held.{HoldsAt, SameLengths}
-use Rattle.sedengine.specs.Run.{RunState, setting, setting_of, at_lines, size_of, more_at, Takes, Ending, EndingInCycle, Cycled, InOneCycle, starts_cycle}
+use Rattle.sedengine.specs.Run.{RunState, setting, setting_of, at_lines, size_of, more_at, TakesInput, Ending, EndingInCycle, Cycled, InOneCycle, starts_cycle}
 use Rattle.sedengine.specs.Steps.{Ran, TakesLines, Halted, Steps, lost, KeepsRun}
 use Rattle.sedengine.specs.declared.ends.Ended.{Ended}
 use Rattle.sedengine.specs.declared.ends.Ended.TheVariants.{PatternFull, InputBroken}
@@ -26,7 +26,7 @@ without_lines g s t e ls (Some k) (inl h) = inl (same_without _ e ls h)
 without_lines g s t e ls (Some k) (inr h) = inr (same_without _ e ls h)
 
 -- What the first t moves led to: `at` is where the lines stand, `from` where they stood.
-pub record Reached {R : Type 0} (remaining : R → Option (List ℕ)) (from at : Stream R) (l : Limits) (g : Setting) (s : State) (e : RunState) (old new : Tally) : Type 0 where
+pub record Reached {R : Type 0} (remaining : R → Option (List ℕ)) (from at : Stream R) (l : Limits) (g : Setting) (s : State) (e : RunState) (old new : SinkView) : Type 0 where
   pub t : ℕ
   pub rest : List (List ℕ)
   pub taken : TakesLines remaining from at s.lines rest
@@ -34,7 +34,7 @@ pub record Reached {R : Type 0} (remaining : R → Option (List ℕ)) (from at :
   pub within : Within l g s t
   pub gained : Sent old new (written g s t)
 
-abbrev pub Reached-none : {R : Type 0} (remaining : R → Option (List ℕ)) (from : Stream R) (l : Limits) (g : Setting) (e : RunState) (ls : List (List ℕ)) (sinks : Tally) →
+abbrev pub Reached-none : {R : Type 0} (remaining : R → Option (List ℕ)) (from : Stream R) (l : Limits) (g : Setting) (e : RunState) (ls : List (List ℕ)) (sinks : SinkView) →
     lines_left remaining from ≡ Some ls → WithinLimits l (at_lines e ls) → Reached remaining from from l g (at_lines e ls) e sinks sinks
 Reached-none {R} remaining from l g e ls sinks known f = record {
   t = 0;
@@ -54,7 +54,7 @@ KeepsRun-then s t = record { script = t.script ∙ s.script; limits = t.limits �
 -- from the lines and the bytes ahead to what was taken from the source
 pub takes_of : {R : Type 0} (remaining : R → Option (List ℕ)) (from to : Stream R) (l : Limits) (g : Setting) (s : State) (t n m : ℕ) (lines : List (List ℕ)) → s.lines ≡ lines ++ (after g s t).lines →
     TakesAtMost (left remaining from) (left remaining to) (size_of lines + n) → (k : ℕ) × TakesAtMost (remaining from.source) (remaining to.source) k →
-    length to.ahead ≤ max (length from.ahead) l.look → n + l.look ≤ m → Takes g s (remaining from.source) (remaining to.source) m t
+    length to.ahead ≤ max (length from.ahead) l.look → n + l.look ≤ m → TakesInput g s (remaining from.source) (remaining to.source) m t
 takes_of {R} remaining from to l g s t n m lines are gone shrinks ahead most = record {
   lines = lines;
   are = are;
@@ -67,7 +67,7 @@ lost_more l InputBroken = omega arith
 lost_more l other = omega arith
 
 -- The run that began with the engine a and the lines `from`, and came to the engine e.
-module _ {R : Type 0} (remaining : R → Option (List ℕ)) (from at to : Stream R) (files : ℕ → List ℕ) (a : RunState) (s : State) (e : RunState) (old mid new : Tally) (same : KeepsRun a e)
+module _ {R : Type 0} (remaining : R → Option (List ℕ)) (from at to : Stream R) (files : ℕ → List ℕ) (a : RunState) (s : State) (e : RunState) (old mid new : SinkView) (same : KeepsRun a e)
     (r : Reached remaining from at a.limits (setting a files) s e old mid) where
   -- what a call answers, for the run's own limits, from the state reached
   pub ran_on : (e' : RunState) (rest : List (List ℕ)) → Ran e.limits (setting e files) (at_lines e r.rest) (at_lines e' rest) (Sent mid new) → Ran a.limits (setting a files) (after (setting a files) s r.t) (at_lines e' rest) (Sent mid new)
@@ -132,7 +132,7 @@ module _ {R : Type 0} (remaining : R → Option (List ℕ)) (from at to : Stream
       rw all (InOneCycle-add (setting a files) s r.t (h.stopped.t + 1) one h.stopped.one)
 
 -- a cycle was made
-pub cycled : {R : Type 0} (remaining : R → Option (List ℕ)) (from to : Stream R) (l : Limits) (g : Setting) (s : State) (e : RunState) (old new : Tally) →
+pub cycled : {R : Type 0} (remaining : R → Option (List ℕ)) (from to : Stream R) (l : Limits) (g : Setting) (s : State) (e : RunState) (old new : SinkView) →
     (r : Reached remaining from to l g s e old new) → 0 < r.t → InOneCycle g s r.t → starts_cycle e.state.tasks ≡ true →
     (k : ℕ) × TakesAtMost (remaining from.source) (remaining to.source) k → length to.ahead ≤ max (length from.ahead) from.look → from.look ≡ l.look →
     (rest : List (List ℕ)) × (lines_left remaining to ≡ Some rest) × Cycled l g s (Sent old new) (remaining from.source) (remaining to.source) (at_lines e rest)

@@ -3,24 +3,24 @@ use Rattle.std.proofs.Common.{◌≡◌, ℕ, zero, suc, ◌<◌, ◌≤◌, Boo
 use Rattle.std.specs.Prelude.{slice_get}
 use Rattle.std.specs.Option.{option_or}
 use Rattle.sedre.specs.Arena.{Written}
-use Rattle.sedmatch.specs.Room.{Room}
+use Rattle.sedmatch.specs.SearchRoom.{SearchRoom}
 use Rattle.sedmatch.specs.Occurrences.{KeepsRoom}
 use Rattle.sedmatch.specs.declared.occurrences.Occurrences.{Occurrences}
 use Rattle.sedscript.specs.declared.substitution.Substitution.{Substitution}
 use Rattle.sedspace.specs.Spaces.{Contents}
 use Rattle.sedspace.specs.declared.errors.Full.{Full}
 use Rattle.sedengine.specs.State.{Task, begin, rebegin, do_at, print_pattern, empty_pattern, flush, copy, fetch, join, State, Move, Setting}
-use Rattle.sedengine.specs.Substitute.{Occurrence, chosen, occurrences, replaced_from}
+use Rattle.sedengine.specs.Substitute.{Occurrence, to_replace, occurrences, replaced_from}
 use Rattle.sedengine.specs.Select.{stands_for}
 use Rattle.sedengine.specs.Move.{move, becomes, chosen_in, quietly, writing, line_to, line_to_file, replaces, written_by}
 use Rattle.sedengine.specs.Ends.{WithinLimits, Leads, reaches, line_at}
 use Rattle.sedengine.specs.Held.{SameLengths}
-use Rattle.sedengine.specs.Meters.{Sent, Tally}
+use Rattle.sedengine.specs.Meters.{Sent, SinkView}
 use Rattle.sedengine.specs.Calls.{Puts}
 use Rattle.sedengine.specs.Run.{RunState, at_lines, search_in, setting}
 use Rattle.sedengine.specs.Steps.{Reaches, Moves, Performs}
 use Rattle.sedengine.specs.SubstituteCalls.{Makes, ReplacesIn, same_but_replaced}
-use Rattle.sedengine.specs.Inside.{run_of, tasks_of, IsRun, IsEmptied}
+use Rattle.sedengine.specs.Inside.{run_of, tasks_of, IsConsistent, IsEmptied}
 use Rattle.sedengine.specs.declared.machine.Machine.TheInside.{Inside}
 use Rattle.sedengine.specs.declared.place.Place.{Place}
 use Rattle.sedengine.specs.declared.place.Place.TheVariants as p
@@ -40,9 +40,9 @@ may_hold p.Quit bytes h = tt
 may_hold p.Ended bytes h = tt
 
 -- the fields of the engine after a substitution with the expression e
-pub replaced_is_run : (a : Inside) (pattern build : Contents) (scratch : Room) (seeking : Occurrences) (matchers : Vec Written Global) (e : ℕ) (replaced : Bool) → IsRun a → reaches (tasks_of a.place) ≡ true → e < length a.script.expressions →
+pub replaced_is_run : (a : Inside) (pattern build : Contents) (scratch : SearchRoom) (seeking : Occurrences) (matchers : Vec Written Global) (e : ℕ) (replaced : Bool) → IsConsistent a → reaches (tasks_of a.place) ≡ true → e < length a.script.expressions →
     pattern.limit ≡ a.pattern.limit → length pattern.bytes ≤ pattern.limit → build.limit ≡ a.build.limit → scratch ≡ a.scratch → KeepsRoom a.seeking seeking → matchers.items ≡ a.matchers.items →
-    IsRun (record a { pattern = pattern; build = build; scratch = scratch; seeking = seeking; matchers = matchers; used = Some e; replaced = replaced })
+    IsConsistent (record a { pattern = pattern; build = build; scratch = scratch; seeking = seeking; matchers = matchers; used = Some e; replaced = replaced })
 replaced_is_run a pattern build scratch seeking matchers e replaced i at within limit fits limit' same kept same' = record {
   number = i.number;
   turns = i.turns;
@@ -59,7 +59,7 @@ replaced_is_run a pattern build scratch seeking matchers e replaced i at within 
   empty = may_hold a.place pattern.bytes at;
   ranges = i.ranges;
   used = within;
-  scratch_text = λ some. ap (λ (r : Room). r.text) same ∙ i.scratch_text some;
+  scratch_text = λ some. ap (λ (r : SearchRoom). r.text) same ∙ i.scratch_text some;
   scratch_nodes = rw (same, same') i.scratch_nodes;
   matchers = rw same' i.matchers;
   seeking = λ k s is more j x at. kept a.limits.space (length x.nodes) (i.seeking k s is more j x at);
@@ -74,7 +74,7 @@ leads_full s t (m ∷ ms) space some more = (_, refl, more)
 
 pub makes_full : (a : Inside) (r : RunState) (seen : run_of a ≡ r) (es : List Written) (same : es ≡ a.script.expressions) (k e : ℕ) (files : ℕ → List ℕ) (ls : List (List ℕ)) (t : Substitution) (new : Contents) (now : State) (f : Full) → a.pattern.limit ≡ a.limits.space →
     slice_get r.script.substitutions k ≡ Some t →
-    ((t : Substitution) → slice_get a.script.substitutions k ≡ Some t → ReplacesIn t (chosen t.number t.global (occurrences (search_in es e a.pattern.bytes) (length a.pattern.bytes))) a.pattern new (Err f)) →
+    ((t : Substitution) → slice_get a.script.substitutions k ≡ Some t → ReplacesIn t (to_replace t.number t.global (occurrences (search_in es e a.pattern.bytes) (length a.pattern.bytes))) a.pattern new (Err f)) →
     Makes r.limits (replaces (record (at_lines r ls) { used = Some e }) t (chosen_in (setting r files) t e r.state.pattern)) t (at_lines r ls) now (Err (PatternFull a.number))
 makes_full a r seen es same k e files ls t new now f limit is h =
     let Q : RunState → Type 0 = λ r. slice_get r.script.substitutions k ≡ Some t → Makes r.limits (replaces (record (at_lines r ls) { used = Some e }) t (chosen_in (setting r files) t e r.state.pattern)) t (at_lines r ls) now (Err (PatternFull a.number)) in
@@ -114,7 +114,7 @@ reached_line s (empty_pattern ∷ rest) h = cc
 reached_line s (flush ∷ rest) h = cc
 
 -- The engine with the fields a, which is seen as r, was led to the engine r' by a call that makes the move o of a substitution.
-module _ (a : Inside) (r r' : RunState) (seen : run_of a ≡ r) (i : IsRun a) (same : r' ≡ same_but_replaced r r'.state) (within : length r'.state.pattern ≤ r'.limits.space) (ls : List (List ℕ)) (g : Setting) (old new : Tally) (o : Option Move) (t : Substitution) where
+module _ (a : Inside) (r r' : RunState) (seen : run_of a ≡ r) (i : IsConsistent a) (same : r' ≡ same_but_replaced r r'.state) (within : length r'.state.pattern ≤ r'.limits.space) (ls : List (List ℕ)) (g : Setting) (old new : SinkView) (o : Option Move) (t : Substitution) where
   before : WithinLimits r.limits (at_lines r ls)
   before = let Q : RunState → Type 0 = λ r. WithinLimits r.limits (at_lines r ls) in subst Q seen (fits_of a ls i)
 
@@ -157,10 +157,10 @@ module _ (a : Inside) (r r' : RunState) (seen : run_of a ≡ r) (i : IsRun a) (s
       stops s c first other h = absurd h
 
 -- what the flag `p` writes, and then the flag `w`
-pub puts_both : (t : Substitution) (w : List ℕ) (old mid new : Tally) (r : Result Unit Ended) → Puts (Sent old mid) (cond t.print (line_to 0 w) []) (Ok tt) → Puts (Sent mid new) (line_to_file t.file w) r → Puts (Sent old new) (written_by t w) r
+pub puts_both : (t : Substitution) (w : List ℕ) (old mid new : SinkView) (r : Result Unit Ended) → Puts (Sent old mid) (cond t.print (line_to 0 w) []) (Ok tt) → Puts (Sent mid new) (line_to_file t.file w) r → Puts (Sent old new) (written_by t w) r
 puts_both t w old mid new r a h = Puts-append old mid new (cond t.print (line_to 0 w) []) (line_to_file t.file w) r a h
 
-pub puts_first : (t : Substitution) (w : List ℕ) (old new : Tally) (end : Ended) → Puts (Sent old new) (cond t.print (line_to 0 w) []) (Err end) → Puts (Sent old new) (written_by t w) (Err end)
+pub puts_first : (t : Substitution) (w : List ℕ) (old new : SinkView) (end : Ended) → Puts (Sent old new) (cond t.print (line_to 0 w) []) (Err end) → Puts (Sent old new) (written_by t w) (Err end)
 puts_first t w old new end h = Puts-left old new (cond t.print (line_to 0 w) []) (line_to_file t.file w) end h
 
 -- the substitution of a number, as the engine is seen
@@ -187,7 +187,7 @@ replaces_some s t (m ∷ ms) some = refl
 -- a substitution that replaces something, and one that replaces nothing
 pub makes_some : (a : Inside) (r : RunState) (seen : run_of a ≡ r) (es : List Written) (same : es ≡ a.script.expressions) (k e : ℕ) (files : ℕ → List ℕ) (ls : List (List ℕ)) (t : Substitution) (new : Contents) →
     slice_get r.script.substitutions k ≡ Some t →
-    ((t : Substitution) → slice_get a.script.substitutions k ≡ Some t → ReplacesIn t (chosen t.number t.global (occurrences (search_in es e a.pattern.bytes) (length a.pattern.bytes))) a.pattern new (Ok true)) →
+    ((t : Substitution) → slice_get a.script.substitutions k ≡ Some t → ReplacesIn t (to_replace t.number t.global (occurrences (search_in es e a.pattern.bytes) (length a.pattern.bytes))) a.pattern new (Ok true)) →
     Makes r.limits (replaces (record (at_lines r ls) { used = Some e }) t (chosen_in (setting r files) t e r.state.pattern)) t (at_lines r ls)
     (record (at_lines (run_of a) ls) { pattern = new.bytes; used = Some e; replaced = true }) (Ok true)
 makes_some a r seen es same k e files ls t new is h =
@@ -202,7 +202,7 @@ makes_some a r seen es same k e files ls t new is h =
 
 pub makes_none : (a : Inside) (r : RunState) (seen : run_of a ≡ r) (es : List Written) (same : es ≡ a.script.expressions) (k e : ℕ) (files : ℕ → List ℕ) (ls : List (List ℕ)) (t : Substitution) (new : Contents) →
     slice_get r.script.substitutions k ≡ Some t →
-    ((t : Substitution) → slice_get a.script.substitutions k ≡ Some t → ReplacesIn t (chosen t.number t.global (occurrences (search_in es e a.pattern.bytes) (length a.pattern.bytes))) a.pattern new (Ok false)) →
+    ((t : Substitution) → slice_get a.script.substitutions k ≡ Some t → ReplacesIn t (to_replace t.number t.global (occurrences (search_in es e a.pattern.bytes) (length a.pattern.bytes))) a.pattern new (Ok false)) →
     Makes r.limits (replaces (record (at_lines r ls) { used = Some e }) t (chosen_in (setting r files) t e r.state.pattern)) t (at_lines r ls)
     (record (at_lines (run_of a) ls) { pattern = new.bytes; used = Some e }) (Ok false)
 makes_none a r seen es same k e files ls t new is h =

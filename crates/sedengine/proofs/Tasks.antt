@@ -11,10 +11,10 @@ use Rattle.sedengine.specs.State.{Task, begin, do_at, State, Setting}
 use Rattle.sedengine.specs.Move.{move, start, quietly, then_do, none_left}
 use Rattle.sedengine.specs.Ends.{WithinLimits, IsCause, line_at, takes_turn, reads, named_sink}
 use Rattle.sedengine.specs.Held.{SameLengths}
-use Rattle.sedengine.specs.Meters.{Sent, Tally}
+use Rattle.sedengine.specs.Meters.{Sent, SinkView}
 use Rattle.sedengine.specs.Run.{RunState, at_lines, setting}
 use Rattle.sedengine.specs.Steps.{Ran, Moves, TakesLines, Halted, Steps, lost}
-use Rattle.sedengine.specs.Inside.{run_of, tasks_of, entries_of, IsRun, IsEmptied}
+use Rattle.sedengine.specs.Inside.{run_of, tasks_of, entries_of, IsConsistent, IsEmptied}
 use Rattle.sedengine.specs.declared.machine.Machine.TheInside.{Inside}
 use Rattle.sedengine.specs.declared.place.Place.{Place}
 use Rattle.sedengine.specs.declared.place.Place.TheVariants as p
@@ -26,7 +26,7 @@ use Rattle.sedengine.proofs.Moves.{move_at, ran_quietly, stopped_here}
 pub fits_at : (a : Inside) (ls : List (List ℕ)) → length a.pattern.bytes ≤ a.limits.space → length a.hold.bytes ≤ a.limits.space → length a.queue.items ≤ a.limits.queue → a.turns ≤ a.limits.turns → WithinLimits a.limits (at_lines (run_of a) ls)
 fits_at a ls pattern hold queue turns = record { pattern = pattern; hold = hold; queue = rw length-map queue; turns = turns }
 
-pub fits_of : (a : Inside) (ls : List (List ℕ)) → IsRun a → WithinLimits a.limits (at_lines (run_of a) ls)
+pub fits_of : (a : Inside) (ls : List (List ℕ)) → IsConsistent a → WithinLimits a.limits (at_lines (run_of a) ls)
 fits_of a ls i = fits_at a ls i.pattern i.hold i.queue i.turns
 
 pub fits_tasks : (l : Limits) (s : State) (ts : List Task) → WithinLimits l s → WithinLimits l (then_do ts s)
@@ -39,7 +39,7 @@ seen_steps {R} remaining old new a e e' ts files ls P r seen t h =
     let Q : RunState → Type 0 = λ e. e.state.tasks ≡ ts → Steps remaining old new ls e.limits (setting e files) e e' P r in subst Q seen h t
 
 -- The end comes at once, and no line was taken.
-pub halts_here : {R : Type 0} (remaining : R → Option (List ℕ)) (old new : Stream R) (l : Limits) (g : Setting) (s : State) (e : RunState) (sinks : Tally) (end : Ended) → WithinLimits l s → named_sink end ≡ None → IsCause l g s end → SameLengths s e.state →
+pub halts_here : {R : Type 0} (remaining : R → Option (List ℕ)) (old new : Stream R) (l : Limits) (g : Setting) (s : State) (e : RunState) (sinks : SinkView) (end : Ended) → WithinLimits l s → named_sink end ≡ None → IsCause l g s end → SameLengths s e.state →
     TakesAtMost (left remaining old) (left remaining new) (lost l end) → Halted remaining old new l g s e (Sent sinks sinks) end
 halts_here {R} remaining old new l g s e sinks end f none cause same gone = record {
   rest = s.lines;
@@ -61,8 +61,8 @@ emptied_at p.Rebegin bytes t h = cc
 emptied_at p.Ended bytes t h = cc
 
 -- The fields a of an engine that stands before a cycle; `sinks` are what sinks hold, of which none gains anything.
-module _ {R : Type 0} (remaining : R → Option (List ℕ)) (old new : Stream R) (a : Inside) (e : RunState) (seen : run_of a ≡ e) (i : IsRun a) (at : e.state.tasks ≡ begin ∷ [])
-    (ls : List (List ℕ)) (known : lines_left remaining old ≡ Some ls) (files : ℕ → List ℕ) (sinks : Tally) where
+module _ {R : Type 0} (remaining : R → Option (List ℕ)) (old new : Stream R) (a : Inside) (e : RunState) (seen : run_of a ≡ e) (i : IsConsistent a) (at : e.state.tasks ≡ begin ∷ [])
+    (ls : List (List ℕ)) (known : lines_left remaining old ≡ Some ls) (files : ℕ → List ℕ) (sinks : SinkView) where
   -- the fields that a line leads to, and those where there is none
   abbrev with : Contents → Inside
   with pattern = record a { place = p.Do 0; pattern = pattern; number = a.number + 1; replaced = false; turns = a.turns + 1 }
@@ -154,9 +154,9 @@ module _ {R : Type 0} (remaining : R → Option (List ℕ)) (old new : Stream R)
       (ap (reads (setting (run_of a) files)) t) (record { pattern = refl; hold = refl; queue = λ _. refl; entries = omega arith }) (TakesAtMost-more _ _ 0 _ (omega arith) (TakesAtMost-kept _ _ kept))) at
 
 -- An engine with the fields a that stands before command k, or before the end of the script.
-module _ (a : Inside) (e : RunState) (seen : run_of a ≡ e) (i : IsRun a) (files : ℕ → List ℕ) (ls : List (List ℕ)) (k : ℕ) (at : e.state.tasks ≡ do_at k ∷ []) where
+module _ (a : Inside) (e : RunState) (seen : run_of a ≡ e) (i : IsConsistent a) (files : ℕ → List ℕ) (ls : List (List ℕ)) (k : ℕ) (at : e.state.tasks ≡ do_at k ∷ []) where
   -- a command with no turn left
-  pub reach_spent : (sinks : Tally) → k < length a.script.commands → a.turns ≡ a.limits.turns →
+  pub reach_spent : (sinks : SinkView) → k < length a.script.commands → a.turns ≡ a.limits.turns →
       Moves e.limits (setting e files) (at_lines e ls) (at_lines e ls) (Sent sinks sinks) (Err TurnsSpent)
   reach_spent sinks there spent =
       let Q : RunState → Type 0 = λ e. e.state.tasks ≡ do_at k ∷ [] → Moves e.limits (setting e files) (at_lines e ls) (at_lines e ls) (Sent sinks sinks) (Err TurnsSpent) in
@@ -169,7 +169,7 @@ module _ (a : Inside) (e : RunState) (seen : run_of a ≡ e) (i : IsRun a) (file
       is_there (x ∷ xs) (suc k) h = is_there xs k (omega arith)
 
 -- Nothing is moved where the run has ended.
-pub ends_here : {R : Type 0} (remaining : R → Option (List ℕ)) (old : Stream R) (a : Inside) (e : RunState) (seen : run_of a ≡ e) (i : IsRun a) (ls : List (List ℕ)) (files : ℕ → List ℕ) (sinks : Tally) → a.place ≡ p.Ended →
+pub ends_here : {R : Type 0} (remaining : R → Option (List ℕ)) (old : Stream R) (a : Inside) (e : RunState) (seen : run_of a ≡ e) (i : IsConsistent a) (ls : List (List ℕ)) (files : ℕ → List ℕ) (sinks : SinkView) → a.place ≡ p.Ended →
     Steps remaining old old ls e.limits (setting e files) e e (Sent sinks sinks) (Err Done)
 ends_here {R} remaining old a e seen i ls files sinks over =
     let Q : RunState → Type 0 = λ e. Steps remaining old old ls e.limits (setting e files) e e (Sent sinks sinks) (Err Done) in

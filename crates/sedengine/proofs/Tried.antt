@@ -9,13 +9,13 @@ use Rattle.sedscript.specs.declared.types.Address.TheVariants.{Match}
 use Rattle.sedscript.specs.declared.substitution.Substitution.{Substitution}
 use Rattle.sedspace.specs.declared.errors.Full.{Full}
 use Rattle.sedengine.specs.Choose.{current}
-use Rattle.sedengine.specs.Inside.{run_of, IsRun}
+use Rattle.sedengine.specs.Inside.{run_of, IsConsistent}
 use Rattle.std.specs.Prelude.{slice_get, slice_set}
 use Rattle.std.proofs.lemmas.List.{set-get_or}
 use Rattle.sedengine.specs.SubstituteParts.{Replaces}
 use Rattle.sedengine.specs.Run.{RunState, finds_in, search_for, search_in}
 use Rattle.sedengine.specs.Select.{Answer, answer, stands_for}
-use Rattle.sedengine.specs.Substitute.{chosen, occurrences}
+use Rattle.sedengine.specs.Substitute.{to_replace, occurrences}
 use Rattle.sedengine.specs.declared.machine.Machine.TheInside.{Inside}
 
 pub standing : (named used : Option ℕ) → option_or named used ≡ stands_for named used
@@ -31,7 +31,7 @@ within_by n None (Some j) k h one is = let same : k ≡ j = some_of k j is in rw
 within_by n None None k h one is = cc
 
 -- an address tries an expression of the script
-pub tried_within : (a : Inside) (r : RunState) (named : Option ℕ) (k : ℕ) → run_of a ≡ r → IsRun a → AddressWithin (length r.script.expressions) (Some (Match named)) → Some k ≡ option_or named a.used →
+pub tried_within : (a : Inside) (r : RunState) (named : Option ℕ) (k : ℕ) → run_of a ≡ r → IsConsistent a → AddressWithin (length r.script.expressions) (Some (Match named)) → Some k ≡ option_or named a.used →
     k < length a.script.expressions
 tried_within a r named k seen i h is =
     let P : RunState → Type 0 = λ r. AddressWithin (length r.script.expressions) (Some (Match named)) in
@@ -50,10 +50,10 @@ answered a r named k ms b last seen same is found =
 
 -- what is replaced with the expression of a number
 pub replaces_by : (ms : List Written) (e : ℕ) (m : Written) (w : List ℕ) (t : Substitution) (limit : ℕ) (made : List ℕ) (r : Result Bool Full) → e < length ms → m ≡ get_or ms e m →
-    Replaces w t.replacement (chosen t.number t.global (occurrences (search_for (Some m) w) (length w))) limit made r →
-    Replaces w t.replacement (chosen t.number t.global (occurrences (search_in ms e w) (length w))) limit made r
+    Replaces w t.replacement (to_replace t.number t.global (occurrences (search_for (Some m) w) (length w))) limit made r →
+    Replaces w t.replacement (to_replace t.number t.global (occurrences (search_in ms e w) (length w))) limit made r
 replaces_by ms e m w t limit made r inside is h =
-    let P : Option Written → Type 0 = λ o. Replaces w t.replacement (chosen t.number t.global (occurrences (search_for o w) (length w))) limit made r in
+    let P : Option Written → Type 0 = λ o. Replaces w t.replacement (to_replace t.number t.global (occurrences (search_for o w) (length w))) limit made r in
     subst P (sym (slice_get_read ms (length ms) e m refl inside is)) h
 
 -- the matcher of a number is the one that stands there

@@ -6,7 +6,7 @@ use Rattle.std.proofs.Math.Seq.{take-append-add}
 use Rattle.std.proofs.Math.Nat.{suc-add}
 use Rattle.std.specs.Prelude.{slice_get}
 use Rattle.sedengine.specs.Devices.{FailedSink}
-use Rattle.sedengine.specs.Meters.{Sent, Tally, FullSink}
+use Rattle.sedengine.specs.Meters.{Sent, SinkView, FullSink}
 use Rattle.sedengine.specs.Move.{to_sink}
 use Rattle.sedengine.specs.Ends.{named_sink}
 use Rattle.sedengine.specs.Calls.{Puts, Delivers, NoSinkFailed}
@@ -25,7 +25,7 @@ FailedSink-then a b c (Err (OutputBroken k)) h (rose, others) = let e = h k in (
 FailedSink-then a b c (Err other) h i = λ k. i k ∙ h k
 
 -- one call after another
-pub Delivers-then : {O : Type 0} (tally : O → Tally) (count : O → ℕ) (a b c : O) (r : Result Unit Ended) → Delivers tally count a b (Ok tt) → Delivers tally count b c r → Delivers tally count a c r
+pub Delivers-then : {O : Type 0} (tally : O → SinkView) (count : O → ℕ) (a b c : O) (r : Result Unit Ended) → Delivers tally count a b (Ok tt) → Delivers tally count b c r → Delivers tally count a c r
 Delivers-then tally count a b c r w v = record {
   same_count = v.same_count ∙ w.same_count;
   same_frame = v.same_frame ∙ w.same_frame;
@@ -33,7 +33,7 @@ Delivers-then tally count a b c r w v = record {
   full = v.full;
 }
 
-pub Delivers-none : {O : Type 0} (tally : O → Tally) (count : O → ℕ) (a : O) → Delivers tally count a a (Ok tt)
+pub Delivers-none : {O : Type 0} (tally : O → SinkView) (count : O → ℕ) (a : O) → Delivers tally count a a (Ok tt)
 Delivers-none tally count a = record { same_count = refl; same_frame = refl; failed = λ k. refl; full = tt }
 
 slice_get-append_left : {A : Type 0} (xs ys : List A) (n : ℕ) (x : A) → slice_get xs n ≡ Some x → slice_get (xs ++ ys) n ≡ Some x
@@ -43,30 +43,30 @@ slice_get-append_left (y ∷ xs) ys zero x h = h
 slice_get-append_left (y ∷ xs) ys (suc n) x h = slice_get-append_left xs ys n x h
 
 -- what fails in the first part fails in the whole
-pub Puts-left : (old new : Tally) (xs ys : List (ℕ × ℕ)) (end : Ended) → Puts (Sent old new) xs (Err end) → Puts (Sent old new) (xs ++ ys) (Err end)
+pub Puts-left : (old new : SinkView) (xs ys : List (ℕ × ℕ)) (end : Ended) → Puts (Sent old new) xs (Err end) → Puts (Sent old new) (xs ++ ys) (Err end)
 Puts-left old new xs ys end (k, b, byte, is, due, gained) =
     let lt : b < length xs = slice_get_within xs b (k, byte) due in
     let le : b ≤ length xs = omega arith in
     (k, b, byte, is, slice_get-append_left xs ys b (k, byte) due, rw (take-append-le b xs ys le) gained)
 
 -- the second part, after the first was written
-pub Puts-append : (old mid new : Tally) (xs ys : List (ℕ × ℕ)) (r : Result Unit Ended) → Sent old mid xs → Puts (Sent mid new) ys r → Puts (Sent old new) (xs ++ ys) r
+pub Puts-append : (old mid new : SinkView) (xs ys : List (ℕ × ℕ)) (r : Result Unit Ended) → Sent old mid xs → Puts (Sent mid new) ys r → Puts (Sent old new) (xs ++ ys) r
 Puts-append old mid new xs ys (Ok u) a h = Sent-append a h
 Puts-append old mid new xs ys (Err end) a (k, b, byte, is, due, gained) =
     (k, length xs + b, byte, is, slice_get-append_add xs ys b ∙ due, rw (take-append-add xs ys b) (Sent-append a gained))
 
 -- so many bytes for a sink were written, and then it failed or was full
-pub Puts-cut : (old new : Tally) (s n : ℕ) (bytes : List ℕ) (end : Ended) → named_sink end ≡ Some s → n < length bytes → Sent old new (to_sink s (take n bytes)) → Puts (Sent old new) (to_sink s bytes) (Err end)
+pub Puts-cut : (old new : SinkView) (s n : ℕ) (bytes : List ℕ) (end : Ended) → named_sink end ≡ Some s → n < length bytes → Sent old new (to_sink s (take n bytes)) → Puts (Sent old new) (to_sink s bytes) (Err end)
 Puts-cut old new s n bytes end named more sent = let due = slice_get-to_sink s n bytes more in (s, n, due.0, named, due.1, rw take-to_sink sent)
 
 unwritten : (f : ℕ → ℕ) (end : Ended) → NoSinkFailed {T = Unit {0}} (Err end) → FailedSink f f (Err end)
 unwritten f (OutputBroken k) h = absurd h
 unwritten f other h = λ k. refl
 
-unfilled : (t : Tally) (end : Ended) → NoSinkFailed {T = Unit {0}} (Err end) → FullSink t (Err end)
+unfilled : (t : SinkView) (end : Ended) → NoSinkFailed {T = Unit {0}} (Err end) → FullSink t (Err end)
 unfilled t (OutputFull k) h = absurd h
 unfilled t other h = tt
 
 -- an end that comes without a write
-pub Delivers-unwritten : {O : Type 0} (tally : O → Tally) (count : O → ℕ) (a : O) (end : Ended) → NoSinkFailed {T = Unit {0}} (Err end) → Delivers tally count a a (Err end)
+pub Delivers-unwritten : {O : Type 0} (tally : O → SinkView) (count : O → ℕ) (a : O) (end : Ended) → NoSinkFailed {T = Unit {0}} (Err end) → Delivers tally count a a (Err end)
 Delivers-unwritten tally count a end h = record { same_count = refl; same_frame = refl; failed = unwritten (tally a).failures end h; full = unfilled (tally a) end h }

@@ -1,11 +1,11 @@
 -- Private to the proofs: no contract of a public item cites what stands here.
--- What its calls do to the devices that they are given.
+-- What the engine's calls do to the devices that they are given.
 use Rattle.std.specs.Prelude.{◌≡◌, ℕ, ◌≤◌, max, Option, Some, None, Result, Ok, Err, OnOk, List, length, take, slice_get}
 use Rattle.std.specs.Borrow.{GName}
 use Rattle.sedspace.specs.Stream.{Stream, TakesAtMost}
 use Rattle.sedengine.specs.Devices.{FailedSink, FailedSource}
 use Rattle.sedengine.specs.Ends.{named_sink}
-use Rattle.sedengine.specs.Meters.{Tally, FullSink}
+use Rattle.sedengine.specs.Meters.{SinkView, FullSink}
 use Rattle.sedengine.specs.declared.ends.Ended.{Ended}
 use Rattle.sedengine.specs.declared.ends.Ended.TheVariants.{OutputBroken, OutputFull}
 
@@ -15,15 +15,15 @@ Puts gained out (Ok u) = gained out
 Puts gained out (Err end) =
     (k : ℕ) × (b : ℕ) × (byte : ℕ) × (named_sink end ≡ Some k) × (slice_get out b ≡ Some (k, byte)) × gained (take b out)
 
--- A call that may write to sinks that are counted: nothing of them changes but what they hold, their failures and the
--- counts, and one has failed or is full only where the answer names it.
-pub record Delivers {O : Type 0} (tally : O → Tally) (count : O → ℕ) (old new : O) (result : Result Unit Ended) : Type 0 where
+-- What a call that may write leaves as it was: of the sinks, only what they hold, their failures and the counts change, and
+-- a sink has failed or is full only where the answer names it.
+pub record Delivers {O : Type 0} (tally : O → SinkView) (count : O → ℕ) (old new : O) (result : Result Unit Ended) : Type 0 where
   pub same_count : count new ≡ count old
   pub same_frame : (tally new).frame ≡ (tally old).frame
   pub failed : FailedSink (tally old).failures (tally new).failures result
   pub full : FullSink (tally new) result
 
--- A call that may read. What it says of faults is for lines that have answered none before.
+-- What a call that may read does to the lines. What it says of faults holds for lines that answered no fault before.
 pub record Reads {R T : Type 0} (remaining : R → Option (List ℕ)) (failures : R → ℕ) (reference : R → List GName)
     (old new : Stream R) (result : Result T Ended) : Type 0 where
   pub same_look : new.look ≡ old.look

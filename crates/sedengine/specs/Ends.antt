@@ -108,7 +108,7 @@ pub record Whole (l : Limits) (g : Setting) (s : State) (gained : List (ℕ × �
   pub cause : IsCause l g (after g s t) end
 
 -- The end comes in the next move. The sinks have gained the first b of the bytes, and the next one is for sink k.
-pub record Cut (l : Limits) (g : Setting) (s : State) (gained : List (ℕ × ℕ) → Type 0) (k : ℕ) (t : ℕ) : Type 0 where
+pub record BrokenOff (l : Limits) (g : Setting) (s : State) (gained : List (ℕ × ℕ) → Type 0) (k : ℕ) (t : ℕ) : Type 0 where
   pub within : Within l g s (suc t)
   pub b : ℕ
   pub byte : ℕ
@@ -117,10 +117,10 @@ pub record Cut (l : Limits) (g : Setting) (s : State) (gained : List (ℕ × ℕ
   pub sinks : gained (take b (written g s (suc t)))
 
 -- whole, or cut where a sink takes no more
-abbrev pub WholeOrCut : Limits → Setting → State → (List (ℕ × ℕ) → Type 0) → Ended → ℕ → Option ℕ → Type 0
-WholeOrCut l g s gained end t None = Whole l g s gained end t
-WholeOrCut l g s gained end t (Some k) = Cut l g s gained k t
+abbrev pub WholeOrBrokenOff : Limits → Setting → State → (List (ℕ × ℕ) → Type 0) → Ended → ℕ → Option ℕ → Type 0
+WholeOrBrokenOff l g s gained end t None = Whole l g s gained end t
+WholeOrBrokenOff l g s gained end t (Some k) = BrokenOff l g s gained k t
 
 -- The end has its cause after t moves from the state s, where the sinks gained what `gained` says.
 abbrev pub Cause : Limits → Setting → State → (List (ℕ × ℕ) → Type 0) → Ended → ℕ → Type 0
-Cause l g s gained end t = WholeOrCut l g s gained end t (named_sink end)
+Cause l g s gained end t = WholeOrBrokenOff l g s gained end t (named_sink end)

@@ -14,6 +14,6 @@ Flushes l g s there gained (Err end) = Stopped l g s s gained end
 
 -- What a call that writes one entry of the queue, or a file, answers from the state s: Ok where moves led to the state
 -- `there`, and else the end, at which the state `now` is told.
-abbrev pub Copies : Limits → Setting → State → State → State → (List (ℕ × ℕ) → Type 0) → Result Unit Ended → Type 0
-Copies l g s there now gained (Ok u) = Ran l g s there gained
-Copies l g s there now gained (Err end) = Stopped l g s now gained end
+abbrev pub CopiesEntry : Limits → Setting → State → State → State → (List (ℕ × ℕ) → Type 0) → Result Unit Ended → Type 0
+CopiesEntry l g s there now gained (Ok u) = Ran l g s there gained
+CopiesEntry l g s there now gained (Err end) = Stopped l g s now gained end

@@ -19,16 +19,16 @@ is_flushing (flush ∷ rest) = true
 is_flushing (copy k o ∷ rest) = true
 is_flushing other = false
 
--- What the state s' tells of the state s: as many bytes in the pattern space and the hold space, and as many entries in the
--- queue. While the queue is written, entries that were written already may still count.
+-- The states s and s' have as many bytes in the pattern space and in the hold space, and as many entries in the queue. While
+-- the queue is written, s' may still count entries that were written already.
 pub record SameLengths (s s' : State) : Type 0 where
   pub pattern : length s'.pattern ≡ length s.pattern
   pub hold : length s'.hold ≡ length s.hold
   pub queue : is_flushing s.tasks ≡ false → length s'.queue ≡ length s.queue
   pub entries : length s.queue ≤ length s'.queue
 
--- At an end the lengths are those of the state after t moves. Where a sink took no more, the move in which it didn't may
--- have been made already.
+-- At an end the lengths are those of the state after t moves. Where a sink took no more, they may also be those after the
+-- move in which that happened.
 abbrev pub HoldsAt : Setting → State → ℕ → State → Option ℕ → Type 0
 HoldsAt g s t now None = SameLengths (after g s t) now
 HoldsAt g s t now (Some k) = SameLengths (after g s t) now ⊎ SameLengths (after g s (suc t)) now

@@ -91,7 +91,7 @@ Holds (Some c) = holds c.action ≡ true
 abbrev pub FillsHold : Program → Type 0
 FillsHold p = (i : ℕ) × Holds (slice_get p.commands i)
 
-pub record IsRun (a : Inside) : Type 0 where
+pub record IsConsistent (a : Inside) : Type 0 where
   pub number : a.number ≤ a.turns
   pub turns : a.turns ≤ a.limits.turns
   pub pattern_limit : a.pattern.limit ≡ a.limits.space

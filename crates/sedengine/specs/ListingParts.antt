@@ -35,7 +35,7 @@ Lists old part new = (rest : List ℕ) →
     old.bytes ++ listed_from old.column (part ++ rest) ≡ new.bytes ++ listed_from new.column rest
 
 -- A beginning of the listing of these bytes was written, and the listing of the rest, from this column, is due.
-pub record Written (gained : List (ℕ × ℕ) → Type 0) (bytes rest : List ℕ) (column : ℕ) : Type 0 where
+pub record WrittenInPart (gained : List (ℕ × ℕ) → Type 0) (bytes rest : List ℕ) (column : ℕ) : Type 0 where
   pub beginning : List ℕ
   pub gains : gained (to_sink 0 beginning)
   pub whole : beginning ++ listed_from column rest ≡ listed bytes

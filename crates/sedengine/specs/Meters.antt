@@ -49,19 +49,19 @@ pub record Frame : Type 0 where
 
 -- the sinks: what each holds, where it tells, how often it failed, and how many bytes it has gained since the engine was
 -- opened, where they are counted
-pub record Tally : Type 0 where
+pub record SinkView : Type 0 where
   pub contents : ℕ → Option (List ℕ)
   pub failures : ℕ → ℕ
   pub sent : ℕ → Option ℕ
   pub frame : Frame
 
 -- the sinks have gained these bytes, and they were counted
-pub record Sent (old new : Tally) (out : List (ℕ × ℕ)) : Type 0 where
+pub record Sent (old new : SinkView) (out : List (ℕ × ℕ)) : Type 0 where
   pub gained : Gained old.contents new.contents out
   pub counts : (k : ℕ) → Counts (old.sent k) (new.sent k) (length (part k out))
 
 -- a sink that an end names as full is
-abbrev pub FullSink : Tally → Result Unit Ended → Type 0
+abbrev pub FullSink : SinkView → Result Unit Ended → Type 0
 FullSink t (Ok u) = Unit {0}
 FullSink t (Err (OutputFull k)) = (n : ℕ) × (t.frame.most ≡ Some n) × (t.sent k ≡ Some n)
 FullSink t (Err other) = Unit {0}

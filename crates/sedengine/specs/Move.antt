@@ -13,7 +13,7 @@ use Rattle.sedscript.specs.declared.types.Action.TheVariants.{List as listing}
 use Rattle.sedscript.specs.declared.substitution.Substitution.{Substitution}
 use Rattle.sedengine.specs.Select.{◌>>=◌, Current, Choice, selects, stands_for}
 use Rattle.sedengine.specs.Listing.{listed}
-use Rattle.sedengine.specs.Substitute.{Occurrence, occurrences, chosen, replaced_from}
+use Rattle.sedengine.specs.Substitute.{Occurrence, occurrences, to_replace, replaced_from}
 use Rattle.sedengine.specs.State.{Entry, text, file, Task, begin, rebegin, do_at, print_pattern, empty_pattern, flush, copy, fetch, join, State, Move, Setting}
 
 abbrev pub newline : ℕ
@@ -74,7 +74,7 @@ joins s rest (line ∷ lines) = quietly (then_do rest (with_line (s.pattern ++ n
 
 -- the occurrences in the pattern space that a substitution with the expression e replaces
 abbrev pub chosen_in : Setting → Substitution → ℕ → List ℕ → List Occurrence
-chosen_in g t e w = chosen t.number t.global (occurrences (g.search e w) (length w))
+chosen_in g t e w = to_replace t.number t.global (occurrences (g.search e w) (length w))
 
 -- the text with a newline for the sink of a flag `w`, where the flag is given
 abbrev pub line_to_file : Option ℕ → List ℕ → List (ℕ × ℕ)
@@ -96,7 +96,7 @@ replaces s t [] = quietly s
 replaces s t (m ∷ ms) = becomes s t (replaced_from s.pattern t.replacement 0 (m ∷ ms))
 
 -- A substitution. Its expression, or the one that an empty one stands for, is the one last used, whether it matches or
--- not. Without an expression used before an empty one there is no move.
+-- not. Without an expression used before an empty one there is no move (this project's own).
 abbrev pub substitutes : Setting → State → Option Substitution → Option Move
 substitutes g s None = quietly s
 substitutes g s (Some t) = do

@@ -29,7 +29,7 @@ pub record RunState : Type 0 where
 abbrev pub sent_to : RunState → ℕ → ℕ
 sent_to e k = get_or e.sent k 0
 
--- What the sinks gained in a call that led from one engine to another, which counts it.
+-- What the sinks gained in a call that led from the engine e to the engine e', and that e' has counted it.
 pub record Sends (e e' : RunState) (old new : ℕ → Option (List ℕ)) (r : Result Unit Ended) (out : List (ℕ × ℕ)) : Type 0 where
   pub gains : GainedWithin e.limits.output (sent_to e) old new r out
   pub counts : IfSome e.limits.output (λ most. (k : ℕ) → sent_to e' k ≡ sent_to e k + length (part k out))
@@ -43,7 +43,7 @@ abbrev pub has_match : Option Written → List ℕ → Bool
 has_match None w = false
 has_match (Some e) w = is_some (found (tree e) w 0)
 
--- the same for one of these expressions
+-- whether the expression of a number has a match in a text
 abbrev pub finds_in : List Written → ℕ → List ℕ → Bool
 finds_in expressions k w = has_match (slice_get expressions k) w
 
@@ -52,11 +52,12 @@ abbrev pub match_at : Written → List ℕ → Option (ℕ × ℕ) → Option Oc
 match_at e w None = None
 match_at e w (Some span) = Some (record { start = span.0; end = span.1; groups = report (tree e) w span.0 span.1 })
 
--- the match that is sought from a place on
+-- the leftmost-longest match of an expression that begins at a place or later
 abbrev pub search_for : Option Written → List ℕ → ℕ → Option Occurrence
 search_for None w from = None
 search_for (Some e) w from = match_at e w (found (tree e) w from)
 
+-- the leftmost-longest match of the expression of a number that begins at a place or later
 abbrev pub search_in : List Written → ℕ → List ℕ → ℕ → Option Occurrence
 search_in expressions k w from = search_for (slice_get expressions k) w from
 
@@ -85,13 +86,14 @@ abbrev pub size_of : List (List ℕ) → ℕ
 size_of [] = 0
 size_of (line ∷ lines) = length line + 1 + size_of lines
 
--- The first t moves took these lines. From the source were taken their bytes, and at most so many more.
-pub record Takes (g : Setting) (s : State) (old new : Option (List ℕ)) (more : ℕ) (t : ℕ) : Type 0 where
+-- The first t moves took these lines. Their bytes were taken from the source, and at most `more` besides.
+pub record TakesInput (g : Setting) (s : State) (old new : Option (List ℕ)) (more : ℕ) (t : ℕ) : Type 0 where
   pub lines : List (List ℕ)
   pub are : s.lines ≡ lines ++ (after g s t).lines
   pub bytes : TakesAtMost old new (size_of lines + more)
 
--- how many more: what is read ahead, and of a line that isn't given what a space and a newline can hold
+-- How many bytes may be taken besides the lines: those that are read ahead and, where the run stopped in the middle of a
+-- line, those of that line, which are at most one more than a space holds.
 abbrev pub more_at : Limits → Ended → ℕ
 more_at l (PatternFull n) = l.space + 1 + l.look
 more_at l InputBroken = l.space + 1 + l.look
@@ -103,7 +105,7 @@ pub record Ending (l : Limits) (g : Setting) (s : State) (gained : List (ℕ × 
     (old new : Option (List ℕ)) (now : State) (end : Ended) : Type 0 where
   pub t : ℕ
   pub cause : Cause l g s gained end t
-  pub takes : Takes g s old new (more_at l end) t
+  pub takes : TakesInput g s old new (more_at l end) t
   pub holds : HoldsAt g s t now (named_sink end)
 
 -- whether a cycle starts with the first task
@@ -127,7 +129,7 @@ pub record Cycled (l : Limits) (g : Setting) (s : State) (gained : List (ℕ × 
   pub one : InOneCycle g s t
   pub within : Within l g s t
   pub sinks : gained (written g s t)
-  pub takes : Takes g s old new l.look t
+  pub takes : TakesInput g s old new l.look t
 
 -- The end came within one cycle.
 pub record EndingInCycle (l : Limits) (g : Setting) (s : State) (gained : List (ℕ × ℕ) → Type 0)
@@ -143,11 +145,11 @@ Cycles l g s gained old new e left progress.More =
 Cycles l g s gained old new e left (progress.Ended end) = EndingInCycle l g s gained old new e.state end
 
 -- the end that a cycle answers
-abbrev pub end_of : Progress → Option Ended
-end_of progress.More = None
-end_of (progress.Ended end) = Some end
+abbrev pub end_answered : Progress → Option Ended
+end_answered progress.More = None
+end_answered (progress.Ended end) = Some end
 
--- the same as single moves answer it: Ok where the run goes on
+-- what a cycle answered, in the form in which single moves answer: Ok where the run goes on
 abbrev pub outcome : Progress → Result Unit Ended
 outcome progress.More = Ok tt
 outcome (progress.Ended end) = Err end

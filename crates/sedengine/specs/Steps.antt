@@ -7,7 +7,7 @@ use Rattle.sedscript.specs.declared.types.Action.{Action}
 use Rattle.sedscript.specs.declared.types.Action.TheVariants.{Append, AppendHold, AppendNext, Block, Branch, CopyHold, Exchange, Hold, HoldMore, NextLine, Quit, ReadFile, Test, Transliterate}
 use Rattle.sedengine.specs.Limits.{Limits}
 use Rattle.sedengine.specs.State.{Task, do_at, State, Move, Setting}
-use Rattle.sedengine.specs.Meters.{Sent, Tally}
+use Rattle.sedengine.specs.Meters.{Sent, SinkView}
 use Rattle.sedengine.specs.Move.{acts, move, after, written}
 use Rattle.sedengine.specs.Ends.{WithinLimits, HasTurn, Within, Cause, named_sink, reaches, reads}
 use Rattle.sedengine.specs.Held.{HoldsAt, SameLengths}
@@ -73,19 +73,19 @@ uses_hold Exchange = true
 uses_hold other = false
 
 -- whether a command writes nothing and takes no line
-abbrev pub is_quiet : Action → Bool
-is_quiet (Append k) = true
-is_quiet (ReadFile k) = true
-is_quiet (Block k) = true
-is_quiet (Branch k) = true
-is_quiet Quit = true
-is_quiet (Test k) = true
-is_quiet (Transliterate k) = true
-is_quiet other = uses_hold other
+abbrev pub writes_nothing : Action → Bool
+writes_nothing (Append k) = true
+writes_nothing (ReadFile k) = true
+writes_nothing (Block k) = true
+writes_nothing (Branch k) = true
+writes_nothing Quit = true
+writes_nothing (Test k) = true
+writes_nothing (Transliterate k) = true
+writes_nothing other = uses_hold other
 
 -- What a call answers that does what such a command does where it applies, from the engine e on.
 abbrev pub ActsQuietly : RunState → RunState → Action → Result Unit Ended → Type 0
-ActsQuietly e e' action r = (files : ℕ → List ℕ) (ls : List (List ℕ)) (tells : Bool) (sinks : Tally) →
+ActsQuietly e e' action r = (files : ℕ → List ℕ) (ls : List (List ℕ)) (tells : Bool) (sinks : SinkView) →
     Performs e.limits (setting e files) (acts (setting e files) (at_lines e ls) tells action)
     (at_lines e ls) (at_lines e' ls) (Sent sinks sinks) r
 

@@ -1,7 +1,8 @@
 -- What the function `s` makes of a text (XCU sed, "s/BRE/replacement/flags").
-use Rattle.std.specs.Prelude.{ℕ, zero, suc, ◌+◌, ◌-◌, List, [], ◌∷◌, ◌++◌, Bool, ◌&&◌, Option, Some, None, drop, take}
-use Rattle.std.specs.Prelude.{slice_range, nat_eq, nat_lt, if◌then◌else◌}
+use Rattle.std.specs.Prelude.{ℕ, zero, suc, ◌+◌, ◌-◌, List, [], ◌∷◌, ◌++◌, Bool, Option, Some, None, drop, take}
+use Rattle.std.specs.Prelude.{slice_range, if◌then◌else◌}
 use Rattle.sedmatch.specs.Caps.{Groups}
+use Rattle.sedmatch.specs.NextMatch.{next_match}
 use Rattle.sedmatch.specs.Parts.{span_of, part_of}
 use Rattle.sedscript.specs.declared.substitution.Piece.{Piece}
 use Rattle.sedscript.specs.declared.substitution.Piece.TheVariants.{Literal as literal, Whole as whole, Group as group}
@@ -12,17 +13,14 @@ pub record Occurrence : Type 0 where
   pub end : ℕ
   pub groups : Groups
 
--- the match of the null string at a place is passed over for another one
-abbrev pub unless_empty_at : ℕ → Option Occurrence → Option Occurrence → Option Occurrence
-unless_empty_at q None other = None
-unless_empty_at q (Some m) other = if nat_eq m.start q && nat_eq m.end q then other else Some m
+-- where an occurrence begins and ends
+abbrev pub whole_span : Occurrence → ℕ × ℕ
+whole_span m = (m.start, m.end)
 
 -- The next occurrence in a text of n bytes, after one that ended at a place, where there was one; `search` tells the match
--- sought from a place. Occurrences don't overlap, and a match of the null string directly after one is none (this
--- project's own): then the search goes on one byte further, as long as that is no place after the end.
+-- sought from a place.
 abbrev pub next_occurrence : (ℕ → Option Occurrence) → ℕ → Option ℕ → Option Occurrence
-next_occurrence search n None = search 0
-next_occurrence search n (Some q) = unless_empty_at q (search q) (if nat_lt q n then search (q + 1) else None)
+next_occurrence search n last = next_match whole_span search n last
 
 abbrev pub with_rest : Option Occurrence → (Occurrence → List Occurrence) → List Occurrence
 with_rest None rest = []
@@ -40,8 +38,8 @@ occurrences search n = occurrences_from search n (n + 1) None
 
 -- those that are replaced: the one of a number, counted from 1 ("the nth occurrence only"), and with the flag `g`
 -- ("all non-overlapping instances") it and all later ones (the two together: this project's own)
-abbrev pub chosen : ℕ → Bool → List Occurrence → List Occurrence
-chosen number global ms = if global then drop (number - 1) ms else take 1 (drop (number - 1) ms)
+abbrev pub to_replace : ℕ → Bool → List Occurrence → List Occurrence
+to_replace number global ms = if global then drop (number - 1) ms else take 1 (drop (number - 1) ms)
 
 -- what stands for an occurrence in the text w: "&" is the matched text, "\\n" what the n-th group matched
 abbrev pub put_for : List ℕ → Occurrence → List Piece → List ℕ

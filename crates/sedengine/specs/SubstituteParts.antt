@@ -5,9 +5,9 @@ use Rattle.std.specs.Prelude.{Option, Some, None, IfSome, Result, Ok, Err, if◌
 use Rattle.sedre.specs.Arena.{Written, tree}
 use Rattle.sedmatch.specs.Caps.{Groups}
 use Rattle.sedmatch.specs.Matching.{report}
-use Rattle.sedmatch.specs.Occurrences.{EndsWithin, KeepsRoom, Serves, owed}
+use Rattle.sedmatch.specs.Occurrences.{EndsWithin, KeepsRoom, LiesOn, Serves, owed}
 use Rattle.sedmatch.specs.Parts.{SpanIn, span_of}
-use Rattle.sedmatch.specs.Room.{Room}
+use Rattle.sedmatch.specs.SearchRoom.{SearchRoom}
 use Rattle.sedmatch.specs.declared.occurrences.Occurrences.{Occurrences}
 use Rattle.sedscript.specs.declared.substitution.Piece.{Piece}
 use Rattle.sedscript.specs.declared.substitution.Piece.TheVariants.{Literal as literal, Whole as whole, Group as group}
@@ -52,16 +52,11 @@ abbrev pub GroupsOf : Written → List ℕ → Bool → Option (ℕ × ℕ) → 
 GroupsOf e w wanted None groups = Unit {0}
 GroupsOf e w wanted (Some span) groups = wanted ≡ true → groups ≡ report (tree e) w span.0 span.1
 
--- the span lies in a text of n bytes, and after the occurrence that ended at a place
-abbrev pub LiesAfter : ℕ → Option ℕ → ℕ × ℕ → Type 0
-LiesAfter n None span = (span.0 ≤ span.1) × (span.1 ≤ n)
-LiesAfter n (Some q) span = (q ≤ span.0) × (q < span.1) × (span.0 ≤ span.1) × (span.1 ≤ n)
-
 -- what was found is the next occurrence in the text w after the one that ended at a place, or none where there is none; its
 -- span lies after that place
 abbrev pub IsNext : Written → List ℕ → Option ℕ → Option (ℕ × ℕ) → Type 0
 IsNext e w last found =
-    (match_at e w found ≡ next_occurrence (search_for (Some e) w) (length w) last) × IfSome found (LiesAfter (length w) last)
+    (match_at e w found ≡ next_occurrence (search_for (Some e) w) (length w) last) × IfSome found (LiesOn (length w) last)
 
 -- the occurrences after the one that ended at a place, or all
 abbrev pub occurrences_after : Written → List ℕ → Option ℕ → List Occurrence
@@ -81,7 +76,7 @@ pending e w global None = []
 pending e w global (Some span) = occurrence e w span ∷ (if global then occurrences_after e w (Some span.1) else [])
 
 -- what seeks, and the room for its searches, are as before
-abbrev pub SeeksAsBefore : {T : Type 0} → T → T → Room → Room → Type 0
+abbrev pub SeeksAsBefore : {T : Type 0} → T → T → SearchRoom → SearchRoom → Type 0
 SeeksAsBefore old new before after = (new ≡ old) × (after ≡ before)
 
 -- there is as much room as before, and what is kept serves to search after the occurrences skipped, if there are so many

@@ -7,7 +7,7 @@ ghost use Rattle.sedspace.specs.Stream.{lines_left, ReadsOn};
 ghost use Rattle.sedengine.specs.Move.{start};
 ghost use Rattle.sedengine.specs.Devices.{FailedSink, FailedSource, SameSinks};
 ghost use Rattle.sedengine.specs.Held.{total_of, bound_of};
-ghost use Rattle.sedengine.specs.Run.{outcome, Cycles, Ending, SameRun, Sends, TellsFiles, at_lines, end_of, setting};
+ghost use Rattle.sedengine.specs.Run.{outcome, Cycles, Ending, SameRun, Sends, TellsFiles, at_lines, end_answered, setting};
 
 use crate::ends::{Ended, Held, Progress};
 use crate::limits::Limits;
@@ -96,7 +96,7 @@ impl Engine {
         ensures output { IsNone self.old.ended →
             FailedSink (O.failures outputs.old) (O.failures outputs.new) (outcome result) }
         ensures sound { result ≡ Progress.More → lines.old.fault ≡ None → lines.new.fault ≡ None }
-        ensures ended { self.new.ended ≡ end_of result }
+        ensures ended { self.new.ended ≡ end_answered result }
         ensures again { IfSome self.old.ended (λ end. (result ≡ Progress.Ended end) × (self.new ≡ self.old)
             × (lines.new ≡ lines.old) × (outputs.new ≡ outputs.old) × (texts.new ≡ texts.old)) }
         ensures same_run { SameRun self.old self.new }

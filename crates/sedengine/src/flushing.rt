@@ -8,7 +8,7 @@ ghost use Rattle.sedengine.specs.Ends.{WithinLimits};
 ghost use Rattle.sedengine.specs.Held.{SameLengths};
 ghost use Rattle.sedengine.specs.Run.{TellsFiles};
 ghost use Rattle.sedengine.specs.Inside.{AllQueue, Queues, entries_of, entry_by};
-ghost use Rattle.sedengine.specs.Flushing.{Copies, Flushes};
+ghost use Rattle.sedengine.specs.Flushing.{CopiesEntry, Flushes};
 
 use crate::ends::Ended;
 use crate::limits::Limits;
@@ -43,7 +43,7 @@ fn copy_file<O: Sinks, T: Texts>(
     ensures copies { (g : Setting) → TellsFiles (T.text texts.old) g.files → (s now : State) (rest : List Task) →
         s.tasks ≡ copy file 0 ∷ rest → s.turns ≡ turns.old → WithinLimits limits.now s →
         SameLengths s now → s.lines ≡ now.lines →
-        Copies limits.now g s (record s { tasks = rest; turns = turns.new }) now
+        CopiesEntry limits.now g s (record s { tasks = rest; turns = turns.new }) now
         (Sent (O.tally outputs.old) (O.tally outputs.new)) result }
     ensures output { Delivers O.tally O.count outputs.old outputs.new result }
     ensures input { result ≡ Err Ended.InputBroken → ⊥ }
@@ -87,7 +87,7 @@ fn write_entry<O: Sinks, T: Texts>(
         (later : List Entry) → s.tasks ≡ flush ∷ rest →
         s.queue ≡ entry_by script.now.texts (slice_get script.now.commands entry) ∷ later → s.turns ≡ turns.old →
         WithinLimits limits.now s → SameLengths s now → s.lines ≡ now.lines →
-        Copies limits.now g s (record s { queue = later; tasks = flush ∷ rest; turns = turns.new }) now
+        CopiesEntry limits.now g s (record s { queue = later; tasks = flush ∷ rest; turns = turns.new }) now
         (Sent (O.tally outputs.old) (O.tally outputs.new)) result }
     ensures output { Delivers O.tally O.count outputs.old outputs.new result }
     ensures input { result ≡ Err Ended.InputBroken → ⊥ }

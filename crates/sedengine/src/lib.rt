@@ -8,8 +8,9 @@
 //! `holding` for `g`, `G`, `h`, `H` and `x`, `next` for `n` and `N`, `queueing` for `a` and `r`, `replacing` for `s`, `t` and
 //! `y`. `substitute` makes the text of `s`, `listing` that of `l`, `flushing` writes the queue, and `machine/moves` goes on to
 //! the end. All of them write through `meter`, which limits what each sink gains. What a machine holds is made in
-//! `machine/parts`. `specs/Bringing`, `Calls`, `Choose`, `Flushing`, `Holding`, `Inside`, `ListingParts`, `Meters`, `Parts`,
-//! `Queueing`, `Steps`, `SubstituteCalls` and `SubstituteParts` are private to this crate: what its calls promise one another.
+//! `machine/parts`. `specs/Bringing`, `Calls`, `Choose`, `Fitting`, `Flushing`, `Holding`, `Inside`, `ListingParts`, `Meters`,
+//! `Parts`, `Queueing`, `Steps`, `SubstituteCalls` and `SubstituteParts` are private to this crate: what its calls promise one
+//! another.
 //!
 //! Where a new command goes is told in docs/ARCHITECTURE.md.
 #![tactic(auto)]

@@ -107,8 +107,8 @@ impl Gathered {
         }
     }
 
-    /// Lists some bytes of a text, and says how many: the bytes before the first that isn't listed as it is or needs a
-    /// fold, or else that one.
+    /// Lists the bytes before the first one that needs an escape or a fold, or that one alone where it comes first. Answers
+    /// how many it listed.
     fn list_some(&mut self, part: &[u8]) -> usize
         requires some { 0 < length part.now }
         requires room { length self.old.bytes + 6 * length part.now ≤ ROOM }

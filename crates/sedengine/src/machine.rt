@@ -10,7 +10,7 @@ ghost use Rattle.sedengine.specs.Calls.{Delivers};
 ghost use Rattle.sedengine.specs.Meters.{Sent};
 ghost use Rattle.sedengine.specs.Held.{total_of, bound_of};
 ghost use Rattle.sedengine.specs.Parts.{AreParts};
-ghost use Rattle.sedengine.specs.Run.{outcome, Cycles, Ending, SameRun, TellsFiles, at_lines, end_of, setting};
+ghost use Rattle.sedengine.specs.Run.{outcome, Cycles, Ending, SameRun, TellsFiles, at_lines, end_answered, setting};
 
 mod addresses;
 mod commands;
@@ -44,7 +44,7 @@ pub(crate) struct Machine {
     build: Space,
     queue: Queue,
     scratch: Scratch,
-    // How the searches of a substitution go on that seeks more than one occurrence.
+    // How far the searches of a substitution are that seeks more than one occurrence.
     seeking: Occurrences,
     // For each regular expression of the script, what seeks it.
     matchers: Vec<TableMatcher>,
@@ -62,13 +62,13 @@ pub(crate) struct Machine {
 
 impl Model for Machine {
     ghost use Rattle.sedengine.specs.Run.{RunState};
-    ghost use Rattle.sedengine.specs.Inside.{run_of, IsRun};
+    ghost use Rattle.sedengine.specs.Inside.{run_of, IsConsistent};
 
     ghost Value = { RunState };
 
     ghost view = { run_of };
 
-    ghost invariant = { IsRun };
+    ghost invariant = { IsConsistent };
 }
 
 impl Machine {
@@ -150,7 +150,7 @@ impl Machine {
         ensures output { IsNone self.old.ended →
             Delivers O.tally O.count outputs.old outputs.new (outcome result) }
         ensures sound { result ≡ Progress.More → lines.old.fault ≡ None → lines.new.fault ≡ None }
-        ensures ended { self.new.ended ≡ end_of result }
+        ensures ended { self.new.ended ≡ end_answered result }
         ensures again { IfSome self.old.ended (λ end. (result ≡ Progress.Ended end) × (self.new ≡ self.old)
             × (lines.new ≡ lines.old) × (outputs.new ≡ outputs.old) × (texts.new ≡ texts.old)) }
         ensures same_run { SameRun self.old self.new }

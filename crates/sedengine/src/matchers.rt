@@ -22,7 +22,7 @@ const MOST_STATES: usize = 64;
 /// With fewer states than these a table is full so soon that it saves hardly any time.
 const FEWEST_STATES: usize = 8;
 
-/// How many states each table has in a script of so many expressions: fewer where there are many, and none where even
+/// How many states each table has in a script of this many expressions: fewer where there are many, and none where even
 /// the fewest for each would be too many.
 fn states_for(expressions: usize) -> usize
     ensures { result ≤ 64 }
@@ -104,8 +104,8 @@ fn seeks_more_than_one(script: &Script) -> bool
     false
 }
 
-/// What seeks more than one occurrence in texts as long as a space may be, with little room where no substitution of the
-/// script does.
+/// Room to seek several occurrences in a text as long as a space may be: little where no substitution of the script seeks
+/// more than one.
 pub(crate) fn room_to_seek(
     alloc: Global,
     script: &Script,

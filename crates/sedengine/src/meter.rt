@@ -5,7 +5,7 @@
 ghost use Rattle.std.specs.Prelude.{◌≡◌, ◌≢◌, ◌<◌, ◌≤◌, ℕ, IfOk, length, min, replicate};
 ghost use Rattle.sedengine.specs.Move.{to_sink};
 ghost use Rattle.sedengine.specs.Calls.{Delivers, Puts};
-ghost use Rattle.sedengine.specs.Meters.{Counts, Fills, FitsIn, InLimit, Meter, Sent, Tally, counted};
+ghost use Rattle.sedengine.specs.Meters.{Counts, Fills, FitsIn, InLimit, Meter, Sent, SinkView, counted};
 
 use crate::ends::Ended;
 use sedspace::{Outputs, write_all};
@@ -30,7 +30,7 @@ impl Model for Meter {
 }
 
 impl Meter {
-    /// A meter for so many sinks, of which none has gained anything. The counts are reserved here.
+    /// A meter for `sinks` sinks that have gained nothing yet. The counts are reserved here.
     pub(crate) fn new(alloc: Global, limit: Option<u64>, sinks: usize) -> Result<Meter, AllocError>
         ensures { IfOk result (λ m. m ≡ record { most = limit; sent = replicate sinks 0 }) }
     {
@@ -46,7 +46,7 @@ impl Meter {
         self.limit
     }
 
-    /// How many of so many bytes the sink may take.
+    /// How many of `bytes` bytes the sink may still take.
     #[inline(always)]
     fn room(&self, sink: usize, bytes: usize) -> usize
         requires { sink < length self.now.sent }
@@ -83,7 +83,7 @@ pub(crate) trait Sinks {
     ghost count: { Self → ℕ };
 
     /// What they hold and have gained.
-    ghost tally: { Self → Tally };
+    ghost tally: { Self → SinkView };
 
     /// Appends all the bytes to this sink alone. At an `Err` it has gained those before one that was due when a write
     /// failed, or when the sink was full; a full sink isn't written to.

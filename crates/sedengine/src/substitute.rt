@@ -3,16 +3,16 @@ ghost use Rattle.std.specs.Prelude.{◌≡◌, ℕ, ◌+◌, ◌*◌, ◌^◌, �
 ghost use Rattle.sedre.specs.Arena.{Written, tree};
 ghost use Rattle.sedmatch.specs.Costs.{Pays};
 ghost use Rattle.sedre.specs.Steps.{Takes};
-ghost use Rattle.sedmatch.specs.Occurrences.{EndsWithin, KeepsRoom, RoomFor, Serves, ServesOn, owed, owed_after};
-ghost use Rattle.sedmatch.specs.Room.{FitInto};
+ghost use Rattle.sedmatch.specs.Occurrences.{EndsWithin, KeepsRoom, LiesOn, RoomFor, Serves, ServesOn, owed, owed_after};
+ghost use Rattle.sedmatch.specs.SearchRoom.{FitInto};
 ghost use Rattle.sedmatch.specs.Matching.{report};
 ghost use Rattle.sedmatch.specs.Parts.{part_of, span_of};
 ghost use Rattle.sedmatch.specs.Spans.{Spans};
 ghost use Rattle.sedscript.specs.Replacement.{GroupsWithin, pieces_in};
-ghost use Rattle.sedengine.specs.Substitute.{chosen, occurrences, put_for, replaced_from};
+ghost use Rattle.sedengine.specs.Substitute.{to_replace, occurrences, put_for, replaced_from};
 ghost use Rattle.sedengine.specs.Fitting.{seeks_more};
 ghost use Rattle.sedengine.specs.Run.{search_for, search_in};
-ghost use Rattle.sedengine.specs.SubstituteParts.{Appends, GroupsIn, GroupsOf, IsNext, LiesAfter, Replaces};
+ghost use Rattle.sedengine.specs.SubstituteParts.{Appends, GroupsIn, GroupsOf, IsNext, Replaces};
 ghost use Rattle.sedengine.specs.SubstituteParts.{SeeksAsBefore, ServesAfter, Skips, has_group, owed_skipped, pending, with_groups};
 
 use sedmatch::{Occurrences, Scratch, TableMatcher, Text};
@@ -23,8 +23,8 @@ use sedspace::{Full, Space};
 /// The span of each group of an occurrence.
 type Groups = [Option<(usize, usize)>; 10];
 
-/// Puts into `build` the text in which the occurrences that a substitution chooses of those that `matcher` finds are replaced.
-/// Says whether there are any.
+/// Writes into `build` the text with the occurrences that the substitution chooses replaced, and answers whether there are
+/// any.
 ///
 /// All its searches together take steps in proportion to the text. Groups are decided within each occurrence, and counted
 /// apart.
@@ -43,7 +43,7 @@ pub(crate) fn build_text(
     requires more { IsTrue (seeks_more substitution.now) →
         RoomFor (length text.now) (length matcher.old.nodes) seeking.old }
     ensures replaces { Replaces text.now substitution.now.replacement
-        (chosen substitution.now.number substitution.now.global
+        (to_replace substitution.now.number substitution.now.global
         (occurrences (search_for (Some matcher.old) text.now) (length text.now)))
         build.old.limit build.new.bytes result }
     ensures limit { build.new.limit ≡ build.old.limit }
@@ -129,8 +129,8 @@ fn needs_groups(parts: &[Part]) -> bool
     false
 }
 
-/// The next occurrence, after the one that ended at a place, where there was one. Its groups are told where they are
-/// wanted.
+/// The next occurrence, after the one that ended at `last`, if there was one. Its groups are put into `groups` if `wanted`
+/// says so.
 // Where a line has many occurrences, a call's own cost counts.
 #[inline(always)]
 fn next_occurrence(
@@ -197,7 +197,7 @@ fn append_replaced(
     steps: &mut Steps,
 ) -> Result<(), Full>
     requires fits { FitInto (length text.now) (length matcher.old.nodes) scratch.old }
-    requires lies { LiesAfter (length text.now) None first }
+    requires lies { LiesOn (length text.now) None first }
     requires groups { GroupsOf matcher.old text.now (has_group substitution.now.replacement) (Some first) groups.old }
     requires groups_in { GroupsIn (length text.now) groups.old }
     requires more { IsTrue substitution.now.global →
@@ -238,7 +238,7 @@ fn put(
     build: &mut Space,
 ) -> Result<(), Full>
     requires within { GroupsWithin 9 (pieces_in parts.now) }
-    requires lies { LiesAfter (length text.now) None span }
+    requires lies { LiesOn (length text.now) None span }
     requires groups_in { GroupsIn (length text.now) groups.now }
     ensures { Appends build.old build.new
         (put_for text.now (with_groups span groups.now) (pieces_in parts.now)) result }
@@ -258,7 +258,7 @@ fn put_part(
     build: &mut Space,
 ) -> Result<(), Full>
     requires within { GroupsWithin 9 (pieces_in (part.now ∷ [])) }
-    requires lies { LiesAfter (length text.now) None span }
+    requires lies { LiesOn (length text.now) None span }
     requires groups_in { GroupsIn (length text.now) groups.now }
     ensures { Appends build.old build.new
         (put_for text.now (with_groups span groups.now) (pieces_in (part.now ∷ []))) result }

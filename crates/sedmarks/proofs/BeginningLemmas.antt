@@ -9,7 +9,7 @@ use Rattle.sedre.specs.Sets.{has}
 use Rattle.sedre.specs.declared.types.Node.{Node}
 use Rattle.sedre.specs.declared.types.Node.TheVariants.{Empty, Set, Begin, End, Seq, Alt, Group, Star, Opt}
 use Rattle.sedmarks.specs.Reach.{At}
-use Rattle.sedmarks.specs.Beginnings.{CanBegin, left_part, LeafBegins, AllAt, IsLeaf, alternatives}
+use Rattle.sedmarks.specs.Beginnings.{CanBegin, left_part, LeafBegins, AllAt, IsLeftmost, alternatives}
 use Rattle.sedmarks.specs.declared.beginnings.Begins.{Begins}
 use Rattle.sedmarks.proofs.ReachLemmas.{open_at}
 
@@ -92,14 +92,14 @@ same_right a b l r e = let same : ◌≡◌ {A = ℕ × ℕ} (a, b) (l, r) = cc 
 
 module _ (nodes : List Node) (arena : IsArena nodes) (x : ℕ) where
   -- a leaf that is a set
-  pub leaf_set : (s : List Bool) → IsLeaf nodes x (Set s) → AllAt nodes x (WithSet s)
+  pub leaf_set : (s : List Bool) → IsLeftmost nodes x (Set s) → AllAt nodes x (WithSet s)
   leaf_set s leaf w i j at =
       let first = leaf.4 w i j at in
       let f = open_at nodes w leaf.0 (Set s) arena leaf.1 i first.0 first.1 in
       (f.0, f.1, f.2)
 
   -- one without alternatives
-  pub leaf_all : (node : Node) (begins : Begins) → IsLeaf nodes x node → LeafBegins node begins → AllAt nodes x begins
+  pub leaf_all : (node : Node) (begins : Begins) → IsLeftmost nodes x node → LeafBegins node begins → AllAt nodes x begins
   leaf_all node begins leaf is w i j at =
       let first = leaf.4 w i j at in
       leaf_begins nodes arena leaf.0 node begins leaf.1 leaf.3 is w i first.0 first.1
@@ -126,7 +126,7 @@ module _ (nodes : List Node) (arena : IsArena nodes) (x : ℕ) where
   alt_opens (Opt a first) l r is alts = absurd (none-some (l, r) alts)
 
 -- a node whose leaf has alternatives begins as they do
-pub leaf_either : (nodes : List Node) → IsArena nodes → (x l r : ℕ) (node : Node) (begins : Begins) → IsLeaf nodes x node → alternatives node ≡ Some (l, r) →
+pub leaf_either : (nodes : List Node) → IsArena nodes → (x l r : ℕ) (node : Node) (begins : Begins) → IsLeftmost nodes x node → alternatives node ≡ Some (l, r) →
     AllAt nodes l begins → AllAt nodes r begins → AllAt nodes x begins
 leaf_either nodes arena x l r node begins leaf alts left right w i j at =
     let first = leaf.4 w i j at in

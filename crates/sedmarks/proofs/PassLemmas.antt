@@ -9,7 +9,7 @@ use Rattle.sedre.specs.declared.types.Node.TheVariants.{Empty, Set, Begin, End, 
 use Rattle.sedmarks.specs.declared.passes.Starts.{Starts}
 use Rattle.sedmarks.specs.Reach.{IsStart, Marked, Below, PartFrom, IsLoose, At, Enters, Ends, Entered, at_root}
 use Rattle.sedre.specs.Packed.{PartsBelow}
-use Rattle.sedmarks.specs.PartMarks.{null_of, end_of, enter_parts}
+use Rattle.sedmarks.specs.PartMarks.{null_of, node_ends, enter_parts}
 use Rattle.sedmarks.specs.Matching.{takes}
 use Rattle.sedmarks.specs.Places.{IsPlace, ComesAfter}
 use Rattle.sedmarks.proofs.ReachLemmas.{null_of-At, end_of-Ends, enter_parts-Marked, Enters-root, Enters-loose}
@@ -56,7 +56,7 @@ is_end w len n e = (λ h. eqb-true n len h ∙ e, λ h. eq-eqb n len (h ∙ sym 
 
 -- a node ends alike after two bytes that its set takes alike
 end_alike : (e : Bool) (a b : Option ℕ) (null ended : ℕ → Bool) (node : Node) → ((members : List Bool) → node ≡ Set members → IsTrue e → takes a members ≡ takes b members) →
-    end_of e a null ended node ≡ end_of e b null ended node
+    node_ends e a null ended node ≡ node_ends e b null ended node
 end_alike e a b null ended Empty alike = refl
 end_alike false a b null ended (Set s) alike = refl
 end_alike true a b null ended (Set s) alike = alike s refl refl
@@ -70,7 +70,7 @@ end_alike e a b null ended (Opt l first) alike = refl
 
 -- there is a byte that stands before the place, if any does, after which the node ends alike
 byte_there : (nodes : List Node) (w : List ℕ) (place x : ℕ) (node : Node) → slice_get nodes x ≡ Some node → (row : List Bool) (byte : Option ℕ) → ComesAfter nodes w place row byte → (null ended : ℕ → Bool) →
-    (other : Option ℕ) × ((i : ℕ) → i + 1 ≡ place → slice_get w i ≡ other) × (end_of (slice_index_or row x false) byte null ended node ≡ end_of (slice_index_or row x false) other null ended node)
+    (other : Option ℕ) × ((i : ℕ) → i + 1 ≡ place → slice_get w i ≡ other) × (node_ends (slice_index_or row x false) byte null ended node ≡ node_ends (slice_index_or row x false) other null ended node)
 byte_there nodes w zero x node is row byte after null ended = (byte, λ i e. absurd (omega arith), refl)
 byte_there nodes w (suc j) x node is row byte after null ended = (
   slice_get w j,
@@ -89,7 +89,7 @@ module _ (nodes : List Node) (w : List ℕ) (arena : IsArena nodes) (place x : �
 
   pub ascend_ended : (r : ℕ) (p : Starts) → x ≤ r → (entered null ended after : List Bool) (byte : Option ℕ) (v : Bool) → x < length ended →
       ComesAfter nodes w place entered byte →
-      v ≡ end_of (slice_index_or entered x false) byte (λ c. slice_index_or null c false) (λ c. slice_index_or ended c false) node →
+      v ≡ node_ends (slice_index_or entered x false) byte (λ c. slice_index_or null c false) (λ c. slice_index_or ended c false) node →
       after ≡ slice_set ended x v →
       Marked null (Below x) (λ c. At nodes w c place place) →
       Marked entered (Below (r + 1)) (λ c. Entered nodes w r p c place) →

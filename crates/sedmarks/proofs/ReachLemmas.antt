@@ -12,7 +12,7 @@ use Rattle.sedre.specs.declared.types.Node.TheVariants.{Empty, Set, Begin, End, 
 use Rattle.sedre.proofs.TreeLemmas.{tree_at-node}
 use Rattle.sedmarks.specs.declared.passes.Starts.{Starts}
 use Rattle.sedmarks.specs.Reach.{Marked, IsLoose, BeginsWith, At, IsStart, Enters, at_root, with_whole, after_left, again, Ends, Entered}
-use Rattle.sedmarks.specs.PartMarks.{null_of, end_of, enter_parts}
+use Rattle.sedmarks.specs.PartMarks.{null_of, node_ends, enter_parts}
 use Rattle.sedmarks.specs.Matching.{takes}
 use Rattle.sedmarks.proofs.SpanLemmas.{Spans-forward, Copies-append, Copies-last}
 
@@ -213,7 +213,7 @@ module _ (nodes : List Node) (w : List ℕ) (r : ℕ) (p : Starts) (arena : IsAr
       (byte : Option ℕ) → ((i : ℕ) → i + 1 ≡ j → slice_get w i ≡ byte) →
       (null : ℕ → Bool) → ((c : ℕ) → c < x → IsTrue (null c) ↔ At nodes w c j j) →
       (ended : ℕ → Bool) → ((c : ℕ) → c < x → IsTrue (ended c) ↔ Ends nodes w r p c j) →
-      IsTrue (end_of entered byte null ended node) ↔ Ends nodes w r p x j
+      IsTrue (node_ends entered byte null ended node) ↔ Ends nodes w r p x j
   end_of-Ends j x le Empty is entered enters byte bytes null nulls ended parts =
       (λ h. absurd (true≢false (sym h)), λ h. let f = open_at nodes w x Empty arena is h.0 j h.3 in absurd (omega arith))
   end_of-Ends j x le Begin is entered enters byte bytes null nulls ended parts =

@@ -16,7 +16,7 @@ use Rattle.sedmarks.proofs.SpanLemmas.{Spans-forward}
 use Rattle.sedmarks.specs.Caps.{Groups, forget, Caps, LastCut, LastCopy, only, then}
 use Rattle.sedmarks.specs.declared.scratch.Task.{Task}
 use Rattle.sedmarks.specs.declared.scratch.Task.TheVariants.{Enter, Close}
-use Rattle.sedmarks.specs.Work.{inner, inners, wholes, node_cost, IsStep, IsReady, weights, DoesAll, forget_all, sizes, InRange, parts_of, forget_node, is_group, AllWithout, NoGroups}
+use Rattle.sedmarks.specs.Work.{inner, inners, wholes, node_cost, IsStep, AreMatched, weights, DoesAll, forget_all, sizes, AllBelow, parts_of, forget_node, is_group, AllWithout, NoGroups}
 
 module _ (nodes : List Node) (w : List ℕ) (arena : IsArena nodes) (x : ℕ) where
   close_caps : (node : Node) → slice_get nodes x ≡ Some node → (i j : ℕ) (old new : Groups) → Caps (tree_of (tree_at nodes) node) w i j old new → Caps (tree_at nodes x) w i j old new
@@ -70,7 +70,7 @@ pub sizes-append : (nodes : List Node) (xs ys : List ℕ) → sizes nodes (xs ++
 sizes-append nodes [] ys = omega arith
 sizes-append nodes (x ∷ xs) ys = omega (arith, sizes-append nodes xs ys)
 
-pub InRange-append : (n : ℕ) (xs ys : List ℕ) → InRange n xs → InRange n ys → InRange n (xs ++ ys)
+pub InRange-append : (n : ℕ) (xs ys : List ℕ) → AllBelow n xs → AllBelow n ys → AllBelow n (xs ++ ys)
 InRange-append n [] ys left right = right
 InRange-append n (x ∷ xs) ys left right = (left.0, InRange-append n xs ys left.1 right)
 
@@ -113,7 +113,7 @@ module _ (nodes : List Node) (arena : IsArena nodes) (x : ℕ) where
   size-parts (Star a first) is = rw (tree_at-node nodes x (Star a first) arena is) (omega arith)
   size-parts (Opt a first) is = rw (tree_at-node nodes x (Opt a first) arena is) (omega arith)
 
-  pub InRange-parts : (node : Node) → slice_get nodes x ≡ Some node → x < length nodes → InRange (length nodes) (parts_of node)
+  pub InRange-parts : (node : Node) → slice_get nodes x ≡ Some node → x < length nodes → AllBelow (length nodes) (parts_of node)
   InRange-parts Empty is inside = tt
   InRange-parts (Set s) is inside = tt
   InRange-parts Begin is inside = tt
@@ -132,14 +132,14 @@ module _ (nodes : List Node) (arena : IsArena nodes) (x : ℕ) where
 
 -- the stack after the parts were pushed
 pub stack_after : (nodes : List Node) (arena : IsArena nodes) (x : ℕ) (node : Node) → slice_get nodes x ≡ Some node → x < length nodes →
-    (old new : List ℕ) → reverse new ≡ parts_of node ++ reverse old → (g h : Groups) → h ≡ forget_node node g → InRange (length nodes) (reverse old) →
-    (forget_all nodes (reverse new) h ≡ forget_all nodes (x ∷ reverse old) g) × (sizes nodes (reverse new) + 1 ≡ sizes nodes (x ∷ reverse old)) × InRange (length nodes) (reverse new)
+    (old new : List ℕ) → reverse new ≡ parts_of node ++ reverse old → (g h : Groups) → h ≡ forget_node node g → AllBelow (length nodes) (reverse old) →
+    (forget_all nodes (reverse new) h ≡ forget_all nodes (x ∷ reverse old) g) × (sizes nodes (reverse new) + 1 ≡ sizes nodes (x ∷ reverse old)) × AllBelow (length nodes) (reverse new)
 stack_after nodes arena x node is inside old new pushed g h forgot range = (
   ap (λ xs. forget_all nodes xs h) pushed ∙ forget_all-append nodes (parts_of node) (reverse old) h
       ∙ ap (λ v. forget_all nodes (reverse old) (forget_all nodes (parts_of node) v)) forgot
       ∙ ap (λ v. forget_all nodes (reverse old) v) (sym (forget-parts nodes arena x node is g)),
   omega (arith, ap (sizes nodes) pushed, sizes-append nodes (parts_of node) (reverse old), size-parts nodes arena x node is),
-  subst (λ xs. InRange (length nodes) xs) (sym pushed) (InRange-append (length nodes) (parts_of node) (reverse old) (InRange-parts nodes arena x node is inside) range),
+  subst (λ xs. AllBelow (length nodes) xs) (sym pushed) (InRange-append (length nodes) (parts_of node) (reverse old) (InRange-parts nodes arena x node is inside) range),
 )
 
 -- a group has one node more than what is in it
@@ -326,7 +326,7 @@ module _ (nodes : List Node) (w : List ℕ) (arena : IsArena nodes) (x : ℕ) (i
 pub part_inside : (nodes : List Node) → IsArena nodes → (x c : ℕ) (node : Node) → x < length nodes → slice_get nodes x ≡ Some node → IsPart node c → c < length nodes
 part_inside nodes arena x c node inside is part = let low = arena.below x c node is part in omega arith
 
-pub IsReady-append : (nodes : List Node) (w : List ℕ) (xs ys : List Task) → IsReady nodes w xs → IsReady nodes w ys → IsReady nodes w (xs ++ ys)
+pub IsReady-append : (nodes : List Node) (w : List ℕ) (xs ys : List Task) → AreMatched nodes w xs → AreMatched nodes w ys → AreMatched nodes w (xs ++ ys)
 IsReady-append nodes w [] ys left right = right
 IsReady-append nodes w (Enter x i j ∷ xs) ys left right = (left.0, left.1, left.2, left.3, IsReady-append nodes w xs ys left.4 right)
 IsReady-append nodes w (Close k i j ∷ xs) ys left right = IsReady-append nodes w xs ys left right

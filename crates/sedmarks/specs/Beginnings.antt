@@ -49,8 +49,8 @@ LeafBegins (Group k a) begins = Unit {0}
 LeafBegins other begins = (w : List ℕ) (i : ℕ) → CanBegin begins w i
 
 -- the node has no part with which its spans begin, and each span of the node x begins with a span of it
-abbrev pub IsLeaf : List Node → ℕ → Node → Type 0
-IsLeaf nodes x node = (y : ℕ) × (slice_get nodes y ≡ Some node) × (y ≤ x) × (left_part node ≡ None) × ((w : List ℕ) (i j : ℕ) → At nodes w x i j → (k : ℕ) × At nodes w y i k)
+abbrev pub IsLeftmost : List Node → ℕ → Node → Type 0
+IsLeftmost nodes x node = (y : ℕ) × (slice_get nodes y ≡ Some node) × (y ≤ x) × (left_part node ≡ None) × ((w : List ℕ) (i j : ℕ) → At nodes w x i j → (k : ℕ) × At nodes w y i k)
 
 -- the two alternatives of a node
 abbrev pub alternatives : Node → Option (ℕ × ℕ)

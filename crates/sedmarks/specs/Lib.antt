@@ -4,7 +4,7 @@ pub mod Parts
 pub mod Answer
 pub mod Matching
 pub mod Bytes
-pub mod Room
+pub mod SearchRoom
 pub mod Costs
 pub mod Words
 pub mod Fits

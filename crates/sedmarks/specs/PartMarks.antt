@@ -16,14 +16,14 @@ null_of begin end null (Group k a) = null a.index
 null_of begin end null other = true
 
 -- the node ends at a place after at least one byte: entered says whether it could begin before that byte
-abbrev pub end_of : Bool → Option ℕ → (ℕ → Bool) → (ℕ → Bool) → Node → Bool
-end_of entered byte null ended (Set s) = entered && takes byte s
-end_of entered byte null ended (Seq a b) = ended b.index || (ended a.index && null b.index)
-end_of entered byte null ended (Alt a b) = ended a.index || ended b.index
-end_of entered byte null ended (Group k a) = ended a.index
-end_of entered byte null ended (Star a first) = ended a.index
-end_of entered byte null ended (Opt a first) = ended a.index
-end_of entered byte null ended other = false
+abbrev pub node_ends : Bool → Option ℕ → (ℕ → Bool) → (ℕ → Bool) → Node → Bool
+node_ends entered byte null ended (Set s) = entered && takes byte s
+node_ends entered byte null ended (Seq a b) = ended b.index || (ended a.index && null b.index)
+node_ends entered byte null ended (Alt a b) = ended a.index || ended b.index
+node_ends entered byte null ended (Group k a) = ended a.index
+node_ends entered byte null ended (Star a first) = ended a.index
+node_ends entered byte null ended (Opt a first) = ended a.index
+node_ends entered byte null ended other = false
 
 -- the marks once the node has said where its parts begin: entered says whether it begins here itself
 abbrev pub enter_parts : Bool → (ℕ → Bool) → (ℕ → Bool) → Node → List Bool → List Bool

@@ -1,5 +1,5 @@
 -- Private to the proofs: no contract of a public item cites what stands here.
--- Where the nodes of an expression can begin and end in a match from one of some starts.
+-- At which places of a text the nodes of an expression can begin and end, in matches that begin at one of some starts.
 use Rattle.std.specs.Prelude.{◌≡◌, ℕ, ◌+◌, ◌<◌, ◌≤◌, Bool, false, ◌⊎◌, ◌↔◌, List, slice_get, slice_index_or, Option, Some, None, IsTrue}
 use Rattle.sedre.specs.Tree.{Tree}
 use Rattle.sedmarks.specs.Spans.{Spans}
@@ -13,11 +13,7 @@ use Rattle.sedre.specs.declared.types.Node.TheVariants.{Set, Seq, Alt, Group, St
 -- c is a part that begins where the node does
 abbrev pub BeginsWith : Node → ℕ → Type 0
 BeginsWith (Seq a b) c = a.index ≡ c
-BeginsWith (Alt a b) c = (a.index ≡ c) ⊎ (b.index ≡ c)
-BeginsWith (Group k a) c = a.index ≡ c
-BeginsWith (Star a first) c = a.index ≡ c
-BeginsWith (Opt a first) c = a.index ≡ c
-BeginsWith other c = ⊥
+BeginsWith node c = IsPart node c
 
 -- the node x matches i..j
 abbrev pub At : List Node → List ℕ → ℕ → ℕ → ℕ → Type 0

@@ -1,5 +1,5 @@
 -- Private to the proofs: no contract of a public item cites what stands here.
--- What the parts of a search tell.
+-- What each part of a search answers: where a match can begin, the earliest place at which one does, its longest end.
 use Rattle.std.specs.Prelude.{◌≡◌, ℕ, ◌+◌, ◌<◌, ◌≤◌, Bool, true, List, length, Option, Some, None, IfSome, IfNone, IsTrue}
 use Rattle.sedre.specs.Tree.{Tree}
 use Rattle.sedmarks.specs.Spans.{Spans, Found, NotFound}

@@ -28,10 +28,10 @@ DoesAll nodes w [] old new = new ≡ old
 DoesAll nodes w (task ∷ tasks) old new = (mid : Groups) × Does nodes w task old mid × DoesAll nodes w tasks mid new
 
 -- each node to be entered is there, and matches its span within the text
-abbrev pub IsReady : List Node → List ℕ → List Task → Type 0
-IsReady nodes w [] = Unit {0}
-IsReady nodes w (Enter x i j ∷ tasks) = (x < length nodes) × (i ≤ j) × (j ≤ length w) × At nodes w x i j × IsReady nodes w tasks
-IsReady nodes w (Close k i j ∷ tasks) = IsReady nodes w tasks
+abbrev pub AreMatched : List Node → List ℕ → List Task → Type 0
+AreMatched nodes w [] = Unit {0}
+AreMatched nodes w (Enter x i j ∷ tasks) = (x < length nodes) × (i ≤ j) × (j ≤ length w) × At nodes w x i j × AreMatched nodes w tasks
+AreMatched nodes w (Close k i j ∷ tasks) = AreMatched nodes w tasks
 
 -- the groups inside the nodes are forgotten, the first node's first
 abbrev pub forget_all : List Node → List ℕ → Groups → Groups
@@ -43,9 +43,9 @@ abbrev pub sizes : List Node → List ℕ → ℕ
 sizes nodes [] = 0
 sizes nodes (x ∷ xs) = size (tree_at nodes x) + sizes nodes xs
 
-abbrev pub InRange : ℕ → List ℕ → Type 0
-InRange n [] = Unit {0}
-InRange n (x ∷ xs) = (x < n) × InRange n xs
+abbrev pub AllBelow : ℕ → List ℕ → Type 0
+AllBelow n [] = Unit {0}
+AllBelow n (x ∷ xs) = (x < n) × AllBelow n xs
 
 -- the parts of a node, the left one first
 abbrev pub parts_of : Node → List ℕ
@@ -98,7 +98,7 @@ weights nodes (Close k i j ∷ tasks) = 1 + weights nodes tasks
 
 -- the tasks were begun: those left are ready, weigh less, and take the groups to where the tasks take them
 abbrev pub LeavesLess : List Node → List ℕ → List Task → Groups → List Task → Groups → Type 0
-LeavesLess nodes w tasks old rest new = ((f : Groups) → DoesAll nodes w rest new f → DoesAll nodes w tasks old f) × IsReady nodes w rest × (weights nodes rest + 1 ≤ weights nodes tasks)
+LeavesLess nodes w tasks old rest new = ((f : Groups) → DoesAll nodes w rest new f → DoesAll nodes w tasks old f) × AreMatched nodes w rest × (weights nodes rest + 1 ≤ weights nodes tasks)
 
 -- how many nodes of a tree have parts
 abbrev pub inner : Tree → ℕ
@@ -136,7 +136,7 @@ forget_if before t g = (if before then forget t g else g)
 -- what is done in place of one task: the tasks, the first one first, and whether the groups inside are forgotten before
 pub record IsStep (nodes : List Node) (w : List ℕ) (x i j : ℕ) (forgets : Bool) (tasks : List Task) : Type 0 where
   pub run : (rest : List Task) (g f : Groups) → DoesAll nodes w (tasks ++ rest) (forget_if forgets (tree_at nodes x) g) f → DoesAll nodes w (Enter x i j ∷ rest) g f
-  pub ready : IsReady nodes w tasks
+  pub ready : AreMatched nodes w tasks
   pub less : weights nodes tasks + 1 ≤ 2 * size (tree_at nodes x)
   pub fewer : inners nodes tasks ≤ inner (tree_at nodes x) - 1
   pub smaller : wholes nodes tasks + 1 ≤ size (tree_at nodes x)

@@ -2,7 +2,7 @@
 ghost use Rattle.std.specs.Prelude.{◌≡◌, ◌+◌, ◌*◌, ◌^◌, ◌<◌, ◌≤◌, ◌↔◌, length, IfSome, IsTrue};
 ghost use Rattle.sedre.specs.Arena.{IsArena, tree};
 ghost use Rattle.sedmarks.specs.declared.beginnings.Begins.TheVariants.{WithSet};
-ghost use Rattle.sedmarks.specs.Beginnings.{AllBegin, AllAt, CanBegin, NextStart, skip_cost, left_part, LeafBegins, IsLeaf};
+ghost use Rattle.sedmarks.specs.Beginnings.{AllBegin, AllAt, CanBegin, NextStart, skip_cost, left_part, LeafBegins, IsLeftmost};
 ghost use Rattle.sedmarks.specs.Beginnings.{alternatives};
 ghost use Rattle.sedmarks.specs.Costs.{Pays};
 ghost use Rattle.sedre.specs.Steps.{Takes};
@@ -53,7 +53,7 @@ fn begins_of(node: &Node) -> Begins
 /// left side.
 fn left_leaf(expr: &Expr, from: usize, steps: &mut Steps) -> Node
     requires inside { from < length expr.now.nodes }
-    ensures leaf { IsLeaf expr.now.nodes from result }
+    ensures leaf { IsLeftmost expr.now.nodes from result }
     ensures cost { Takes steps.old steps.new (from + 1) }
     ensures arena { IsArena expr.now.nodes }
 {

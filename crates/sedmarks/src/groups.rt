@@ -12,7 +12,7 @@ ghost use Rattle.sedmarks.specs.Fits.{AllDone, FitsWork, HasStack, KeepsGroups, 
 ghost use Rattle.sedmarks.specs.Nodes.{IsNode};
 ghost use Rattle.sedmarks.specs.Places.{InOrder};
 ghost use Rattle.sedmarks.specs.Reach.{At};
-ghost use Rattle.sedmarks.specs.Work.{IsNodeOf, IsStep, IsReady, LeavesLess, weights, inners, wholes, node_cost, forget_if};
+ghost use Rattle.sedmarks.specs.Work.{IsNodeOf, IsStep, AreMatched, LeavesLess, weights, inners, wholes, node_cost, forget_if};
 ghost use Rattle.sedmarks.specs.Work.{tasks_of, forgets_of, has_span, is_group, sizes, parts_of, forget_node, AreFlat, NoGroups};
 ghost use Rattle.sedmarks.specs.Costs.{Pays};
 ghost use Rattle.sedre.specs.Steps.{Takes};
@@ -393,7 +393,7 @@ fn work(
     requires sizes { (x : ℕ) → x < length expr.now.nodes → size (tree_at expr.now.nodes x) ≤ length expr.now.nodes }
     requires places { length text.now < length places.old }
     requires stack { HasStack (length expr.now.nodes) plan.old.stack }
-    requires ready { IsReady expr.now.nodes text.now (task.now ∷ reverse plan.old.tasks.items) }
+    requires ready { AreMatched expr.now.nodes text.now (task.now ∷ reverse plan.old.tasks.items) }
     requires tasks_room { weights expr.now.nodes (task.now ∷ reverse plan.old.tasks.items) < vec_capacity plan.old.tasks }
     ensures same { length places.new ≡ length places.old }
     ensures plan { KeepsPlan plan.old plan.new }

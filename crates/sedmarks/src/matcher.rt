@@ -5,8 +5,8 @@ ghost use Rattle.sedmarks.specs.Spans.{SomeFound};
 ghost use Rattle.sedmarks.specs.Answer.{IsComputed, MatchAnswer, SpanAnswer};
 ghost use Rattle.sedmarks.specs.Matching.{found};
 ghost use Rattle.sedmarks.specs.Parts.{SpanIn, span_of, part_of};
-ghost use Rattle.sedmarks.specs.Room.{FitInto};
-ghost use Rattle.sedre.specs.Steps.{Takes};
+ghost use Rattle.sedmarks.specs.SearchRoom.{FitInto};
+ghost use Rattle.sedre.specs.Steps.{StepsWithin, Takes};
 
 use crate::beginnings::how_begins;
 use crate::counted::Text;
@@ -59,9 +59,9 @@ pub fn find(
     ensures cost { let m = length expr.now.nodes in let n = length text.now in
         Takes steps.old steps.new (64 * m * m * (n + 1) * (n + 1)) }
     ensures cost_without_groups { let m = length expr.now.nodes in let n = length text.now in expr.now.groups ≡ 0 →
-        (steps.new ≤ steps.old + 64 * m * (n + 1) * (n + 1)) × (steps.new ≤ steps.old + 96 * m * (n + 1)) }
+        StepsWithin steps.old steps.new (64 * m * (n + 1) * (n + 1)) × StepsWithin steps.old steps.new (96 * m * (n + 1)) }
     ensures cost_of_none { let m = length expr.now.nodes in let n = length text.now in
-        IfNone result (steps.new ≤ steps.old + 64 * m * (n + 1)) }
+        IfNone result (StepsWithin steps.old steps.new (64 * m * (n + 1))) }
 {
     let (start, end) = leftmost(expr, text, from, &mut scratch.sets, steps)?;
     let groups = report(
@@ -95,9 +95,9 @@ pub fn find_span(
     ensures cost { let m = length expr.now.nodes in let n = length text.now in
         Takes steps.old steps.new (64 * m * (n + 1) * (n + 1)) }
     ensures linear_cost { let m = length expr.now.nodes in let n = length text.now in
-        steps.new ≤ steps.old + 96 * m * (n + 1) }
+        StepsWithin steps.old steps.new (96 * m * (n + 1)) }
     ensures cost_of_none { let m = length expr.now.nodes in let n = length text.now in
-        IfNone result (steps.new ≤ steps.old + 64 * m * (n + 1)) }
+        IfNone result (StepsWithin steps.old steps.new (64 * m * (n + 1))) }
 {
     leftmost(expr, text, from, &mut scratch.sets, steps)
 }

@@ -12,7 +12,7 @@ use sedre::{ByteSet, Steps};
 
 /// The byte at a place.
 #[inline(always)]
-fn byte_at(bytes: &[u8], i: usize) -> u8
+pub fn byte_at(bytes: &[u8], i: usize) -> u8
     requires { i < length bytes.now }
     ensures byte { slice_get bytes.now i ≡ Some result }
 {

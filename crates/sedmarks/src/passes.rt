@@ -7,7 +7,7 @@ ghost use Rattle.std.specs.Prelude.{length, slice_index_or, slice_get, Some, IsT
 ghost use Rattle.sedre.specs.Arena.{IsArena};
 ghost use Rattle.sedmarks.specs.Nodes.{IsNode};
 ghost use Rattle.sedre.specs.Packed.{PartsBelow};
-ghost use Rattle.sedmarks.specs.PartMarks.{takes_next, null_of, end_of, enter_parts};
+ghost use Rattle.sedmarks.specs.PartMarks.{takes_next, null_of, node_ends, enter_parts};
 ghost use Rattle.sedmarks.specs.Matching.{takes};
 ghost use Rattle.sedmarks.specs.Reach.{IsStart, SetsFrom, SomeSpan, OpenAt};
 ghost use Rattle.sedmarks.specs.Reach.{TellNull, TellEntered, TellEnded, TellBegun};
@@ -61,7 +61,7 @@ fn marks_here(
 ) -> (bool, bool)
     requires { PartsBelow 65536 node.now }
     ensures null { result.0 ≡ null_of begin end (λ c. slice_index_or null.now c false) node.now }
-    ensures ended { result.1 ≡ end_of entered byte (λ c. slice_index_or null.now c false) (λ c. slice_index_or ended.now c false) node.now }
+    ensures ended { result.1 ≡ node_ends entered byte (λ c. slice_index_or null.now c false) (λ c. slice_index_or ended.now c false) node.now }
     ensures cost { Takes steps.old steps.new 5 }
 {
     match node {

@@ -50,9 +50,9 @@ pub struct Scratch {
 }
 
 impl Model for Scratch {
-    ghost use Rattle.sedmarks.specs.Room.{Room};
+    ghost use Rattle.sedmarks.specs.SearchRoom.{SearchRoom};
 
-    ghost Value = { Room };
+    ghost Value = { SearchRoom };
 
     ghost use Rattle.sedmarks.specs.Fits.{HasRoom};
 

@@ -15,7 +15,7 @@ ghost use Rattle.sedmarks.specs.Beginnings.{AllBegin};
 ghost use Rattle.sedmarks.specs.States.{IsAt};
 ghost use Rattle.sedmarks.specs.Answer.{SpanAnswer};
 ghost use Rattle.sedmarks.specs.Costs.{Pays};
-ghost use Rattle.sedre.specs.Steps.{Takes};
+ghost use Rattle.sedre.specs.Steps.{StepsWithin, Takes};
 
 use crate::ahead::{Lead, look_ahead, look_far};
 use crate::beginnings::{Begins, how_begins, next_start};
@@ -423,9 +423,9 @@ pub fn leftmost(
     ensures cost { let m = length expr.now.nodes in let n = length text.now in
         Takes steps.old steps.new (96 * m * (n + 1)) }
     ensures short_cost { let m = length expr.now.nodes in let n = length text.now in
-        steps.new ≤ steps.old + 48 * m * (n + 1) * (n + 1) }
+        StepsWithin steps.old steps.new (48 * m * (n + 1) * (n + 1)) }
     ensures none_cost { let m = length expr.now.nodes in let n = length text.now in
-        IfNone result (steps.new ≤ steps.old + 58 * m * (n + 1)) }
+        IfNone result (StepsWithin steps.old steps.new (58 * m * (n + 1))) }
 {
     let begins = how_begins(expr, steps);
     let (start, lead) = next_place(expr, &begins, text, from, steps)?;

@@ -5,7 +5,7 @@ use Rattle.sedre.specs.Arena.{tree_at}
 use Rattle.sedre.specs.Tree.{Tree}
 use Rattle.sedre.specs.declared.types.Node.{Node}
 use Rattle.sedmarks.specs.declared.ahead.Lead.TheVariants.{To}
-use Rattle.sedmatch.specs.Linear.{NoneBefore}
+use Rattle.sedmatch.specs.Linear.{NoneEndsBefore}
 use Rattle.sedmarks.specs.Search.{Sought}
 use Rattle.sedmarks.specs.Spans.{Found, NotFound}
 use Rattle.sedmarks.proofs.SpanLemmas.{Spans-forward}
@@ -24,7 +24,7 @@ pub ahead_lies : (e : Tree) (w : List ℕ) (from start end : ℕ) → Sought e w
 ahead_lies e w from start end sought = (Spans-forward e w start end ((sought.3.1 end).1 refl), sought.3.0)
 
 -- no match ends from a start on
-pub none_from : (nodes : List Node) (w : List ℕ) (r start : ℕ) → (r + 1 ≡ length nodes) → NoneBefore nodes w r start (length w + 1) → NotFound (tree_at nodes (length nodes - 1)) w start
+pub none_from : (nodes : List Node) (w : List ℕ) (r start : ℕ) → (r + 1 ≡ length nodes) → NoneEndsBefore nodes w r start (length w + 1) → NotFound (tree_at nodes (length nodes - 1)) w start
 none_from nodes w r start root before i k low within s = missed_end nodes w r start (length w) root refl before i k low (omega arith) s
 
 -- the steps of the whole: up to a start, and by tables

@@ -13,7 +13,7 @@ use Rattle.sedmarks.specs.Spans.{Found, NotFound, Copies, no_copy, one_more}
 use Rattle.sedmarks.specs.declared.passes.Starts.{Starts}
 use Rattle.sedmarks.specs.Matching.{takes}
 use Rattle.sedmarks.specs.Reach.{At, BeginsWith, IsStart, one_start, Enters, at_root, with_whole, after_left, again, OpenAt, SomeSpan, TellBegun, Longest, LongestBelow}
-use Rattle.sedmatch.specs.BackPass.{MeetsBelow, GoesOn, GoesOnFrom, BeginsAt, KeptStarts, MarkTells, met_to, end_to}
+use Rattle.sedmatch.specs.BackPass.{MeetsBelow, EndsLater, EndsLaterFrom, BeginsAt, KeptStarts, MarkTells, met_to, end_to}
 use Rattle.sedmarks.specs.Search.{starts_to}
 use Rattle.std.proofs.lemmas.List.{length-reverse}
 use Rattle.sedmarks.proofs.SpanLemmas.{Copies-append, Copies-forward, Spans-forward, Spans-within}
@@ -265,7 +265,7 @@ module _ (e back : Written) (w bytes : List ℕ) (r : ℕ) (s t : Starts) (is_ba
     module _ (j q : ℕ) (next : Option ℕ) (place : j + 1 + q ≡ length w) (is_byte : slice_get w j ≡ next) (front back_pass : List Bool)
         (fronts : TellBegun e.nodes w r s j front) (behinds : TellBegun back.nodes bytes r t q back_pass) where
       -- they meet where a match goes on, and nowhere else
-      pub meets_here : MeetsBelow e.nodes (r + 1) front back_pass next ↔ GoesOn e.nodes w r s j
+      pub meets_here : MeetsBelow e.nodes (r + 1) front back_pass next ↔ EndsLater e.nodes w r s j
       meets_here = (
         λ h.
             let low : h.0 < r + 1 = h.2 in
@@ -308,7 +308,7 @@ module _ (e back : Written) (w bytes : List ℕ) (r : ℕ) (s t : Starts) (is_ba
 pub goes_met : (e : Written) (w : List ℕ) (r start place q byte : ℕ) (front row : List Bool) (result : Bool) → IsArena e.nodes → r < length e.nodes → start ≤ place → place + 1 + q ≡ length w →
     slice_get w place ≡ Some byte → TellBegun e.nodes w r (one_start start) place front →
     TellBegun (seen true e).nodes (reverse w) r (starts_to 0 (length (reverse w))) q row →
-    (IsTrue result ↔ MeetsBelow e.nodes (r + 1) front row (Some byte)) → IsTrue result ↔ GoesOnFrom e.nodes w r start place
+    (IsTrue result ↔ MeetsBelow e.nodes (r + 1) front row (Some byte)) → IsTrue result ↔ EndsLaterFrom e.nodes w r start place
 goes_met e w r start place q byte front row result arena inside order sum is_byte fronts behinds tells =
     let long = length-reverse w in
     let both = meets_here e (seen true e) w (reverse w) r (one_start start) (starts_to 0 (length (reverse w))) refl refl arena inside
@@ -324,7 +324,7 @@ goes_met e w r start place q byte front row result arena inside order sum is_byt
     )
 
 -- at the text's end none goes on
-pub goes_end : (nodes : List Node) (w : List ℕ) (r start place : ℕ) → start ≤ length w → length w ≤ place → GoesOnFrom nodes w r start place → ⊥
+pub goes_end : (nodes : List Node) (w : List ℕ) (r start place : ℕ) → start ≤ length w → length w ≤ place → EndsLaterFrom nodes w r start place → ⊥
 goes_end nodes w r start place inside high h =
     let top = Spans-within (tree_at nodes r) w start h.0 inside h.2 in
     let on = h.1 in
@@ -332,7 +332,7 @@ goes_end nodes w r start place inside high h =
 
 -- a pass that has gone on to the place because a match does ends no later than that match
 pub met_reached : (nodes : List Node) (w : List ℕ) (r start place : ℕ) (matched : Bool) → start ≤ place →
-    ((q : ℕ) → start ≤ q → q + 1 ≡ place → GoesOnFrom nodes w r start q) → (GoesOnFrom nodes w r start place → ⊥) →
+    ((q : ℕ) → start ≤ q → q + 1 ≡ place → EndsLaterFrom nodes w r start q) → (EndsLaterFrom nodes w r start place → ⊥) →
     (IsTrue matched ↔ At nodes w r start place) → matched ≡ false → place ≡ start
 met_reached nodes w r start place matched low ahead over tells is_no =
     ⊎_elim
@@ -411,7 +411,7 @@ best_miss nodes w r start place matched best root tells is old =
     LongestBelow-no (tree_at nodes (length nodes - 1)) w start place best (λ s. true≢false (sym (tells.1 (from_tree nodes w r root start place s)) ∙ is)) old
 
 -- no match goes on after the last place that was looked at
-pub best_all : (nodes : List Node) (w : List ℕ) (r start place : ℕ) (best : Option ℕ) → r + 1 ≡ length nodes → (GoesOnFrom nodes w r start place → ⊥) →
+pub best_all : (nodes : List Node) (w : List ℕ) (r start place : ℕ) (best : Option ℕ) → r + 1 ≡ length nodes → (EndsLaterFrom nodes w r start place → ⊥) →
     LongestBelow (tree_at nodes (length nodes - 1)) w start (place + 1) best → Longest (tree_at nodes (length nodes - 1)) w start best
 best_all nodes w r start place None root over old =
     λ k s. ⊎_elim

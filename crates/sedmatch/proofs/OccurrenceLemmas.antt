@@ -8,7 +8,8 @@ use Rattle.sedmarks.specs.Matching.{found}
 use Rattle.sedmarks.proofs.MatchingLemmas.{found-iff}
 use Rattle.sedmatch.specs.declared.occurrences.Occurrences.{Occurrences}
 use Rattle.sedmatch.specs.BackPass.{blocks_cost, end_to}
-use Rattle.sedmatch.specs.Occurrences.{EndsWithin, LiesOn, Occurs, next_span, unless_null_at, owed_met, owed_apart, owed_together, owed_from, owed_after}
+use Rattle.sedmatch.specs.NextMatch.{unless_null_at}
+use Rattle.sedmatch.specs.Occurrences.{EndsWithin, LiesOn, Occurs, next_span, owed_met, owed_apart, owed_together, owed_from, owed_after}
 
 -- what is owed after an answer, where c is what the blocks may cost
 abbrev pub owed_end : ℕ → ℕ → ℕ → Option (ℕ × ℕ) → ℕ
@@ -77,7 +78,7 @@ after_is_met m n (Some f) o is = behind_is_met m n f.1 o is
 
 -- the next occurrence is a match
 unless_spans : (e : Tree) (w : List ℕ) (q : ℕ) (r other : Option (ℕ × ℕ)) (f : ℕ × ℕ) → q ≤ length w → found e w q ≡ r →
-    (other ≡ Some f → Spans e w f.0 f.1) → unless_null_at q r other ≡ Some f → Spans e w f.0 f.1
+    (other ≡ Some f → Spans e w f.0 f.1) → unless_null_at (λ (f : ℕ × ℕ). f) q r other ≡ Some f → Spans e w f.0 f.1
 unless_spans e w q None other f inside is rest next = let none : None ≡ Some f = next in cc
 unless_spans e w q (Some g) other f inside is rest next = here (nat_eq g.0 q && nat_eq g.1 q) next
   where

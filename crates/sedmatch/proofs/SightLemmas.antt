@@ -21,7 +21,7 @@ use Rattle.sedneedles.specs.declared.needed.Literal.{Literal}
 use Rattle.sedneedles.specs.Word.{WordSpans, AllWord}
 use Rattle.sedneedles.specs.Choice.{FirstChoice}
 use Rattle.sedmarks.specs.RunsAhead.{Repeated, AllRepeat, IsRun}
-use Rattle.sedmatch.specs.Sight.{IsFirst, StartsWith, SightSpans, IsSight, CanStart, FirstWith, FirstStart, EndsAt}
+use Rattle.sedmatch.specs.Sight.{ComesFirst, StartsWith, SightSpans, IsSight, CanStart, FirstWith, FirstStart, EndsAt}
 use Rattle.sedmatch.specs.declared.sight.First.{First}
 use Rattle.sedmatch.specs.declared.sight.First.TheVariants.{Among, Member}
 use Rattle.sedmatch.specs.declared.sight.Sight.{Sight}
@@ -33,7 +33,7 @@ use Rattle.sedmarks.proofs.SpanLemmas.{Copies-forward}
 
 -- what comes first, where its bytes are those of the set
 abbrev pub AreFirst : First → List Bool → Type 0
-AreFirst first members = (c : ℕ) → c < 256 → IsFirst first c ↔ IsIn c members
+AreFirst first members = (c : ℕ) → c < 256 → ComesFirst first c ↔ IsIn c members
 
 -- a span of a set
 set_spans : (members : List Bool) (first : First) → AreFirst first members → (w : List ℕ) → AreBytes w → (i j : ℕ) →

@@ -15,7 +15,7 @@ use Rattle.sedmarks.specs.Words.{AgreeBelow, row_of}
 use Rattle.sedmarks.specs.Reach.{Marked, Below, IsStart, Enters, TellEntered}
 use Rattle.sedmarks.specs.Places.{ComesAfter}
 use Rattle.sedmarks.specs.States.{IsAt}
-use Rattle.sedmatch.specs.Tables.{ends_of, stops, code_of, AreClasses, LeadsOn, IsFirst, FirstKnown, AreStates}
+use Rattle.sedmatch.specs.Tables.{ends_of, stops, code_of, AreClasses, LeadsOn, CanStart, FirstKnown, AreStates}
 use Rattle.sedmarks.proofs.SearchLemmas.{next_entered, none_entered}
 
 or_false_left : (a b : Bool) → (a || b) ≡ false → a ≡ false
@@ -244,13 +244,13 @@ module _ (nodes : List Node) (r : ℕ) (sweeps : Bool) (classes : List ℕ) (col
             let old = right.begins t is in
             let less = old.0 in (
               omega arith,
-              subst (λ x. IsFirst nodes r true (row_of rows2 t) x) (sym (ends_same t less)) (subst (λ x. IsFirst nodes r true x (ends_of ends t)) (sym (row_same t less)) old.1),
+              subst (λ x. CanStart nodes r true (row_of rows2 t) x) (sym (ends_same t less)) (subst (λ x. CanStart nodes r true x (ends_of ends t)) (sym (row_same t less)) old.1),
             );
         goes_on = λ t is.
             let old = right.goes_on t is in
             let less = old.0 in (
               omega arith,
-              subst (λ x. IsFirst nodes r false (row_of rows2 t) x) (sym (ends_same t less)) (subst (λ x. IsFirst nodes r false x (ends_of ends t)) (sym (row_same t less)) old.1),
+              subst (λ x. CanStart nodes r false (row_of rows2 t) x) (sym (ends_same t less)) (subst (λ x. CanStart nodes r false x (ends_of ends t)) (sym (row_same t less)) old.1),
             );
       }
 
@@ -286,23 +286,23 @@ leads_same nodes r sweeps sweeps2 classes classes2 row row2 ends ends2 class aft
 
 module _ (nodes : List Node) (r : ℕ) (arena : IsArena nodes) (root : r < length nodes) where
   -- a step from no marks is a beginning
-  pub step_first : (begin : Bool) (old new : List Bool) (after : Ends) → ((k : ℕ) → k < length nodes → slice_index_or old k false ≡ false) → StepTells nodes r None begin true old new after → IsFirst nodes r begin new after
+  pub step_first : (begin : Bool) (old new : List Bool) (after : Ends) → ((k : ℕ) → k < length nodes → slice_index_or old k false ≡ false) → StepTells nodes r None begin true old new after → CanStart nodes r begin new after
   step_first begin old new after none tells w s begins some =
       tells w s s.first begins
       ((λ h. (omega arith, some)), (λ h. refl))
       (λ i x members e is_set marked. absurd (true≢false (sym marked ∙ none x (slice_get_within nodes x (Set members) is_set))))
       (none_entered nodes w r s old s.first refl (λ k below. none k (omega arith)))
 
-  pub first_agree : (begin : Bool) (new other : List Bool) (after : Ends) → AgreeBelow (length nodes) new other → IsFirst nodes r begin new after → IsFirst nodes r begin other after
+  pub first_agree : (begin : Bool) (new other : List Bool) (after : Ends) → AgreeBelow (length nodes) new other → CanStart nodes r begin new after → CanStart nodes r begin other after
   first_agree begin new other after same is w s begins some = at_agree nodes w r s s.first (length nodes) new other after root same (is w s begins some)
 
 module _ (nodes : List Node) (r : ℕ) (sweeps : Bool) (classes : List ℕ) (columns : ℕ) (rows : List (List Bool)) (ends : List Ends) (count : ℕ) (cells index : List ℕ) (at_begin later : ℕ) (right : AreStates nodes r sweeps classes columns rows ends count cells index at_begin later) where
-  first_known : (begin : Bool) (t : ℕ) → t < count → IsFirst nodes r begin (row_of rows t) (ends_of ends t) → FirstKnown nodes r begin rows ends count (t + 1)
+  first_known : (begin : Bool) (t : ℕ) → t < count → CanStart nodes r begin (row_of rows t) (ends_of ends t) → FirstKnown nodes r begin rows ends count (t + 1)
   first_known begin t there is u same =
       let e : t ≡ u = omega arith in
-      (omega arith, subst (λ x. IsFirst nodes r begin (row_of rows x) (ends_of ends x)) e is)
+      (omega arith, subst (λ x. CanStart nodes r begin (row_of rows x) (ends_of ends x)) e is)
 
-  pub note_begin : (t : ℕ) → t < count → IsFirst nodes r true (row_of rows t) (ends_of ends t) → AreStates nodes r sweeps classes columns rows ends count cells index (t + 1) later
+  pub note_begin : (t : ℕ) → t < count → CanStart nodes r true (row_of rows t) (ends_of ends t) → AreStates nodes r sweeps classes columns rows ends count cells index (t + 1) later
   note_begin t there is = record {
     rows_there = right.rows_there;
     ends_there = right.ends_there;
@@ -321,7 +321,7 @@ module _ (nodes : List Node) (r : ℕ) (sweeps : Bool) (classes : List ℕ) (col
     goes_on = right.goes_on;
   }
 
-  pub note_later : (t : ℕ) → t < count → IsFirst nodes r false (row_of rows t) (ends_of ends t) → AreStates nodes r sweeps classes columns rows ends count cells index at_begin (t + 1)
+  pub note_later : (t : ℕ) → t < count → CanStart nodes r false (row_of rows t) (ends_of ends t) → AreStates nodes r sweeps classes columns rows ends count cells index at_begin (t + 1)
   note_later t there is = record {
     rows_there = right.rows_there;
     ends_there = right.ends_there;

@@ -5,7 +5,7 @@ use Rattle.std.proofs.lemmas.Bool.{cases_lt}
 use Rattle.sedre.specs.Tree.{set}
 use Rattle.sedmarks.specs.Spans.{Spans}
 use Rattle.sedmarks.specs.RunsAhead.{Repeated, IsRun}
-use Rattle.sedmatch.specs.Sight.{IsFirst, StartsWith, CanStart, FirstWith, FirstStart, EndsAt}
+use Rattle.sedmatch.specs.Sight.{ComesFirst, StartsWith, CanStart, FirstWith, FirstStart, EndsAt}
 use Rattle.sedmatch.specs.declared.sight.First.{First}
 use Rattle.sedmatch.specs.declared.sight.Sight.TheVariants.{Trail}
 use Rattle.sedmatch.specs.Trail.{RunBegins, LastWith}
@@ -82,13 +82,13 @@ run_stops members w p q before place byte has next low high is value missing cop
 
 module _ (first : First) (w : List ℕ) where
   -- the byte at the place is the last
-  pub last_here : (p q before place byte : ℕ) → before + 1 ≡ place → p ≤ before → place ≤ q → slice_get w before ≡ Some byte → IsFirst first byte →
+  pub last_here : (p q before place byte : ℕ) → before + 1 ≡ place → p ≤ before → place ≤ q → slice_get w before ≡ Some byte → ComesFirst first byte →
       ((k : ℕ) → place ≤ k → k < q → StartsWith first w k → ⊥) → LastWith first w p q (Some before)
   last_here p q before place byte next low high is has missed =
       (low, omega (arith, next), (byte, is, has), λ h after lt stands. missed h (omega (arith, next)) lt stands)
 
   -- or it is no such byte
-  pub last_before : (q before place byte : ℕ) (has : Bool) → before + 1 ≡ place → slice_get w before ≡ Some byte → (IsTrue has ↔ IsFirst first byte) → has ≡ false →
+  pub last_before : (q before place byte : ℕ) (has : Bool) → before + 1 ≡ place → slice_get w before ≡ Some byte → (IsTrue has ↔ ComesFirst first byte) → has ≡ false →
       ((k : ℕ) → place ≤ k → k < q → StartsWith first w k → ⊥) → (k : ℕ) → before ≤ k → k < q → StartsWith first w k → ⊥
   last_before q before place byte has next is tells missing missed k low lt stands =
       ⊎_elim
@@ -97,5 +97,5 @@ module _ (first : First) (w : List ℕ) where
       let same : k ≡ before = omega arith in
       let there : slice_get w before ≡ Some stands.0 = subst (λ v. slice_get w v ≡ Some stands.0) same stands.1 in
       let one : stands.0 ≡ byte = cc in
-      true≢false (sym (tells.1 (subst (λ v. IsFirst first v) one stands.2)) ∙ missing))
+      true≢false (sym (tells.1 (subst (λ v. ComesFirst first v) one stands.2)) ∙ missing))
       (cases_lt before k)

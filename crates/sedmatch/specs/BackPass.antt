@@ -20,12 +20,12 @@ MeetsBelow nodes n front back_pass next =
     (c : ℕ) × (set : List Bool) × (c < n) × (slice_get nodes c ≡ Some (Set set)) × IsTrue (slice_index_or front c false) × IsTrue (slice_index_or back_pass c false) × IsTrue (takes next set)
 
 -- a match of the node r from one of the starts up to the place ends after the place
-abbrev pub GoesOn : List Node → List ℕ → ℕ → Starts → ℕ → Type 0
-GoesOn nodes w r s place = (i : ℕ) × (k : ℕ) × IsStart s i × (i ≤ place) × (place < k) × At nodes w r i k
+abbrev pub EndsLater : List Node → List ℕ → ℕ → Starts → ℕ → Type 0
+EndsLater nodes w r s place = (i : ℕ) × (k : ℕ) × IsStart s i × (i ≤ place) × (place < k) × At nodes w r i k
 
 -- a match of the node r from the start ends after the place
-abbrev pub GoesOnFrom : List Node → List ℕ → ℕ → ℕ → ℕ → Type 0
-GoesOnFrom nodes w r start place = (k : ℕ) × (place < k) × At nodes w r start k
+abbrev pub EndsLaterFrom : List Node → List ℕ → ℕ → ℕ → ℕ → Type 0
+EndsLaterFrom nodes w r start place = (k : ℕ) × (place < k) × At nodes w r start k
 
 -- a match of the node r begins at the place
 abbrev pub BeginsAt : List Node → List ℕ → ℕ → ℕ → Type 0
@@ -84,16 +84,16 @@ abbrev pub IsKept : Written → List ℕ → ℕ → BackPass → Type 0
 IsKept e w r b = HasKept (seen true e).nodes (reverse w) r b
 
 -- in a text of n bytes, the block has the place, counted from the beginning, or lies after it
-abbrev pub Reaches : ℕ → ℕ → BackPass → Type 0
-Reaches n place b = n ≤ place + low_of b + b.width
+abbrev pub BlockReaches : ℕ → ℕ → BackPass → Type 0
+BlockReaches n place b = n ≤ place + low_of b + b.width
 
 -- what is kept serves to search from the place on
 abbrev pub Served : Written → List ℕ → ℕ → ℕ → BackPass → Type 0
-Served e w r place b = IsKept e w r b × Reaches (length w) place b
+Served e w r place b = IsKept e w r b × BlockReaches (length w) place b
 
 -- it is kept, and serves to search after the match found, if there is one
 abbrev pub ServedAfter : Written → List ℕ → ℕ → Option (ℕ × ℕ) → BackPass → Type 0
-ServedAfter e w r found b = IsKept e w r b × IfSome found (λ f. Reaches (length w) f.1 b)
+ServedAfter e w r found b = IsKept e w r b × IfSome found (λ f. BlockReaches (length w) f.1 b)
 
 -- there is room for texts of `text` bytes and expressions of `nodes` nodes
 pub record HasBackPass (text nodes : ℕ) (b : BackPass) : Type 0 where

@@ -3,7 +3,7 @@ pub use Rattle.sedmarks.specs.Caps
 pub use Rattle.sedmarks.specs.Parts
 pub use Rattle.sedmarks.specs.Answer
 pub use Rattle.sedmarks.specs.Matching
-pub use Rattle.sedmarks.specs.Room
+pub use Rattle.sedmarks.specs.SearchRoom
 pub use Rattle.sedmarks.specs.Costs
 pub mod Tables
 pub mod Longest
@@ -13,4 +13,5 @@ pub mod Between
 pub mod Trail
 pub mod Sight
 pub mod BackPass
+pub mod NextMatch
 pub mod Occurrences

@@ -10,14 +10,14 @@ use Rattle.sedmarks.specs.States.{IsAt}
 use Rattle.sedmatch.specs.Tables.{starts_from}
 
 -- no match from the start on ends before the place
-abbrev pub NoneBefore : List Node → List ℕ → ℕ → ℕ → ℕ → Type 0
-NoneBefore nodes w r start place = (i k : ℕ) → start ≤ i → k < place → At nodes w r i k → ⊥
+abbrev pub NoneEndsBefore : List Node → List ℕ → ℕ → ℕ → ℕ → Type 0
+NoneEndsBefore nodes w r start place = (i k : ℕ) → start ≤ i → k < place → At nodes w r i k → ⊥
 
 -- the first place at which a match from the start on ends, and what is told of it where bytes follow
 abbrev pub IsFirstEnd : List Node → List ℕ → ℕ → ℕ → List Bool → Option FirstEnd → Type 0
-IsFirstEnd nodes w r from marks None = NoneBefore nodes w r from (length w + 1)
+IsFirstEnd nodes w r from marks None = NoneEndsBefore nodes w r from (length w + 1)
 IsFirstEnd nodes w r from marks (Some f) = (from ≤ f.place) × (f.place ≤ length w) × SomeSpan nodes w r (starts_from from w) f.place
-    × (f.place < length w → IsAt nodes w r (starts_from from w) f.place marks f.ends) × NoneBefore nodes w r from f.place
+    × (f.place < length w → IsAt nodes w r (starts_from from w) f.place marks f.ends) × NoneEndsBefore nodes w r from f.place
 
 -- where the pass ended
 abbrev pub ended_to : ℕ → Option FirstEnd → ℕ

@@ -13,7 +13,7 @@ abbrev pub BestTo : Tree → List ℕ → ℕ → ℕ → ℕ → Option ℕ →
 BestTo e w start stop n best = LongestBelow e w start n best × IfSome best (λ end. (start ≤ end) × (end ≤ stop))
 
 -- the pass from the start is in the state at the place, and `stop` is still to come
-pub record StandsAt (x : Written) (r : ℕ) (t : Table) (w : List ℕ) (start stop place state : ℕ) : Type 0 where
+pub record PassIsAt (x : Written) (r : ℕ) (t : Table) (w : List ℕ) (start stop place state : ℕ) : Type 0 where
   pub there : state < t.count
   pub after : start ≤ place
   pub before : place < stop

@@ -1,22 +1,15 @@
 -- All occurrences in one text, one after another (XCU sed, "s/BRE/replacement/flags").
-use Rattle.std.specs.Prelude.{◌≡◌, ℕ, ◌+◌, ◌-◌, ◌*◌, ◌<◌, ◌≤◌, false, ◌&&◌, List, length, Option, Some, None, IfSome, IsTrue, nat_eq, nat_lt, if◌then◌else◌}
+use Rattle.std.specs.Prelude.{◌≡◌, ℕ, ◌+◌, ◌-◌, ◌*◌, ◌<◌, ◌≤◌, false, List, length, Option, Some, None, IfSome, IsTrue, nat_eq, if◌then◌else◌}
 use Rattle.sedre.specs.Arena.{Written}
 use Rattle.sedre.specs.Tree.{Tree}
 use Rattle.sedmarks.specs.Spans.{Spans}
 use Rattle.sedmatch.specs.declared.occurrences.Occurrences.{Occurrences}
 use Rattle.sedmatch.specs.BackPass.{HasBackPass, Served, blocks_cost}
+use Rattle.sedmatch.specs.NextMatch.{next_match}
 
--- the match of the null string at a place is passed over for another one
-abbrev pub unless_null_at : ℕ → Option (ℕ × ℕ) → Option (ℕ × ℕ) → Option (ℕ × ℕ)
-unless_null_at q None other = None
-unless_null_at q (Some m) other = if nat_eq m.0 q && nat_eq m.1 q then other else Some m
-
--- The next occurrence in a text of n bytes, after one that ended at a place, where there was one; `search` tells the
--- match sought from a place. Occurrences don't overlap, and a match of the null string directly after one is none
--- (this project's own): then the search goes on one byte further, as long as that is no place after the end.
+-- the span of the next match in a text of n bytes, after one that ended at a place, where there was one
 abbrev pub next_span : (ℕ → Option (ℕ × ℕ)) → ℕ → Option ℕ → Option (ℕ × ℕ)
-next_span search n None = search 0
-next_span search n (Some q) = unless_null_at q (search q) (if nat_lt q n then search (q + 1) else None)
+next_span search n last = next_match (λ f. f) search n last
 
 -- the place, if there is one, is in a text of n bytes, or its end
 abbrev pub EndsWithin : ℕ → Option ℕ → Type 0

@@ -17,13 +17,13 @@ use Rattle.sedmatch.specs.declared.sight.Sight.{Sight}
 use Rattle.sedmatch.specs.declared.sight.Sight.TheVariants.{One, Run, Led, Trail, Times, Between, Word, Choice}
 
 -- the byte can come first
-abbrev pub IsFirst : First → ℕ → Type 0
-IsFirst (Among few) c = HasFew few c
-IsFirst (Member s) c = IsIn c s
+abbrev pub ComesFirst : First → ℕ → Type 0
+ComesFirst (Among few) c = HasFew few c
+ComesFirst (Member s) c = IsIn c s
 
 -- the byte at the place can come first
 abbrev pub StartsWith : First → List ℕ → ℕ → Type 0
-StartsWith first w i = (c : ℕ) × (slice_get w i ≡ Some c) × IsFirst first c
+StartsWith first w i = (c : ℕ) × (slice_get w i ≡ Some c) × ComesFirst first c
 
 -- what matches from i to j
 abbrev pub SightSpans : Sight → List ℕ → ℕ → ℕ → Type 0

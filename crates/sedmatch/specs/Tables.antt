@@ -47,8 +47,8 @@ abbrev pub LeadsOn : List Node → ℕ → Bool → List ℕ → List Bool → E
 LeadsOn nodes r sweeps classes row ends class after after_ends = (w : List ℕ) (s : Starts) (place byte : ℕ) → slice_get w place ≡ Some byte → byte < 256 → slice_index_or classes byte 0 ≡ class → (IsTrue sweeps ↔ IsStart s (place + 1)) → IsAt nodes w r s place row ends → IsAt nodes w r s (place + 1) after after_ends
 
 -- a search from a place can begin in this state; begin says whether the place is the text's beginning
-abbrev pub IsFirst : List Node → ℕ → Bool → List Bool → Ends → Type 0
-IsFirst nodes r begin row ends = (w : List ℕ) (s : Starts) → (IsTrue begin ↔ (s.first ≡ 0)) → s.first ≤ s.last → IsAt nodes w r s s.first row ends
+abbrev pub CanStart : List Node → ℕ → Bool → List Bool → Ends → Type 0
+CanStart nodes r begin row ends = (w : List ℕ) (s : Starts) → (IsTrue begin ↔ (s.first ≡ 0)) → s.first ≤ s.last → IsAt nodes w r s s.first row ends
 
 -- the cell of a state q and a class k holds the code of the state to which they lead
 pub record Filled (nodes : List Node) (r : ℕ) (sweeps : Bool) (classes : List ℕ) (columns : ℕ) (rows : List (List Bool)) (ends : List Ends) (count q k v : ℕ) : Type 0 where
@@ -59,7 +59,7 @@ pub record Filled (nodes : List Node) (r : ℕ) (sweeps : Bool) (classes : List 
 
 -- the number is 0, or one more than that of a state in which a search can begin
 abbrev pub FirstKnown : List Node → ℕ → Bool → List (List Bool) → List Ends → ℕ → ℕ → Type 0
-FirstKnown nodes r begin rows ends count v = (t : ℕ) → v ≡ t + 1 → (t < count) × IsFirst nodes r begin (row_of rows t) (ends_of ends t)
+FirstKnown nodes r begin rows ends count v = (t : ℕ) → v ≡ t + 1 → (t < count) × CanStart nodes r begin (row_of rows t) (ends_of ends t)
 
 -- a table's states and cells are right
 pub record AreStates (nodes : List Node) (r : ℕ) (sweeps : Bool) (classes : List ℕ) (columns : ℕ) (rows : List (List Bool)) (ends : List Ends) (count : ℕ) (cells index : List ℕ) (at_begin later : ℕ) : Type 0 where
@@ -110,7 +110,7 @@ HasState n t row ends None = Unit {0}
 HasState n t row ends (Some q) = (q < t.count) × AgreeBelow n row (row_of t.rows q) × (ends_of t.ends.items q ≡ ends)
 
 -- states were added, and nothing else changed
-pub record Grows (old new : Table) : Type 0 where
+pub record AddsStates (old new : Table) : Type 0 where
   pub count : old.count ≤ new.count
   pub rows : (q : ℕ) → q < old.count → row_of new.rows q ≡ row_of old.rows q
   pub ends : (q : ℕ) → q < old.count → ends_of new.ends.items q ≡ ends_of old.ends.items q

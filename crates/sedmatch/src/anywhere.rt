@@ -8,7 +8,7 @@ ghost use Rattle.sedmatch.specs.Tables.{IsSingle};
 ghost use Rattle.sedmatch.specs.Ready.{AreTables, IsPrepared};
 ghost use Rattle.sedmarks.specs.Answer.{SpanAnswer};
 ghost use Rattle.sedmarks.specs.Costs.{Pays};
-ghost use Rattle.sedre.specs.Steps.{Takes};
+ghost use Rattle.sedre.specs.Steps.{StepsWithin, Takes};
 
 use crate::linear::{first_end_in, region_by, span_by, start_to};
 use crate::ready::{Known, Tables};
@@ -65,9 +65,9 @@ pub fn leftmost_by(
     ensures cost { let m = length expr.now.nodes in let n = length text.now in
         Takes steps.old steps.new (128 * m * (n + 1)) }
     ensures short_cost { let m = length expr.now.nodes in let n = length text.now in
-        steps.new ≤ steps.old + 64 * m * (n + 1) * (n + 1) }
+        StepsWithin steps.old steps.new (64 * m * (n + 1) * (n + 1)) }
     ensures none_cost { let m = length expr.now.nodes in let n = length text.now in
-        IfNone result (steps.new ≤ steps.old + 64 * m * (n + 1)) }
+        IfNone result (StepsWithin steps.old steps.new (64 * m * (n + 1))) }
 {
     match &known.begins {
         Begins::AtStart => anchored_by(expr, root, text, from, &mut tables.single, sets, steps),
@@ -96,9 +96,9 @@ fn anywhere_by(
     ensures cost { let m = length expr.now.nodes in let n = length text.now in
         Takes steps.old steps.new (123 * m + 127 * m * n) }
     ensures short_cost { let m = length expr.now.nodes in let n = length text.now in
-        steps.new ≤ steps.old + 64 * m * (n + 1) * (n + 1) }
+        StepsWithin steps.old steps.new (64 * m * (n + 1) * (n + 1)) }
     ensures none_cost { let m = length expr.now.nodes in let n = length text.now in
-        IfNone result (steps.new ≤ steps.old + 41 * m + 43 * m * n) }
+        IfNone result (StepsWithin steps.old steps.new (41 * m + 43 * m * n)) }
 {
     let (start, lead) = first_place(expr, &known.begins, &known.rare, text, from, steps)?;
     match lead {
@@ -125,7 +125,7 @@ fn span_from(
     ensures cost { let m = length expr.now.nodes in let n = length text.now in
         Pays steps.old steps.new (122 * m + 126 * m * n) (126 * m * start) }
     ensures short_cost { let m = length expr.now.nodes in
-        start ≡ length text.now → steps.new ≤ steps.old + 46 * m }
+        start ≡ length text.now → StepsWithin steps.old steps.new (46 * m) }
     ensures none_cost { let m = length expr.now.nodes in let n = length text.now in
         IfNone result (steps.new + 42 * m * start ≤ steps.old + 40 * m + 42 * m * n) }
 {

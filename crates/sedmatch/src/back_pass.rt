@@ -12,8 +12,9 @@ ghost use Rattle.sedmarks.specs.Nodes.{IsArenaRoot, IsNode, IsRoot};
 ghost use Rattle.sedmarks.specs.PartMarks.{takes_next};
 ghost use Rattle.sedmarks.specs.Words.{row_of};
 ghost use Rattle.sedmarks.specs.Reach.{Longest, TellBegun, TellEntered, one_start};
-ghost use Rattle.sedmatch.specs.BackPass.{MeetsBelow, GoesOnFrom, CameTo, PassTells, MarksGrow, BlockTells, HasKept, IsKept, Served, ServedAfter, HasBackPass, FitsRows, SameShape, KeepsBackPass, HasPlace, TurnsTo, BlockTakes, low_of, met_to, begin_to, end_to, blocks_cost};
-ghost use Rattle.sedmatch.specs.Occurrences.{next_span, unless_null_at};
+ghost use Rattle.sedmatch.specs.BackPass.{MeetsBelow, EndsLaterFrom, CameTo, PassTells, MarksGrow, BlockTells, HasKept, IsKept, Served, ServedAfter, HasBackPass, FitsRows, SameShape, KeepsBackPass, HasPlace, TurnsTo, BlockTakes, low_of, met_to, begin_to, end_to, blocks_cost};
+ghost use Rattle.sedmatch.specs.NextMatch.{unless_null_at};
+ghost use Rattle.sedmatch.specs.Occurrences.{next_span};
 ghost use Rattle.sedmarks.specs.Search.{starts_to};
 ghost use Rattle.sedmarks.specs.Cuts.{LeastFrom};
 ghost use Rattle.sedmarks.specs.Matching.{found};
@@ -260,7 +261,7 @@ fn remake(
     make_block(nodes, bytes, root, block, back_pass, steps);
 }
 
-/// Sees that the rows are kept of the block that has the place, counted from the text's end.
+/// Makes sure that the rows of the block with this place, counted from the text's end, are kept.
 fn bring(
     expr: &Expr,
     text: &Text,
@@ -343,7 +344,7 @@ fn goes_on(
     ensures kept { KeepsBackPass back_pass.old back_pass.new }
     ensures entered { sets.new.entered ≡ sets.old.entered }
     ensures served { Served expr.now text.now root place back_pass.new }
-    ensures goes { IsTrue result ↔ GoesOnFrom expr.now.nodes text.now root start place }
+    ensures goes { IsTrue result ↔ EndsLaterFrom expr.now.nodes text.now root start place }
     ensures cost { let m = length expr.now.nodes in
         Pays steps.old steps.new (blocks_cost m back_pass.old + 4 * m + 1) (blocks_cost m back_pass.new) }
 {
@@ -411,7 +412,7 @@ fn next_begin(text: &Text, begins: &Marks, from: usize, steps: &mut Steps) -> Op
 
 /// Whether a span is the null string at the place.
 pub fn is_null_at(span: Option<(usize, usize)>, at: usize) -> bool
-    ensures passed { (other : Option (ℕ × ℕ)) → unless_null_at at span other ≡ if result then other else span }
+    ensures passed { (other : Option (ℕ × ℕ)) → unless_null_at (λ (f : ℕ × ℕ). f) at span other ≡ if result then other else span }
     ensures null { IsTrue result → span ≡ Some (at, at) }
     ensures after { result ≡ false → IfSome span (λ f. at ≤ f.0 → f.0 ≤ f.1 → at < f.1) }
 {
@@ -452,7 +453,7 @@ fn next_met(
     }
 }
 
-/// The next occurrence after one that ended at `at`: the null string at `at` is none.
+/// The next occurrence after one that ended at `at`. The null string at `at` doesn't count.
 pub fn next_after(
     expr: &Expr,
     root: usize,

@@ -8,16 +8,8 @@ ghost use Rattle.sedre.specs.Steps.{Counted};
 use crate::sight::First;
 use memchr::memmem::FinderRev;
 use sedmarks::counted::{Text, uncounted};
+use sedmarks::members::byte_at;
 use sedre::{ByteSet, Steps};
-
-/// The byte at a place.
-#[inline(always)]
-fn byte_at(bytes: &[u8], i: usize) -> u8
-    requires { i < length bytes.now }
-    ensures byte { slice_get bytes.now i ≡ Some result }
-{
-    bytes[i]
-}
 
 /// The begin of the run of bytes of the set that ends before `to`, not before `from`.
 // As a part of a large function it would be slower by the byte.

@@ -56,7 +56,7 @@ fn few_without(set: &ByteSet) -> Option<Few> {
     few
 }
 
-/// Whether just those bytes aren't in the set.
+/// Whether these are exactly the bytes that aren't in the set.
 fn are_outside(few: &Few, set: &ByteSet) -> bool
     ensures { IsTrue result → AreOutside few.now set.now }
 {
@@ -78,8 +78,8 @@ fn outside_of(set: &ByteSet) -> Option<Few>
     }
 }
 
-/// The bytes that don't stand where the spans of the node begin with any number of others, and the node that is spanned
-/// after them.
+/// For a node whose spans begin with any number of bytes of a set: the few bytes outside the set, and the node that
+/// follows.
 fn middle_of(expr: &Expr, index: usize, steps: &mut Steps) -> Option<(Few, usize)>
     requires inside { index < length expr.now.nodes }
     ensures goes { IfSome result (λ f. GoesClear expr.now.nodes index f.0 f.1) }
@@ -95,7 +95,7 @@ fn middle_of(expr: &Expr, index: usize, steps: &mut Steps) -> Option<(Few, usize
     }
 }
 
-/// The searches for what they have.
+/// The searches for the two literals and the bytes outside the set.
 fn new_between(alloc: Global, head: &[u8], outside: Few, tail: &[u8]) -> Result<Between, AllocError>
     requires literals { IsShort head.now tail.now }
     ensures { IfOk result (λ b. b ≡ record { head = head.now; outside = outside; tail = tail.now }) }

@@ -9,7 +9,7 @@ ghost use Rattle.sedmarks.specs.Reach.{SomeSpan};
 ghost use Rattle.sedmarks.specs.Search.{IsRegion, IsRegionTo, LastEnd, IsEarliest, starts_to};
 ghost use Rattle.sedmarks.specs.States.{IsAt};
 ghost use Rattle.sedmatch.specs.Tables.{IsSingle, IsSweep, IsTable, NextIs, starts_from};
-ghost use Rattle.sedmatch.specs.Linear.{NoneBefore, IsFirstEnd, ended_to, IsBound, IsFirstStart};
+ghost use Rattle.sedmatch.specs.Linear.{NoneEndsBefore, IsFirstEnd, ended_to, IsBound, IsFirstStart};
 ghost use Rattle.sedmarks.specs.Search.{IsThere};
 ghost use Rattle.sedmatch.specs.Ready.{AreTables};
 ghost use Rattle.sedmarks.specs.Costs.{Pays};
@@ -37,7 +37,7 @@ pub struct FirstEnd {
 /// Whether a match ends at the end of the text.
 fn at_last(place: usize, ends: Ends) -> Option<FirstEnd>
     ensures first { (nodes : List Node) (w : List ℕ) (r from : ℕ) (marks : List Bool) → r + 1 ≡ length nodes → place ≡ length w → from ≤ place →
-        (IsTrue ends.last ↔ SomeSpan nodes w r (starts_from from w) place) → NoneBefore nodes w r from place →
+        (IsTrue ends.last ↔ SomeSpan nodes w r (starts_from from w) place) → NoneEndsBefore nodes w r from place →
         IsFirstEnd nodes w r from marks result }
     ensures place { (n : ℕ) → place ≡ n → ended_to n result ≡ place }
 {
@@ -62,7 +62,7 @@ fn first_end_on(
     requires root { IsRoot expr.now.nodes root }
     requires order { InOrder start place (length text.now) }
     requires at { IsAt expr.now.nodes text.now root (starts_from start text.now) place sets.old.entered ends }
-    requires missed { NoneBefore expr.now.nodes text.now root start place }
+    requires missed { NoneEndsBefore expr.now.nodes text.now root start place }
     ensures first { IsFirstEnd expr.now.nodes text.now root start sets.new.entered result }
     ensures after { place ≤ ended_to (length text.now) result }
     ensures cost { let m = length expr.now.nodes in

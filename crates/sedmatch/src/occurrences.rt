@@ -8,7 +8,7 @@ ghost use Rattle.sedmatch.specs.Occurrences.{next_span, owed, owed_after, owed_a
 ghost use Rattle.sedmarks.specs.Nodes.{IsRoot};
 ghost use Rattle.sedmarks.specs.Parts.{SpanIn, span_of};
 ghost use Rattle.sedmarks.specs.Spans.{Spans};
-ghost use Rattle.sedmarks.specs.Room.{FitInto};
+ghost use Rattle.sedmarks.specs.SearchRoom.{FitInto};
 ghost use Rattle.sedmarks.specs.Costs.{Pays};
 ghost use Rattle.sedre.specs.Steps.{Takes};
 
@@ -22,11 +22,11 @@ use std::alloc::{AllocError, Global};
 
 /// How the searches for all occurrences in one text go on.
 ///
-/// A search may look far past the match that it finds, so that one after another they could cost steps in the square of
-/// the text's length. So the steps that they take are counted. Once there are more than 32 for each node and place,
-/// one pass from the text's end is made, after which a search looks no further than to its own match's end. Most texts
-/// never come to that. All searches in one text together take at most 416 steps for each node and place, whatever the
-/// expression and the text.
+/// A search may look far past the match that it finds, so a search for each occurrence could cost steps in the square of
+/// the text's length. Therefore the steps of all searches in one text are counted. When they pass 32 for each node and
+/// place, one pass from the text's end is made; after it no search looks further than to the end of the match that it
+/// finds. Most texts never need that pass. All searches in one text together take at most 416 steps for each node and
+/// place, whatever the expression and the text.
 ///
 /// All room is taken in [`Occurrences::new`]: a bit for each byte of the longest text, twice the root of its length
 /// many rows of a bit for each node, and 24 KiB of marks.
@@ -118,8 +118,8 @@ fn place_of(last: Option<usize>) -> usize
 }
 
 impl TableMatcher {
-    /// The next match where the null string at the place is none: one byte further, where the text goes on.
-    // It is seldom called, and no part of its caller, which stays small.
+    /// The next match where the null string at `at` doesn't count: the one sought one byte further on, if the text goes on.
+    // It is seldom called, and so kept out of its caller.
     #[inline(never)]
     fn past_null(
         &mut self,

@@ -10,10 +10,10 @@ ghost use Rattle.sedre.specs.Tree.{Tree};
 ghost use Rattle.sedre.specs.declared.types.Node.TheVariants.{Seq};
 ghost use Rattle.sedmarks.specs.Spans.{Found as IsFound, NotFound, SomeFound, IsIn};
 ghost use Rattle.sedmarks.specs.Answer.{IsComputed, MatchAnswer};
-ghost use Rattle.sedmatch.specs.Sight.{IsFirst, FirstWith, IsSight, IsSightOf, CanStart, FirstStart, EndsAt};
-ghost use Rattle.sedmarks.specs.Room.{FitInto};
+ghost use Rattle.sedmatch.specs.Sight.{ComesFirst, FirstWith, IsSight, IsSightOf, CanStart, FirstStart, EndsAt};
+ghost use Rattle.sedmarks.specs.SearchRoom.{FitInto};
 ghost use Rattle.sedmarks.specs.Costs.{Pays};
-ghost use Rattle.sedre.specs.Steps.{Takes};
+ghost use Rattle.sedre.specs.Steps.{StepsWithin, Takes};
 
 use crate::between::{Between, between_of};
 use crate::trail::{trail_end, trail_start};
@@ -43,7 +43,7 @@ pub enum First {
 impl First {
     /// Whether it can be this byte.
     pub fn has(&self, byte: u8) -> bool
-        ensures { IsTrue result ↔ IsFirst self.now byte }
+        ensures { IsTrue result ↔ ComesFirst self.now byte }
     {
         match self {
             First::Among(few) => few.has(byte),
@@ -75,7 +75,7 @@ pub enum Sight {
 
 /// A member of a set, as it is sought.
 fn first_of(set: &ByteSet) -> First
-    ensures { (c : ℕ) → c < 256 → IsFirst result c ↔ IsIn c set.now }
+    ensures { (c : ℕ) → c < 256 → ComesFirst result c ↔ IsIn c set.now }
 {
     match members_of(set) {
         Some(few) => First::Among(few),
@@ -242,8 +242,8 @@ pub fn sight_find(
     ensures computed { IsComputed (tree expr.now) text.now from result }
     ensures cost { let m = length expr.now.nodes in let n = length text.now in
         Takes steps.old steps.new (64 * m * m * (n + 1) * (n + 1)) }
-    ensures linear_without_groups { expr.now.groups ≡ 0 → steps.new ≤ steps.old + 50 * (length text.now + 1) }
-    ensures cost_of_none { IfNone result (steps.new ≤ steps.old + 50 * (length text.now + 1)) }
+    ensures linear_without_groups { expr.now.groups ≡ 0 → StepsWithin steps.old steps.new (50 * (length text.now + 1)) }
+    ensures cost_of_none { IfNone result (StepsWithin steps.old steps.new (50 * (length text.now + 1))) }
 {
     let (start, end) = sight_span(sight, text, from, steps)?;
     let groups = report(

@@ -22,7 +22,7 @@ impl Model for StateLimit {
 }
 
 impl StateLimit {
-    /// `states` of them, and 64 where that is more.
+    /// A limit of `states`, but at most 64.
     pub fn new(states: usize) -> StateLimit
         ensures { result ≡ min states 64 }
     {
@@ -31,7 +31,7 @@ impl StateLimit {
         }
     }
 
-    /// The limit itself, and `states` where that is less.
+    /// The smaller of this limit and `states`.
     pub(crate) fn at_most(self, states: usize) -> StateLimit
         ensures { result ≡ min self states }
     {

@@ -4,16 +4,16 @@ ghost use Rattle.sedre.specs.Arena.{tree};
 ghost use Rattle.sedmarks.specs.Nodes.{IsRoot};
 ghost use Rattle.sedmarks.specs.Spans.{SomeFound};
 ghost use Rattle.sedmatch.specs.Tables.{IsSingle, IsSweep, IsTable, StateAt, ends_of};
-ghost use Rattle.sedmatch.specs.Longest.{BestTo, HasPassed, StandsAt};
+ghost use Rattle.sedmatch.specs.Longest.{BestTo, HasPassed, PassIsAt};
 ghost use Rattle.sedmarks.specs.Places.{InOrder};
 ghost use Rattle.sedmarks.specs.Reach.{Longest, LongestBelow, one_start};
 ghost use Rattle.sedmarks.specs.Answer.{IsComputed, MatchAnswer, SpanAnswer};
 ghost use Rattle.sedmarks.specs.Matching.{found};
 ghost use Rattle.sedmatch.specs.Ready.{AreTables, IsKnown, IsPrepared};
-ghost use Rattle.sedmarks.specs.Room.{FitInto};
+ghost use Rattle.sedmarks.specs.SearchRoom.{FitInto};
 ghost use Rattle.sedmarks.specs.Work.{AreFlat};
 ghost use Rattle.sedmarks.specs.Costs.{Pays};
-ghost use Rattle.sedre.specs.Steps.{Takes, TakesAtLeast};
+ghost use Rattle.sedre.specs.Steps.{StepsWithin, Takes, TakesAtLeast};
 
 use crate::anywhere::{anchored_by, leftmost_by};
 use crate::linear::first_end_in;
@@ -145,7 +145,7 @@ fn passed_at(table: &Table, code: usize, place: usize, best: Option<usize>, over
     }
 }
 
-/// What is told of the state to which a cell leads, where another cell and what it leads to were looked at before.
+/// What is known of the state to which a cell leads, given what is known of the one to which the cell `seen` leads.
 fn ends_by(expr: &Nodes, root: usize, table: &Table, cell: u16, seen: u16, before: Ends) -> Ends
     requires table { IsTable expr.now.nodes root table.now }
     requires cell { 0 < cell }
@@ -193,7 +193,7 @@ fn stay_best(
 ) -> Passed
     requires root { root + 1 ≡ length expr.now.nodes }
     requires table { IsSingle expr.now.nodes root table.now }
-    requires at { StandsAt expr.now root table.now text.now start stop from state }
+    requires at { PassIsAt expr.now root table.now text.now start stop from state }
     requires inner { IsTrue (ends_of table.now.ends.items state).inner }
     ensures passed { HasPassed expr.now root table.now text.now start stop from result }
     ensures counts { TakesAtLeast steps.old steps.new (2 * (result.place - from)) }
@@ -226,14 +226,14 @@ fn follow_noting(
 ) -> Passed
     requires root { root + 1 ≡ length expr.now.nodes }
     requires table { IsSingle expr.now.nodes root table.now }
-    requires at { StandsAt expr.now root table.now text.now start stop from state }
+    requires at { PassIsAt expr.now root table.now text.now start stop from state }
     requires best { BestTo (tree expr.now) text.now start stop (from + 1) before }
     ensures passed { HasPassed expr.now root table.now text.now start stop from result }
     ensures counts { TakesAtLeast steps.old steps.new (2 * (result.place - from)) }
     ensures cost { Pays steps.old steps.new (2 * result.place + 2) (2 * from) }
 {
     let mut bytes = Tally::new();
-    // The code in place of the state: so the number below is taken off by the address alone.
+    // The code stands in place of the state, so that the subtraction below becomes part of the address.
     let mut code = PLAIN as usize + table.columns * state;
     let mut best = before;
     let mut seen = 0;
@@ -283,7 +283,7 @@ fn follow_best(
 ) -> Passed
     requires root { root + 1 ≡ length expr.now.nodes }
     requires table { IsSingle expr.now.nodes root table.now }
-    requires at { StandsAt expr.now root table.now text.now start stop from state }
+    requires at { PassIsAt expr.now root table.now text.now start stop from state }
     requires inner { IsTrue inner → IsTrue (ends_of table.now.ends.items state).inner }
     requires best { BestTo (tree expr.now) text.now start stop (from + 1) before }
     ensures passed { HasPassed expr.now root table.now text.now start stop from result }
@@ -439,9 +439,9 @@ fn find_by(
     ensures cost { let m = length expr.now.nodes in let n = length text.now in
         Takes steps.old steps.new (64 * m * m * (n + 1) * (n + 1)) }
     ensures cost_without_groups { let m = length expr.now.nodes in let n = length text.now in expr.now.groups ≡ 0 →
-        (steps.new ≤ steps.old + 64 * m * (n + 1) * (n + 1)) × (steps.new ≤ steps.old + 128 * m * (n + 1)) }
+        StepsWithin steps.old steps.new (64 * m * (n + 1) * (n + 1)) × StepsWithin steps.old steps.new (128 * m * (n + 1)) }
     ensures cost_of_none { let m = length expr.now.nodes in let n = length text.now in
-        IfNone result (steps.new ≤ steps.old + 64 * m * (n + 1)) }
+        IfNone result (StepsWithin steps.old steps.new (64 * m * (n + 1))) }
 {
     let sets = &mut scratch.sets;
     let (start, end) = leftmost_by(expr, root, known, text, from, tables, sets, steps)?;
@@ -519,7 +519,7 @@ impl TableMatcher {
         let sight = sight_of(alloc, expr, steps)?;
         let seen = sight.is_some();
         let known = find_known(alloc, expr, seen, steps)?;
-        // Tables that no search comes to have no states. They are made last: no request follows that could fail.
+        // A table that no search uses has no states. The tables are made last, so that no later request can fail.
         let limit = if seen { StateLimit::new(0) } else { limit };
         let tables = new_tables(alloc, expr, root, limit, steps)?;
         Ok(TableMatcher {
@@ -587,9 +587,9 @@ impl TableMatcher {
         ensures cost { let m = length self.old.nodes in let n = length text.now in
             Takes steps.old steps.new (64 * m * (n + 1) * (n + 1)) }
         ensures linear_cost { let m = length self.old.nodes in let n = length text.now in
-            steps.new ≤ steps.old + 128 * m * (n + 1) }
+            StepsWithin steps.old steps.new (128 * m * (n + 1)) }
         ensures cost_of_none { let m = length self.old.nodes in let n = length text.now in
-            IfNone result (steps.new ≤ steps.old + 64 * m * (n + 1)) }
+            IfNone result (StepsWithin steps.old steps.new (64 * m * (n + 1))) }
     {
         if self.root == 0 && self.sight.is_none() {
             return find_span(&self.expr, text, from, scratch, steps);
@@ -627,9 +627,9 @@ impl TableMatcher {
         ensures cost { let m = length self.old.nodes in let n = length text.now in
             Takes steps.old steps.new (64 * m * m * (n + 1) * (n + 1)) }
         ensures cost_without_groups { let m = length self.old.nodes in let n = length text.now in self.old.groups ≡ 0 →
-            (steps.new ≤ steps.old + 64 * m * (n + 1) * (n + 1)) × (steps.new ≤ steps.old + 128 * m * (n + 1)) }
+            StepsWithin steps.old steps.new (64 * m * (n + 1) * (n + 1)) × StepsWithin steps.old steps.new (128 * m * (n + 1)) }
         ensures cost_of_none { let m = length self.old.nodes in let n = length text.now in
-            IfNone result (steps.new ≤ steps.old + 64 * m * (n + 1)) }
+            IfNone result (StepsWithin steps.old steps.new (64 * m * (n + 1))) }
     {
         if let Some(sight) = &self.sight {
             return sight_find(&self.expr, sight, text, from, scratch, steps);

@@ -8,9 +8,9 @@
 ghost use Rattle.std.specs.Prelude.{◌≡◌, ℕ, true, false, ◌+◌, ◌-◌, ◌*◌, ◌/◌, ◌^◌, ◌<◌, ◌≤◌, ◌↔◌, length, slice_index_or, Some, IsTrue, IfOk, IfSome, IfNone, vec_len};
 ghost use Rattle.sedmarks.specs.Places.{InOrder};
 ghost use Rattle.sedmarks.specs.Words.{row_of};
-ghost use Rattle.sedmatch.specs.Tables.{IsTable, NextIs, stops, code_of, ends_of, LeadsFrom, IsFirst, HasState, Grows, Follows, Stays, look_cost, IsCut};
+ghost use Rattle.sedmatch.specs.Tables.{IsTable, NextIs, stops, code_of, ends_of, LeadsFrom, CanStart, HasState, AddsStates, Follows, Stays, look_cost, IsCut};
 ghost use Rattle.sedmarks.specs.Costs.{Pays};
-ghost use Rattle.sedre.specs.Steps.{Takes, Counted, TakesAtLeast};
+ghost use Rattle.sedre.specs.Steps.{StepsWithin, Takes, Counted, TakesAtLeast};
 
 use crate::classes::{Classes, are_classes};
 use crate::state_limit::StateLimit;
@@ -158,7 +158,7 @@ fn add_state(
     requires table { IsTable expr.now.nodes root table.old }
     requires slot { slot < vec_len table.old.index }
     ensures table { IsTable expr.now.nodes root table.new }
-    ensures kept { Grows table.old table.new }
+    ensures kept { AddsStates table.old table.new }
     ensures has { HasState (length expr.now.nodes) table.new row.now ends result }
     ensures none_cost { IfNone result (steps.new ≡ steps.old) }
     ensures cost { Takes steps.old steps.new (3 * length expr.now.nodes) }
@@ -189,9 +189,9 @@ fn state_of(
     requires table { IsTable expr.now.nodes root table.old }
     requires slot { slot < vec_len table.old.index }
     ensures table { IsTable expr.now.nodes root table.new }
-    ensures kept { Grows table.old table.new }
+    ensures kept { AddsStates table.old table.new }
     ensures has { HasState (length expr.now.nodes) table.new row.now ends result }
-    ensures none_cost { IfNone result (steps.new ≤ steps.old + length expr.now.nodes + 1) }
+    ensures none_cost { IfNone result (StepsWithin steps.old steps.new (length expr.now.nodes + 1)) }
     ensures cost { Takes steps.old steps.new (4 * length expr.now.nodes + 1) }
 {
     match find_state(expr, root, table, slot, row, ends, steps) {
@@ -410,7 +410,7 @@ fn find_first(
     requires table { IsTable expr.now.nodes root table.old }
     ensures table { IsTable expr.now.nodes root table.new }
     ensures sweeps { table.new.sweeps ≡ table.old.sweeps }
-    ensures next { NextIs (IsFirst expr.now.nodes root begin) table.new sets.new.entered result }
+    ensures next { NextIs (CanStart expr.now.nodes root begin) table.new sets.new.entered result }
     ensures cost { Takes steps.old steps.new (32 * length expr.now.nodes + 6) }
 {
     sets.entered.clear(expr.nodes(), steps);
@@ -441,7 +441,7 @@ pub fn first_state(
     requires table { IsTable expr.now.nodes root table.old }
     ensures table { IsTable expr.now.nodes root table.new }
     ensures sweeps { table.new.sweeps ≡ table.old.sweeps }
-    ensures next { NextIs (IsFirst expr.now.nodes root begin) table.new sets.new.entered result }
+    ensures next { NextIs (CanStart expr.now.nodes root begin) table.new sets.new.entered result }
     ensures cost { Takes steps.old steps.new (32 * length expr.now.nodes + 6) }
 {
     if begin {
@@ -496,7 +496,7 @@ pub fn follow_to(
 {
     let mut bytes = Tally::new();
     let columns = table.columns;
-    // The code in place of the state: so the number below is taken off by the address alone.
+    // The code stands in place of the state, so that the subtraction below becomes part of the address.
     let mut code = PLAIN as usize + columns * state;
     for place in from..to {
         let class = table.classes[text.tallied(place, &mut bytes) as usize] as usize;

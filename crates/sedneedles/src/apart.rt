@@ -30,8 +30,8 @@ fn are_apart(bytes: &[u8], first: &Fixed, second: &Fixed, place: usize) -> bool
     both.simd_eq(u8x32::splat(0)).to_bitmask() == 0
 }
 
-/// A place before which, from `place` on, `first` and `second` stand together nowhere, as far as the last vector of the
-/// text tells.
+/// A place such that from `place` up to it `first` and `second` stand together nowhere, as the last vector of the text
+/// tells; `place` itself where it tells nothing.
 fn last_apart(bytes: &[u8], first: &Fixed, second: &Fixed, reach: usize, place: usize) -> usize
     requires place { place ≤ length bytes.now }
     requires first { first.now.offset + 32 ≤ reach }
@@ -50,7 +50,7 @@ fn last_apart(bytes: &[u8], first: &Fixed, second: &Fixed, reach: usize, place: 
     last + LANES
 }
 
-/// A place before which, from `from` on, `first` and `second` stand together nowhere, as far as whole vectors tell.
+/// A place such that from `from` up to it `first` and `second` stand together nowhere, as far as whole vectors tell.
 pub fn apart_to(bytes: &[u8], first: &Fixed, second: &Fixed, from: usize) -> usize
     requires from { from ≤ length bytes.now }
     ensures after { from ≤ result }

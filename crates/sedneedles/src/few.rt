@@ -42,7 +42,7 @@ impl Few {
         }
     }
 
-    /// Lanes of which those are 0 in which one of them stands.
+    /// Lanes that are 0 exactly where one of them stands.
     #[inline(always)]
     pub fn zeros(&self, lanes: u8x32) -> u8x32
         ensures { HasZeros (HasFew self.now) lanes result }
@@ -55,7 +55,7 @@ impl Few {
     }
 }
 
-/// Lanes of which those are 0 in which the byte stands.
+/// Lanes that are 0 exactly where the byte stands.
 #[inline(always)]
 pub fn byte_zeros(byte: u8, lanes: u8x32) -> u8x32
     ensures { HasZeros (λ c. c ≡ byte) lanes result }
@@ -63,7 +63,7 @@ pub fn byte_zeros(byte: u8, lanes: u8x32) -> u8x32
     lanes ^ u8x32::splat(byte)
 }
 
-/// Lanes of which those are 0 in which one of the two bytes stands.
+/// Lanes that are 0 exactly where one of the two bytes stands.
 #[inline(always)]
 fn two_zeros(first: u8, second: u8, lanes: u8x32) -> u8x32
     ensures { HasZeros (HasFew (Two first second)) lanes result }
@@ -71,7 +71,7 @@ fn two_zeros(first: u8, second: u8, lanes: u8x32) -> u8x32
     byte_zeros(first, lanes).simd_min(byte_zeros(second, lanes))
 }
 
-/// Lanes of which those are 0 in which one of the three bytes stands.
+/// Lanes that are 0 exactly where one of the three bytes stands.
 #[inline(always)]
 fn three_zeros(first: u8, second: u8, third: u8, lanes: u8x32) -> u8x32
     ensures { HasZeros (HasFew (Three first second third)) lanes result }

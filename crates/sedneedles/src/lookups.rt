@@ -62,7 +62,7 @@ pub fn find_literal(text: &Text, finder: &Finder, from: usize, steps: &mut Steps
     }
 }
 
-/// A place before which, from `from` on, `first` and `second` stand together nowhere, as far as whole vectors tell.
+/// A place such that from `from` up to it `first` and `second` stand together nowhere, as far as whole vectors tell.
 /// Counts two looks for each place from `from` to that one.
 pub fn pass_apart(
     text: &Text,

@@ -36,7 +36,7 @@ pub enum Link {
 pub struct Literal {
     /// The bytes.
     pub bytes: Vec<u8>,
-    /// The node as whose spans they go on after these bytes; where there is none, they end there.
+    /// The node whose spans follow these bytes. None where the spans end with the bytes.
     pub rest: Option<usize>,
 }
 

@@ -6,10 +6,10 @@ use Rattle.sedre.specs.Tree.{Tree, group}
 use Rattle.sedre.specs.Repeats.{concatenation, alternation, repetition}
 use Rattle.sedre.specs.Grammar.{AreAlternatives, ArePieces, IsPiece, first, another, none, more, byte, begin_anchor, end_anchor, subexpression, repeated}
 use Rattle.sedre.proofs.Machine.{run-append, with_last-append}
-use Rattle.sedre.specs.Stacks.{Level, State, run}
+use Rattle.sedre.specs.Stacks.{Level, Nesting, run}
 
 -- a state at a level
-abbrev pub at : ℕ → ℕ → List Tree → List Tree → List Level → State
+abbrev pub at : ℕ → ℕ → List Tree → List Tree → List Level → Nesting
 at g number bs ps below = record { opened = g; top = record { number = number; alternatives = bs; pieces = ps }; below = below }
 
 -- the machine reads these alternatives: it has all of them but the last, whose pieces it has
@@ -28,13 +28,13 @@ mutual
         before = r.before ++ concatenation r.pieces ∷ [];
         pieces = ts;
         whole = ap (λ (x : List Tree). x ++ concatenation ts ∷ []) r.whole;
-        reads = run-append is (Bar ∷ js) _ ∙ ap (λ (s : State). run (Bar ∷ js) s) r.reads ∙ pieces_read p number _ [] below;
+        reads = run-append is (Bar ∷ js) _ ∙ ap (λ (s : Nesting). run (Bar ∷ js) s) r.reads ∙ pieces_read p number _ [] below;
       }
 
   pub pieces_read : {g h : ℕ} {is : List Item} {ts : List Tree} → ArePieces g is ts h → (number : ℕ) (bs ps : List Tree) (below : List Level) → run is (at g number bs ps below) ≡ at h number bs (ps ++ ts) below
   pieces_read (none {g}) number bs ps below = ap (λ (x : List Tree). at g number bs x below) (sym (append-nil ps))
   pieces_read (more {k = k} {is = is} {js = js} {ts = ts} {t = t} p q) number bs ps below =
-      run-append is js _ ∙ ap (λ (s : State). run js s) (pieces_read p number bs ps below) ∙ piece_read q number bs (ps ++ ts) below ∙ ap (λ (x : List Tree). at k number bs x below) (append_assoc ps ts (t ∷ []))
+      run-append is js _ ∙ ap (λ (s : Nesting). run js s) (pieces_read p number bs ps below) ∙ piece_read q number bs (ps ++ ts) below ∙ ap (λ (x : List Tree). at k number bs x below) (append_assoc ps ts (t ∷ []))
 
   pub piece_read : {g h : ℕ} {is : List Item} {t : Tree} → IsPiece g is t h → (number : ℕ) (bs ps : List Tree) (below : List Level) → run is (at g number bs ps below) ≡ at h number bs (ps ++ t ∷ []) below
   piece_read byte number bs ps below = refl
@@ -42,6 +42,6 @@ mutual
   piece_read end_anchor number bs ps below = refl
   piece_read (subexpression {g = g} {h = h} {is = is} a) number bs ps below =
       let r = alternatives_read a (suc g) (record { number = number; alternatives = bs; pieces = ps } ∷ below) in
-      run-append is (Close ∷ []) _ ∙ ap (λ (s : State). run (Close ∷ []) s) r.reads ∙ ap (λ (x : List Tree). at h number bs (ps ++ group (suc g) (alternation x) ∷ []) below) r.whole
+      run-append is (Close ∷ []) _ ∙ ap (λ (s : Nesting). run (Close ∷ []) s) r.reads ∙ ap (λ (x : List Tree). at h number bs (ps ++ group (suc g) (alternation x) ∷ []) below) r.whole
   piece_read (repeated {h = h} least most {is = is} {t = t} q) number bs ps below =
-      run-append is (Repeat least most ∷ []) _ ∙ ap (λ (s : State). run (Repeat least most ∷ []) s) (piece_read q number bs ps below) ∙ ap (λ (x : List Tree). at h number bs x below) (with_last-append (repetition least most) ps t)
+      run-append is (Repeat least most ∷ []) _ ∙ ap (λ (s : Nesting). run (Repeat least most ∷ []) s) (piece_read q number bs ps below) ∙ ap (λ (x : List Tree). at h number bs x below) (with_last-append (repetition least most) ps t)

@@ -14,7 +14,7 @@ use Rattle.sedre.specs.Items.{item_at}
 use Rattle.sedre.specs.Tree.{Tree, size, depth}
 use Rattle.sedre.specs.Arena.{Written, tree, IsExpr}
 use Rattle.sedre.specs.Grammar.{ReadsAs, FaultyWith}
-use Rattle.sedre.specs.Stacks.{State, CanTake, whole, Stored, postorder, written, part_of}
+use Rattle.sedre.specs.Stacks.{Nesting, CanTake, whole, Stored, postorder, written, part_of}
 use Rattle.sedre.specs.Finished.{Numbered, IsFinished, IsOverLimit}
 use Rattle.sedre.proofs.Written.{length-postorder}
 use Rattle.sedre.proofs.Kept.{fitting_all}
@@ -69,7 +69,7 @@ finished_expr limit s t p groups opened st e h eg g most =
     let small : size t < limit = small_tree limit s t p st e h in
     subst (λ (n : ℕ). IsExpr s.nodes n) (sym eg) (whole_expr t groups s.nodes (one_tree limit s t st small) g (omega (arith, small, most)))
 
-pub finished : (limit : ℕ) (s : State) (k : Stack) (p : Part) (e : Written) (opened : ℕ) → Stored limit k (whole s.top ∷ []) → p ≡ get_or k.parts.items 0 p → p.end < k.limit → p.depth ≤ 600 → opened ≡ s.opened →
+pub finished : (limit : ℕ) (s : Nesting) (k : Stack) (p : Part) (e : Written) (opened : ℕ) → Stored limit k (whole s.top ∷ []) → p ≡ get_or k.parts.items 0 p → p.end < k.limit → p.depth ≤ 600 → opened ≡ s.opened →
     e ≡ record { nodes = k.nodes; groups = opened } → IsFinished s limit e
 finished limit s k p e opened st read small shallow eg is =
     let size_is : size (whole s.top) < limit = small_tree limit k (whole s.top) p st read small in
@@ -84,7 +84,7 @@ finished limit s k p e opened st read small shallow eg is =
     }
 
 module _ (kind : Kind) (folded : Bool) (delimiter : Option ℕ) (text : List ℕ) where
-  pub can_take : {before : Option Item} {at next : ℕ} (i : Item) {s : State} → Reading kind folded delimiter text before at s → item_at kind folded delimiter text before at ≡ Is i next →
+  pub can_take : {before : Option Item} {at next : ℕ} (i : Item) {s : Nesting} → Reading kind folded delimiter text before at s → item_at kind folded delimiter text before at ≡ Is i next →
       (i ≡ Close → s.below ≢ []) → CanTake i s
   can_take (Byte members) r f closes = tt
   can_take Open r f closes = tt
@@ -98,17 +98,17 @@ module _ (kind : Kind) (folded : Bool) (delimiter : Option ℕ) (text : List ℕ
   pub reads_numbered : {e : Tree} {groups : ℕ} → ReadsAs kind folded delimiter text e groups → Numbered groups e
   reads_numbered {e = e} {groups = groups} r = subst (Numbered groups) r.is (of_alternation groups r.alternatives (of_alternatives r.grammar).1)
 
-  pub finished_reads : {before : Option Item} {at : ℕ} (s : State) (limit : ℕ) (e : Written) → Reading kind folded delimiter text before at s → item_at kind folded delimiter text before at ≡ Ends → s.below ≡ [] →
+  pub finished_reads : {before : Option Item} {at : ℕ} (s : Nesting) (limit : ℕ) (e : Written) → Reading kind folded delimiter text before at s → item_at kind folded delimiter text before at ≡ Ends → s.below ≡ [] →
       IsFinished s limit e → ReadsAs kind folded delimiter text (tree e) e.groups
   finished_reads s limit e r f none d =
       let R : Tree → ℕ → Type 0 = λ t g. ReadsAs kind folded delimiter text t g in
       subst (λ (g : ℕ). R (tree e) g) (sym d.groups) (subst (λ (t : Tree). R t s.opened) (sym d.tree_is) (reading_whole kind folded delimiter text r f none))
 
-  pub finished_no_fault : {before : Option Item} {at : ℕ} (s : State) (max_nodes : ℕ) (e : Written) → Reading kind folded delimiter text before at s → item_at kind folded delimiter text before at ≡ Ends → s.below ≡ [] →
+  pub finished_no_fault : {before : Option Item} {at : ℕ} (s : Nesting) (max_nodes : ℕ) (e : Written) → Reading kind folded delimiter text before at s → item_at kind folded delimiter text before at ≡ Ends → s.below ≡ [] →
       IsFinished s (max_nodes + 1) e → (place : ℕ) (reason : Reason) → FaultyWith kind folded delimiter text max_nodes place reason → ⊥
   finished_no_fault s max_nodes e r f none d place reason = no_fault kind folded delimiter text (reading_whole kind folded delimiter text r f none) d.shallow (omega (arith, d.small))
 
-  pub over_limit : {before : Option Item} {at : ℕ} (s : State) (max_nodes : ℕ) (fault : ExprFault) → Reading kind folded delimiter text before at s → item_at kind folded delimiter text before at ≡ Ends → s.below ≡ [] →
+  pub over_limit : {before : Option Item} {at : ℕ} (s : Nesting) (max_nodes : ℕ) (fault : ExprFault) → Reading kind folded delimiter text before at s → item_at kind folded delimiter text before at ≡ Ends → s.below ≡ [] →
       IsOverLimit s (max_nodes + 1) (length text) fault ⊎ (fault ≡ NO_MEMORY) → FaultyWith kind folded delimiter text max_nodes fault.place fault.reason ⊎ (fault ≡ NO_MEMORY)
   over_limit s max_nodes fault r f none (inr m) = inr m
   over_limit s max_nodes fault r f none (inl (inl d)) =
@@ -119,7 +119,7 @@ module _ (kind : Kind) (folded : Bool) (delimiter : Option ℕ) (text : List ℕ
       inl (subst F (sym d.0) ((reading_limits kind folded delimiter text max_nodes r f none).1 d.1 (omega (arith, d.2))))
 
 -- a fault at the end
-pub limit_within : (s : State) (limit len : ℕ) (fault : ExprFault) → IsOverLimit s limit len fault ⊎ (fault ≡ NO_MEMORY) → fault.place ≤ len
+pub limit_within : (s : Nesting) (limit len : ℕ) (fault : ExprFault) → IsOverLimit s limit len fault ⊎ (fault ≡ NO_MEMORY) → fault.place ≤ len
 limit_within s limit len fault (inr m) = omega (arith, ap (λ (x : ExprFault). x.place) m)
 limit_within s limit len fault (inl (inl d)) = omega (arith, ap (λ (x : ExprFault). x.place) d.0)
 limit_within s limit len fault (inl (inr d)) = omega (arith, ap (λ (x : ExprFault). x.place) d.0)

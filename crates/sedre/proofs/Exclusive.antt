@@ -9,7 +9,7 @@ use Rattle.sedre.specs.Tree.{Tree, size, depth}
 use Rattle.sedre.specs.Repeats.{concatenation, alternation}
 use Rattle.sedre.specs.Items.{item_at}
 use Rattle.sedre.specs.Grammar.{AreAlternatives, ArePieces, IsPiece, first, another, none, more, byte, begin_anchor, end_anchor, subexpression, repeated, Cut, done, item, last_of, open_groups, ReadsAs, Row, bad, stray, unclosed, deep, large, FaultyWith}
-use Rattle.sedre.specs.Stacks.{State}
+use Rattle.sedre.specs.Stacks.{Nesting}
 use Rattle.sedre.proofs.Complete.{alternatives_read, at as state_at}
 
 -- one list of items has one reading
@@ -18,14 +18,14 @@ one_reading {g = g} {h = h} {k = k} {is = is} a b =
     let r = alternatives_read a 0 [] in
     let s = alternatives_read b 0 [] in
     let same : state_at h 0 r.before r.pieces [] ≡ state_at k 0 s.before s.pieces [] = sym r.reads ∙ s.reads in
-    sym r.whole ∙ ap (λ (x : State). x.top.alternatives ++ concatenation x.top.pieces ∷ []) same ∙ s.whole
+    sym r.whole ∙ ap (λ (x : Nesting). x.top.alternatives ++ concatenation x.top.pieces ∷ []) same ∙ s.whole
 
 pub one_count : {g h k : ℕ} {is : List Item} {bs ds : List Tree} → AreAlternatives g is bs h → AreAlternatives g is ds k → h ≡ k
 one_count {g = g} {h = h} {k = k} {is = is} a b =
     let r = alternatives_read a 0 [] in
     let s = alternatives_read b 0 [] in
     let same : state_at h 0 r.before r.pieces [] ≡ state_at k 0 s.before s.pieces [] = sym r.reads ∙ s.reads in
-    ap (λ (x : State). x.opened) same
+    ap (λ (x : Nesting). x.opened) same
 
 -- goes on from a count
 abbrev pub go_on : Option ℕ → List Item → Option ℕ

@@ -14,7 +14,7 @@ use Rattle.sedre.specs.declared.syntax.Item.TheVariants.{Byte, Open, Close, Bar,
 use Rattle.sedre.specs.Tree.{Tree, size, depth, alternatives_depth}
 use Rattle.sedre.specs.Tree as t
 use Rattle.sedre.specs.Repeats.{concatenation, alternation, copies, optional, further, repetition}
-use Rattle.sedre.specs.Brackets.{Listing, judged, list_at, listed, items_from, is_negated}
+use Rattle.sedre.specs.Brackets.{ListedBytes, judged, list_at, listed, items_from, is_negated}
 use Rattle.sedre.specs.Symbols.{symbol}
 use Rattle.sedre.specs.Items.{item_at, item_for, list_item}
 use Rattle.sedre.specs.Grammar.{AreAlternatives, ArePieces, IsPiece, first, another, none, more, byte, begin_anchor, end_anchor, subexpression, repeated, Cut, done, item, last_of, open_groups, Row, bad, stray, unclosed, deep, large, FaultyWith}
@@ -191,7 +191,7 @@ data AlikeBefore : Option Item → Option Item → Type 0 where
   nowhere : AlikeBefore None None
   there : {i j : Item} → AlikeItem i j → AlikeBefore (Some i) (Some j)
 
-list_alike : (f g negated : Bool) (at : ℕ) (l : Listing) (end : Option ℕ) → AlikeHere (list_item (judged f negated at l end)) (list_item (judged g negated at l end))
+list_alike : (f g negated : Bool) (at : ℕ) (l : ListedBytes) (end : Option ℕ) → AlikeHere (list_item (judged f negated at l end)) (list_item (judged g negated at l end))
 list_alike f g negated at (Err x) end = this
 list_alike f g negated at (Ok set) None = this
 list_alike f g negated at (Ok set) (Some end) = stands bytes

@@ -12,7 +12,7 @@ use Rattle.sedre.specs.declared.elements.Element.TheVariants.{Plain, Delimiter, 
 use Rattle.sedre.specs.declared.types.ExprFault.{ExprFault}
 use Rattle.sedre.specs.declared.byte_set.ByteSet.{ByteSet}
 use Rattle.sedre.specs.Sets.{has, union, no_byte}
-use Rattle.sedre.specs.Brackets.{content, form, form_of, of_class, of_one, item, items, items_from, is_dash, goes_on, single, range, both, listed, judged, is_negated, is_delimiter, Listing, list_at, list_end}
+use Rattle.sedre.specs.Brackets.{content, form, form_of, of_class, of_one, item, items, items_from, is_dash, goes_on, single, range, both, listed, judged, is_negated, is_delimiter, ListedBytes, list_at, list_end}
 use Rattle.sedre.specs.ListReading.{is_range, located, members_at, items_start, is_closing}
 
 -- the items from a place on, and where the list ends
@@ -165,11 +165,11 @@ abbrev pub after : Option ℕ → List ℕ → Bool → Bool → ℕ → List Bo
 after d text folded negated at set (Err f) = Err f
 after d text folded negated at set (Ok found) = go_on folded negated at (union set found.0) (items d false 0 found.1 (drop found.1 text))
 
-joined_ok : (folded negated : Bool) (at : ℕ) (set h : List Bool) (rest : Listing) (end : Option ℕ) → judged folded negated at (both (Ok set) (both (Ok h) rest)) end ≡ judged folded negated at (both (Ok (union set h)) rest) end
+joined_ok : (folded negated : Bool) (at : ℕ) (set h : List Bool) (rest : ListedBytes) (end : Option ℕ) → judged folded negated at (both (Ok set) (both (Ok h) rest)) end ≡ judged folded negated at (both (Ok (union set h)) rest) end
 joined_ok folded negated at set h (Err f) end = refl
 joined_ok folded negated at set h (Ok l) end = ap (λ s. judged folded negated at (Ok s) end) (union_assoc set h l)
 
-joined : (d : Option ℕ) (text : List ℕ) (folded negated : Bool) (at next : ℕ) (set : List Bool) (here : Listing) (rest : Listing) (end : Option ℕ) →
+joined : (d : Option ℕ) (text : List ℕ) (folded negated : Bool) (at next : ℕ) (set : List Bool) (here : ListedBytes) (rest : ListedBytes) (end : Option ℕ) →
     rest ≡ listed (items d false 0 next (drop next text)).0 → end ≡ (items d false 0 next (drop next text)).1 →
     judged folded negated at (both (Ok set) (both here rest)) end ≡ after d text folded negated at set (located next here)
 joined d text folded negated at next set (Err f) rest end is_rest is_end = refl
@@ -298,12 +298,12 @@ none_union a b =
 pub none_none : union no_byte no_byte ≡ no_byte
 none_none = set_of-same (λ k. has no_byte k || has no_byte k) (λ k. false) (λ k lt. ap (λ x. x || x) (has-set_of (λ m. false) k lt))
 
-none_both : (a b : Listing) → both (Ok no_byte) (both a b) ≡ both a b
+none_both : (a b : ListedBytes) → both (Ok no_byte) (both a b) ≡ both a b
 none_both (Err f) b = refl
 none_both (Ok s) (Err f) = refl
 none_both (Ok s) (Ok t) = ap (λ (u : List Bool). Ok u) (none_union s t)
 
-none_choice : (t : Bool) (a b c d : Listing) → both (Ok no_byte) (if t then both a b else both c d) ≡ (if t then both a b else both c d)
+none_choice : (t : Bool) (a b c d : ListedBytes) → both (Ok no_byte) (if t then both a b else both c d) ≡ (if t then both a b else both c d)
 none_choice true a b c d = none_both a b
 none_choice false a b c d = none_both c d
 

@@ -2,9 +2,9 @@
 use Rattle.std.proofs.Common.{◌≡◌, List, [], ◌∷◌, ◌++◌, refl, ap}
 use Rattle.sedre.specs.declared.syntax.Item.{Item}
 use Rattle.sedre.specs.Tree.{Tree}
-use Rattle.sedre.specs.Stacks.{State, step, run, with_last}
+use Rattle.sedre.specs.Stacks.{Nesting, step, run, with_last}
 
-pub run-append : (xs ys : List Item) (s : State) → run (xs ++ ys) s ≡ run ys (run xs s)
+pub run-append : (xs ys : List Item) (s : Nesting) → run (xs ++ ys) s ≡ run ys (run xs s)
 run-append [] ys s = refl
 run-append (i ∷ xs) ys s = run-append xs ys (step i s)
 

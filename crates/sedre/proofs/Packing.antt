@@ -8,7 +8,7 @@ use Rattle.sedre.specs.declared.types.Node.TheVariants as node
 use Rattle.sedre.specs.declared.packed.Entry.{Entry}
 use Rattle.sedre.specs.declared.packed.Shape.{Shape}
 use Rattle.sedre.specs.declared.packed.Shape.TheVariants as shape
-use Rattle.sedre.specs.Packed.{id, node_of, node_at, nodes_from, FitsShape, Fits, FitFrom, entry_of, HasNumber, Grows, PartsBelow, shifted}
+use Rattle.sedre.specs.Packed.{id, node_of, node_at, nodes_from, FitsShape, Fits, FitFrom, entry_of, HasNumber, AddsSets, PartsBelow, shifted}
 
 pub length-nodes : (sets : List (List Bool)) (x : ℕ) (es : List Entry) → length (nodes_from sets x es) ≡ length es
 length-nodes sets x [] = refl
@@ -180,7 +180,7 @@ nodes_on sets x d (e ∷ es) p =
     ∙ ap (λ (r : List Node). shifted d (node_at sets x e) ∷ r) (nodes_on sets (x + 1) d es p.1)
 
 -- one node more
-pub nodes_more : (sets sets' : List (List Bool)) (es es' : List Entry) (k number : ℕ) (n : Node) → k ≡ length es → Grows sets sets' → HasNumber sets' number n → es' ≡ es ++ entry_of k number n ∷ [] →
+pub nodes_more : (sets sets' : List (List Bool)) (es es' : List Entry) (k number : ℕ) (n : Node) → k ≡ length es → AddsSets sets sets' → HasNumber sets' number n → es' ≡ es ++ entry_of k number n ∷ [] →
     FitFrom sets 0 es → PartsBelow k n → nodes_from sets' 0 es' ≡ nodes_from sets 0 es ++ n ∷ []
 nodes_more sets sets' es es' k number n here g h e p b =
     ap (nodes_from sets' 0) e ∙ nodes-append sets' 0 es (entry_of k number n ∷ [])
@@ -188,14 +188,14 @@ nodes_more sets sets' es es' k number n here g h e p b =
     ∙ ap (λ (m : Node). nodes_from sets' 0 es ++ m ∷ []) (entry_stands sets' k number n h b)
     ∙ ap (λ (s : List (List Bool)). nodes_from s 0 es ++ n ∷ []) g.1 ∙ ap (λ (r : List Node). r ++ n ∷ []) (nodes_grown sets g.0 0 es p)
 
-pub fit_more : (sets sets' : List (List Bool)) (es es' : List Entry) (k number : ℕ) (n : Node) → k ≡ length es → Grows sets sets' → HasNumber sets' number n → es' ≡ es ++ entry_of k number n ∷ [] →
+pub fit_more : (sets sets' : List (List Bool)) (es es' : List Entry) (k number : ℕ) (n : Node) → k ≡ length es → AddsSets sets sets' → HasNumber sets' number n → es' ≡ es ++ entry_of k number n ∷ [] →
     FitFrom sets 0 es → FitFrom sets' 0 es'
 fit_more sets sets' es es' k number n here g h e p =
     let old : FitFrom sets' 0 es = subst (λ (s : List (List Bool)). FitFrom s 0 es) (sym g.1) (fit_grown sets g.0 0 es p) in
     let one : Fits sets' (0 + length es) (entry_of k number n) = subst (λ (m : ℕ). Fits sets' m (entry_of k number n)) (let r : k ≡ 0 + length es = omega (arith, here) in r) (entry_fits sets' k number n h) in
     subst (FitFrom sets' 0) (sym e) (fit-append sets' 0 es (entry_of k number n ∷ []) old (one, tt))
 
-pub fit_same : (sets sets' : List (List Bool)) (es es' : List Entry) → Grows sets sets' → es' ≡ es → FitFrom sets 0 es → FitFrom sets' 0 es'
+pub fit_same : (sets sets' : List (List Bool)) (es es' : List Entry) → AddsSets sets sets' → es' ≡ es → FitFrom sets 0 es → FitFrom sets' 0 es'
 fit_same sets sets' es es' g e p = subst (FitFrom sets' 0) (sym e) (subst (λ (s : List (List Bool)). FitFrom s 0 es) (sym g.1) (fit_grown sets g.0 0 es p))
 
 -- the entries from one on once more

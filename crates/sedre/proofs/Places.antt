@@ -13,7 +13,7 @@ use Rattle.sedre.specs.declared.syntax.Symbol.TheVariants.{Literal, AnyByte, Ope
 use Rattle.sedre.specs.declared.syntax.Item.{Item}
 use Rattle.sedre.specs.declared.syntax.Here.{Here}
 use Rattle.sedre.specs.declared.syntax.Here.TheVariants.{Is, Ends, Bad}
-use Rattle.sedre.specs.Brackets.{items, item, items_from, is_negated, is_dash, goes_on, Listing, single, between_ends, range_to, range, both, listed, judged, list_at}
+use Rattle.sedre.specs.Brackets.{items, item, items_from, is_negated, is_dash, goes_on, ListedBytes, single, between_ends, range_to, range, both, listed, judged, list_at}
 use Rattle.sedre.specs.Intervals.{interval}
 use Rattle.sedre.specs.Symbols.{symbol}
 use Rattle.sedre.specs.Items.{is_first, is_repeatable, is_repeat, ends_alternative, repeats, interval_item, list_item, star_item, question_item, caret_item, dollar_item, item_for, item_at}
@@ -44,11 +44,11 @@ from_up_to delimiter n place (b ∷ bs) le =
 abbrev ToldUpTo : {A : Type 0} → ℕ → Result A ExprFault → Type 0
 ToldUpTo n r = IfErr r (λ f. f.place ≤ n)
 
-told_if : (n : ℕ) (t : Bool) (r s : Listing) → ToldUpTo n r → ToldUpTo n s → ToldUpTo n (if t then r else s)
+told_if : (n : ℕ) (t : Bool) (r s : ListedBytes) → ToldUpTo n r → ToldUpTo n s → ToldUpTo n (if t then r else s)
 told_if n true r s h g = h
 told_if n false r s h g = g
 
-both_told : (n : ℕ) (r s : Listing) → ToldUpTo n r → ToldUpTo n s → ToldUpTo n (both r s)
+both_told : (n : ℕ) (r s : ListedBytes) → ToldUpTo n r → ToldUpTo n s → ToldUpTo n (both r s)
 both_told n (Err f) s h g = h
 both_told n (Ok x) (Err f) h g = g
 both_told n (Ok x) (Ok y) h g = tt
@@ -96,7 +96,7 @@ listed_told n (x ∷ y ∷ z ∷ rest) h =
     (both_told n (range x z (goes_on rest)) (listed rest) (range_told n x z (goes_on rest) h.0 last.0) (listed_told n rest last.1))
     (both_told n (single x) (listed (y ∷ z ∷ rest)) (single_told n x h.0) (listed_told n (y ∷ z ∷ rest) later))
 
-judged_told : (n : ℕ) (folded negated : Bool) (at : ℕ) (r : Listing) (end : Option ℕ) → at ≤ n → ToldUpTo n r → ToldUpTo n (judged folded negated at r end)
+judged_told : (n : ℕ) (folded negated : Bool) (at : ℕ) (r : ListedBytes) (end : Option ℕ) → at ≤ n → ToldUpTo n r → ToldUpTo n (judged folded negated at r end)
 judged_told n folded negated at (Err f) end le h = h
 judged_told n folded negated at (Ok x) None le h = le
 judged_told n folded negated at (Ok x) (Some next) le h = tt

@@ -10,13 +10,13 @@ use Rattle.sedre.specs.Tree.{Tree, set, size, depth}
 use Rattle.sedre.specs.Repeats.{alternation, repetition}
 use Rattle.sedre.specs.Items.{item_at, is_repeatable}
 use Rattle.sedre.specs.Grammar.{none, byte, begin_anchor, end_anchor, Cut, done, item, last_of, open_groups, ReadsAs, bad, stray, unclosed, deep, large, FaultyWith}
-use Rattle.sedre.specs.Stacks.{Level, State, start, step, with_last, all_alternatives}
+use Rattle.sedre.specs.Stacks.{Level, Nesting, start, step, with_last, all_alternatives}
 use Rattle.sedre.proofs.Sound.{Stands, base, only as only_pieces, stands_piece, stands_bar, stands_repeat, stands_open, stands_close, stands_whole}
 use Rattle.sedre.proofs.Exclusive.{open-append, go_on}
 use Rattle.sedre.proofs.Repeating.{repeat_follows}
 
 -- after the items up to this place stands this state
-pub record Reading (kind : Kind) (folded : Bool) (delimiter : Option ℕ) (text : List ℕ) (before : Option Item) (at : ℕ) (s : State) : Type 0 where
+pub record Reading (kind : Kind) (folded : Bool) (delimiter : Option ℕ) (text : List ℕ) (before : Option Item) (at : ℕ) (s : Nesting) : Type 0 where
   pub items : List Item
   pub cut : Cut kind folded delimiter text None 0 items at
   pub last : last_of None items ≡ before
@@ -47,7 +47,7 @@ step_with_last f (t ∷ u ∷ us) ne h = cc
 
 module _ (kind : Kind) (folded : Bool) (delimiter : Option ℕ) (text : List ℕ) where
   -- one item more
-  pub reading_step : {before : Option Item} {at next : ℕ} {i : Item} {s : State} → Reading kind folded delimiter text before at s →
+  pub reading_step : {before : Option Item} {at next : ℕ} {i : Item} {s : Nesting} → Reading kind folded delimiter text before at s →
       item_at kind folded delimiter text before at ≡ Is i next → (i ≡ Close → s.below ≢ []) → Reading kind folded delimiter text (Some i) next (step i s)
   reading_step {before = before} {at = at} {next = next} {i = i} {s = s} r f closes =
       let f' : item_at kind folded delimiter text (last_of None r.items) at ≡ Is i next = ap (λ (x : Option Item). item_at kind folded delimiter text x at) r.last ∙ f in
@@ -64,7 +64,7 @@ module _ (kind : Kind) (folded : Bool) (delimiter : Option ℕ) (text : List ℕ
       closing opened top (k ∷ ks) is ne c l o st =
           record { items = is ++ Close ∷ []; cut = c; last = l; balanced = o; stands = stands_close st; ready = λ _. not_empty k.pieces _ }
 
-      by_item : (i : Item) (s : State) (is : List Item) → item_at kind folded delimiter text before at ≡ Is i next → (i ≡ Close → s.below ≢ []) →
+      by_item : (i : Item) (s : Nesting) (is : List Item) → item_at kind folded delimiter text before at ≡ Is i next → (i ≡ Close → s.below ≢ []) →
           Cut kind folded delimiter text None 0 (is ++ i ∷ []) next → last_of None (is ++ i ∷ []) ≡ Some i → open_groups 0 (is ++ i ∷ []) ≡ open_groups (length s.below) (i ∷ []) →
           Stands is s.opened s.top s.below → (is_repeatable before ≡ true → s.top.pieces ≢ []) → Reading kind folded delimiter text (Some i) next (step i s)
       by_item (Byte members) s is f closes c l o st ready = record { items = is ++ Byte members ∷ []; cut = c; last = l; balanced = o; stands = stands_piece st byte; ready = λ _. not_empty s.top.pieces (set members) }
@@ -78,7 +78,7 @@ module _ (kind : Kind) (folded : Bool) (delimiter : Option ℕ) (text : List ℕ
       by_item Close s is f closes c l o st ready = closing s.opened s.top s.below is (closes refl) c l o st
 
   -- the whole text
-  pub reading_whole : {before : Option Item} {at : ℕ} {s : State} → Reading kind folded delimiter text before at s → item_at kind folded delimiter text before at ≡ Ends →
+  pub reading_whole : {before : Option Item} {at : ℕ} {s : Nesting} → Reading kind folded delimiter text before at s → item_at kind folded delimiter text before at ≡ Ends →
       s.below ≡ [] → ReadsAs kind folded delimiter text (alternation (all_alternatives s.top)) s.opened
   reading_whole {at = at} {s = s} r f e =
       let S : List Level → Type 0 = λ x. Stands r.items s.opened s.top x in
@@ -93,17 +93,17 @@ module _ (kind : Kind) (folded : Bool) (delimiter : Option ℕ) (text : List ℕ
       }
 
   -- the faults
-  pub reading_bad : {before : Option Item} {at : ℕ} {s : State} {place : ℕ} {reason : Reason} (max_nodes : ℕ) → Reading kind folded delimiter text before at s →
+  pub reading_bad : {before : Option Item} {at : ℕ} {s : Nesting} {place : ℕ} {reason : Reason} (max_nodes : ℕ) → Reading kind folded delimiter text before at s →
       item_at kind folded delimiter text before at ≡ Bad (record { place = place; reason = reason }) → FaultyWith kind folded delimiter text max_nodes place reason
   reading_bad {at = at} {s = s} max_nodes r f =
       record { items = r.items; to = at; cut = r.cut; opened = length s.below; balanced = r.balanced; row = bad (ap (λ (x : Option Item). item_at kind folded delimiter text x at) r.last ∙ f) }
 
-  pub reading_stray : {before : Option Item} {at next : ℕ} {s : State} (max_nodes : ℕ) → Reading kind folded delimiter text before at s →
+  pub reading_stray : {before : Option Item} {at next : ℕ} {s : Nesting} (max_nodes : ℕ) → Reading kind folded delimiter text before at s →
       item_at kind folded delimiter text before at ≡ Is Close next → s.below ≡ [] → FaultyWith kind folded delimiter text max_nodes at StrayClose
   reading_stray {at = at} max_nodes r f e =
       record { items = r.items; to = at; cut = r.cut; opened = 0; balanced = r.balanced ∙ ap (λ (x : List Level). Some (length x)) e; row = stray (ap (λ (x : Option Item). item_at kind folded delimiter text x at) r.last ∙ f) }
 
-  pub reading_unclosed : {before : Option Item} {at : ℕ} {s : State} (max_nodes : ℕ) → Reading kind folded delimiter text before at s →
+  pub reading_unclosed : {before : Option Item} {at : ℕ} {s : Nesting} (max_nodes : ℕ) → Reading kind folded delimiter text before at s →
       item_at kind folded delimiter text before at ≡ Ends → 0 < length s.below → FaultyWith kind folded delimiter text max_nodes (length text) OpenGroup
   reading_unclosed {at = at} {s = s} max_nodes r f more_than =
       let f' = ap (λ (x : Option Item). item_at kind folded delimiter text x at) r.last ∙ f in
@@ -113,7 +113,7 @@ module _ (kind : Kind) (folded : Bool) (delimiter : Option ℕ) (text : List ℕ
       by_levels [] o h g = absurd (omega (arith, h))
       by_levels (k ∷ ks) o h g = record { items = r.items; to = at; cut = r.cut; opened = suc (length ks); balanced = o; row = unclosed g }
 
-  pub reading_limits : {before : Option Item} {at : ℕ} {s : State} (max_nodes : ℕ) → Reading kind folded delimiter text before at s →
+  pub reading_limits : {before : Option Item} {at : ℕ} {s : Nesting} (max_nodes : ℕ) → Reading kind folded delimiter text before at s →
       item_at kind folded delimiter text before at ≡ Ends → s.below ≡ [] →
       (600 < depth (alternation (all_alternatives s.top)) → FaultyWith kind folded delimiter text max_nodes (length text) TooDeep)
       × (depth (alternation (all_alternatives s.top)) ≤ 600 → max_nodes < size (alternation (all_alternatives s.top)) → FaultyWith kind folded delimiter text max_nodes (length text) TooManyNodes)

@@ -6,7 +6,7 @@ use Rattle.sedre.specs.declared.builder.Builder.{Builder}
 use Rattle.sedre.specs.declared.syntax.Item.TheVariants.{Open, Close, Bar, Repeat}
 use Rattle.sedre.specs.Tree.{Tree, group}
 use Rattle.sedre.specs.Repeats.{concatenation, alternation, repetition}
-use Rattle.sedre.specs.Stacks.{Level, State, step, close, with_piece, with_last, whole, Stored, trees_in, mark_of, marks_of, Represents}
+use Rattle.sedre.specs.Stacks.{Level, Nesting, step, close, with_piece, with_last, whole, Stored, trees_in, mark_of, marks_of, Represents}
 use Rattle.sedre.proofs.Written.{snoc_last, split_last}
 use Rattle.sedre.proofs.Stacked.{count_of}
 use Rattle.sedre.proofs.Machine.{with_last-append}
@@ -20,7 +20,7 @@ trees_snoc : (ts bs ps : List Tree) (t : Tree) → ts ++ (bs ++ (ps ++ t ∷ [])
 trees_snoc ts bs ps t = ap (λ (x : List Tree). ts ++ x) (sym (append_assoc bs ps (t ∷ []))) ∙ sym (append_assoc ts (bs ++ ps) (t ∷ []))
 
 module _ (limit : ℕ) where
-  pub represents_leaf : (t : Tree) (b c : Builder) (s : State) → Represents limit b s → ((ts : List Tree) → Stored limit b.stack ts → Stored limit c.stack (ts ++ t ∷ [])) →
+  pub represents_leaf : (t : Tree) (b c : Builder) (s : Nesting) → Represents limit b s → ((ts : List Tree) → Stored limit b.stack ts → Stored limit c.stack (ts ++ t ∷ [])) →
       c.opened ≡ b.opened → c.top ≡ b.top → c.below.items ≡ b.below.items → Represents limit c (record { opened = s.opened; top = with_piece t s.top; below = s.below })
   represents_leaf t b c s r f eo et eb =
       let S : List Tree → Type 0 = λ x. Stored limit c.stack x in
@@ -38,7 +38,7 @@ module _ (limit : ℕ) where
       let by_pieces : ℕ → Mark = λ x. record { number = number; alternatives = alternatives; pieces = x } in
       ap by_number a ∙ ap by_alternatives b ∙ ap by_pieces c
 
-  pub represents_open : (b c : Builder) (s : State) → Represents limit b s → c.stack ≡ b.stack → c.opened ≡ b.opened + 1 →
+  pub represents_open : (b c : Builder) (s : Nesting) → Represents limit b s → c.stack ≡ b.stack → c.opened ≡ b.opened + 1 →
       c.top.number ≡ b.opened + 1 → c.top.alternatives ≡ length b.stack.parts.items → c.top.pieces ≡ length b.stack.parts.items → c.below.items ≡ b.below.items ++ b.top ∷ [] →
       Represents limit c (step Open s)
   represents_open b c s r es eo number alternatives pieces eb =
@@ -56,7 +56,7 @@ module _ (limit : ℕ) where
       }
 
   -- what a concatenation of the pieces does
-  pub represents_bar : (b c : Builder) (s : State) → Represents limit b s →
+  pub represents_bar : (b c : Builder) (s : Nesting) → Represents limit b s →
       ((m : ℕ) (ts ps : List Tree) → length ts ≡ b.top.pieces → Stored m b.stack (ts ++ ps) → Stored m c.stack (ts ++ concatenation ps ∷ [])) →
       c.opened ≡ b.opened → c.top.number ≡ b.top.number → c.top.alternatives ≡ b.top.alternatives → c.top.pieces ≡ length c.stack.parts.items → c.below.items ≡ b.below.items →
       Represents limit c (step Bar s)
@@ -106,7 +106,7 @@ module _ (limit : ℕ) where
       }
 
   -- the innermost group closes
-  pub represents_close : (b c : Builder) (s : State) (s₁ s₂ : Stack) → Represents limit b s →
+  pub represents_close : (b c : Builder) (s : Nesting) (s₁ s₂ : Stack) → Represents limit b s →
       ((m : ℕ) (ts ps : List Tree) → length ts ≡ b.top.pieces → Stored m b.stack (ts ++ ps) → Stored m s₁ (ts ++ concatenation ps ∷ [])) →
       ((m : ℕ) (ts ps : List Tree) → length ts ≡ b.top.alternatives → Stored m s₁ (ts ++ ps) → Stored m s₂ (ts ++ alternation ps ∷ [])) →
       ((m : ℕ) (ts : List Tree) (a : Tree) → Stored m s₂ (ts ++ a ∷ []) → Stored m c.stack (ts ++ group b.top.number a ∷ [])) →
@@ -114,7 +114,7 @@ module _ (limit : ℕ) where
   represents_close b c s s₁ s₂ r f g h eo eb = represents_close_levels b c s.opened s.top s.below s₁ s₂ r.stored r.opened r.top r.below f g h eo eb
 
   -- the last piece is repeated
-  pub represents_repeat : (least : ℕ) (most : Option ℕ) (b c : Builder) (s : State) → s.top.pieces ≢ [] → Represents limit b s →
+  pub represents_repeat : (least : ℕ) (most : Option ℕ) (b c : Builder) (s : Nesting) → s.top.pieces ≢ [] → Represents limit b s →
       ((m : ℕ) (ts : List Tree) (a : Tree) → Stored m b.stack (ts ++ a ∷ []) → Stored m c.stack (ts ++ repetition least most a ∷ [])) →
       c.opened ≡ b.opened → c.top ≡ b.top → c.below.items ≡ b.below.items → Represents limit c (step (Repeat least most) s)
   represents_repeat least most b c s some r f eo et eb =
@@ -134,14 +134,14 @@ module _ (limit : ℕ) where
       }
 
   -- the marks lie within the stack
-  pub represents_pieces : (b : Builder) (s : State) → Represents limit b s → b.top.pieces ≤ length b.stack.parts.items
+  pub represents_pieces : (b : Builder) (s : Nesting) → Represents limit b s → b.top.pieces ≤ length b.stack.parts.items
   represents_pieces b s r =
       omega (arith, count_of r.stored, length-append (trees_in s.below) (s.top.alternatives ++ s.top.pieces), length-append s.top.alternatives s.top.pieces, ap (λ (m : Mark). m.pieces) r.top)
 
-  pub represents_alternatives : (b : Builder) (s : State) → Represents limit b s → b.top.alternatives ≤ b.top.pieces
+  pub represents_alternatives : (b : Builder) (s : Nesting) → Represents limit b s → b.top.alternatives ≤ b.top.pieces
   represents_alternatives b s r = omega (arith, ap (λ (m : Mark). m.pieces) r.top, ap (λ (m : Mark). m.alternatives) r.top)
 
-  pub represents_some : (b : Builder) (s : State) → s.top.pieces ≢ [] → Represents limit b s → 0 < length b.stack.parts.items
+  pub represents_some : (b : Builder) (s : Nesting) → s.top.pieces ≢ [] → Represents limit b s → 0 < length b.stack.parts.items
   represents_some b s ne r =
       omega (arith, not_nil s.top.pieces ne, count_of r.stored, length-append (trees_in s.below) (s.top.alternatives ++ s.top.pieces), length-append s.top.alternatives s.top.pieces)
 
@@ -149,14 +149,14 @@ module _ (limit : ℕ) where
   length-marks [] = refl
   length-marks (l ∷ ls) = omega (arith, length-append (marks_of ls) (mark_of l ls ∷ []), length-marks ls)
 
-  pub represents_count : (b : Builder) (s : State) → Represents limit b s → length b.below.items ≡ length s.below
+  pub represents_count : (b : Builder) (s : Nesting) → Represents limit b s → length b.below.items ≡ length s.below
   represents_count b s r = ap length r.below ∙ length-marks s.below
 
-  pub represents_below : (b : Builder) (s : State) → s.below ≢ [] → Represents limit b s → 0 < length b.below.items
+  pub represents_below : (b : Builder) (s : Nesting) → s.below ≢ [] → Represents limit b s → 0 < length b.below.items
   represents_below b s ne r = omega (arith, represents_count b s r, not_nil s.below ne)
 
   -- the whole is joined
-  pub represents_join : (b : Builder) (s : State) (s₁ s₂ : Stack) → Represents limit b s → s.below ≡ [] →
+  pub represents_join : (b : Builder) (s : Nesting) (s₁ s₂ : Stack) → Represents limit b s → s.below ≡ [] →
       ((m : ℕ) (ts ps : List Tree) → length ts ≡ b.top.pieces → Stored m b.stack (ts ++ ps) → Stored m s₁ (ts ++ concatenation ps ∷ [])) →
       ((m : ℕ) (ts ps : List Tree) → length ts ≡ 0 → Stored m s₁ (ts ++ ps) → Stored m s₂ (ts ++ alternation ps ∷ [])) →
       Stored limit s₂ (whole s.top ∷ [])

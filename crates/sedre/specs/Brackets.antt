@@ -89,14 +89,14 @@ goes_on (x ∷ []) = false
 goes_on (x ∷ y ∷ rest) = is_dash x.1
 
 -- the bytes that some items list, or their first fault
-abbrev pub Listing : Type 0
-Listing = Result (List Bool) ExprFault
+abbrev pub ListedBytes : Type 0
+ListedBytes = Result (List Bool) ExprFault
 
-abbrev pub fault : ℕ → Reason → Listing
+abbrev pub fault : ℕ → Reason → ListedBytes
 fault place reason = Err (record { place = place; reason = reason })
 
 -- an item by itself. One that isn't closed lists nothing: that the list is open tells of it
-abbrev pub single : ℕ × Element → Listing
+abbrev pub single : ℕ × Element → ListedBytes
 single (place, Plain b) = Ok (only b)
 single (place, Delimiter b) = Ok (only b)
 single (place, OfClass class) = Ok (set_of (in_class class))
@@ -114,40 +114,32 @@ end_of element = None
 
 -- a range between two ends, by byte value (XBD 9.3.5, 7); `on`: it goes on as another one, which is refused: this
 -- project's own
-abbrev pub between_ends : (place : ℕ) → Option ℕ → Option ℕ → (on : Bool) → Listing
+abbrev pub between_ends : (place : ℕ) → Option ℕ → Option ℕ → (on : Bool) → ListedBytes
 between_ends place None last on = fault place BadRange
 between_ends place (Some a) None on = fault place BadRange
 between_ends place (Some a) (Some b) on =
     if nat_le a b && not on then Ok (set_of (between a b)) else fault place BadRange
 
 -- a range from an end at a place to its last item, whose own fault comes before that of the range
-abbrev pub range_to : (place : ℕ) → Option ℕ → ℕ × Element → (on : Bool) → Listing
-range_to place first (at, Plain b) on = between_ends place first (Some b) on
-range_to place first (at, Delimiter b) on = between_ends place first (Some b) on
-range_to place first (at, OfClass class) on = between_ends place first None on
-range_to place first (at, Equivalent b) on = between_ends place first None on
-range_to place first (at, Collating b) on = between_ends place first (Some b) on
+abbrev pub range_to : (place : ℕ) → Option ℕ → ℕ × Element → (on : Bool) → ListedBytes
 range_to place first (at, Wrong reason) on = fault at reason
 range_to place first (at, Unclosed) on = Ok no_byte
+range_to place first (at, other) on = between_ends place first (end_of other) on
 
 -- a range from its first item to its last, where the first one's own fault comes first
-abbrev pub range : (first last : ℕ × Element) → (on : Bool) → Listing
-range (place, Plain b) last on = range_to place (Some b) last on
-range (place, Delimiter b) last on = range_to place (Some b) last on
-range (place, OfClass class) last on = range_to place None last on
-range (place, Equivalent b) last on = range_to place None last on
-range (place, Collating b) last on = range_to place (Some b) last on
+abbrev pub range : (first last : ℕ × Element) → (on : Bool) → ListedBytes
 range (place, Wrong reason) last on = fault place reason
 range (place, Unclosed) last on = Ok no_byte
+range (place, other) last on = range_to place (end_of other) last on
 
 -- what stands first, then the rest
-abbrev pub both : Listing → Listing → Listing
+abbrev pub both : ListedBytes → ListedBytes → ListedBytes
 both (Err f) those = Err f
 both (Ok these) (Err f) = Err f
 both (Ok these) (Ok those) = Ok (union these those)
 
 -- all items from the left: an item, a - and a further item are a range (XBD 9.3.5, 7)
-abbrev pub listed : List (ℕ × Element) → Listing
+abbrev pub listed : List (ℕ × Element) → ListedBytes
 listed [] = Ok no_byte
 listed (x ∷ []) = both (single x) (listed [])
 listed (x ∷ y ∷ []) = both (single x) (listed (y ∷ []))
@@ -173,7 +165,7 @@ abbrev pub matched : (folded negated : Bool) → List Bool → List Bool
 matched folded negated set = if negated then complement (matching folded set) else matching folded set
 
 -- the set and the place after the list, or the first fault; that the list isn't closed comes last, at its [
-abbrev pub judged : (folded negated : Bool) → (at : ℕ) → Listing → Option ℕ → Result (ByteSet × ℕ) ExprFault
+abbrev pub judged : (folded negated : Bool) → (at : ℕ) → ListedBytes → Option ℕ → Result (ByteSet × ℕ) ExprFault
 judged folded negated at (Err f) end = Err f
 judged folded negated at (Ok set) None = Err (record { place = at; reason = OpenBracket })
 judged folded negated at (Ok set) (Some next) = Ok (matched folded negated set, next)

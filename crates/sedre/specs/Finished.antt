@@ -5,7 +5,7 @@ use Rattle.sedre.specs.declared.types.Reason.TheVariants.{TooDeep, TooManyNodes}
 use Rattle.sedre.specs.declared.types.ExprFault.{ExprFault}
 use Rattle.sedre.specs.Tree.{Tree, seq, alt, group, star, opt, size, depth}
 use Rattle.sedre.specs.Arena.{Written, tree}
-use Rattle.sedre.specs.Stacks.{State, whole}
+use Rattle.sedre.specs.Stacks.{Nesting, whole}
 
 -- each group of the tree has a number from 1 to the bound
 abbrev pub Numbered : ℕ → Tree → Type 0
@@ -17,7 +17,7 @@ Numbered most (opt a first) = Numbered most a
 Numbered most other = Unit {0}
 
 -- the expression is what the state stands for
-pub record IsFinished (s : State) (limit : ℕ) (e : Written) : Type 0 where
+pub record IsFinished (s : Nesting) (limit : ℕ) (e : Written) : Type 0 where
   pub tree_is : tree e ≡ whole s.top
   pub groups : e.groups ≡ s.opened
   pub count : length e.nodes ≡ size (whole s.top)
@@ -25,7 +25,7 @@ pub record IsFinished (s : State) (limit : ℕ) (e : Written) : Type 0 where
   pub small : size (whole s.top) < limit
 
 -- it is too deep, or else has too many nodes
-abbrev pub IsOverLimit : State → (limit len : ℕ) → ExprFault → Type 0
+abbrev pub IsOverLimit : Nesting → (limit len : ℕ) → ExprFault → Type 0
 IsOverLimit s limit len f =
     ((f ≡ record { place = len; reason = TooDeep }) × (600 < depth (whole s.top)))
     ⊎ ((f ≡ record { place = len; reason = TooManyNodes }) × (depth (whole s.top) ≤ 600) × (limit ≤ size (whole s.top)))

@@ -2,7 +2,7 @@
 -- What the reader of bracket expressions sees of what is left of a text.
 use Rattle.std.specs.Prelude.{ℕ, ◌+◌, List, [], ◌∷◌, drop, Bool, false, not, slice_index_or, ◌&&◌, ◌==◌, Option, Result}
 use Rattle.std.specs.Prelude.{Ok, Err, if◌then◌else◌}
-use Rattle.sedre.specs.Brackets.{item, single, range, Listing, is_negated}
+use Rattle.sedre.specs.Brackets.{item, single, range, ListedBytes, is_negated}
 use Rattle.sedre.specs.declared.types.ExprFault.{ExprFault}
 use Rattle.sedre.specs.declared.byte_set.ByteSet.{ByteSet}
 
@@ -13,7 +13,7 @@ is_range (b ∷ []) = false
 is_range (b ∷ c ∷ rest) = b == 45 && not (c == 93)
 
 -- what an item or a range lists, and the place after it
-abbrev pub located : ℕ → Listing → Result (ByteSet × ℕ) ExprFault
+abbrev pub located : ℕ → ListedBytes → Result (ByteSet × ℕ) ExprFault
 located next (Err f) = Err f
 located next (Ok set) = Ok (set, next)
 

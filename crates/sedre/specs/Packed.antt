@@ -88,8 +88,8 @@ HasNumber sets number (node.Set set) = slice_get sets number ≡ Some set
 HasNumber sets number other = Unit {0}
 
 -- sets are only added
-abbrev pub Grows : List (List Bool) → List (List Bool) → Type 0
-Grows old new = (more : List (List Bool)) × (new ≡ old ++ more)
+abbrev pub AddsSets : List (List Bool) → List (List Bool) → Type 0
+AddsSets old new = (more : List (List Bool)) × (new ≡ old ++ more)
 
 -- the node's parts stand before the index x
 abbrev pub PartsBelow : ℕ → Node → Type 0
@@ -102,31 +102,21 @@ PartsBelow x other = Unit {0}
 
 -- the same node with its parts so many places further on
 abbrev pub shifted : ℕ → Node → Node
-shifted d node.Empty = node.Empty
-shifted d (node.Set set) = node.Set set
-shifted d node.Begin = node.Begin
-shifted d node.End = node.End
 shifted d (node.Seq a b) = node.Seq (id (a.index + d)) (id (b.index + d))
 shifted d (node.Alt a b) = node.Alt (id (a.index + d)) (id (b.index + d))
 shifted d (node.Group k a) = node.Group k (id (a.index + d))
 shifted d (node.Star a first) = node.Star (id (a.index + d)) first
 shifted d (node.Opt a first) = node.Opt (id (a.index + d)) first
+shifted d other = other
 
 -- what is kept of the mirrored node
 abbrev pub mirror_kept : Shape → ℕ → ℕ → Entry
-mirror_kept shape.Empty left right = entry shape.Empty left right
-mirror_kept shape.Set left right = entry shape.Set left right
 mirror_kept shape.Begin left right = entry shape.End left right
 mirror_kept shape.End left right = entry shape.Begin left right
 mirror_kept shape.Seq left right = entry shape.Seq right left
-mirror_kept shape.Alt left right = entry shape.Alt left right
-mirror_kept shape.Group left right = entry shape.Group left right
-mirror_kept shape.FirstStar left right = entry shape.FirstStar left right
-mirror_kept shape.Star left right = entry shape.Star left right
-mirror_kept shape.FirstOpt left right = entry shape.FirstOpt left right
-mirror_kept shape.Opt left right = entry shape.Opt left right
+mirror_kept other left right = entry other left right
 
--- the same where it is asked for
+-- what is kept of a node, or of the mirrored one
 abbrev pub entry_seen : Bool → Entry → Entry
 entry_seen true e = mirror_kept e.shape e.left e.right
 entry_seen false e = e

@@ -1,4 +1,4 @@
--- Sets of bytes: lists of 256 truth values, one for each byte.
+-- Sets of bytes: lists of 256 truth values, one for each byte. Each byte is a character (this project's own).
 use Rattle.std.specs.Prelude.{ℕ, ◌+◌, ◌-◌, ◌==◌, List, Bool, true, false, not, ◌&&◌, ◌||◌, if◌then◌else◌, map, nat_le}
 use Rattle.std.specs.Prelude.{slice_index_or}
 use Rattle.std.specs.List.{range_with_len}

@@ -23,12 +23,12 @@ pub record Level : Type 0 where
   pub pieces : List Tree
 
 -- the openings so far, the innermost level and those around it
-pub record State : Type 0 where
+pub record Nesting : Type 0 where
   pub opened : ℕ
   pub top : Level
   pub below : List Level
 
-abbrev pub start : State
+abbrev pub start : Nesting
 start = record { opened = 0; top = record { number = 0; alternatives = []; pieces = [] }; below = [] }
 
 abbrev pub with_piece : Tree → Level → Level
@@ -47,11 +47,11 @@ with_last f [] = []
 with_last f (t ∷ []) = f t ∷ []
 with_last f (t ∷ u ∷ us) = t ∷ with_last f (u ∷ us)
 
-abbrev pub close : Level → List Level → ℕ → State
+abbrev pub close : Level → List Level → ℕ → Nesting
 close top [] opened = record { opened = opened; top = top; below = [] }
 close top (l ∷ ls) opened = record { opened = opened; top = with_piece (group top.number (whole top)) l; below = ls }
 
-abbrev pub step : Item → State → State
+abbrev pub step : Item → Nesting → Nesting
 step (Byte members) s = record { opened = s.opened; top = with_piece (set members) s.top; below = s.below }
 step AtBegin s = record { opened = s.opened; top = with_piece begin s.top; below = s.below }
 step AtEnd s = record { opened = s.opened; top = with_piece end s.top; below = s.below }
@@ -76,7 +76,7 @@ step (Repeat least most) s = record {
   below = s.below;
 }
 
-abbrev pub run : List Item → State → State
+abbrev pub run : List Item → Nesting → Nesting
 run [] s = s
 run (i ∷ is) s = run is (step i s)
 
@@ -188,14 +188,14 @@ covered (cover.Star first) a = star a first
 covered (cover.Opt first) a = opt a first
 
 -- the reader stands for this state
-pub record Represents (limit : ℕ) (b : Builder) (s : State) : Type 0 where
+pub record Represents (limit : ℕ) (b : Builder) (s : Nesting) : Type 0 where
   pub stored : Stored limit b.stack (trees_in (s.top ∷ s.below))
   pub opened : b.opened ≡ s.opened
   pub top : b.top ≡ mark_of s.top s.below
   pub below : b.below.items ≡ marks_of s.below
 
 -- the item may stand here
-abbrev pub CanTake : Item → State → Type 0
+abbrev pub CanTake : Item → Nesting → Type 0
 CanTake Close s = s.below ≢ []
 CanTake (Repeat least most) s = (s.top.pieces ≢ []) × IsInterval least most
 CanTake other s = Unit {0}
@@ -203,4 +203,4 @@ CanTake other s = Unit {0}
 -- one item more was read
 abbrev pub TakesItem : Item → Builder → Builder → Type 0
 TakesItem item old new =
-    (limit : ℕ) (s : State) → Represents limit old s → CanTake item s → Represents limit new (step item s)
+    (limit : ℕ) (s : Nesting) → Represents limit old s → CanTake item s → Represents limit new (step item s)

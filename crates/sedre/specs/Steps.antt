@@ -5,6 +5,10 @@ use Rattle.std.specs.Prelude.{◌≡◌, ℕ, ◌+◌, ◌-◌, ◌^◌, ◌≤�
 abbrev pub Takes : ℕ → ℕ → ℕ → Type 0
 Takes s t n = (s ≤ t) × (t ≤ s + n)
 
+-- and where that is said already: n at most
+abbrev pub StepsWithin : ℕ → ℕ → ℕ → Type 0
+StepsWithin s t n = t ≤ s + n
+
 -- the count grew from s to t: by n, or to the largest
 unfoldable pub Counted : ℕ → ℕ → ℕ → Type 0
 Counted s t n = t ≡ min (s + n) (2 ^ 128 - 1)

@@ -32,24 +32,18 @@ size other = 1
 -- project's own)
 abbrev mutual
   pub depth : Tree → ℕ
-  depth empty = 0
-  depth (set members) = 0
-  depth begin = 0
-  depth end = 0
   depth (seq a b) = max (depth a) (depth b)
   depth (alt a b) = 1 + max (depth a) (alternatives_depth b)
   depth (group k a) = 1 + depth a
   depth (star a first) = 1 + depth a
   depth (opt a first) = 1 + depth a
+  depth other = 0
 
   -- of the alternatives after the first
   pub alternatives_depth : Tree → ℕ
-  alternatives_depth empty = 0
-  alternatives_depth (set members) = 0
-  alternatives_depth begin = 0
-  alternatives_depth end = 0
   alternatives_depth (seq a b) = max (depth a) (depth b)
   alternatives_depth (alt a b) = max (depth a) (alternatives_depth b)
   alternatives_depth (group k a) = 1 + depth a
   alternatives_depth (star a first) = 1 + depth a
   alternatives_depth (opt a first) = 1 + depth a
+  alternatives_depth other = 0

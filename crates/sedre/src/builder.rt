@@ -19,7 +19,7 @@ pub struct Builder {
 impl Builder {
     ghost use Rattle.sedre.specs.Tree.{Tree};
     ghost use Rattle.sedre.specs.Repeats.{IsInterval};
-    ghost use Rattle.sedre.specs.Stacks.{Represents, State, TakesItem, start, CanTake, Stored, IsLeaf, with_piece, whole};
+    ghost use Rattle.sedre.specs.Stacks.{Represents, Nesting, TakesItem, start, CanTake, Stored, IsLeaf, with_piece, whole};
 
     /// A builder to which nothing was added. The limit is one more than the nodes allowed.
     pub fn new(alloc: Global, limit: usize) -> Self
@@ -39,7 +39,7 @@ impl Builder {
 
     /// Adds a piece without parts.
     fn leaf(&mut self, node: Node) -> Result<(), AllocError>
-        ensures state { OnOk result ((limit : ℕ) (s : State) (t : Tree) → IsLeaf node t → Represents limit self.old s →
+        ensures state { OnOk result ((limit : ℕ) (s : Nesting) (t : Tree) → IsLeaf node t → Represents limit self.old s →
             Represents limit self.new (record { opened = s.opened; top = with_piece t s.top; below = s.below })) }
         ensures opened { OnOk result (self.new.opened ≤ self.old.opened + 1) }
     {
@@ -100,7 +100,7 @@ impl Builder {
 
     /// Adds one more item.
     pub fn take(&mut self, item: Item) -> Result<(), AllocError>
-        requires some { (limit : ℕ) × (s : State) × Represents limit self.old s × CanTake item s }
+        requires some { (limit : ℕ) × (s : Nesting) × Represents limit self.old s × CanTake item s }
         requires room { self.old.opened < usize.MAX }
         ensures state { OnOk result (TakesItem item self.old self.new) }
         ensures opened { OnOk result (self.new.opened ≤ self.old.opened + 1) }
@@ -118,8 +118,8 @@ impl Builder {
 
     /// Joins what was read into one tree.
     pub fn join(&mut self) -> Result<(), AllocError>
-        requires { (limit : ℕ) × (s : State) × Represents limit self.old s × (s.below ≡ []) }
-        ensures { OnOk result ((limit : ℕ) (s : State) → Represents limit self.old s → s.below ≡ [] →
+        requires { (limit : ℕ) × (s : Nesting) × Represents limit self.old s × (s.below ≡ []) }
+        ensures { OnOk result ((limit : ℕ) (s : Nesting) → Represents limit self.old s → s.below ≡ [] →
             Stored limit self.new.stack (whole s.top ∷ []) × (self.new.opened ≡ s.opened)) }
     {
         self.stack.concatenate(self.top.pieces)?;

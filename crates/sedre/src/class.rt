@@ -70,14 +70,14 @@ impl Class {
             Class::Alpha => matches!(b, b'A'..=b'Z' | b'a'..=b'z'),
             Class::Blank => matches!(b, b'\t' | b' '),
             Class::Cntrl => matches!(b, 0..=31 | 127),
-            Class::Digit => matches!(b, b'0'..=b'9'),
+            Class::Digit => b.is_ascii_digit(),
             Class::Graph => matches!(b, b'!'..=b'~'),
             Class::Lower => matches!(b, b'a'..=b'z'),
             Class::Print => matches!(b, b' '..=b'~'),
             Class::Punct => matches!(b, b'!'..=b'/' | b':'..=b'@' | b'['..=b'`' | b'{'..=b'~'),
             Class::Space => matches!(b, 9..=13 | b' '),
             Class::Upper => matches!(b, b'A'..=b'Z'),
-            Class::Xdigit => matches!(b, b'0'..=b'9' | b'A'..=b'F' | b'a'..=b'f'),
+            Class::Xdigit => b.is_ascii_digit() || matches!(b, b'A'..=b'F' | b'a'..=b'f'),
         }
     }
 }

@@ -2,7 +2,7 @@
 ghost use Rattle.std.specs.Prelude.{◌≡◌, ◌≢◌, ◌≤◌, ◌<◌, ◌+◌, ◌-◌, ◌++◌, ◌∷◌, [], List, Bool, Some, IfOk, IfSome, OnOk};
 ghost use Rattle.std.specs.Prelude.{ℕ, length, map, take, drop, slice_get, vec_len};
 ghost use Rattle.sedre.specs.Packed.{node_at, nodes_from, Fits, FitFrom, star_shape, opt_shape, entry_of, HasNumber};
-ghost use Rattle.sedre.specs.Packed.{Grows, PartsBelow, numbered, shifted, entry_seen};
+ghost use Rattle.sedre.specs.Packed.{AddsSets, PartsBelow, numbered, shifted, entry_seen};
 ghost use Rattle.std.specs.Prelude.{option_map, true};
 ghost use Rattle.sedre.specs.Mirror.{node_seen};
 
@@ -167,7 +167,7 @@ fn number_of(
     numbers: &mut BTreeMap<[u64; 4], usize>,
     set: ByteSet,
 ) -> Result<usize, AllocError>
-    ensures grows { Grows sets.old.items sets.new.items }
+    ensures grows { AddsSets sets.old.items sets.new.items }
     ensures number { IfOk result (λ k. slice_get sets.new.items k ≡ Some set) }
     // A set whose number is known isn't added again.
     ensures kept { (k : ℕ) → numbered numbers.old set ≡ Some k → slice_get sets.old.items k ≡ Some set →
@@ -190,7 +190,7 @@ fn set_number(
     numbers: &mut BTreeMap<[u64; 4], usize>,
     node: &Node,
 ) -> Result<usize, AllocError>
-    ensures grows { Grows sets.old.items sets.new.items }
+    ensures grows { AddsSets sets.old.items sets.new.items }
     ensures number { IfOk result (λ k. HasNumber sets.new.items k node.now) }
 {
     match node {

@@ -6,7 +6,7 @@ ghost use Rattle.sedre.specs.declared.types.Reason.{Reason};
 ghost use Rattle.sedre.specs.Grammar.{ReadsAs, FaultyWith, ExprFaulty};
 ghost use Rattle.sedre.specs.Arena.{tree};
 ghost use Rattle.sedre.specs.Tree.{size};
-ghost use Rattle.sedre.specs.Stacks.{State, Represents, whole};
+ghost use Rattle.sedre.specs.Stacks.{Nesting, Represents, whole};
 ghost use Rattle.sedre.specs.Finished.{Numbered, IsFinished, IsOverLimit};
 
 use crate::builder::Builder;
@@ -19,11 +19,11 @@ use std::alloc::Global;
 
 /// The expression of all that was read, if it is within the limits; otherwise a fault at the end of the text, `len`.
 fn finish(mut builder: Builder, len: usize) -> Result<Expr, ExprFault>
-    requires { (limit : ℕ) × (s : State) × Represents limit builder s × (s.below ≡ []) ×
+    requires { (limit : ℕ) × (s : Nesting) × Represents limit builder s × (s.below ≡ []) ×
         Numbered s.opened (whole s.top) × (limit ≤ 65537) }
-    ensures ok { IfOk result (λ e. (limit : ℕ) (s : State) → Represents limit builder s → s.below ≡ [] →
+    ensures ok { IfOk result (λ e. (limit : ℕ) (s : Nesting) → Represents limit builder s → s.below ≡ [] →
         IsFinished s limit e) }
-    ensures err { IfErr result (λ f. (limit : ℕ) (s : State) → Represents limit builder s → s.below ≡ [] →
+    ensures err { IfErr result (λ f. (limit : ℕ) (s : Nesting) → Represents limit builder s → s.below ≡ [] →
         IsOverLimit s limit len f ⊎ (f ≡ NO_MEMORY)) }
 {
     if builder.join().is_err() {

@@ -55,7 +55,8 @@ inside_after Escape b = if b == 10 then Due else InLine
 inside_after InLine b = if b == 92 then Escape else InLine
 inside_after Due b = if b == 92 then Escape else InLine
 
--- where a text ends whose rest begins at a place. None where a further line has to follow and doesn't
+-- where a text ends whose rest begins at a place. None where a further line has to follow and doesn't (that this is a
+-- fault: this project's own)
 abbrev pub text_end : Inside → ℕ → List ℕ → Option ℕ
 text_end InLine at [] = Some at
 text_end Escape at [] = None

@@ -49,7 +49,7 @@ fn is_file(file_use: FileUse, name: &[u8]) -> bool
     }
 }
 
-/// Where the name of the file begins and ends that a function reads, or writes, if it does.
+/// Where the name of the file that a function reads or writes, as `file_use` says, begins and ends, if it does so.
 fn name_in(file_use: FileUse, function: Function) -> Option<(usize, usize)>
     ensures { result ≡ name_in file_use function }
 {

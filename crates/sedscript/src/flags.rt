@@ -36,7 +36,7 @@ fn with_number(flags: Flags, at: usize, digits: &[u8]) -> Result<Flags, ScriptFa
     }
 }
 
-/// The flags with the one of the byte `b`, which stands at `at`. `empty` says whether the regular expression is empty.
+/// The flags with the one added that the byte `b` at `at` names. `empty` says whether the regular expression is empty.
 fn with_flag(empty: bool, flags: Flags, at: usize, b: u8) -> Result<Flags, ScriptFault>
     ensures { result ≡ with_flag empty flags at b }
 {

@@ -78,7 +78,7 @@ fn function_of(text: &[u8], shape: Shape, at: usize) -> Result<(Function, usize)
     }
 }
 
-/// The function whose letter stands at `at` and stands for this, and the place after it.
+/// The function of this verb, whose letter stands at `at`, and the place after it.
 fn function_with(
     source: &Source,
     exprs: &mut Vec<Expr>,

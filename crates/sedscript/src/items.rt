@@ -95,7 +95,7 @@ pub struct Strings {
 /// A function: its letter and what follows that.
 #[derive(Clone, Copy)]
 pub enum Function {
-    /// `=`, `d`, `D`, `g`, `G`, `h`, `H`, `l`, `n`, `N`, `p`, `P`, `q` or `x`
+    /// A function of one letter, which nothing follows.
     Plain(Simple),
     /// `{`
     Open,

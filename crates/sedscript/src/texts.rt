@@ -54,7 +54,7 @@ fn inside_after(inside: Inside, b: u8) -> Inside
     }
 }
 
-/// Where a text ends whose rest begins at `from`; None where a further line has to follow and doesn't.
+/// The end of a text whose rest begins at `from`; None where a further line has to follow and doesn't.
 fn text_end(text: &[u8], start: Inside, from: usize) -> Option<usize>
     requires { from ≤ length text.now }
     ensures is { result ≡ text_end start from (drop from text.now) }
@@ -75,8 +75,8 @@ fn text_end(text: &[u8], start: Inside, from: usize) -> Option<usize>
     }
 }
 
-/// Where the text begins and ends that is expected at `from`, after the blanks that follow its letter; None where it is
-/// missing.
+/// The begin and the end of the text that is expected at `from`, after the blanks that follow its letter; None where it
+/// is missing.
 #[tactic(auto, unfolding(crate::specs::Functions::text_from))]
 pub fn text_from(text: &[u8], from: usize) -> Option<(usize, usize)>
     requires { from ≤ length text.now }

@@ -37,7 +37,8 @@ fn escaped_byte(delimiter: u8, b: u8) -> Option<u8>
     }
 }
 
-/// The byte of a string that ends with the byte `b` of the text at `at`, `escaped` or not; None where none ends there.
+/// The byte that a string has where its text has `b` at `at`, `escaped` or not. None for a backslash, which begins an
+/// escape, and for an escape that is refused.
 fn char_of(delimiter: u8, escaped: bool, at: usize, b: u8) -> Option<Char>
     requires { escaped ≡ true → 1 ≤ at }
     ensures { result ≡ char_of delimiter escaped at b }

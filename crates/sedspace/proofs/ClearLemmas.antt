@@ -9,7 +9,7 @@ use Rattle.std.proofs.lemmas.List.{drop_all, drop-drop, take_all, take-take, tak
 use Rattle.std.proofs.lemmas.List.Elements.{All-append, All-drop, All-take}
 use Rattle.std.proofs.lemmas.Bool.Decides.{nat_tests, eqb_tells}
 use Rattle.sedspace.specs.Lines.{is_newline, HasNoNewline}
-use Rattle.sedspace.specs.Ended.{IsClear}
+use Rattle.sedspace.specs.NewlineAfter.{IsClear}
 use Rattle.sedspace.proofs.LineLemmas.{position_cases, none_cases}
 
 -- of no byte it is known

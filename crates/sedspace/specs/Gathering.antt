@@ -25,7 +25,7 @@ pub record Gathered {R : Type 0} (remaining : R → Option (List ℕ)) (old new 
   pub ended_is : old.ended ≡ true → (new.source ≡ old.source) × (new.ended ≡ true)
   pub whole_is : HasNoNewline old.ahead ⊎ ((new.source ≡ old.source) × (old.ahead ≡ part ++ new.ahead))
 
--- the same, and then a newline was dropped
+-- a line was gathered into a space, and its newline dropped
 pub record GatheredLine {R : Type 0} (remaining : R → Option (List ℕ)) (old new : Stream R) (before after : Contents)
     (line taken : List ℕ) : Type 0 where
   pub space : after ≡ record { bytes = before.bytes ++ line; limit = before.limit }

@@ -1,4 +1,4 @@
-pub mod Ended
+pub mod NewlineAfter
 pub mod Failures
 pub mod Gathering
 pub mod Lines

@@ -207,9 +207,9 @@ impl<R: ByteSource> Lines<R> {
         got
     }
 
-    /// Whether no line is left, so that the line given last was the last of the input. The source is read, once, only
-    /// where nothing has been read ahead and its end hasn't been seen. Answers `Broken` where that read failed; no byte is
-    /// lost by it.
+    /// Whether no line is left, so that the line given last was the last of the input. Where nothing has been read ahead
+    /// and the source's end hasn't been seen, the source is read once; otherwise it isn't read. Answers `Broken` where
+    /// that read failed; no byte is lost by it.
     pub fn is_last(&mut self) -> Result<bool, LineFault>
         ensures last { IfOk result (TellsLast (lines_left R.remaining self.old)) }
         ensures left { Keeps (left R.remaining self.old) (left R.remaining self.new) }

@@ -9,7 +9,7 @@ ghost use Rattle.std.specs.List.{after_first, before_first};
 ghost use Rattle.std.specs.Io.KnownBytes.{Keeps};
 ghost use Rattle.sedspace.specs.Lines.{is_newline, HasNoNewline};
 ghost use Rattle.sedspace.specs.Reading.{ReadsAt};
-ghost use Rattle.sedspace.specs.Ended.{EndsAt, between};
+ghost use Rattle.sedspace.specs.NewlineAfter.{EndsAt, between};
 
 use super::lines::newline_in;
 use super::{Full, Texts};
@@ -37,7 +37,7 @@ pub struct Space {
 impl Model for Space {
     ghost use Rattle.std.specs.Prelude.{◌+◌, ◌<◌, ◌≤◌, vec_len, vec_capacity};
     ghost use Rattle.sedspace.specs.Spaces.{Contents};
-    ghost use Rattle.sedspace.specs.Ended.{EndsAt, IsClear, between};
+    ghost use Rattle.sedspace.specs.NewlineAfter.{EndsAt, IsClear, between};
 
     ghost Value = { Contents };
 
@@ -185,7 +185,7 @@ impl Space {
         Ok(())
     }
 
-    /// The same for bytes without a newline.
+    /// Appends the first `count` bytes of a text, which hold no newline.
     pub(crate) fn append_clear(&mut self, text: &[u8], count: usize) -> Result<(), Full>
         requires inside { count ≤ length text.now }
         requires clear { HasNoNewline (take count text.now) }
@@ -320,7 +320,7 @@ fn end_line(held: &mut Vec<u8>, end: usize)
     held[end] = b'\n';
 }
 
-// How many of the first bytes hold no newline, with so many more after all of them.
+// How many of the first bytes hold no newline, once `count` more without one are appended to `len` of them.
 fn clear_with(first: usize, len: usize, count: usize) -> usize
     requires { len + count ≤ usize.MAX }
     ensures { result ≡ if first == len then len + count else first }
@@ -328,7 +328,7 @@ fn clear_with(first: usize, len: usize, count: usize) -> usize
     if first == len { len + count } else { first }
 }
 
-// How many of the first bytes hold no newline where the last so many bytes are left, of which `last` hold none.
+// How many of the first bytes hold no newline, once only the last `rest` bytes are left; the last `last` hold none.
 fn clear_of_rest(last: usize, rest: usize) -> usize
     ensures { result ≡ if nat_lt last rest then 0 else rest }
 {

@@ -7,7 +7,7 @@ ghost use Rattle.sedspace.specs.Reading.{ReadsAt};
 /// bytes; of texts that don't, clauses on bytes claim nothing.
 pub trait Texts {
     /// A text's bytes, where contracts may see them. A text that isn't there, or can't be read, has none; one whose
-    /// reading fails midway ends there.
+    /// reading fails midway ends there (this project's own).
     ghost text: { Self → ℕ → Option (List ℕ) };
 
     /// Reads bytes of the text, from the offset on, into the front of the buffer, and answers how many: at least one,

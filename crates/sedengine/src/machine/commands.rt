@@ -11,10 +11,10 @@ ghost use Rattle.sedengine.specs.State.{do_at, print_pattern, flush};
 ghost use Rattle.sedengine.specs.Listing.{listed};
 ghost use Rattle.sedengine.specs.Move.{acts, passes, line_to, tells_at, to_sink};
 ghost use Rattle.sedengine.specs.Ends.{reaches, is_next};
-ghost use Rattle.sedengine.specs.Meters.{Sent, Tally};
+ghost use Rattle.sedengine.specs.Meters.{Sent, SinkView};
 ghost use Rattle.sedengine.specs.Calls.{NoSinkFailed, Puts, Reads, Delivers};
 ghost use Rattle.sedengine.specs.Run.{TellsFiles, at_lines, setting};
-ghost use Rattle.sedengine.specs.Steps.{ActsQuietly, HasAction, KeepsRun, Performs, PerformsSteps, Steps, is_quiet, takes_line, weight};
+ghost use Rattle.sedengine.specs.Steps.{ActsQuietly, HasAction, KeepsRun, Performs, PerformsSteps, Steps, writes_nothing, takes_line, weight};
 
 use super::Machine;
 use crate::ends::Ended;
@@ -110,7 +110,7 @@ impl Machine {
         }
     }
 
-    /// The same for a command that takes no line.
+    /// Does what command `k` does where it applies, if it takes no line.
     fn act_here<O: Sinks, T: Texts>(
         &mut self,
         k: usize,
@@ -151,12 +151,12 @@ impl Machine {
         }
     }
 
-    /// The same for a command that writes nothing.
+    /// Does what command `k` does where it applies, if it writes nothing and takes no line.
     fn act_quietly(&mut self, k: usize, action: Action) -> Result<(), Ended>
         requires at { reaches self.old.state.tasks ≡ true }
         requires within { ActionWithin (sizes_of self.old.script) action }
         requires action { HasAction (slice_get self.old.script.commands k) action }
-        requires quiet { is_quiet action ≡ true }
+        requires quiet { writes_nothing action ≡ true }
         ensures acts { ActsQuietly self.old self.new action result }
         ensures output { NoSinkFailed result }
         ensures input { result ≡ Err Ended.InputBroken → ⊥ }
@@ -191,7 +191,7 @@ impl Machine {
 
     /// Does what a command does where it doesn't apply: `{` passes over its block.
     fn pass(&mut self, action: Action)
-        ensures passes { (files : ℕ → List ℕ) (sinks : Tally) (ls : List (List ℕ)) →
+        ensures passes { (files : ℕ → List ℕ) (sinks : SinkView) (ls : List (List ℕ)) →
             Performs self.old.limits (setting self.old files) (passes (at_lines self.old ls) action)
             (at_lines self.old ls) (at_lines self.new ls) (Sent sinks sinks) (Ok tt) }
         ensures falls { weight self.new ≤ weight self.old + 8 }

@@ -8,7 +8,7 @@ ghost use Rattle.sedspace.specs.Stream.{lines_left};
 ghost use Rattle.sedengine.specs.State.{empty_pattern, fetch, flush, join, print_pattern};
 ghost use Rattle.sedengine.specs.Move.{acts, newline, then_do};
 ghost use Rattle.sedengine.specs.Ends.{reaches};
-ghost use Rattle.sedengine.specs.Meters.{Sent, Tally};
+ghost use Rattle.sedengine.specs.Meters.{Sent, SinkView};
 ghost use Rattle.sedengine.specs.Calls.{NoSinkFailed, Reads, Delivers};
 ghost use Rattle.sedengine.specs.Run.{TellsFiles, at_lines, setting};
 ghost use Rattle.sedengine.specs.Steps.{KeepsRun, PerformsSteps, StepsFrom, weight};
@@ -83,7 +83,7 @@ impl Machine {
         requires at { reaches self.old.state.tasks ≡ true }
         requires number { self.old.state.number < self.old.state.turns }
         ensures steps { lines.old.fault ≡ None → ForSome (lines_left R.remaining lines.old) (λ ls.
-            (files : ℕ → List ℕ) (sinks : Tally) →
+            (files : ℕ → List ℕ) (sinks : SinkView) →
             StepsFrom R.remaining lines.old lines.new ls self.old.limits (setting self.old files)
             (then_do (empty_pattern ∷ fetch ∷ self.old.state.tasks) (at_lines self.old ls)) self.new
             (Sent sinks sinks) result) }
@@ -148,7 +148,7 @@ impl Machine {
         requires at { reaches self.old.state.tasks ≡ true }
         requires number { self.old.state.number < self.old.state.turns }
         ensures steps { lines.old.fault ≡ None → ForSome (lines_left R.remaining lines.old) (λ ls.
-            (files : ℕ → List ℕ) (sinks : Tally) →
+            (files : ℕ → List ℕ) (sinks : SinkView) →
             StepsFrom R.remaining lines.old lines.new ls self.old.limits (setting self.old files)
             (then_do (join ∷ self.old.state.tasks) (at_lines self.old ls)) self.new
             (Sent sinks sinks) result) }
@@ -186,7 +186,7 @@ fn bring_line<R: ByteSource>(
     }
 }
 
-/// The same for a line that doesn't fit into a full space: whether there is one is all that is asked.
+/// Asks whether there is a next line, for a space that is too full to take one.
 fn bring_none<R: ByteSource>(lines: &mut Lines<R>, number: u64) -> Result<Got, Ended>
     ensures brings { lines.old.fault ≡ None → ForSome (lines_left R.remaining lines.old) (λ ls.
         (before : List ℕ) (s : Contents) → s.limit < length before →

@@ -1,5 +1,5 @@
-//! The parts of a machine as they are made, each in a call of its own: what is let go where a request is refused grows with
-//! each request, and so does the proof.
+//! The parts of a machine as they are made, each in a call of its own: a refused request drops all that was made before it,
+//! so the proof of one call for all of them would be long.
 ghost use Rattle.std.specs.Prelude.{◌≡◌, ◌≤◌, IfOk, false, replicate};
 ghost use Rattle.sedengine.specs.Parts.{AreParts, AreSeekers, IsStore};
 
@@ -36,7 +36,7 @@ impl Parts {
     }
 }
 
-/// The states of so many ranges, none of which is active.
+/// The states of `count` ranges, none of them active.
 fn idle_ranges(alloc: Global, count: usize) -> Result<Vec<bool>, AllocError>
     ensures { IfOk result (λ ranges. ranges.items ≡ replicate count false) }
 {

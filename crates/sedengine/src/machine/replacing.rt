@@ -3,7 +3,7 @@
 ghost use Rattle.std.specs.Prelude.{◌≡◌, ◌+◌, ◌*◌, ◌^◌, ◌<◌, ◌≤◌, IsTrue, [], ◌∷◌, Some, Err, OnErr, ℕ, List, false, true, length, map, slice_get, if◌then◌else◌};
 ghost use Rattle.sedscript.specs.declared.substitution.Substitution.{Substitution};
 ghost use Rattle.sedengine.specs.State.{do_at};
-ghost use Rattle.sedengine.specs.Substitute.{chosen, occurrences};
+ghost use Rattle.sedengine.specs.Substitute.{to_replace, occurrences};
 ghost use Rattle.sedengine.specs.Move.{chosen_in, in_table, line_to, line_to_file, replaces, substitutes, written_by};
 ghost use Rattle.sedengine.specs.Ends.{reaches};
 ghost use Rattle.sedengine.specs.Meters.{Sent};

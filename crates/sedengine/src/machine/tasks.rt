@@ -4,7 +4,7 @@ ghost use Rattle.std.specs.Option.{ForSome};
 ghost use Rattle.std.specs.Io.KnownBytes.{Keeps};
 ghost use Rattle.sedspace.specs.Stream.{lines_left};
 ghost use Rattle.sedengine.specs.State.{begin, rebegin, do_at, print_pattern, flush};
-ghost use Rattle.sedengine.specs.Meters.{Sent, Tally};
+ghost use Rattle.sedengine.specs.Meters.{Sent, SinkView};
 ghost use Rattle.sedengine.specs.Calls.{NoSinkFailed, Reads, Delivers};
 ghost use Rattle.sedengine.specs.Run.{TellsFiles, at_lines, setting};
 ghost use Rattle.sedengine.specs.Steps.{KeepsRun, Moves, Steps, weight};
@@ -20,7 +20,7 @@ impl Machine {
     pub(super) fn begin<R: ByteSource>(&mut self, lines: &mut Lines<R>) -> Result<(), Ended>
         requires { self.old.state.tasks ≡ begin ∷ [] }
         ensures steps { lines.old.fault ≡ None → ForSome (lines_left R.remaining lines.old) (λ ls.
-            (files : ℕ → List ℕ) (sinks : Tally) →
+            (files : ℕ → List ℕ) (sinks : SinkView) →
             Steps R.remaining lines.old lines.new ls self.old.limits (setting self.old files) self.old self.new
             (Sent sinks sinks) result) }
         ensures input { Reads R.remaining R.failures R.reference lines.old lines.new result }
@@ -58,7 +58,7 @@ impl Machine {
     /// Starts a cycle with the pattern space as it is.
     pub(super) fn rebegin(&mut self) -> Result<(), Ended>
         requires { self.old.state.tasks ≡ rebegin ∷ [] }
-        ensures moves { (files : ℕ → List ℕ) (ls : List (List ℕ)) (sinks : Tally) →
+        ensures moves { (files : ℕ → List ℕ) (ls : List (List ℕ)) (sinks : SinkView) →
             Moves self.old.limits (setting self.old files) (at_lines self.old ls)
             (at_lines self.new ls) (Sent sinks sinks) result }
         ensures output { NoSinkFailed result }

@@ -1,5 +1,5 @@
 use Rattle.std.proofs.Common.{◌≡◌, sym}
-use Rattle.sedmatch.specs.Room.{Room}
+use Rattle.sedmatch.specs.SearchRoom.{SearchRoom}
 use Rattle.sedengine.specs.Fitting.{AllFit}
 use Rattle.sedengine.proofs.Fitting.{fits_all, ok_with, sought_fit}
 use Rattle.sedengine.proofs.matchers.room_to_search.Goals as goal
@@ -13,4 +13,4 @@ pub returns-clause-nodes : goal.returns-clause-nodes
 returns-clause-nodes c =
     let most = c.most_nodes-most.result in
     let fit : AllFit most c.args.matchers.now.items = rw (sym c.deref.ensures.value) (fits_all most c.deref.result.now c.most_nodes-most.ensures.most) in
-    ok_with c.new.result (λ (s : Room) (has : (s.text ≡ c.if-expressions-eq0.longest) × (s.nodes ≡ most)). rw has.1 fit) c.new.ensures
+    ok_with c.new.result (λ (s : SearchRoom) (has : (s.text ≡ c.if-expressions-eq0.longest) × (s.nodes ≡ most)). rw has.1 fit) c.new.ensures

@@ -2,7 +2,7 @@ use Rattle.std.proofs.Common.{◌≡◌, ◌+◌, ◌*◌, ◌≤◌, List, [], 
 use Rattle.std.proofs.lemmas.List.{reverse-append}
 use Rattle.sedre.specs.Arena.{tree_at}
 use Rattle.sedmarks.specs.Caps.{Caps}
-use Rattle.sedmarks.specs.Work.{DoesAll, IsReady, weights}
+use Rattle.sedmarks.specs.Work.{DoesAll, AreMatched, weights}
 use Rattle.sedmarks.specs.declared.scratch.Task.{Task}
 use Rattle.sedmarks.specs.declared.scratch.Task.TheVariants.{Enter}
 use Rattle.sedmarks.proofs.WorkLemmas.{decide_start, decide_next}
@@ -23,7 +23,7 @@ loop-task-init c =
       stack_empty = c.requires.plan.1;
       stack_room = omega arith;
       tasks_room = omega arith;
-      ready = subst (λ ts. IsReady nodes w ts) (sym begun) (c.requires.root, c.requires.order.0, c.requires.order.1, c.requires.spans, tt);
+      ready = subst (λ ts. AreMatched nodes w ts) (sym begun) (c.requires.root, c.requires.order.0, c.requires.order.1, c.requires.spans, tt);
       grows = omega arith;
       cost = decide_start nodes (46 * length nodes * (length w + 1) * (length w + 1) + 1 + length nodes) (length nodes) c.args.steps.now c.args.root c.args.start c.args.stop
           (reverse c.push_reserved.new.self.items) begun small;

@@ -1,7 +1,7 @@
 use Rattle.std.proofs.Common.{subst, [], ◌≡◌, ◌+◌, ◌∷◌, length, reverse, Some, ap, ◌∙◌, sym, arith}
 use Rattle.std.specs.Prelude.{slice_get}
 use Rattle.std.proofs.lemmas.List.{reverse-append, length-reverse}
-use Rattle.sedmarks.specs.Work.{InRange, sizes, forget_all}
+use Rattle.sedmarks.specs.Work.{AllBelow, sizes, forget_all}
 use Rattle.sedmarks.proofs.WorkLemmas.{length-sizes, stack_after}
 use Rattle.sedmarks.proofs.groups.forget_inside.Goals as goal
 
@@ -16,7 +16,7 @@ loop-x-smaller c =
     let nodes = c.args.expr.now.nodes in
     let old = c.pop.new.self.items in
     let popped : reverse c.loop-x.stack.items ≡ c.in-Some.x ∷ reverse old = ap reverse c.in-Some.ensures.items ∙ reverse-append old (c.in-Some.x ∷ []) in
-    let range : InRange (length nodes) (c.in-Some.x ∷ reverse old) = subst (λ xs. InRange (length nodes) xs) popped c.loop-x.invariant.3 in
+    let range : AllBelow (length nodes) (c.in-Some.x ∷ reverse old) = subst (λ xs. AllBelow (length nodes) xs) popped c.loop-x.invariant.3 in
     let is : slice_get nodes c.in-Some.x ≡ Some c.look-node.result = cc in
     let after = stack_after nodes c.look-node.ensures.arena c.in-Some.x c.look-node.result is range.0 old c.put_parts.new.stack.items
     c.put_parts.ensures.items c.loop-x.groups c.drop_group.new.groups c.drop_group.ensures range.1 in
@@ -28,7 +28,7 @@ loop-x-preserved c =
     let nodes = c.args.expr.now.nodes in
     let old = c.pop.new.self.items in
     let popped : reverse c.loop-x.stack.items ≡ c.in-Some.x ∷ reverse old = ap reverse c.in-Some.ensures.items ∙ reverse-append old (c.in-Some.x ∷ []) in
-    let range : InRange (length nodes) (c.in-Some.x ∷ reverse old) = subst (λ xs. InRange (length nodes) xs) popped c.loop-x.invariant.3 in
+    let range : AllBelow (length nodes) (c.in-Some.x ∷ reverse old) = subst (λ xs. AllBelow (length nodes) xs) popped c.loop-x.invariant.3 in
     let is : slice_get nodes c.in-Some.x ≡ Some c.look-node.result = cc in
     let after = stack_after nodes c.look-node.ensures.arena c.in-Some.x c.look-node.result is range.0 old c.put_parts.new.stack.items
     c.put_parts.ensures.items c.loop-x.groups c.drop_group.new.groups c.drop_group.ensures range.1 in

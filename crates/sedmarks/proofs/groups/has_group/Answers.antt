@@ -2,7 +2,7 @@ use Rattle.std.proofs.Common.{subst, [], ◌≡◌, ◌+◌, ◌∷◌, length, 
 use Rattle.std.specs.Prelude.{slice_get}
 use Rattle.std.proofs.lemmas.List.{reverse-append, length-reverse}
 use Rattle.sedre.specs.Arena.{tree_at}
-use Rattle.sedmarks.specs.Work.{AllWithout, InRange, forget_node, sizes}
+use Rattle.sedmarks.specs.Work.{AllWithout, AllBelow, forget_node, sizes}
 use Rattle.sedmarks.proofs.WorkLemmas.{length-sizes, size-pos, stack_after, without_after}
 use Rattle.sedmarks.proofs.groups.has_group.Goals as goal
 
@@ -27,7 +27,7 @@ loop-x-smaller c =
     let nodes = c.args.expr.now.nodes in
     let old = c.pop.new.self.items in
     let popped : reverse c.loop-x.stack.items ≡ c.in-Some.x ∷ reverse old = ap reverse c.in-Some.ensures.items ∙ reverse-append old (c.in-Some.x ∷ []) in
-    let range : InRange (length nodes) (c.in-Some.x ∷ reverse old) = subst (λ xs. InRange (length nodes) xs) popped c.loop-x.invariant.range in
+    let range : AllBelow (length nodes) (c.in-Some.x ∷ reverse old) = subst (λ xs. AllBelow (length nodes) xs) popped c.loop-x.invariant.range in
     let is : slice_get nodes c.in-Some.x ≡ Some c.look-node.result = cc in
     let after = stack_after nodes c.look-node.ensures.arena c.in-Some.x c.look-node.result is range.0 old c.put_parts.new.stack.items
     c.put_parts.ensures.items [] (forget_node c.look-node.result []) refl range.1 in
@@ -39,7 +39,7 @@ loop-x-preserved c =
     let nodes = c.args.expr.now.nodes in
     let old = c.pop.new.self.items in
     let popped : reverse c.loop-x.stack.items ≡ c.in-Some.x ∷ reverse old = ap reverse c.in-Some.ensures.items ∙ reverse-append old (c.in-Some.x ∷ []) in
-    let range : InRange (length nodes) (c.in-Some.x ∷ reverse old) = subst (λ xs. InRange (length nodes) xs) popped c.loop-x.invariant.range in
+    let range : AllBelow (length nodes) (c.in-Some.x ∷ reverse old) = subst (λ xs. AllBelow (length nodes) xs) popped c.loop-x.invariant.range in
     let is : slice_get nodes c.in-Some.x ≡ Some c.look-node.result = cc in
     let after = stack_after nodes c.look-node.ensures.arena c.in-Some.x c.look-node.result is range.0 old c.put_parts.new.stack.items
     c.put_parts.ensures.items [] (forget_node c.look-node.result []) refl range.1 in

@@ -1,6 +1,6 @@
 use Rattle.std.proofs.Common.{◌≡◌, ◌*◌, ◌+◌, refl, Some, ap, ◌∙◌, arith}
 use Rattle.std.specs.Prelude.{slice_get, slice_index_or, false}
-use Rattle.sedmarks.specs.PartMarks.{end_of}
+use Rattle.sedmarks.specs.PartMarks.{node_ends}
 use Rattle.sedmarks.proofs.StepLemmas.{least_none, least_four}
 use Rattle.sedmarks.proofs.PassLemmas.{parts_below, ascend_null, ascend_ended}
 use Rattle.sedmarks.proofs.passes.ascend.Goals as goal
@@ -29,7 +29,7 @@ loop-x-preserved c =
     let is : slice_get nodes x ≡ Some c.look-node.result = cc in
     let mark : c.get-before.result ≡ slice_index_or c.args.sets.now.entered x false =
     c.get-before.ensures.mark ∙ ap (λ l. slice_index_or l x false) c.loop-x.invariant.kept in
-    let value : c.marks_here-here.result.1 ≡ end_of (slice_index_or c.args.sets.now.entered x false) c.args.byte (λ n. slice_index_or c.loop-x.sets.null n false) (λ n. slice_index_or c.loop-x.sets.ended n false) c.look-node.result =
+    let value : c.marks_here-here.result.1 ≡ node_ends (slice_index_or c.args.sets.now.entered x false) c.args.byte (λ n. slice_index_or c.loop-x.sets.null n false) (λ n. slice_index_or c.loop-x.sets.ended n false) c.look-node.result =
     rw (← mark) c.marks_here-here.ensures.ended in
     record {
       kept = c.loop-x.invariant.kept;

@@ -32,5 +32,6 @@ pub returns-in_default-clause-none_cost : goal.returns-in_default-clause-none_co
 returns-in_default-clause-none_cost c =
     let m = length c.args.expr.now.nodes in
     let n = length c.args.text.now in
-    none_then c.span_from.result (c.span_from.new.steps + 42 * m * c.in_ok-start.start ≤ c.first_place.new.steps + 40 * m + 42 * m * n) (c.span_from.new.steps ≤ c.args.steps.now + 41 * m + 43 * m * n)
-    (none_steps m n c.args.from c.in_ok-start.start c.args.steps.now c.first_place.new.steps c.span_from.new.steps (omega arith) c.in_ok-start.ensures.sought.1 (omega (arith, c.in_ok-start.ensures.cost.1))) c.span_from.ensures.none_cost
+    none_then c.span_from.result (c.span_from.new.steps + 42 * m * c.in_ok-start.start ≤ c.first_place.new.steps + 40 * m + 42 * m * n) (c.span_from.new.steps ≤ c.args.steps.now + (41 * m + 43 * m * n))
+    (λ few. let least = none_steps m n c.args.from c.in_ok-start.start c.args.steps.now c.first_place.new.steps c.span_from.new.steps (omega arith) c.in_ok-start.ensures.sought.1 (omega (arith, c.in_ok-start.ensures.cost.1)) few in omega (arith, least))
+    c.span_from.ensures.none_cost

@@ -38,5 +38,6 @@ pub returns-in_ok-start-in_default-clause-none_cost : goal.returns-in_ok-start-i
 returns-in_ok-start-in_default-clause-none_cost c =
     let m = length c.args.expr.now.nodes in
     let n = length c.args.text.now in
-    none_then c.anywhere_by.result (c.anywhere_by.new.steps ≤ c.narrowed.new.steps + 41 * m + 43 * m * n) (c.anywhere_by.new.steps ≤ c.args.steps.now + 64 * m * (n + 1))
-    (none_linear m n c.args.steps.now c.narrowed.new.steps c.anywhere_by.new.steps (omega arith) (omega (arith, c.in_ok-start-in_default.ensures.cost.1))) c.anywhere_by.ensures.none_cost
+    none_then c.anywhere_by.result (c.anywhere_by.new.steps ≤ c.narrowed.new.steps + (41 * m + 43 * m * n)) (c.anywhere_by.new.steps ≤ c.args.steps.now + 64 * m * (n + 1))
+    (λ few. none_linear m n c.args.steps.now c.narrowed.new.steps c.anywhere_by.new.steps (omega arith) (omega (arith, c.in_ok-start-in_default.ensures.cost.1)) (omega (arith, few)))
+    c.anywhere_by.ensures.none_cost

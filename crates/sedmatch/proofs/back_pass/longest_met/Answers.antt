@@ -1,7 +1,7 @@
 use Rattle.std.proofs.Common.{◌≡◌, ◌+◌, ◌≤◌, ◌∙◌, IfSome, length, refl, subst, sym, arith, rules, true≢false}
 use Rattle.sedre.specs.Arena.{tree}
 use Rattle.sedmarks.specs.Reach.{one_start, Entered, LongestBelow, Marked, Below}
-use Rattle.sedmatch.specs.BackPass.{met_to, GoesOnFrom, blocks_cost}
+use Rattle.sedmatch.specs.BackPass.{met_to, EndsLaterFrom, blocks_cost}
 use Rattle.sedmarks.proofs.SearchLemmas.{none_entered, next_entered, LongestBelow-none, Longest-from_below}
 use Rattle.sedmatch.proofs.BackPassLemmas.{met_reached, met_from, met_cost, goes_end, best_hit, best_miss, best_all}
 use Rattle.sedmatch.proofs.back_pass.longest_met.Goals.{then-here, else-here}
@@ -97,7 +97,7 @@ loop-place-preserved c =
         | then-here b ↦ subst (λ v. IfSome v (λ end. (start ≤ end) × (end ≤ length w))) (sym b.best-is) (omega arith, omega arith)
         | else-here b ↦ subst (λ v. IfSome v (λ end. (start ≤ end) × (end ≤ length w))) (sym b.best-is) inv.lies
       ];
-      ahead = λ q low is. let same : place ≡ q = omega arith in subst (GoesOnFrom nodes w root start) same (c.goes_on.ensures.goes.0 c.if-not-goes_on.false);
+      ahead = λ q low is. let same : place ≡ q = omega arith in subst (EndsLaterFrom nodes w root start) same (c.goes_on.ensures.goes.0 c.if-not-goes_on.false);
     }
 
 pub returns-clause-served : goal.returns-clause-served

@@ -1,5 +1,5 @@
 use Rattle.std.proofs.Common.{length, arith}
-use Rattle.sedmatch.specs.BackPass.{Reaches, blocks_cost, end_to}
+use Rattle.sedmatch.specs.BackPass.{BlockReaches, blocks_cost, end_to}
 use Rattle.sedmatch.proofs.BackPassLemmas.{lies_behind, null_reaches, twice_cost}
 use Rattle.sedmatch.proofs.back_pass.next_after.Goals as goal
 
@@ -12,7 +12,7 @@ next_met-requires-clause-room c = c.next_met-first.ensures.kept (length c.args.t
 
 pub next_met-requires-clause-served : goal.next_met-requires-clause-served
 next_met-requires-clause-served c =
-    let here = null_reaches c.args.at (λ v. Reaches (length c.args.text.now) v c.next_met-first.new.back_pass) c.next_met-first.result (c.is_null_at.ensures.null c.if-not-is_null_at.false) c.next_met-first.ensures.served.1 in
+    let here = null_reaches c.args.at (λ v. BlockReaches (length c.args.text.now) v c.next_met-first.new.back_pass) c.next_met-first.result (c.is_null_at.ensures.null c.if-not-is_null_at.false) c.next_met-first.ensures.served.1 in
     (c.next_met-first.ensures.served.0, omega (arith, here))
 
 pub returns-clause-kept : goal.returns-clause-kept

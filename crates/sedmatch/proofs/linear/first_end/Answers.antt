@@ -5,7 +5,7 @@ use Rattle.sedmatch.specs.declared.tables.Next.TheVariants.{To}
 use Rattle.sedmarks.specs.States.{IsAt}
 use Rattle.sedmatch.specs.Linear.{ended_to}
 use Rattle.sedmarks.specs.Words.{AgreeBelow, row_of}
-use Rattle.sedmatch.specs.Tables.{NextIs, LeadsFrom, IsFirst, starts_from}
+use Rattle.sedmatch.specs.Tables.{NextIs, LeadsFrom, CanStart, starts_from}
 use Rattle.sedmatch.proofs.TableLemmas.{at_agree, agree_back}
 use Rattle.sedmarks.proofs.MarkLemmas.{default_same}
 use Rattle.sedmarks.proofs.SweepLemmas.{missed_init}
@@ -23,7 +23,7 @@ loop-next-init c =
       sweeps = c.first_state-next.ensures.sweeps ∙ c.requires.table.1;
       after = omega arith;
       within = c.requires.from;
-      next = next_map (IsFirst nodes c.args.root (eqb from 0)) (IsAt nodes w c.args.root (starts_from from w) from) c.first_state-next.new.table c.first_state-next.new.sets.entered c.first_state-next.result
+      next = next_map (CanStart nodes c.args.root (eqb from 0)) (IsAt nodes w c.args.root (starts_from from w) from) c.first_state-next.new.table c.first_state-next.new.sets.entered c.first_state-next.result
           (λ row ends first. first w (starts_from from w) (eqb-true from 0, eq-eqb from 0) c.requires.from) c.first_state-next.ensures.next;
       missed = missed_init nodes w c.args.root from (length w) c.requires.root.0 refl;
       grows = omega arith;

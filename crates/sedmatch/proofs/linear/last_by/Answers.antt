@@ -5,7 +5,7 @@ use Rattle.sedre.specs.Arena.{tree}
 use Rattle.sedmatch.specs.declared.tables.Next.TheVariants.{To}
 use Rattle.sedmarks.specs.States.{IsAt}
 use Rattle.sedmarks.specs.Search.{LastEnd}
-use Rattle.sedmatch.specs.Tables.{NextIs, LeadsFrom, IsFirst, starts_from}
+use Rattle.sedmatch.specs.Tables.{NextIs, LeadsFrom, CanStart, starts_from}
 use Rattle.sedmarks.specs.Words.{row_of}
 use Rattle.sedmarks.proofs.MarkLemmas.{default_same}
 use Rattle.sedmatch.proofs.FollowLemmas.{next_map, starts_are, look_most}
@@ -23,7 +23,7 @@ loop-next-init c =
       sweeps = c.first_state-next.ensures.sweeps ∙ c.requires.table.1;
       after = omega arith;
       within = c.requires.order;
-      next = next_map (IsFirst nodes c.args.root (eqb first 0)) (IsAt nodes w c.args.root (starts_from first w) first) c.first_state-next.new.table c.first_state-next.new.sets.entered c.first_state-next.result
+      next = next_map (CanStart nodes c.args.root (eqb first 0)) (IsAt nodes w c.args.root (starts_from first w) first) c.first_state-next.new.table c.first_state-next.new.sets.entered c.first_state-next.result
           (λ row ends is. is w (starts_from first w) (eqb-true first 0, eq-eqb first 0) (omega arith)) c.first_state-next.ensures.next;
       last = LastEnd-none (tree c.args.nodes.now) w first;
       grows = omega arith;

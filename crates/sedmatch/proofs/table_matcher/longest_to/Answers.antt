@@ -5,7 +5,7 @@ use Rattle.sedre.specs.Arena.{tree}
 use Rattle.sedmatch.specs.declared.tables.Next.TheVariants.{To}
 use Rattle.sedmarks.specs.Reach.{one_start, LongestBelow}
 use Rattle.sedmarks.specs.States.{IsAt}
-use Rattle.sedmatch.specs.Tables.{NextIs, LeadsFrom, IsFirst, ends_of}
+use Rattle.sedmatch.specs.Tables.{NextIs, LeadsFrom, CanStart, ends_of}
 use Rattle.sedmarks.specs.Words.{row_of}
 use Rattle.sedmarks.proofs.SearchLemmas.{LongestBelow-none}
 use Rattle.sedmarks.proofs.MarkLemmas.{default_same}
@@ -25,7 +25,7 @@ loop-next-init c =
       sweeps = c.first_state-next.ensures.sweeps ∙ c.requires.table.1;
       after = omega arith;
       within = c.requires.order.0;
-      next = next_map (IsFirst nodes c.args.root (eqb start 0)) (IsAt nodes w c.args.root (one_start start) start) c.first_state-next.new.table c.first_state-next.new.sets.entered c.first_state-next.result
+      next = next_map (CanStart nodes c.args.root (eqb start 0)) (IsAt nodes w c.args.root (one_start start) start) c.first_state-next.new.table c.first_state-next.new.sets.entered c.first_state-next.result
           (λ row ends first. first w (one_start start) (eqb-true start 0, eq-eqb start 0) (omega arith)) c.first_state-next.ensures.next;
       longest = LongestBelow-none (tree c.args.expr.now) w start;
       lies = search rules;

@@ -1,5 +1,5 @@
 use Rattle.std.proofs.Common.{◌≤◌, ◌-◌, ◌+◌, length}
-use Rattle.sedre.specs.Stacks.{State, Represents}
+use Rattle.sedre.specs.Stacks.{Nesting, Represents}
 use Rattle.sedre.proofs.Reading.{Reading}
 use Rattle.sedre.proofs.reader.read_with.Given as goal
 
@@ -7,7 +7,7 @@ abbrev pub invariant-items : goal.invariant-items
 invariant-items l = record {
   within : l.at ≤ length l.text;
   few : l.builder.opened ≤ l.at;
-  state : (s : State) × Represents (l.max_nodes + 1) l.builder s × Reading l.kind l.folded l.delimiter l.text l.before l.at s;
+  state : (s : Nesting) × Represents (l.max_nodes + 1) l.builder s × Reading l.kind l.folded l.delimiter l.text l.before l.at s;
 }
 
 abbrev pub decreases-items : goal.decreases-items

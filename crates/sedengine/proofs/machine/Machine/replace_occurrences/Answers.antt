@@ -5,7 +5,7 @@ use Rattle.sedre.specs.Arena.{Written}
 use Rattle.sedscript.specs.declared.substitution.Substitution.{Substitution}
 use Rattle.sedengine.specs.Ends.{reaches}
 use Rattle.sedengine.specs.Run.{RunState, at_lines, search_in}
-use Rattle.sedengine.specs.Substitute.{chosen, occurrences}
+use Rattle.sedengine.specs.Substitute.{to_replace, occurrences}
 use Rattle.sedengine.specs.SubstituteCalls.{ReplacesIn}
 use Rattle.sedengine.proofs.Fitting.{fits_at, room_within, sought, sought_at}
 use Rattle.sedengine.proofs.SubstituteMoves.{makes_full, makes_none, makes_some, replaced_is_run, stands}
@@ -91,7 +91,7 @@ returns-in-Ok-true-clause-makes c = λ t is files ls.
     let st = stands a c.args.self.now c.args.k c.in-Some.e t c.substitution.result.now c.self.view_is is c.substitution.ensures.is c.in-Some.ensures in
     let es = sought a.script.expressions a.limits.nodes a.matchers.items c.self.invariant.matchers in
     let all = replaces_by a.matchers.items c.in-Some.e m c.bytes.result.now c.substitution-2.result.now a.build.limit c.build_text-built.new.build.bytes (Ok true) there is_m (rw c.in-Ok-true.field-0-test at c.in-Ok-true.ensures.replaces) in
-    let made : (u : Substitution) → slice_get a.script.substitutions c.args.k ≡ Some u → ReplacesIn u (chosen u.number u.global (occurrences (search_in a.matchers.items c.in-Some.e a.pattern.bytes) (length a.pattern.bytes))) a.pattern c.swap.new.self (Ok true) = search (rules, all) in
+    let made : (u : Substitution) → slice_get a.script.substitutions c.args.k ≡ Some u → ReplacesIn u (to_replace u.number u.global (occurrences (search_in a.matchers.items c.in-Some.e a.pattern.bytes) (length a.pattern.bytes))) a.pattern c.swap.new.self (Ok true) = search (rules, all) in
     rw st (makes_some a c.args.self.now c.self.view_is a.matchers.items es c.args.k c.in-Some.e files ls t c.swap.new.self is made)
 
 pub returns-in-Ok-false-clause-makes : goal.returns-in-Ok-false-clause-makes
@@ -105,7 +105,7 @@ returns-in-Ok-false-clause-makes c = λ t is files ls.
     let st = stands a c.args.self.now c.args.k c.in-Some.e t c.substitution.result.now c.self.view_is is c.substitution.ensures.is c.in-Some.ensures in
     let es = sought a.script.expressions a.limits.nodes a.matchers.items c.self.invariant.matchers in
     let all = replaces_by a.matchers.items c.in-Some.e m c.bytes.result.now c.substitution-2.result.now a.build.limit c.build_text-built.new.build.bytes (Ok false) there is_m (rw c.in-Ok-false.field-0-test at c.in-Ok-false.ensures.replaces) in
-    let made : (u : Substitution) → slice_get a.script.substitutions c.args.k ≡ Some u → ReplacesIn u (chosen u.number u.global (occurrences (search_in a.matchers.items c.in-Some.e a.pattern.bytes) (length a.pattern.bytes))) a.pattern a.pattern (Ok false) = search (rules, all) in
+    let made : (u : Substitution) → slice_get a.script.substitutions c.args.k ≡ Some u → ReplacesIn u (to_replace u.number u.global (occurrences (search_in a.matchers.items c.in-Some.e a.pattern.bytes) (length a.pattern.bytes))) a.pattern a.pattern (Ok false) = search (rules, all) in
     rw st (makes_none a c.args.self.now c.self.view_is a.matchers.items es c.args.k c.in-Some.e files ls t a.pattern is made)
 
 pub returns-in-Err-clause-makes : goal.returns-in-Err-clause-makes
@@ -119,5 +119,5 @@ returns-in-Err-clause-makes c = λ t is files ls.
     let st = stands a c.args.self.now c.args.k c.in-Some.e t c.substitution.result.now c.self.view_is is c.substitution.ensures.is c.in-Some.ensures in
     let es = sought a.script.expressions a.limits.nodes a.matchers.items c.self.invariant.matchers in
     let all = replaces_by a.matchers.items c.in-Some.e m c.bytes.result.now c.substitution-2.result.now a.build.limit c.build_text-built.new.build.bytes (Err c.in-Err.field-0) there is_m c.in-Err.ensures.replaces in
-    let made : (u : Substitution) → slice_get a.script.substitutions c.args.k ≡ Some u → ReplacesIn u (chosen u.number u.global (occurrences (search_in a.matchers.items c.in-Some.e a.pattern.bytes) (length a.pattern.bytes))) a.pattern a.pattern (Err c.in-Err.field-0) = search (rules, all) in
+    let made : (u : Substitution) → slice_get a.script.substitutions c.args.k ≡ Some u → ReplacesIn u (to_replace u.number u.global (occurrences (search_in a.matchers.items c.in-Some.e a.pattern.bytes) (length a.pattern.bytes))) a.pattern a.pattern (Err c.in-Err.field-0) = search (rules, all) in
     rw st (makes_full a c.args.self.now c.self.view_is a.matchers.items es c.args.k c.in-Some.e files ls t a.pattern (at_lines c.args.self.now ls) c.in-Err.field-0 c.self.invariant.pattern_limit is made)

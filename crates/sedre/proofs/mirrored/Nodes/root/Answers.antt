@@ -1,7 +1,7 @@
 use Rattle.std.proofs.Common.{◌≤◌, length, subst}
 use Rattle.sedre.specs.Arena.{Written, IsArena}
 use Rattle.sedre.proofs.MirrorLemmas.{seen-arena, seen-few}
-use Rattle.sedre.proofs.sight.Nodes.root.Goals as goal
+use Rattle.sedre.proofs.mirrored.Nodes.root.Goals as goal
 
 pub returns-clause-arena : goal.returns-clause-arena
 returns-clause-arena c =

@@ -2,7 +2,7 @@ use Rattle.std.proofs.Common.{◌≡◌, Some, subst}
 use Rattle.std.specs.Prelude.{slice_get, ◌≤◌, length}
 use Rattle.sedre.specs.Arena.{Written, IsArena}
 use Rattle.sedre.proofs.MirrorLemmas.{some-seen, seen-arena, seen-few}
-use Rattle.sedre.proofs.sight.Nodes.look.Goals as goal
+use Rattle.sedre.proofs.mirrored.Nodes.look.Goals as goal
 
 pub returns-clause-node : goal.returns-clause-node
 returns-clause-node c =
