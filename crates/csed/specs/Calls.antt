@@ -1,5 +1,5 @@
 -- What a call does with a script's text over bytes in memory (this project's own).
-use Rattle.std.specs.Prelude.{◌≡◌, ◌≢◌, ◌<◌, ◌≤◌, ◌⊎◌, ◌||◌, ◌==◌, not, ℕ, Bool, true, false, List, [], length, Some, bit_and}
+use Rattle.std.specs.Prelude.{◌≡◌, ◌≢◌, ◌<◌, ◌≤◌, ◌⊎◌, ◌||◌, ◌==◌, not, ℕ, Bool, List, [], length, Some, bit_and}
 use Rattle.sedscript.specs.Script.{Faulty, Means, Program}
 use Rattle.sedscript.specs.declared.types.ScriptFault.{ScriptFault}
 use Rattle.sedengine.specs.Limits.{AreLimits, Limits, limits_of}

@@ -14,7 +14,7 @@
 //! and 65,536 bytes read ahead; where a read or a write fails, as the program reads and writes. A call of status 1 reads
 //! no input.
 
-ghost use Rattle.std.specs.Prelude.{◌≡◌, ◌+◌, ◌<◌, [], length, IfSome};
+ghost use Rattle.std.specs.Prelude.{◌≡◌, ◌<◌, [], IfSome};
 
 use crate::files::put_copy;
 use crate::job::limits_of;

@@ -1,5 +1,5 @@
 //! Engines with what they run over.
-ghost use Rattle.std.specs.Prelude.{◌≡◌, ◌<◌, ◌≤◌, length, IfSome};
+ghost use Rattle.std.specs.Prelude.{◌≡◌, ◌<◌, length, IfSome};
 
 use crate::files::texts_of;
 use crate::job::{limits_of, outputs_of, script_of};

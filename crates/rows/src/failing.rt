@@ -5,7 +5,7 @@
 //! sink has to have a beginning of what the row says; and the engine has to stay at its end and to call no device, though
 //! these work again.
 
-ghost use Rattle.std.specs.Prelude.{◌≡◌, ◌<◌, ◌≤◌, length};
+ghost use Rattle.std.specs.Prelude.{◌<◌};
 
 use crate::engines::{Ready, engine_of};
 use crate::faults::put_end;

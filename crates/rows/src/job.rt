@@ -6,7 +6,7 @@
 //! * `room=`: the bytes that each sink takes before it fails; `refuses=`: the sink of which a write
 //!   fails, the first or that of the number `write=`
 //! * `r:NAME=TEXT`, `w:NAME=TEXT`: the files that are read, and what those get that are written
-ghost use Rattle.std.specs.Prelude.{◌≡◌, ◌<◌, ◌≤◌, length, IfSome};
+ghost use Rattle.std.specs.Prelude.{◌<◌, ◌≤◌, length, IfSome};
 
 use crate::faults::put_script_fault;
 use crate::files::{check_read, check_written};

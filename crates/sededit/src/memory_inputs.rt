@@ -1,12 +1,12 @@
 //! Input files over memory, for tests and for callers that have all bytes at hand.
-ghost use Rattle.std.specs.Prelude.{◌≡◌, ◌<◌, ◌↔◌, [], ℕ, List, None, Some, true, length, min, string_bytes, IfOk, IsErr, MatchOption, refl, unwrap_or};
-ghost use Rattle.std.specs.Option.{is_some, option_map};
+ghost use Rattle.std.specs.Prelude.{◌≡◌, ◌<◌, ◌↔◌, [], None, Some, true, length, min, string_bytes, IfOk, IsErr, MatchOption, refl, unwrap_or};
+ghost use Rattle.std.specs.Option.{is_some};
 ghost use Rattle.std.specs.Str.{bytes_eq};
 ghost use Rattle.std.specs.Io.{ReadsAtMost};
 ghost use Rattle.std.specs.Io.KnownBytes.{ReadConsumes};
 ghost use Rattle.sedspace.specs.Failures.{FailsAtErr, raised};
 ghost use Rattle.sededit.specs.Opening.{CountsRefusal};
-ghost use Rattle.sededit.specs.MemoryFiles.{all_of, bytes_at, dash, file_of, files_of};
+ghost use Rattle.sededit.specs.MemoryFiles.{all_of, bytes_at, file_of, files_of};
 
 use super::Inputs;
 use sedspace::Broken;

@@ -1,5 +1,5 @@
 //! Files in memory by name, which a script reads, for tests and for callers that have all bytes at hand.
-ghost use Rattle.std.specs.Prelude.{◌≡◌, ◌≤◌, ◌-◌, [], Some, length, min, unwrap_or, IfOk, OnOk};
+ghost use Rattle.std.specs.Prelude.{◌≡◌, ◌≤◌, ◌-◌, [], Some, length, min, unwrap_or};
 ghost use Rattle.sedspace.specs.Reading.{ReadsAt};
 ghost use Rattle.sededit.specs.MemoryFiles.{all_of, file_of, named_text};
 

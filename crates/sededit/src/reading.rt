@@ -1,9 +1,6 @@
 //! The script that a command line gives, read from its parts.
 ghost use Rattle.std.specs.Prelude.{◌≡◌, ◌≤◌, ◌∷◌, ℕ, List, [], map, IfOk};
-ghost use Rattle.std.specs.Io.KnownBytes.{Keeps};
-ghost use Rattle.sedscript.specs.ScriptText.{with_part};
 ghost use Rattle.sededit.specs.CommandLine.{given};
-ghost use Rattle.sededit.specs.Opening.{KeepsFiles};
 ghost use Rattle.sededit.specs.Program.{GivesScript, MakesText, kind_with};
 ghost use Rattle.sededit.specs.Reading.{OnlyReadsScripts};
 

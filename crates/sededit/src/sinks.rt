@@ -1,5 +1,5 @@
 //! The files that a script writes, as sinks that are added to the standard output.
-ghost use Rattle.std.specs.Prelude.{◌≡◌, ◌+◌, ◌≤◌, ℕ, List, [], IfSome, OnErr, OnOk, IfErr};
+ghost use Rattle.std.specs.Prelude.{◌≡◌, ◌≤◌, ℕ, [], IfSome};
 ghost use Rattle.sededit.specs.Sinks.{AddsName, AddsSink, FailsFlush};
 
 use sedspace::Outputs;

@@ -1,5 +1,5 @@
 //! What seeks the expressions of a script.
-ghost use Rattle.std.specs.Prelude.{◌≡◌, ◌<◌, ◌≤◌, ◌^◌, ℕ, false, IfOk, Some, length, slice_get};
+ghost use Rattle.std.specs.Prelude.{◌≡◌, ◌<◌, ◌≤◌, ℕ, false, IfOk, Some, length, slice_get};
 ghost use Rattle.sedre.specs.Arena.{Written};
 ghost use Rattle.sedscript.specs.declared.substitution.Substitution.{Substitution};
 ghost use Rattle.sedengine.specs.Fitting.{AllFit, RoomToSeek, Seek, seeks_more};

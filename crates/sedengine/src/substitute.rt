@@ -1,6 +1,6 @@
 //! The command `s` (XCU sed, "Editing Commands in sed"): which occurrences it replaces, and the text that it makes.
-ghost use Rattle.std.specs.Prelude.{◌≡◌, ℕ, ◌+◌, ◌*◌, ◌^◌, ◌<◌, ◌≤◌, List, [], ◌∷◌, length, true, Some, None, IfSome, IsTrue, slice_get};
-ghost use Rattle.sedre.specs.Arena.{Written, tree};
+ghost use Rattle.std.specs.Prelude.{◌≡◌, ◌+◌, ◌*◌, ◌<◌, ◌≤◌, [], ◌∷◌, length, true, Some, None, IfSome, IsTrue};
+ghost use Rattle.sedre.specs.Arena.{tree};
 ghost use Rattle.sedmatch.specs.Costs.{Pays};
 ghost use Rattle.sedre.specs.Steps.{Takes};
 ghost use Rattle.sedmatch.specs.Occurrences.{EndsWithin, KeepsRoom, LiesOn, RoomFor, Serves, ServesOn, owed, owed_after};
@@ -11,7 +11,7 @@ ghost use Rattle.sedmatch.specs.Spans.{Spans};
 ghost use Rattle.sedscript.specs.Replacement.{GroupsWithin, pieces_in};
 ghost use Rattle.sedengine.specs.Substitute.{to_replace, occurrences, put_for, replaced_from};
 ghost use Rattle.sedengine.specs.Fitting.{seeks_more};
-ghost use Rattle.sedengine.specs.Run.{search_for, search_in};
+ghost use Rattle.sedengine.specs.Run.{search_for};
 ghost use Rattle.sedengine.specs.SubstituteParts.{Appends, GroupsIn, GroupsOf, IsNext, Replaces};
 ghost use Rattle.sedengine.specs.SubstituteParts.{SeeksAsBefore, ServesAfter, Skips, has_group, owed_skipped, pending, with_groups};
 

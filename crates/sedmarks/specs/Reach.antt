@@ -8,7 +8,7 @@ use Rattle.sedre.specs.declared.types.Node.{Node}
 use Rattle.sedre.specs.declared.types.NodeId.{NodeId}
 use Rattle.sedmarks.specs.declared.passes.Starts.{Starts}
 use Rattle.sedmarks.specs.Matching.{takes}
-use Rattle.sedre.specs.declared.types.Node.TheVariants.{Set, Seq, Alt, Group, Star, Opt}
+use Rattle.sedre.specs.declared.types.Node.TheVariants.{Set, Seq, Star}
 
 -- c is a part that begins where the node does
 abbrev pub BeginsWith : Node → ℕ → Type 0

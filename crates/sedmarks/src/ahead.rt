@@ -3,7 +3,7 @@
 //! A concatenation is followed from part to part as long as each is a set, an anchor or the null string: up to there a
 //! match goes one way only. Most places at which none begins are told by one or two of these parts. Where the
 //! longest match is asked for, the look goes on over runs of single bytes (`runs_ahead`).
-ghost use Rattle.std.specs.Prelude.{◌≡◌, ℕ, ◌+◌, ◌*◌, ◌^◌, ◌<◌, ◌≤◌, length, slice_get, Some, IfSome, IsTrue};
+ghost use Rattle.std.specs.Prelude.{◌≡◌, ℕ, ◌+◌, ◌*◌, ◌<◌, ◌≤◌, length, slice_get, Some, IfSome, IsTrue};
 ghost use Rattle.sedre.specs.Arena.{IsArena, tree, tree_of};
 ghost use Rattle.sedre.specs.declared.types.Node.TheVariants.{Seq};
 ghost use Rattle.sedre.specs.Tree.{Tree, set as a_set};

@@ -1,8 +1,8 @@
 //! From which places a match can begin at all, so that the others are passed over.
-ghost use Rattle.std.specs.Prelude.{◌≡◌, ◌+◌, ◌*◌, ◌^◌, ◌<◌, ◌≤◌, ◌↔◌, length, IfSome, IsTrue};
+ghost use Rattle.std.specs.Prelude.{◌≡◌, ◌+◌, ◌*◌, ◌<◌, ◌≤◌, length, IfSome};
 ghost use Rattle.sedre.specs.Arena.{IsArena, tree};
 ghost use Rattle.sedmarks.specs.declared.beginnings.Begins.TheVariants.{WithSet};
-ghost use Rattle.sedmarks.specs.Beginnings.{AllBegin, AllAt, CanBegin, NextStart, skip_cost, left_part, LeafBegins, IsLeftmost};
+ghost use Rattle.sedmarks.specs.Beginnings.{AllBegin, AllAt, NextStart, skip_cost, left_part, LeafBegins, IsLeftmost};
 ghost use Rattle.sedmarks.specs.Beginnings.{alternatives};
 ghost use Rattle.sedmarks.specs.Costs.{Pays};
 ghost use Rattle.sedre.specs.Steps.{Takes};

@@ -2,9 +2,9 @@
 //!
 //! The tasks of a plan take the place of a recursion over the expression, so that its depth costs no stack.
 ghost use Rattle.std.specs.Prelude.{◌≡◌, ℕ, false, [], ◌∷◌, ◌++◌, reverse, ◌+◌, ◌-◌, ◌*◌, ◌^◌, ◌<◌, ◌≤◌, length};
-ghost use Rattle.std.specs.Prelude.{vec_len, vec_capacity, slice_get, Some, None, slice_set, IfOk, IsTrue, ◌↔◌};
+ghost use Rattle.std.specs.Prelude.{vec_len, vec_capacity, Some, None, slice_set, IfOk, IsTrue, ◌↔◌};
 ghost use Rattle.sedre.specs.Tree.{size};
-ghost use Rattle.sedre.specs.Arena.{IsArena, tree_at, tree};
+ghost use Rattle.sedre.specs.Arena.{tree_at, tree};
 ghost use Rattle.sedre.specs.declared.types.Node.TheVariants.{Star, Opt};
 ghost use Rattle.sedmarks.specs.Spans.{Spans};
 ghost use Rattle.sedmarks.specs.Caps.{Caps, forget, IsReport};

@@ -2,7 +2,7 @@
 //!
 //! A pass goes over the text once, and keeps for each node of an expression whether it begins or ends at the
 //! place that the pass has reached, in a match from one of its starts.
-ghost use Rattle.std.specs.Prelude.{◌≡◌, ℕ, false, List, ◌+◌, ◌-◌, ◌*◌, ◌^◌, ◌<◌, ◌≤◌, ◌↔◌, ◌&&◌, ◌||◌};
+ghost use Rattle.std.specs.Prelude.{◌≡◌, ℕ, false, List, ◌+◌, ◌-◌, ◌*◌, ◌<◌, ◌≤◌, ◌↔◌, ◌&&◌, ◌||◌};
 ghost use Rattle.std.specs.Prelude.{length, slice_index_or, slice_get, Some, IsTrue};
 ghost use Rattle.sedre.specs.Arena.{IsArena};
 ghost use Rattle.sedmarks.specs.Nodes.{IsNode};

@@ -2,7 +2,7 @@
 //!
 //! What a mirrored expression matches in the text read from its end is what the expression itself matches. So the
 //! last place at which a match of the mirrored one ends is the first at which a match begins.
-ghost use Rattle.std.specs.Prelude.{◌≡◌, true, ◌+◌, ◌-◌, ◌*◌, ◌^◌, ◌<◌, ◌≤◌, length};
+ghost use Rattle.std.specs.Prelude.{true, ◌+◌, ◌-◌, ◌*◌, ◌<◌, ◌≤◌, length};
 ghost use Rattle.sedre.specs.Arena.{tree};
 ghost use Rattle.sedmarks.specs.Search.{IsRegion, LastEnd, IsEarliest};
 ghost use Rattle.sedmarks.specs.Costs.{Pays};

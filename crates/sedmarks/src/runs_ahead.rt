@@ -2,7 +2,7 @@
 //!
 //! A repetition of a set takes bytes as far as they are in the set. Where what follows it can begin at none of them,
 //! every match takes the whole run; where nothing follows, the longest does.
-ghost use Rattle.std.specs.Prelude.{◌≡◌, ℕ, ◌+◌, ◌*◌, ◌^◌, ◌<◌, ◌≤◌, length, slice_get, Some, IfSome, IsTrue};
+ghost use Rattle.std.specs.Prelude.{◌≡◌, ◌+◌, ◌*◌, ◌<◌, ◌≤◌, length, slice_get, Some, IfSome, IsTrue};
 ghost use Rattle.std.specs.Prelude.{◌⊎◌};
 ghost use Rattle.sedre.specs.Arena.{IsArena};
 ghost use Rattle.sedre.specs.Tree.{set as a_set};

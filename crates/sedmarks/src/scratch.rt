@@ -1,5 +1,5 @@
 //! The room that a search works in, made once: marks and numbers alone.
-ghost use Rattle.std.specs.Prelude.{◌≡◌, ℕ, ◌*◌, ◌+◌, ◌^◌, ◌<◌, ◌≤◌, IfOk, [], vec_len, vec_capacity, length};
+ghost use Rattle.std.specs.Prelude.{◌≡◌, ◌*◌, ◌+◌, ◌^◌, ◌<◌, ◌≤◌, IfOk};
 ghost use Rattle.sedmarks.specs.Fits.{FitsWork};
 
 use crate::counted::{Marks, NodeMarks};

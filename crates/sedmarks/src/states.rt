@@ -1,7 +1,7 @@
 //! A step of a pass without a text: from the marks at one place and the byte there to those at the next.
 //!
 //! What a step tells holds of every text and place that agree with what it was given, so that it can be kept.
-ghost use Rattle.std.specs.Prelude.{slice_get, Some, ◌≡◌, ℕ, Bool, false, List, ◌+◌, ◌*◌, ◌^◌, ◌<◌, ◌≤◌, ◌↔◌, length, slice_index_or, IsTrue};
+ghost use Rattle.std.specs.Prelude.{slice_get, Some, ◌≡◌, ℕ, Bool, false, List, ◌+◌, ◌*◌, ◌<◌, ◌≤◌, ◌↔◌, length, slice_index_or, IsTrue};
 ghost use Rattle.sedmarks.specs.Nodes.{IsNode};
 ghost use Rattle.sedmarks.specs.Reach.{IsStart, SomeSpan, TellEntered};
 ghost use Rattle.sedre.specs.declared.types.Node.{Node};

@@ -1,6 +1,6 @@
 //! The leftmost-longest span by tables: from where a match can begin at all, and what tells of it before any table
 //! does.
-ghost use Rattle.std.specs.Prelude.{IfNone, ◌≡◌, ℕ, ◌+◌, ◌*◌, ◌^◌, ◌<◌, ◌≤◌, length};
+ghost use Rattle.std.specs.Prelude.{IfNone, ◌≡◌, ℕ, ◌+◌, ◌*◌, ◌<◌, ◌≤◌, length};
 ghost use Rattle.sedre.specs.Arena.{tree};
 ghost use Rattle.sedmarks.specs.Nodes.{IsRoot};
 ghost use Rattle.sedmarks.specs.Spans.{Spans};

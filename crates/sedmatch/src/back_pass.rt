@@ -6,11 +6,10 @@
 //! What the pass from the end tells is kept for one block of places alone, and of the others with which marks it came
 //! to them. A block is made again when the first of its places is asked for; places are asked for from the text's
 //! beginning to its end, so that each block is made twice in all.
-ghost use Rattle.std.specs.Prelude.{◌≡◌, ℕ, [], ◌+◌, ◌-◌, ◌*◌, ◌^◌, ◌<◌, ◌≤◌, ◌↔◌, length, IsTrue, IfSome, IfOk, true, false, slice_index_or, Option, Some, if◌then◌else◌};
+ghost use Rattle.std.specs.Prelude.{◌≡◌, ℕ, ◌+◌, ◌-◌, ◌*◌, ◌^◌, ◌<◌, ◌≤◌, ◌↔◌, length, IsTrue, IfSome, IfOk, true, false, slice_index_or, Option, Some, if◌then◌else◌};
 ghost use Rattle.sedre.specs.Arena.{tree};
 ghost use Rattle.sedmarks.specs.Nodes.{IsArenaRoot, IsNode, IsRoot};
 ghost use Rattle.sedmarks.specs.PartMarks.{takes_next};
-ghost use Rattle.sedmarks.specs.Words.{row_of};
 ghost use Rattle.sedmarks.specs.Reach.{Longest, TellBegun, TellEntered, one_start};
 ghost use Rattle.sedmatch.specs.BackPass.{MeetsBelow, EndsLaterFrom, CameTo, PassTells, MarksGrow, BlockTells, HasKept, IsKept, Served, ServedAfter, HasBackPass, FitsRows, SameShape, KeepsBackPass, HasPlace, TurnsTo, BlockTakes, low_of, met_to, begin_to, end_to, blocks_cost};
 ghost use Rattle.sedmatch.specs.NextMatch.{unless_null_at};

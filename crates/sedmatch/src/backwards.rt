@@ -1,5 +1,5 @@
 //! The last place in a part of a text at which something stands, by calls that count.
-ghost use Rattle.std.specs.Prelude.{◌≡◌, ◌+◌, ◌-◌, ◌<◌, ◌≤◌, length, min, slice_get, Some};
+ghost use Rattle.std.specs.Prelude.{◌+◌, ◌-◌, ◌<◌, ◌≤◌, length, min, Some};
 ghost use Rattle.sedmarks.specs.Costs.{Pays};
 ghost use Rattle.sedneedles.specs.Needed.{LastLiteral};
 ghost use Rattle.sedmatch.specs.Trail.{RunBegins, LastWith, looked_back};

@@ -3,7 +3,7 @@
 //!
 //! Both are sought by their own searches, the last one from the end, and the few bytes that can't stand between by a
 //! third: a match ends before the first of them.
-ghost use Rattle.std.specs.Prelude.{◌≡◌, ℕ, ◌+◌, ◌*◌, ◌^◌, ◌<◌, ◌≤◌, ◌-◌, length, None, IfOk, IfSome, IsTrue};
+ghost use Rattle.std.specs.Prelude.{◌≡◌, ◌+◌, ◌*◌, ◌<◌, ◌≤◌, ◌-◌, length, None, IfOk, IfSome, IsTrue};
 ghost use Rattle.sedneedles.specs.Needed.{FirstLiteral};
 ghost use Rattle.sedmatch.specs.Between.{AreOutside, GoesClear, ClearTo, LastTail, AllParted, CanPart, PartedEnd, FirstParted, IsShort};
 ghost use Rattle.sedmarks.specs.Costs.{Pays};

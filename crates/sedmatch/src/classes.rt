@@ -1,7 +1,7 @@
 //! Bytes that no set of an expression tells apart, so that a table needs one column for all of them.
 //!
 //! The classes are found by digests, and used only after a test: so they are right whatever the digests are.
-ghost use Rattle.std.specs.Prelude.{◌≡◌, ℕ, Bool, false, List, ◌+◌, ◌*◌, ◌^◌, ◌<◌, ◌≤◌, length, slice_index_or, slice_get, Some, IsTrue, IfOk, IfSome, vec_len};
+ghost use Rattle.std.specs.Prelude.{◌≡◌, Bool, false, List, ◌^◌, ◌<◌, length, Some, IsTrue, IfOk, IfSome};
 ghost use Rattle.sedre.specs.declared.types.Node.TheVariants.{Set as ASet};
 ghost use Rattle.sedmatch.specs.Tables.{AreClasses, IsCut, AlikeIn};
 ghost use Rattle.sedre.specs.Steps.{Counted, Takes};

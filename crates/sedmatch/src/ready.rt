@@ -1,5 +1,5 @@
 //! What is found out of an expression when its matcher is made, and its tables.
-ghost use Rattle.std.specs.Prelude.{IfOk, true, false, ◌≡◌, ℕ, ◌+◌, ◌*◌, ◌^◌, ◌<◌, ◌≤◌, length, IsTrue};
+ghost use Rattle.std.specs.Prelude.{IfOk, true, false, ◌≡◌, ◌*◌, ◌<◌, length, IsTrue};
 ghost use Rattle.sedre.specs.Arena.{tree};
 ghost use Rattle.sedre.specs.Mirror.{seen};
 ghost use Rattle.sedmatch.specs.Ready.{AreTables, IsKnown};

@@ -1,5 +1,5 @@
 //! Searches by a table.
-ghost use Rattle.std.specs.Prelude.{IfOk, IfSome, IfNone, true, false, is_some, ◌≡◌, ◌+◌, ◌-◌, ◌*◌, ◌/◌, ◌^◌, ◌<◌, ◌≤◌, ◌↔◌, length, IsTrue};
+ghost use Rattle.std.specs.Prelude.{IfOk, IfSome, IfNone, true, false, is_some, ◌≡◌, ◌+◌, ◌-◌, ◌*◌, ◌/◌, ◌<◌, ◌≤◌, ◌↔◌, length, IsTrue};
 ghost use Rattle.sedre.specs.Arena.{tree};
 ghost use Rattle.sedmarks.specs.Nodes.{IsRoot};
 ghost use Rattle.sedmarks.specs.Spans.{SomeFound};

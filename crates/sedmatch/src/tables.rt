@@ -5,7 +5,7 @@
 //!
 //! A full table is emptied, and the search goes on. Where few bytes were passed by its cells since the last time,
 //! that search goes on by marks in its place: so a table that doesn't help costs little.
-ghost use Rattle.std.specs.Prelude.{◌≡◌, ℕ, true, false, ◌+◌, ◌-◌, ◌*◌, ◌/◌, ◌^◌, ◌<◌, ◌≤◌, ◌↔◌, length, slice_index_or, Some, IsTrue, IfOk, IfSome, IfNone, vec_len};
+ghost use Rattle.std.specs.Prelude.{◌≡◌, ℕ, true, false, ◌+◌, ◌-◌, ◌*◌, ◌/◌, ◌<◌, ◌≤◌, length, slice_index_or, Some, IsTrue, IfOk, IfSome, IfNone, vec_len};
 ghost use Rattle.sedmarks.specs.Places.{InOrder};
 ghost use Rattle.sedmarks.specs.Words.{row_of};
 ghost use Rattle.sedmatch.specs.Tables.{IsTable, NextIs, stops, code_of, ends_of, LeadsFrom, CanStart, HasState, AddsStates, Follows, Stays, look_cost, IsCut};

@@ -3,7 +3,7 @@
 //! The first such byte from a place on ends a match, and the leftmost match begins where the run before that byte does:
 //! one from further left would hold a byte that isn't in the set. The longest from there ends after the last such byte
 //! that the run leads to.
-ghost use Rattle.std.specs.Prelude.{◌+◌, ◌*◌, ◌^◌, ◌<◌, ◌≤◌, length};
+ghost use Rattle.std.specs.Prelude.{◌+◌, ◌*◌, ◌<◌, ◌≤◌, length};
 ghost use Rattle.sedmatch.specs.Sight.{CanStart, FirstStart, EndsAt};
 ghost use Rattle.sedmatch.specs.declared.sight.Sight.TheVariants.{Trail};
 ghost use Rattle.sedre.specs.Steps.{Takes};

@@ -1,7 +1,7 @@
 //! A literal, as in `green barley`: a match begins where it stands, and ends after it.
 //!
 //! The search for it tells the whole match, so that no table is looked at.
-ghost use Rattle.std.specs.Prelude.{◌≡◌, ℕ, List, ◌+◌, ◌^◌, ◌<◌, ◌≤◌, ◌-◌, length, IfOk, IfSome};
+ghost use Rattle.std.specs.Prelude.{◌≡◌, ℕ, List, ◌+◌, ◌<◌, ◌≤◌, ◌-◌, length, IfOk, IfSome};
 ghost use Rattle.sedneedles.specs.Needed.{FirstLiteral};
 ghost use Rattle.sedneedles.specs.Word.{AllWord};
 ghost use Rattle.sedmarks.specs.Costs.{Pays};

@@ -1,5 +1,5 @@
 //! Places after which bytes of two kinds both stand, each at its distance, told by vectors of 32 bytes.
-ghost use Rattle.std.specs.Prelude.{◌≡◌, ℕ, ◌+◌, ◌^◌, ◌<◌, ◌≤◌, IsTrue, length, slice_index};
+ghost use Rattle.std.specs.Prelude.{◌≡◌, ℕ, ◌+◌, ◌<◌, ◌≤◌, IsTrue, length, slice_index};
 ghost use Rattle.sedneedles.specs.Rare.{ApartIn};
 
 use crate::rare::Fixed;

@@ -1,7 +1,7 @@
 //! A literal that every match of an expression holds: a text without it has no match.
 //!
 //! A concatenation is followed from part to part, and single bytes that stand one after another in it are a literal.
-ghost use Rattle.std.specs.Prelude.{◌≡◌, ℕ, ◌+◌, ◌*◌, ◌^◌, ◌<◌, ◌≤◌, ◌⊎◌, length, IfOk, IfSome};
+ghost use Rattle.std.specs.Prelude.{◌≡◌, ◌<◌, ◌≤◌, ◌⊎◌, length, IfOk, IfSome};
 ghost use Rattle.sedre.specs.Arena.{tree};
 ghost use Rattle.sedre.specs.Tree.{Tree};
 ghost use Rattle.sedneedles.specs.Needed.{IsOfSet, LinksTo, IsLiteral, IsSole, IsUpTo, AllHold, AllEndWith, IsNeeded, Narrowed};

@@ -1,6 +1,6 @@
 //! Few bytes of which one stands at a fixed distance after the beginning of every match: the rarest are sought, the
 //! next rarest are compared with what stands there, and after them the nodes that come first in a match.
-ghost use Rattle.std.specs.Prelude.{◌≡◌, ℕ, ◌+◌, ◌*◌, ◌^◌, ◌<◌, ◌≤◌, ◌↔◌, ◌⊎◌, Some, length, IfSome, IsTrue};
+ghost use Rattle.std.specs.Prelude.{ℕ, ◌+◌, ◌*◌, ◌<◌, ◌≤◌, ◌↔◌, ◌⊎◌, Some, length, IfSome, IsTrue};
 ghost use Rattle.sedre.specs.Arena.{tree, tree_at};
 ghost use Rattle.sedre.specs.Tree.{Tree};
 ghost use Rattle.sedmarks.specs.Bytes.{looked_at};

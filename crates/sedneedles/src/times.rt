@@ -3,8 +3,7 @@
 //!
 //! The last of these bytes is looked at first. Where it isn't in the set, no match begins before it, and those before
 //! it aren't looked at: where such bytes are rare, most of a text is passed over unseen.
-ghost use Rattle.std.specs.Prelude.{◌≡◌, ℕ, ◌+◌, ◌^◌, ◌<◌, ◌≤◌, ◌-◌, length, slice_get, Some, IfOk, IfSome, IsTrue};
-ghost use Rattle.sedmarks.specs.RunsAhead.{Repeated};
+ghost use Rattle.std.specs.Prelude.{◌≡◌, ◌+◌, ◌<◌, ◌≤◌, ◌-◌, length, Some, IfOk, IfSome, IsTrue};
 ghost use Rattle.sedneedles.specs.Times.{SameBytes, AllTimes, AreWidths, LastOutside, FirstTimes};
 ghost use Rattle.sedmarks.specs.Costs.{Pays};
 ghost use Rattle.sedre.specs.Steps.{Takes, Counted};

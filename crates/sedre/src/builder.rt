@@ -1,5 +1,5 @@
 //! The trees that were read so far, and the groups that are open.
-ghost use Rattle.std.specs.Prelude.{◌≡◌, ◌≢◌, ◌≤◌, ◌<◌, ◌+◌, [], ◌∷◌, ℕ, OnOk, vec_len};
+ghost use Rattle.std.specs.Prelude.{◌≡◌, ◌≤◌, ◌<◌, ◌+◌, [], ◌∷◌, ℕ, OnOk, vec_len};
 
 use crate::parts::{Cover, Mark};
 use crate::stack::Stack;

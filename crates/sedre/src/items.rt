@@ -1,5 +1,5 @@
 //! Which items stand in a text.
-ghost use Rattle.std.specs.Prelude.{◌≡◌, ◌<◌, ◌≤◌, ◌+◌, length, drop};
+ghost use Rattle.std.specs.Prelude.{◌≡◌, ◌<◌, ◌≤◌, ◌+◌, length};
 ghost use Rattle.std.specs.Option.{ForSome};
 ghost use Rattle.sedre.specs.Sets.{only};
 ghost use Rattle.sedre.specs.Symbols.{symbol};

@@ -1,7 +1,7 @@
 //! The nodes of an expression, or of the mirrored one.
-ghost use Rattle.std.specs.Prelude.{◌≡◌, ◌<◌, ◌≤◌, ◌+◌, ◌^◌, Bool, true, false, Some, length, slice_get};
+ghost use Rattle.std.specs.Prelude.{◌≡◌, ◌<◌, ◌≤◌, ◌+◌, true, false, Some, length, slice_get};
 ghost use Rattle.sedre.specs.Arena.{Written, IsArena};
-ghost use Rattle.sedre.specs.Mirror.{node_seen, seen};
+ghost use Rattle.sedre.specs.Mirror.{seen};
 ghost use Rattle.sedre.specs.Steps.{Takes, Counted};
 
 use crate::steps::Steps;

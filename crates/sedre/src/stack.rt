@@ -2,7 +2,7 @@
 //!
 //! The nodes of a tree are kept only if all nodes up to it stay below a limit. Of a tree that is too large, and of all
 //! after it, only the depths are kept: reading goes on, since `{0}` may still take them away.
-ghost use Rattle.std.specs.Prelude.{◌≡◌, ◌≤◌, ◌<◌, ◌+◌, ◌-◌, ◌++◌, ◌∷◌, [], ℕ, List, min, max, take, drop, map, length};
+ghost use Rattle.std.specs.Prelude.{◌≡◌, ◌≤◌, ◌<◌, ◌+◌, ◌-◌, ◌++◌, ◌∷◌, [], ℕ, List, min, max, drop, map, length};
 ghost use Rattle.std.specs.Prelude.{OnOk, vec_len, false};
 ghost use Rattle.sedre.specs.Covers.{cover_node};
 
@@ -66,7 +66,7 @@ pub struct Stack {
 }
 
 impl Stack {
-    ghost use Rattle.sedre.specs.Tree.{Tree, size, depth, alternatives_depth};
+    ghost use Rattle.sedre.specs.Tree.{Tree, size, depth};
     ghost use Rattle.sedre.specs.Repeats.{concatenation, alternation};
     ghost use Rattle.sedre.specs.Packed.{shifted};
     ghost use Rattle.sedre.specs.Stacks.{Stored, LastBecomes, Joins, IsLeaf, Puts, last_end, pair, chain, covered};

@@ -1,5 +1,5 @@
 //! Expressions as callers see them: nodes, each after its parts.
-ghost use Rattle.std.specs.Prelude.{◌≡◌, ◌<◌, ◌≤◌, ◌+◌, ◌^◌, Some, IfOk, length, slice_get};
+ghost use Rattle.std.specs.Prelude.{◌≡◌, ◌<◌, ◌≤◌, ◌+◌, Some, IfOk, length, slice_get};
 ghost use Rattle.std.specs.Prelude.{option_map};
 ghost use Rattle.sedre.specs.Arena.{Written, IsArena, IsExpr};
 ghost use Rattle.sedre.specs.Mirror.{node_seen};

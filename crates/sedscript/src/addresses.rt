@@ -1,6 +1,6 @@
 //! Addresses and what stands before a function.
 
-ghost use Rattle.std.specs.Prelude.{◌≡◌, ◌≢◌, ◌≤◌, ◌<◌, ◌+◌, ℕ, List, Option, Some, length, slice_get, IfOk, IfSome};
+ghost use Rattle.std.specs.Prelude.{◌≡◌, ◌≢◌, ◌≤◌, ◌<◌, ◌+◌, ℕ, Option, Some, length, slice_get, IfOk};
 ghost use Rattle.sedscript.specs.declared.types.Address.{Address};
 ghost use Rattle.sedscript.specs.Bytes.{bytes_between, with_digits};
 ghost use Rattle.sedscript.specs.Addresses.{folds_at, past_flag, empty_match, match_at, own_match, address_at};

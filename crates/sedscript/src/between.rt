@@ -1,10 +1,9 @@
 //! What stands between delimiters after `s` and `y`.
 
-ghost use Rattle.std.specs.Prelude.{◌≡◌, ◌≢◌, ◌≤◌, ◌<◌, ◌+◌, false, Some, length, slice_get, drop, IfOk, IfSome};
-ghost use Rattle.sedre.specs.Delimited.{delimiter_at};
+ghost use Rattle.std.specs.Prelude.{◌≡◌, ◌≢◌, ◌≤◌, ◌<◌, ◌+◌, false, Some, length, slice_get, IfOk, IfSome};
 ghost use Rattle.sedscript.specs.Strings.{string_end};
 ghost use Rattle.sedscript.specs.Between.{own_delimiter, strings_after, substitute_strings, transliterate_strings};
-ghost use Rattle.sedscript.specs.Between.{unless_fault, transliterate_at, flags_after, flagged, substituted};
+ghost use Rattle.sedscript.specs.Between.{transliterate_at, flags_after, flagged, substituted};
 ghost use Rattle.sedscript.specs.Flags.{folds};
 ghost use Rattle.sedscript.specs.Answers.{AreStrings};
 

@@ -2,7 +2,7 @@
 
 ghost use Rattle.std.specs.Prelude.{◌≡◌, ◌≤◌, ◌+◌, ◌++◌, ◌∷◌, [], false, length, IfOk, OnOk};
 ghost use Rattle.sedscript.specs.Bytes.{bytes_between};
-ghost use Rattle.sedscript.specs.Replacement.{group, escaped_piece, plain_piece, piece_of, pieces_of};
+ghost use Rattle.sedscript.specs.Replacement.{escaped_piece, plain_piece, piece_of, pieces_of};
 ghost use Rattle.sedscript.specs.Replacement.{pieces_in, exceeds, escape_fault, replacement_fault, GroupsWithin};
 ghost use Rattle.sedscript.specs.Answers.{pieces_with};
 

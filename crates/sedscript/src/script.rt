@@ -1,6 +1,6 @@
 //! Scripts as they are run.
 
-ghost use Rattle.std.specs.Prelude.{◌≡◌, ◌≤◌, ◌<◌, Some, true, false, map, length, slice_get};
+ghost use Rattle.std.specs.Prelude.{◌≡◌, ◌≤◌, ◌<◌, Some, true, map, length, slice_get};
 
 use crate::substitution::Substitution;
 use crate::types::Command;

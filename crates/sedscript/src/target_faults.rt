@@ -1,6 +1,6 @@
 //! Faults of labels and blocks, which are judged once the whole text is cut.
 
-ghost use Rattle.std.specs.Prelude.{◌≡◌, ◌<◌, ◌≤◌, ◌+◌, Some, length, drop, take, slice_get};
+ghost use Rattle.std.specs.Prelude.{◌≡◌, ◌<◌, ◌≤◌, ◌+◌, Some, drop, take, slice_get};
 ghost use Rattle.sedscript.specs.Targets.{fault_if, target_fault_at, target_fault, depth_after};
 ghost use Rattle.sedscript.specs.Tables.{TargetsAre, blocks_in};
 

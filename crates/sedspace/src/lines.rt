@@ -5,9 +5,8 @@
 //! only when the buffer is used up. The first read asks for few bytes, and after each read that gave all that it asked for
 //! the next asks for twice as many. So of an input of which little is wanted, little is read, and the rest of the buffer's
 //! memory stays untouched.
-ghost use Rattle.std.specs.Prelude.{◌≡◌, ◌↔◌, ◌+◌, ◌-◌, ◌<◌, ◌≤◌, ◌^◌, ℕ, List, [], ◌∷◌, ◌++◌, length, true, false, IsTrue, is_ok, if◌then◌else◌, None, Some, IfOk, IfSome, OnOk, OnErr, Contains, vec_len, vec_capacity};
+ghost use Rattle.std.specs.Prelude.{◌≡◌, ◌↔◌, ◌+◌, ◌-◌, ◌<◌, ◌≤◌, ◌^◌, ℕ, List, [], ◌∷◌, ◌++◌, length, true, false, IsTrue, is_ok, if◌then◌else◌, None, Some, IfOk, OnOk, OnErr, Contains, vec_len, vec_capacity};
 ghost use Rattle.std.specs.List.{position, before_first};
-ghost use Rattle.std.specs.Result.{result_err};
 ghost use Rattle.std.specs.Io.KnownBytes.{Consumes, Keeps, IsAtEnd};
 ghost use Rattle.sedspace.specs.Failures.{FailsAtErr};
 ghost use Rattle.sedspace.specs.Lines.{is_newline, HasNoNewline};

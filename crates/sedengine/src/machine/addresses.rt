@@ -2,7 +2,7 @@
 //!
 //! Only the address that decides is judged: the source is asked for a further line by `$` alone, and an expression is
 //! the one last used only where it was tried.
-ghost use Rattle.std.specs.Prelude.{◌≡◌, ◌<◌, false, Some, Err, OnErr, ℕ, Bool, Option, List, length, slice_set};
+ghost use Rattle.std.specs.Prelude.{◌≡◌, ◌<◌, false, Some, Err, OnErr, Bool, Option, length, slice_set};
 ghost use Rattle.std.specs.Option.{ForSome};
 ghost use Rattle.sedscript.specs.Ranges.{AddressWithin, CommandWithin, sizes_of};
 ghost use Rattle.sedscript.specs.declared.types.Address.TheVariants.{Match};

@@ -1,5 +1,5 @@
 //! The commands (XCU sed, "Editing Commands in sed"): each has a case in `act` and a function of its own.
-ghost use Rattle.std.specs.Prelude.{◌≡◌, ◌<◌, ◌≤◌, ◌+◌, [], ◌∷◌, None, Some, Ok, Err, OnOk, ℕ, Option, List, true, false, decimal, length, slice_get};
+ghost use Rattle.std.specs.Prelude.{◌≡◌, ◌<◌, ◌≤◌, ◌+◌, [], ◌∷◌, None, Ok, Err, OnOk, ℕ, List, true, false, decimal, length, slice_get};
 ghost use Rattle.sedspace.specs.Lines.{is_newline};
 ghost use Rattle.std.specs.List.{before_first};
 ghost use Rattle.std.specs.Option.{ForSome, unwrap_or};

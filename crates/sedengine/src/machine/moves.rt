@@ -1,5 +1,5 @@
 //! The moves one after another.
-ghost use Rattle.std.specs.Prelude.{◌≡◌, ◌<◌, [], ◌∷◌, None, Some, Ok, Err, OnOk, IfSome, ℕ, Option, List, length};
+ghost use Rattle.std.specs.Prelude.{◌≡◌, ◌<◌, None, Err, OnOk, ℕ, List, length};
 ghost use Rattle.std.specs.Option.{ForSome};
 ghost use Rattle.std.specs.Io.KnownBytes.{Keeps};
 ghost use Rattle.sedspace.specs.Stream.{lines_left};

@@ -1,5 +1,5 @@
 //! The commands `n` and `N`: further lines (XCU sed, "Editing Commands in sed").
-ghost use Rattle.std.specs.Prelude.{◌≡◌, ◌≢◌, ◌<◌, ◌≤◌, ◌+◌, [], ◌∷◌, ◌++◌, None, Ok, ℕ, Option, List, true, false, length};
+ghost use Rattle.std.specs.Prelude.{◌≡◌, ◌≢◌, ◌<◌, ◌≤◌, ◌+◌, [], ◌∷◌, ◌++◌, None, Ok, ℕ, List, true, false, length};
 ghost use Rattle.std.specs.Option.{ForSome};
 ghost use Rattle.std.specs.Io.KnownBytes.{Keeps};
 ghost use Rattle.sedscript.specs.declared.types.Action.TheVariants.{AppendNext, NextLine};

@@ -1,5 +1,5 @@
 //! The queue: the commands `a` and `r`, and the places at which it is written (XCU sed, "Editing Commands in sed").
-ghost use Rattle.std.specs.Prelude.{◌≡◌, ◌<◌, ◌≤◌, ◌+◌, [], ◌∷◌, ◌++◌, Ok, Err, OnOk, OnErr, ℕ, List, length, slice_get, if◌then◌else◌};
+ghost use Rattle.std.specs.Prelude.{◌≡◌, ◌<◌, ◌≤◌, ◌+◌, [], ◌∷◌, Ok, Err, OnOk, OnErr, ℕ, List, slice_get, if◌then◌else◌};
 ghost use Rattle.std.specs.Io.KnownBytes.{Keeps};
 ghost use Rattle.sedengine.specs.State.{Task, flush, print_pattern};
 ghost use Rattle.sedengine.specs.Move.{line_to, then_do};

@@ -1,20 +1,15 @@
 //! The commands `s`, `t` and `y`: substitutions, what `t` sees of them, and tables (XCU sed, "Editing Commands in
 //! sed").
-ghost use Rattle.std.specs.Prelude.{◌≡◌, ◌+◌, ◌*◌, ◌^◌, ◌<◌, ◌≤◌, IsTrue, [], ◌∷◌, Some, Err, OnErr, ℕ, List, false, true, length, map, slice_get, if◌then◌else◌};
+ghost use Rattle.std.specs.Prelude.{◌≡◌, ◌<◌, ◌≤◌, [], ◌∷◌, Some, Err, OnErr, ℕ, List, false, true, length, map, slice_get, if◌then◌else◌};
 ghost use Rattle.sedscript.specs.declared.substitution.Substitution.{Substitution};
 ghost use Rattle.sedengine.specs.State.{do_at};
-ghost use Rattle.sedengine.specs.Substitute.{to_replace, occurrences};
-ghost use Rattle.sedengine.specs.Move.{chosen_in, in_table, line_to, line_to_file, replaces, substitutes, written_by};
+ghost use Rattle.sedengine.specs.Move.{in_table, line_to, line_to_file, substitutes, written_by};
 ghost use Rattle.sedengine.specs.Ends.{reaches};
 ghost use Rattle.sedengine.specs.Meters.{Sent};
 ghost use Rattle.sedengine.specs.Calls.{NoSinkFailed, Puts, Delivers};
-ghost use Rattle.sedre.specs.Arena.{Written};
-ghost use Rattle.sedmatch.specs.Occurrences.{KeepsRoom, RoomFor};
-ghost use Rattle.sedengine.specs.Fitting.{seeks_more};
-ghost use Rattle.sedengine.specs.SubstituteParts.{SeeksAsBefore};
-ghost use Rattle.sedengine.specs.Run.{at_lines, search_in, setting};
+ghost use Rattle.sedengine.specs.Run.{at_lines, setting};
 ghost use Rattle.sedengine.specs.Steps.{KeepsRun, Performs, weight};
-ghost use Rattle.sedengine.specs.SubstituteCalls.{Makes, ReplacesIn, same_but_replaced};
+ghost use Rattle.sedengine.specs.SubstituteCalls.{Makes, same_but_replaced};
 
 use super::Machine;
 use crate::ends::Ended;

@@ -1,5 +1,5 @@
 //! Marks for the nodes of an expression.
-ghost use Rattle.std.specs.Prelude.{◌≡◌, ℕ, Bool, false, List, ◌+◌, ◌^◌, ◌<◌, ◌≤◌, length, slice_index_or, slice_set, IfOk};
+ghost use Rattle.std.specs.Prelude.{◌≡◌, ℕ, Bool, false, List, ◌<◌, ◌≤◌, length, slice_index_or, slice_set};
 ghost use Rattle.sedre.specs.Steps.{Takes, Counted};
 
 use super::Marks;

@@ -1,5 +1,5 @@
 //! Marks of several states, a row for each.
-ghost use Rattle.std.specs.Prelude.{◌≡◌, ◌≢◌, ℕ, Bool, List, [], ◌+◌, ◌*◌, ◌^◌, ◌<◌, ◌≤◌, length, slice_index_or, vec_len, IfOk, IsTrue};
+ghost use Rattle.std.specs.Prelude.{◌≡◌, ◌≢◌, ℕ, Bool, List, ◌+◌, ◌*◌, ◌<◌, ◌≤◌, length, slice_index_or, vec_len, IfOk, IsTrue};
 ghost use Rattle.sedmarks.specs.Words.{AgreeBelow, rows_of, row_of};
 ghost use Rattle.sedre.specs.Steps.{Takes, Counted};
 
