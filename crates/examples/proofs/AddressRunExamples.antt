@@ -106,10 +106,20 @@ range_downwards : QuietlyWrites (codes "2,1p") (codes "1\n2\n3\n") (codes "2\n")
 unfolding verdict cutting walked item_at past function_at addresses_at address_at second_at text_from name_from lines course move selects
 range_downwards = is_script (ends_after 200 refl refl)
 
+-- With -n. The second number is that of the line itself.
+range_of_one_line : QuietlyWrites (codes "2,2p") (codes "1\n2\n3\n") (codes "2\n")
+unfolding verdict cutting walked item_at past function_at addresses_at address_at second_at text_from name_from lines course move selects
+range_of_one_line = is_script (ends_after 200 refl refl)
+
 -- With -n.
 range_of_equal_expressions : QuietlyWrites (codes "/a/,/a/p") (codes "a\nb\na\nc\n") (codes "a\nb\na\n")
 unfolding verdict cutting walked item_at past function_at addresses_at address_at second_at text_from name_from lines course move selects match_at substitute_at substituted delimiter_at outcome rest_of expression_item_at interval set_of tree_at tree_within list_at list_end found found_from longest greatest spans any copies
 range_of_equal_expressions = is_script (ends_after 200 refl refl)
+
+-- With -n. At line 4 the end of the range has passed; the line is judged anew, and begins a range of one line.
+passed_range_judged_anew : QuietlyWrites (codes "/a/,2{N;N;p;}") (codes "a\nb\nc\na\nb\nc\n") (codes "a\nb\nc\na\nb\nc\n")
+unfolding verdict cutting walked item_at past function_at addresses_at address_at second_at text_from name_from lines course move selects match_at substitute_at substituted delimiter_at outcome rest_of expression_item_at interval set_of tree_at tree_within list_at list_end found found_from longest greatest spans any copies
+passed_range_judged_anew = is_script (ends_after 200 refl refl)
 
 -- With -n. The end of the range is passed when it is next judged, at line 5.
 range_passed_within_its_block : QuietlyWrites (codes "2,3{$!N;$!N;p;}") (codes "1\n2\n3\n4\n5\n") (codes "2\n3\n4\n")

@@ -1,5 +1,5 @@
 -- Ends of runs within limits as a computation, so that examples of them can be computed.
-use Rattle.std.proofs.Common.{◌≡◌, ℕ, zero, suc, ◌≤◌, Bool, false, true, ◌&&◌, List, [], ◌∷◌, length, take, Option, Some, None, refl, sym, subst, ◌∙◌, arith}
+use Rattle.std.proofs.Common.{◌≡◌, ℕ, zero, suc, ◌≤◌, Bool, false, true, ◌&&◌, List, [], ◌∷◌, ◌++◌, length, take, Option, Some, None, refl, sym, ap, subst, ◌∙◌, arith}
 use Rattle.std.specs.Prelude.{◌<◌, eqb, leb, ltb, if◌then◌else◌, slice_get}
 use Rattle.std.proofs.lemmas.Bool.{leb-true, ltb-true, eqb-true}
 use Rattle.sedre.specs.declared.types.Kind.{Kind}
@@ -14,7 +14,7 @@ use Rattle.sedengine.specs.Run.{setting_of}
 use Rattle.sedengine.specs.Ends.{WithinLimits, Within, HasTurn, IsCause, Cause, WholeOrBrokenOff, Whole, BrokenOff, named_sink, takes_turn, line_at, reaches, reads}
 use Rattle.sedengine.specs.declared.ends.Ended.{Ended}
 use Rattle.sedengine.specs.declared.ends.Ended.TheVariants.{Done, PatternFull, HoldFull, QueueFull, TurnsSpent, NoPrevious, InputBroken}
-use Rattle.examples.proofs.ComputedRun.{course, course_so, stays, after_first}
+use Rattle.examples.proofs.ComputedRun.{course, course_so, stays, after_first, written_first}
 
 pub both : (a b : Bool) → (a && b) ≡ true → (a ≡ true) × (b ≡ true)
 both true b e = (refl, e)
@@ -61,7 +61,7 @@ module _ (l : Limits) (g : Setting) where
   each_fits (suc n) s e k below =
       let two = both _ _ e in later_fit n s (move g s) refl two.0 two.1 (each_fits n) k below
 
-  within_so : (n : ℕ) (s : State) → all_fit l g n s ≡ true → Within l g s n
+  pub within_so : (n : ℕ) (s : State) → all_fit l g n s ≡ true → Within l g s n
   unfolding Within
   within_so n s e = each_fits n s e
 
@@ -117,7 +117,7 @@ is_cause l g s InputBroken = reads g s.tasks
 is_cause l g s other = false
 
 -- what is so after the first t moves, where the end is none of a sink
-abbrev IsWhole : Limits → Setting → State → List (ℕ × ℕ) → Ended → ℕ → Type 0
+abbrev pub IsWhole : Limits → Setting → State → List (ℕ × ℕ) → Ended → ℕ → Type 0
 IsWhole l g s out end t = Whole l g s (λ bytes. bytes ≡ out) end t
 
 cause_so : (l : Limits) (g : Setting) (s : State) (end : Ended) → is_cause l g s end ≡ true → IsCause l g s end
@@ -158,17 +158,40 @@ cut_there : (l : Limits) (g : Setting) (s : State) (end : Ended) (out : List (�
 cut_there l g s end out t k None e h = absurd cc
 cut_there l g s end out t k (Some j) e h = subst (λ (o : Option ℕ). WholeOrBrokenOff l g s (λ bytes. bytes ≡ out) end t o) (sym e) h
 
+-- that is so where the moves are computed
+pub whole_after : {l : Limits} {g : Setting} {s : State} {end : Ended} {out : List (ℕ × ℕ)} (n : ℕ) →
+    (course g n s).writes ≡ out → is_cause l g (course g n s).last end ≡ true → all_fit l g n s ≡ true → IsWhole l g s out end n
+whole_after {l = l} {g = g} {s = s} {end = end} n w c f = record {
+  within = within_so l g n s f;
+  sinks = (course_so g n s).0 ∙ w;
+  cause = subst (λ (x : State). IsCause l g x end) (sym (course_so g n s).1) (cause_so l g (course g n s).last end c);
+}
+
+-- and with one move more, before them
+within_first : (l : Limits) (g : Setting) (s : State) (m : Move) (t : ℕ) → move g s ≡ Some m → WithinLimits l s →
+    ((k : ℕ) → k ≤ t → WithinLimits l (after g m.next k)) → (k : ℕ) → k ≤ suc t → WithinLimits l (after g s k)
+unfolding after
+within_first l g s m t e fits on zero below = fits
+within_first l g s m t e fits on (suc k) below = subst (WithinLimits l) (sym (after_first g s m k e)) (on k (omega arith))
+
+pub whole_first : {l : Limits} {g : Setting} {s : State} {m : Move} {end : Ended} {rest : List (ℕ × ℕ)} {t : ℕ} → move g s ≡ Some m →
+    WithinLimits l s → IsWhole l g m.next rest end t → IsWhole l g s (m.writes ++ rest) end (suc t)
+unfolding Within
+whole_first {l = l} {g = g} {s = s} {m = m} {end = end} {t = t} e fits h = record {
+  within = within_first l g s m t e fits h.within;
+  sinks = written_first g s m t e ∙ ap (λ (bytes : List (ℕ × ℕ)). m.writes ++ bytes) h.sinks;
+  cause = subst (λ (x : State). IsCause l g x end) (sym (after_first g s m t e)) h.cause;
+}
+
+pub stops_whole : {l : Limits} {g : Setting} {s : State} {end : Ended} {out : List (ℕ × ℕ)} {t : ℕ} → IsWhole l g s out end t →
+    named_sink end ≡ None → Stops l g s end out
+stops_whole {l = l} {g = g} {s = s} {end = end} {out = out} {t = t} h sink =
+    record { moves = t; cause = whole_or_cut l g s end out t (named_sink end) sink h }
+
 pub stops_after : {l : Limits} {g : Setting} {s : State} {end : Ended} {out : List (ℕ × ℕ)} (n : ℕ) →
     (course g n s).writes ≡ out → is_cause l g (course g n s).last end ≡ true → all_fit l g n s ≡ true →
     named_sink end ≡ None → Stops l g s end out
-stops_after {l = l} {g = g} {s = s} {end = end} {out = out} n w c f sink = record {
-  moves = n;
-  cause = whole_or_cut l g s end out n (named_sink end) sink (record {
-    within = within_so l g n s f;
-    sinks = (course_so g n s).0 ∙ w;
-    cause = subst (λ (x : State). IsCause l g x end) (sym (course_so g n s).1) (cause_so l g (course g n s).last end c);
-  });
-}
+stops_after n w c f sink = stops_whole (whole_after n w c f) sink
 
 -- The same where a sink breaks or is full: in the move after so many, of whose bytes the next one is for this sink.
 pub stops_within : {l : Limits} {g : Setting} {s : State} {end : Ended} {out : List (ℕ × ℕ)} (n k byte : ℕ) →

@@ -42,7 +42,7 @@ module _ (g : Setting) where
   after_first s m zero e = ap (next_or_stay s) e
   after_first s m (suc n) e = ap (λ x. next_or_stay x (move g x)) (after_first s m n e)
 
-  written_first : (s : State) (m : Move) (n : ℕ) → move g s ≡ Some m → written g s (suc n) ≡ m.writes ++ written g m.next n
+  pub written_first : (s : State) (m : Move) (n : ℕ) → move g s ≡ Some m → written g s (suc n) ≡ m.writes ++ written g m.next n
   unfolding written after
   written_first s m zero e = ap writes_of e ∙ sym (append-nil m.writes)
   written_first s m (suc n) e =

@@ -55,6 +55,10 @@ input_breaks_at_a_next_line : EndsBy own plain no_files (codes "n;d") (codes "a\
 unfolding verdict cutting walked item_at past function_at addresses_at address_at second_at text_from name_from lines course move selects all_fit
 input_breaks_at_a_next_line = is_script (stops_after 1 refl refl refl refl)
 
+input_breaks_within_a_next_line : EndsBy own plain no_files (codes "n;d") (codes "a\nb\n") InputBroken (codes "a\n")
+unfolding verdict cutting walked item_at past function_at addresses_at address_at second_at text_from name_from lines course move selects all_fit
+input_breaks_within_a_next_line = is_script (stops_after 5 refl refl refl refl)
+
 input_breaks_at_a_joined_line : EndsBy own plain no_files (codes "N") (codes "a\nb\n") InputBroken (codes "")
 unfolding verdict cutting walked item_at past function_at addresses_at address_at second_at text_from name_from lines course move selects all_fit
 input_breaks_at_a_joined_line = is_script (stops_after 3 refl refl refl refl)

@@ -57,6 +57,10 @@ no_previous_expression : EndsBy (turns 2) plain no_files (codes "//p") (codes "a
 unfolding verdict cutting walked item_at past function_at addresses_at address_at second_at text_from name_from lines course move selects all_fit match_at substitute_at substituted delimiter_at outcome rest_of expression_item_at interval set_of tree_at tree_within list_at list_end found found_from longest greatest spans any copies
 no_previous_expression = is_script (stops_after 1 refl refl refl refl)
 
+no_previous_expression_within_the_limits : EndsBy (turns 18446744073709551615) plain no_files (codes "//p") (codes "a\n") (NoPrevious 1) (codes "")
+unfolding verdict cutting walked item_at past function_at addresses_at address_at second_at text_from name_from lines course move selects all_fit match_at substitute_at substituted delimiter_at outcome rest_of expression_item_at interval set_of tree_at tree_within list_at list_end found found_from longest greatest spans any copies
+no_previous_expression_within_the_limits = is_script (stops_after 1 refl refl refl refl)
+
 substitution_past_the_space : EndsBy (space 3) plain no_files (codes "s/b/&&/") (codes "abc\n") (PatternFull 1) (codes "")
 unfolding verdict cutting walked item_at past function_at addresses_at address_at second_at text_from name_from lines course move selects all_fit match_at substitute_at substituted delimiter_at outcome rest_of expression_item_at interval set_of tree_at tree_within list_at list_end found found_from longest greatest spans any copies report caps cut first_copy last_start occurrences_from
 substitution_past_the_space = is_script (stops_after 1 refl refl refl refl)

@@ -276,6 +276,26 @@ plus_first_in_a_group : ExprFaulty Extended None (codes "(+a)") 65536 1 NothingT
 unfolding outcome rest_of item_at
 plus_first_in_a_group = faulty_with refl
 
+plus_first_in_an_alternative : ExprFaulty Extended None (codes "a|+") 65536 2 NothingToRepeat
+unfolding outcome rest_of item_at
+plus_first_in_an_alternative = faulty_with refl
+
+question_mark_after_a_caret : ExprFaulty Extended None (codes "^?") 65536 1 NothingToRepeat
+unfolding outcome rest_of item_at
+question_mark_after_a_caret = faulty_with refl
+
+interval_after_a_caret : ExprFaulty Extended None (codes "^{1}") 65536 1 NothingToRepeat
+unfolding outcome rest_of item_at interval
+interval_after_a_caret = faulty_with refl
+
+question_mark_after_a_dollar : ExprFaulty Extended None (codes "$?") 65536 1 NothingToRepeat
+unfolding outcome rest_of item_at
+question_mark_after_a_dollar = faulty_with refl
+
+interval_after_a_dollar : ExprFaulty Extended None (codes "${1}") 65536 1 NothingToRepeat
+unfolding outcome rest_of item_at interval
+interval_after_a_dollar = faulty_with refl
+
 question_mark_first : ExprFaulty Extended None (codes "?a") 65536 0 NothingToRepeat
 unfolding outcome rest_of item_at
 question_mark_first = faulty_with refl
@@ -311,6 +331,18 @@ question_mark_first_basic = faulty_with refl
 interval_first_basic : ExprFaulty Basic None (codes "\\{1\\}a") 65536 0 NothingToRepeat
 unfolding outcome rest_of item_at interval
 interval_first_basic = faulty_with refl
+
+plus_first_in_a_group_basic : ExprFaulty Basic None (codes "\\(\\+a\\)") 65536 2 NothingToRepeat
+unfolding outcome rest_of item_at
+plus_first_in_a_group_basic = faulty_with refl
+
+plus_after_an_alternation_basic : ExprFaulty Basic None (codes "a\\|\\+b") 65536 3 NothingToRepeat
+unfolding outcome rest_of item_at
+plus_after_an_alternation_basic = faulty_with refl
+
+bad_interval_first_basic : ExprFaulty Basic None (codes "\\{300\\}") 65536 0 NothingToRepeat
+unfolding outcome rest_of item_at interval
+bad_interval_first_basic = faulty_with refl
 
 plus_after_a_caret_basic : ExprFaulty Basic None (codes "^\\+") 65536 1 NothingToRepeat
 unfolding outcome rest_of item_at

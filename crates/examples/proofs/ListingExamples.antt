@@ -1,5 +1,6 @@
 -- The definition of a listing computes.
 use Rattle.std.proofs.Common.{◌≡◌, [], ◌∷◌, ◌++◌, replicate, refl}
+use Rattle.std.specs.Prelude.{codes}
 use Rattle.sedengine.specs.Listing.{listed}
 
 -- 70 bytes `a`: a piece of 69, and the last one
@@ -31,3 +32,18 @@ example_empty = refl
 example_newline : listed (92 ∷ 10 ∷ []) ≡ 92 ∷ 92 ∷ 92 ∷ 110 ∷ 36 ∷ 10 ∷ []
 unfolding listed
 example_newline = refl
+
+-- the other bytes of the table that have an escape
+example_escapes : listed (7 ∷ 8 ∷ 12 ∷ 13 ∷ 9 ∷ 11 ∷ []) ≡ codes "\\a\\b\\f\\r\\t\\v$\n"
+unfolding listed
+example_escapes = refl
+
+-- the other bytes that aren't printed, with leading zeros
+example_leading_zeros : listed (0 ∷ 27 ∷ 127 ∷ []) ≡ codes "\\000\\033\\177$\n"
+unfolding listed
+example_leading_zeros = refl
+
+-- bytes that are printed, from the least to the greatest
+example_printed : listed (codes " $~") ≡ codes " $~$\n"
+unfolding listed
+example_printed = refl

@@ -23,19 +23,19 @@ use Rattle.sedscript.specs.Targets.{close_in, target_fault}
 use Rattle.examples.proofs.ScriptWords.{fault_at}
 
 -- an opening brace without addresses
-abbrev opening : ℕ → Item
+abbrev pub opening : ℕ → Item
 opening place = record { addresses = addresses_of None None; place = place; function = Open }
 
 -- so many of them, one after the other from a place on
-abbrev openings : ℕ → ℕ → List Item
+abbrev pub openings : ℕ → ℕ → List Item
 openings at zero = []
 openings at (suc n) = opening at ∷ openings (at + 1) n
 
 -- so many opening braces
-abbrev braces : ℕ → List ℕ
+abbrev pub braces : ℕ → List ℕ
 braces n = replicate n 123
 
-each_brace : (n k : ℕ) → k < n → slice_get (braces n) k ≡ Some 123
+pub each_brace : (n k : ℕ) → k < n → slice_get (braces n) k ≡ Some 123
 each_brace zero k below = absurd (omega arith)
 each_brace (suc n) zero below = refl
 each_brace (suc n) (suc k) below = each_brace n k (omega arith)
@@ -49,11 +49,11 @@ none_of_sort sort byte (b ∷ bs) zero other there =
     rw no refl
 none_of_sort sort byte (b ∷ bs) (suc at) other there = none_of_sort sort byte bs at other there
 
-stays : (sort : Sort) (byte : ℕ) (text : List ℕ) (at : ℕ) → belongs sort byte ≡ false → slice_get text at ≡ Some byte → past sort text at ≡ at
+pub stays : (sort : Sort) (byte : ℕ) (text : List ℕ) (at : ℕ) → belongs sort byte ≡ false → slice_get text at ≡ Some byte → past sort text at ≡ at
 unfolding past
 stays sort byte text at other there = rw (none_of_sort sort byte text at other there) (omega arith)
 
-abbrev no_addresses : ℕ → Headed
+abbrev pub no_addresses : ℕ → Headed
 no_addresses at = record { addresses = addresses_of None None; at = at; count = 0 }
 
 no_address : (text : List ℕ) (at : ℕ) → slice_get text at ≡ Some 123 → addresses_at text 0 at ≡ plainly (Ok (no_addresses at))
@@ -76,7 +76,7 @@ opens_at text at there =
     rw (stays Separator 123 text at refl there, there, no_address text at there) (opens_after text at _ there (no_bang text at there))
 
 module _ (kind : Kind) (most : ℕ) where
-  gives_opening : (text : List ℕ) (at : ℕ) → slice_get text at ≡ Some 123 → Gives text kind most (item_at text 0 at) [] (Is (opening at) (at + 1))
+  pub gives_opening : (text : List ℕ) (at : ℕ) → slice_get text at ≡ Some 123 → Gives text kind most (item_at text 0 at) [] (Is (opening at) (at + 1))
   gives_opening text at there = subst (λ (r : Reading Here). Gives text kind most r [] (Is (opening at) (at + 1))) (sym (opens_at text at there)) value
 
   -- the text from a place on is cut into opening braces
@@ -85,7 +85,7 @@ module _ (kind : Kind) (most : ℕ) where
   cut_at text (suc n) at to e each =
       item [] [] (gives_opening text at (each at (omega (arith, e)))) (cut_at text n (at + 1) to (omega (arith, e)) each)
 
-ends : (text : List ℕ) (at : ℕ) → length text ≤ at → IsEnd text at
+pub ends : (text : List ℕ) (at : ℕ) → length text ≤ at → IsEnd text at
 unfolding past
 ends text at after = slice_get_past text _ (omega (arith, after))
 

@@ -1,4 +1,5 @@
--- Examples of a star in a star: (a*)*b on as many a as one likes finds nothing, and with a b after them it takes all.
+-- Examples of stars in stars: (a*)*b and ((a*)*)*b on as many a as one likes find nothing, and with a b after them they
+-- take all.
 use Rattle.std.proofs.Common.{◌≡◌, ℕ, zero, suc, ◌+◌, ◌-◌, ◌<◌, ◌≤◌, List, [], ◌∷◌, ◌++◌, length, false, true, Some, None, inl, refl, sym, ◌∙◌, subst, arith}
 use Rattle.std.specs.Prelude.{codes, replicate, slice_get, slice_set}
 use Rattle.std.proofs.lemmas.Option.{slice_get_within, get_or_from_slice_get}
@@ -34,7 +35,7 @@ all_alike n x i byte e =
     let within : i < n = subst (λ v. i < v) (length-replicate n x) (slice_get_within (replicate n x) i byte e) in
     sym (get_or_from_slice_get (replicate n x) i byte 0 e) ∙ get_or-replicate n i x 0 within
 
-no_b : (n i j : ℕ) → Spans b (replicate n 97) i j → ⊥
+pub no_b : (n i j : ℕ) → Spans b (replicate n 97) i j → ⊥
 unfolding set_of
 no_b n i j s =
     let within : false ≡ true = subst (λ v. IsIn v (only 98)) (all_alike n 97 i s.0 s.1) s.2 in
@@ -162,7 +163,86 @@ b_after_many n = record {
   reports = (no_groups, refl, refl);
 }
 
--- Forty of them, and a thousand.
+-- A star more: ((a*)*)*b
+
+abbrev pub twice_nested : Tree
+twice_nested = seq (star (group 1 (star (group 2 (star a true)) true)) true) b
+
+twice_nested_reads : ReadsAs Extended false None (codes "((a*)*)*b") twice_nested 2
+unfolding outcome rest_of item_at
+twice_nested_reads = reads_as refl
+
+nothing_twice_nested : (n p : ℕ) → FindsNothing Extended (codes "((a*)*)*b") (replicate n 97) p
+nothing_twice_nested n p = record {
+  tree = twice_nested;
+  count = 2;
+  reads_so = twice_nested_reads;
+  is_not_found = λ i k from within s. no_b n s.0 k s.2;
+}
+
+-- the a are one copy of the inner star
+one_copy_of_a : (n : ℕ) → 0 < n → Copies (Spans (group 2 (star a true)) (with_b n)) n 0
+one_copy_of_a n some = one_more 0 n some (copies_of_a (with_b n) n 0 n (omega arith) (each_a n)) no_copy
+
+found_twice_nested : (n : ℕ) → 0 < n → Found twice_nested (with_b n) 0 0 (n + 1)
+found_twice_nested n some = record {
+  after = omega arith;
+  spans = (n, one_more 0 n some (one_copy_of_a n some) no_copy, b_spans n);
+  longest = λ k s. ends_within n s.0 k s.2;
+  leftmost = λ h k from before s. absurd (omega (arith, before));
+}
+
+up_to_b_twice_nested : (n : ℕ) → 0 < n → IsReport twice_nested (with_b n) 0 (n + 1) (spans_are (0, n + 1) (Some (0, n) ∷ Some (0, n) ∷ []))
+up_to_b_twice_nested n some =
+    let w = with_b n in
+    let copies : Copies (Spans a w) n 0 = copies_of_a w n 0 n (omega arith) (each_a n) in
+    let last = last_a w (n - 1) 0 n (omega arith) (each_a n) in
+    let inner = slice_set no_groups 2 (Some (0, n)) in
+    let outer = slice_set inner 1 (Some (0, n)) in (
+      outer,
+      (
+        n,
+        record {
+          left = one_more 0 n some (one_copy_of_a n some) no_copy;
+          right = b_spans n;
+          greatest = λ l s t. omega (arith, t.3);
+        },
+        (
+          outer,
+          inl (
+            some,
+            (
+              0,
+              only_copy 0 some (one_copy_of_a n some),
+              (
+                inner,
+                inl (some, (0, only_copy 0 some copies, (no_groups, inl (some, (last.0, last.1, refl)), refl))),
+                refl,
+              ),
+            ),
+          ),
+          refl,
+        ),
+      ),
+      refl,
+    )
+
+all_of_many_twice_nested : (n : ℕ) → 0 < n → Finds Extended (codes "((a*)*)*b") (with_b n) 0 (0, n + 1) (Some (0, n) ∷ Some (0, n) ∷ [])
+all_of_many_twice_nested n some = record {
+  tree = twice_nested;
+  count = 2;
+  reads_so = twice_nested_reads;
+  is_found = found_twice_nested n some;
+  reports = up_to_b_twice_nested n some;
+}
+
+-- Thirty of them, forty and a thousand.
+
+nothing_in_thirty : FindsNothing Extended (codes "((a*)*)*b") (replicate 30 97) 0
+nothing_in_thirty = nothing_twice_nested 30 0
+
+all_of_thirty : Finds Extended (codes "((a*)*)*b") (replicate 30 97 ++ 98 ∷ []) 0 (0, 31) (Some (0, 30) ∷ Some (0, 30) ∷ [])
+all_of_thirty = all_of_many_twice_nested 30 (omega arith)
 
 nothing_in_forty : FindsNothing Extended (codes "(a*)*b") (replicate 40 97) 0
 nothing_in_forty = nothing_in_many 40 0

@@ -1,5 +1,5 @@
--- Examples of what the program's command lines come to, computed by the definitions: the parts of the script as the words
--- give them, the files, and what is written or how the run ends (XCU sed, "Options", "Operands").
+-- Examples of what the program's command lines come to, computed by the definitions from the parts of a script on: the
+-- script's text, the files, and what is written or how the run ends (XCU sed, "Options", "Operands").
 use Rattle.std.proofs.Common.{◌≡◌, ◌≢◌, ℕ, List, [], ◌∷◌, Option, Some, None, refl, subst, arith}
 use Rattle.std.specs.Prelude.{codes}
 use Rattle.sedre.specs.declared.types.Kind.{Kind}
@@ -27,17 +27,17 @@ use Rattle.sededit.specs.MemoryFiles.{File, file_of, files_of}
 use Rattle.sededit.specs.Program.{MakesText, StopsEarly, HasFailed, input_of}
 
 -- the files that there are: `a` with one line, `f` without a newline, and the script `s`
-abbrev there : List File
+abbrev pub there : List File
 there =
     record { name = codes "a"; bytes = codes "x\n" } ∷ record { name = codes "f"; bytes = codes "aa" }
     ∷ record { name = codes "s"; bytes = codes "#n\np" } ∷ []
 
 -- the input of these operands, with this standard input
-abbrev input : (standard : List ℕ) → (operands : List (List ℕ)) → Option (List ℕ)
+abbrev pub input : (standard : List ℕ) → (operands : List (List ℕ)) → Option (List ℕ)
 input standard operands = input_of (λ names. Some (files_of there standard names)) operands
 
 -- the script of these parts is this text
-abbrev Text : List Given → List ℕ → Type 0
+abbrev pub Text : List Given → List ℕ → Type 0
 Text parts whole = MakesText (λ name. Some (file_of there name)) [] parts whole
 
 two_parts : Text (text (codes "i\\") ∷ text (codes "  X") ∷ []) (codes "i\\\n  X\n")
@@ -68,13 +68,13 @@ missed_file : input [] (codes "a" ∷ codes "nofile" ∷ []) ≡ Some (codes "x\
 missed_file = refl
 
 -- These parts make a script that over the input of these operands writes these bytes.
-record Answers (kind : Kind) (asked : Program → Program) (files : ℕ → List ℕ) (parts : List Given) (standard : List ℕ)
+pub record Answers (kind : Kind) (asked : Program → Program) (files : ℕ → List ℕ) (parts : List Given) (standard : List ℕ)
     (operands : List (List ℕ)) (output : List ℕ) : Type 0 where
-  whole : List ℕ
-  made : Text parts whole
-  bytes : List ℕ
-  gives : input standard operands ≡ Some bytes
-  runs : Edits kind asked files whole bytes (to_sink 0 output)
+  pub whole : List ℕ
+  pub made : Text parts whole
+  pub bytes : List ℕ
+  pub gives : input standard operands ≡ Some bytes
+  pub runs : Edits kind asked files whole bytes (to_sink 0 output)
 
 -- `sed -e 'i\' -e '  X'`, with a on the standard input
 text_over_two_parts : Answers Basic plain no_files (text (codes "i\\") ∷ text (codes "  X") ∷ []) (codes "a\n") [] (codes "  X\na\n")

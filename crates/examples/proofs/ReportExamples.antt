@@ -52,6 +52,12 @@ other_alternative : Finds Extended (codes "(a)|(b)") (codes "b") 0 (0, 1) (None 
 unfolding search
 other_alternative = finds refl
 
+-- Of two alternatives that both span it, the first one does (this project's own).
+
+first_of_two_alternatives : Finds Extended (codes "a|(a)") (codes "a") 0 (0, 1) (None ∷ [])
+unfolding search
+first_of_two_alternatives = finds refl
+
 -- An empty copy forgets the groups within, as any other does (this project's own).
 
 empty_copy_forgets : Finds Extended (codes "(a)**{2}") (codes "a") 0 (0, 1) (None ∷ [])
@@ -75,6 +81,10 @@ one_of_one_to_two_copies = finds refl
 one_of_zero_to_two_copies : Finds Extended (codes "(a*){0,2}") (codes "a") 0 (0, 1) (Some (0, 1) ∷ [])
 unfolding search
 one_of_zero_to_two_copies = finds refl
+
+one_empty_copy_of_an_option : Finds Extended (codes "(a*)?") (codes "b") 0 (0, 0) (Some (0, 0) ∷ [])
+unfolding search
+one_empty_copy_of_an_option = finds refl
 
 -- Stars in stars.
 

@@ -1,5 +1,5 @@
 -- Examples of the leftmost-longest match (XBD 9.1), computed from the text of an extended expression.
-use Rattle.std.proofs.Common.{◌∷◌, [], refl}
+use Rattle.std.proofs.Common.{◌∷◌, [], Some, refl}
 use Rattle.std.specs.Prelude.{codes}
 use Rattle.sedre.specs.declared.types.Kind.TheVariants.{Extended}
 use Rattle.examples.proofs.ComputedSearch.{Finds, FindsNothing, search, finds, finds_nothing}
@@ -31,6 +31,16 @@ no_copies_within = finds refl
 no_copies_at_the_end : Finds Extended (codes "x*") (codes "abc") 3 (3, 3) []
 unfolding search
 no_copies_at_the_end = finds refl
+
+-- An empty expression and an empty group match the null string.
+
+empty_expression : Finds Extended (codes "") (codes "a") 0 (0, 0) []
+unfolding search
+empty_expression = finds refl
+
+empty_group : Finds Extended (codes "()") (codes "a") 0 (0, 0) (Some (0, 0) ∷ [])
+unfolding search
+empty_group = finds refl
 
 -- The anchors hold at the beginning and at the end of the whole text alone, wherever the search begins.
 

@@ -75,7 +75,7 @@ joined_by_two : Writes (codes "N") (codes "ab\nc\n") (codes "ab\nc\n")
 unfolding verdict cutting walked item_at past function_at addresses_at address_at second_at text_from name_from lines course move selects
 joined_by_two = is_script (ends_after 200 refl refl)
 
-window_of_two : Writes (codes "$!N;P;D") (codes "1\n2\n3\n4\n") (codes "1\n2\n3\n4\n")
+window_of_two : Writes (codes "$!N;P;D") (codes "1\n2\n3\n") (codes "1\n2\n3\n")
 unfolding verdict cutting walked item_at past function_at addresses_at address_at second_at text_from name_from lines course move selects
 window_of_two = is_script (ends_after 200 refl refl)
 

@@ -77,6 +77,18 @@ open_target : Faulty (codes "y/a/b") Basic 65536 (fault_at 3 fault.OpenDelimiter
 unfolding verdict cutting walked item_at past function_at addresses_at address_at match_at substitute_at substituted delimiter_at outcome rest_of expression_item_at transliterate_at text_from
 open_target = has_fault refl
 
+newline_as_delimiter_of_y : Faulty (codes "y\na\nb\n") Basic 65536 (fault_at 1 fault.BadDelimiter)
+unfolding verdict cutting walked item_at past function_at addresses_at address_at match_at substitute_at substituted delimiter_at outcome rest_of expression_item_at transliterate_at text_from
+newline_as_delimiter_of_y = has_fault refl
+
+target_over_two_lines : Faulty (codes "y/a/b\n/") Basic 65536 (fault_at 3 fault.OpenDelimiter)
+unfolding verdict cutting walked item_at past function_at addresses_at address_at match_at substitute_at substituted delimiter_at outcome rest_of expression_item_at transliterate_at text_from
+target_over_two_lines = has_fault refl
+
+open_target_before_escape : Faulty (codes "y/\\q/b") Basic 65536 (fault_at 4 fault.OpenDelimiter)
+unfolding verdict cutting walked item_at past function_at addresses_at address_at match_at substitute_at substituted delimiter_at outcome rest_of expression_item_at transliterate_at text_from
+open_target_before_escape = has_fault refl
+
 open_replacement_before_a_fault_of_the_expression : Faulty (codes "s/*/b") Extended 65536 (fault_at 3 fault.OpenDelimiter)
 unfolding verdict cutting walked item_at past function_at addresses_at address_at match_at substitute_at substituted delimiter_at outcome rest_of expression_item_at
 open_replacement_before_a_fault_of_the_expression = has_fault refl

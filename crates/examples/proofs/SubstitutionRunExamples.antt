@@ -1,6 +1,6 @@
 -- Examples of whole runs, computed by the definitions, from the bytes of a script and of its input: the functions `s`, `t`
 -- and `y` (XCU sed, "Editing Commands in sed").
-use Rattle.std.proofs.Common.{refl}
+use Rattle.std.proofs.Common.{[], ◌∷◌, refl}
 use Rattle.std.specs.Prelude.{codes}
 use Rattle.examples.proofs.ComputedReading.{outcome, rest_of}
 use Rattle.sedre.specs.Arena.{tree_at, tree_within}
@@ -19,6 +19,7 @@ use Rattle.sedscript.specs.Items.{substitute_at, function_at, item_at}
 use Rattle.sedscript.specs.Transliteration.{table_of}
 use Rattle.sedspace.specs.Lines.{lines}
 use Rattle.sedengine.specs.Move.{move, to_sink}
+use Rattle.sededit.specs.Joined.{joined}
 use Rattle.sedengine.specs.Select.{selects}
 use Rattle.sedengine.specs.Substitute.{occurrences_from}
 use Rattle.examples.proofs.ComputedRun.{course, ends_after, Writes, QuietlyWrites, Edits, plain, quiet, no_files}
@@ -117,7 +118,7 @@ unfolding verdict cutting walked item_at past function_at addresses_at address_a
 group_that_the_expression_last_used_lacks = is_script (ends_after 200 refl refl)
 
 -- The input of two files, `a` without a newline and `b`.
-end_of_the_last_line : Writes (codes "$s/$/!/") (codes "a\nb\n") (codes "a\nb!\n")
+end_of_the_last_line : Writes (codes "$s/$/!/") (joined (codes "a" ∷ codes "b" ∷ [])) (codes "a\nb!\n")
 unfolding verdict cutting walked item_at past function_at addresses_at address_at second_at text_from name_from lines course move selects match_at substitute_at substituted delimiter_at outcome rest_of expression_item_at interval set_of tree_at tree_within list_at list_end found found_from longest greatest spans any copies report caps cut first_copy last_start occurrences_from
 end_of_the_last_line = is_script (ends_after 200 refl refl)
 

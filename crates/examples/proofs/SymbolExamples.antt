@@ -109,6 +109,14 @@ dollar_twice : ReadsAs Basic false None (codes "a$$") (seq a (seq (byte 36) end)
 unfolding outcome rest_of item_at
 dollar_twice = reads_as refl
 
+dollar_before_a_star : ReadsAs Basic false None (codes "a$*") (seq a (star (byte 36) true)) 0
+unfolding outcome rest_of item_at
+dollar_before_a_star = reads_as refl
+
+question_mark_after_an_interval : ReadsAs Basic false None (codes "a\\{2\\}?") (seq (seq a a) (byte 63)) 0
+unfolding outcome rest_of item_at interval
+question_mark_after_an_interval = reads_as refl
+
 dollar_everywhere : ReadsAs Extended false None (codes "a$b") (seq a (seq end b)) 0
 unfolding outcome rest_of item_at
 dollar_everywhere = reads_as refl

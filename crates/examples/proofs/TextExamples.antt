@@ -182,6 +182,10 @@ second_occurrence : Script (codes "s/a/b/2") Basic (λ s. s.substitutions ≡ re
 unfolding verdict cutting walked item_at past function_at addresses_at address_at match_at substitute_at substituted delimiter_at outcome rest_of expression_item_at text_from
 second_occurrence = is_script refl
 
+greatest_occurrence : Script (codes "s/a/b/18446744073709551615") Basic (λ s. s.substitutions ≡ record (substitution (Some 0) (literal 98 ∷ [])) { number = 18446744073709551615 } ∷ [])
+unfolding verdict cutting walked item_at past function_at addresses_at address_at match_at substitute_at substituted delimiter_at outcome rest_of expression_item_at text_from
+greatest_occurrence = is_script refl
+
 second_with_a_zero : Script (codes "s/a/b/02") Basic (λ s. s.substitutions ≡ record (substitution (Some 0) (literal 98 ∷ [])) { number = 2 } ∷ [])
 unfolding verdict cutting walked item_at past function_at addresses_at address_at match_at substitute_at substituted delimiter_at outcome rest_of expression_item_at text_from
 second_with_a_zero = is_script refl
@@ -231,6 +235,10 @@ escaped_bytes = is_script refl
 escaped_backslash : Script (codes "y/\\\\/b/") Basic (λ s. s.tables ≡ table_of (92 ∷ []) (98 ∷ []) ∷ [])
 unfolding verdict cutting walked item_at past function_at addresses_at address_at match_at substitute_at substituted delimiter_at outcome rest_of expression_item_at transliterate_at
 escaped_backslash = is_script refl
+
+tab_to_blank : Script (codes "y/\\t/ /") Basic (λ s. s.tables ≡ table_of (9 ∷ []) (32 ∷ []) ∷ [])
+unfolding verdict cutting walked item_at past function_at addresses_at address_at match_at substitute_at substituted delimiter_at outcome rest_of expression_item_at transliterate_at
+tab_to_blank = is_script refl
 
 empty_strings : Script (codes "y///") Basic (λ s. s.tables ≡ table_of [] [] ∷ [])
 unfolding verdict cutting walked item_at past function_at addresses_at address_at match_at substitute_at substituted delimiter_at outcome rest_of expression_item_at transliterate_at

@@ -5,3 +5,4 @@ pub mod Strings
 pub mod Replacements
 pub mod Among
 pub mod Lists
+pub mod Numbers

@@ -7,7 +7,7 @@ ghost use Rattle.sedscript.specs.declared.bytes.Sort.TheVariants.{Name};
 ghost use Rattle.sedscript.specs.declared.items.Flags.{Flags};
 ghost use Rattle.sedscript.specs.Bytes.{past, bytes_between};
 ghost use Rattle.sedscript.specs.Flags.{flags_from, no_flags};
-ghost use Rattle.sedscript.specs.Functions.{text_from};
+ghost use Rattle.sedscript.specs.Functions.{name_from, text_from};
 ghost use Rattle.sedscript.specs.declared.substitution.Piece.{Piece};
 ghost use Rattle.sedscript.specs.Replacement.{pieces_of, replacement_fault, GroupsWithin};
 ghost use Rattle.sedscript.specs.Script.{unescaped_from};
@@ -18,6 +18,7 @@ ghost use Rattle.examples.specs.Labels.{EndsLabel};
 ghost use Rattle.examples.specs.Texts.{backslashed};
 ghost use Rattle.examples.specs.Strings.{NoneTwice, written};
 ghost use Rattle.examples.specs.Among.{stands_among};
+ghost use Rattle.examples.specs.Numbers.{NumberAmong};
 ghost use Rattle.examples.specs.Lists.{ArePlain};
 ghost use Rattle.examples.specs.Replacements.{written_pieces};
 
@@ -121,6 +122,27 @@ pub fn flags_read()
         (flags.global ≡ stands_among 103 (bytes_between script from to))
         × (flags.print ≡ stands_among 112 (bytes_between script from to))
         × (flags.folded ≡ stands_among 73 (bytes_between script from to)) }
+{}
+
+/// Where flags of `s` are read without a file, the digits among the bytes that were read stand together and write their
+/// number, and there are none where the flags have no number.
+pub fn number_read()
+    ensures { (script : List ℕ) (empty : Bool) (flags : Flags) (from to : ℕ) →
+        flags_from script empty no_flags 0 from (drop from script) ≡ Ok (flags, to) → flags.file ≡ None →
+        NumberAmong (bytes_between script from to) flags.number }
+{}
+
+/// Where flags with a file are read, a `w` is the first one there, the file's name stands after it, and the flags say of
+/// the bytes before it what flags without a file say of all.
+pub fn flags_before_file()
+    ensures { (script : List ℕ) (empty : Bool) (flags : Flags) (from to : ℕ) (name : ℕ × ℕ) →
+        flags_from script empty no_flags 0 from (drop from script) ≡ Ok (flags, to) → flags.file ≡ Some name →
+        (w : ℕ) × (from ≤ w) × (slice_get script w ≡ Some 119) × (stands_among 119 (bytes_between script from w) ≡ false)
+        × (name_from script (w + 1) ≡ Some name) × (to ≡ name.1)
+        × (flags.global ≡ stands_among 103 (bytes_between script from w))
+        × (flags.print ≡ stands_among 112 (bytes_between script from w))
+        × (flags.folded ≡ stands_among 73 (bytes_between script from w))
+        × NumberAmong (bytes_between script from w) flags.number }
 {}
 
 /// A list of one or more bytes, none of them `[`, `]`, `-` or `^`, matches exactly these bytes and ends after its `]`.

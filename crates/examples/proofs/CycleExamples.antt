@@ -1,0 +1,80 @@
+-- Examples of single cycles, computed by the definitions: the moves of one cycle, what it writes, and how many bytes it takes
+-- from the source.
+use Rattle.std.proofs.Common.{◌≡◌, ℕ, zero, suc, ◌+◌, ◌<◌, List, [], ◌∷◌, ◌++◌, length, Some, refl, ap, sym, ◌∙◌, length-append, arith}
+use Rattle.std.specs.Prelude.{codes}
+use Rattle.sedre.specs.declared.types.Kind.TheVariants.{Basic}
+use Rattle.sedscript.specs.Addresses.{address_at, second_at, addresses_at}
+use Rattle.sedscript.specs.Bytes.{past}
+use Rattle.sedscript.specs.Functions.{name_from, text_from}
+use Rattle.sedscript.specs.Items.{function_at, item_at}
+use Rattle.sedscript.specs.Script.{Program}
+use Rattle.sedspace.specs.Lines.{lines}
+use Rattle.sedengine.specs.Limits.{Limits, limits_of}
+use Rattle.sedengine.specs.Move.{move, after, start, to_sink, written}
+use Rattle.sedengine.specs.Run.{Cycled, TakesInput, setting_of, size_of}
+use Rattle.sedengine.specs.Select.{selects}
+use Rattle.sedengine.specs.State.{Setting, State}
+use Rattle.examples.proofs.ComputedEnds.{all_fit, within_so}
+use Rattle.examples.proofs.ComputedRun.{no_files}
+use Rattle.examples.proofs.ComputedScript.{verdict, cutting, walked, Script, is_script}
+
+-- the program's own limits, but that one byte is read ahead
+abbrev one_ahead : Limits
+one_ahead = limits_of 1048576 4096 1 18446744073709551615 16384
+
+abbrev input : List ℕ
+input = codes "a\nb\nc\n"
+
+-- One call of the engine makes the moves of one cycle and writes `out`. What is left of the source then is `rest`; it can't be
+-- as little as `less`.
+record FirstCycle (p : Program) (out : List (ℕ × ℕ)) (rest less : List ℕ) : Type 0 where
+  moves : ℕ
+  cycled : Cycled one_ahead (setting_of p no_files) (start p.commands (lines input)) (λ bytes. bytes ≡ out) (Some input) (Some rest)
+      (after (setting_of p no_files) (start p.commands (lines input)) moves)
+  no_more : TakesInput (setting_of p no_files) (start p.commands (lines input)) (Some input) (Some less) one_ahead.look moves → ⊥
+
+-- between the first of six moves and the last
+between : (P : ℕ → Type 0) → P 1 → P 2 → P 3 → P 4 → P 5 → (k : ℕ) → 0 < k → k < 6 → P k
+between P one two three four five zero some below = absurd (omega arith)
+between P one two three four five (suc zero) some below = one
+between P one two three four five (suc (suc zero)) some below = two
+between P one two three four five (suc (suc (suc zero))) some below = three
+between P one two three four five (suc (suc (suc (suc zero)))) some below = four
+between P one two three four five (suc (suc (suc (suc (suc zero))))) some below = five
+between P one two three four five (suc (suc (suc (suc (suc (suc k)))))) some below = absurd (omega arith)
+
+-- the lines that were taken, where two of three are left
+first_alone : (taken : List (List ℕ)) (a b c : List ℕ) → a ∷ b ∷ c ∷ [] ≡ taken ++ b ∷ c ∷ [] → size_of taken ≡ length a + 1
+first_alone [] a b c e = absurd (omega (arith, ap length e))
+first_alone (x ∷ []) a b c e = (let same : a ≡ x = cc in rw same (omega arith))
+first_alone (x ∷ y ∷ rest) a b c e = absurd (omega (arith, ap length e, length-append rest (b ∷ c ∷ [])))
+
+-- Where one of three lines was taken, no more bytes are gone than its own, its newline and so many more.
+not_so_many : (g : Setting) (s : State) (a b c old new : List ℕ) (more t : ℕ) → s.lines ≡ a ∷ b ∷ c ∷ [] → (after g s t).lines ≡ b ∷ c ∷ [] →
+    length a + 1 + more + length new < length old → TakesInput g s (Some old) (Some new) more t → ⊥
+not_so_many g s a b c old new more t before later many takes =
+    let lines : a ∷ b ∷ c ∷ [] ≡ takes.lines ++ b ∷ c ∷ [] = sym before ∙ takes.are ∙ ap (λ (rest : List (List ℕ)). takes.lines ++ rest) later in
+    let size = first_alone takes.lines a b c lines in
+    let taken = takes.bytes in
+    omega (arith, size, ap length taken.1, length-append taken.0 new, taken.2, many)
+
+-- Of the six bytes the first line's two and the one after them are taken, and no fourth.
+abbrev IsFirst : Program → Type 0
+IsFirst p = FirstCycle p (to_sink 0 (codes "a\na\n")) (codes "\nc\n") (codes "c\n")
+
+first_cycle : Script (codes "p") Basic IsFirst
+unfolding verdict cutting walked item_at past function_at addresses_at address_at second_at text_from name_from lines after written move selects all_fit
+first_cycle = is_script {text = codes "p"} {kind = Basic} {Fits = IsFirst} (record {
+  moves = 6;
+  cycled = record {
+    t = 6;
+    some = omega arith;
+    is = refl;
+    next = refl;
+    one = between _ refl refl refl refl refl;
+    within = within_so one_ahead _ 6 _ refl;
+    sinks = refl;
+    takes = record { lines = codes "a" ∷ []; are = refl; bytes = (codes "a\nb", refl, omega arith) };
+  };
+  no_more = not_so_many _ _ (codes "a") (codes "b") (codes "c") input (codes "c\n") 1 6 refl refl (omega arith);
+})

@@ -1,0 +1,289 @@
+-- Examples of runs over as many lines as one likes: `$!N;P;D` joins each line with the next one, and writes all of them as they
+-- are.
+use Rattle.std.proofs.Common.{◌≡◌, ℕ, zero, suc, ◌+◌, ◌*◌, ◌≤◌, ◌<◌, ◌||◌, Bool, true, false, List, [], ◌∷◌, ◌++◌, length, take, drop, Some, None, refl, sym, ◌∙◌, ap, subst, append_assoc, length-append, take_all, arith}
+use Rattle.std.specs.Prelude.{codes, replicate, slice_index_or}
+use Rattle.std.specs.List.{after_first, before_first, list_any, position_or_len}
+use Rattle.std.proofs.lemmas.Bool.{le-leb}
+use Rattle.std.proofs.lemmas.List.{length-replicate}
+use Rattle.sedre.specs.declared.types.Kind.TheVariants.{Basic}
+use Rattle.sedscript.specs.declared.types.Action.TheVariants.{AppendNext, DeleteFirst, PrintFirst}
+use Rattle.sedscript.specs.declared.types.Address.TheVariants.{Last}
+use Rattle.sedscript.specs.Addresses.{address_at, second_at, addresses_at}
+use Rattle.sedscript.specs.Bytes.{past}
+use Rattle.sedscript.specs.Functions.{name_from, text_from}
+use Rattle.sedscript.specs.Items.{function_at, item_at}
+use Rattle.sedscript.specs.Script.{Program}
+use Rattle.sedspace.specs.Lines.{is_newline, lines}
+use Rattle.sedspace.proofs.LineLemmas.{lines_at}
+use Rattle.sedengine.specs.Ends.{WithinLimits}
+use Rattle.sedengine.specs.Limits.{Limits, limits_of}
+use Rattle.sedengine.specs.Move.{line_to, move, start, to_sink}
+use Rattle.sedengine.specs.Run.{setting_of}
+use Rattle.sedengine.specs.Select.{selects}
+use Rattle.sedengine.specs.State.{begin, do_at, flush, join, rebegin, Setting, State, Task}
+use Rattle.sedengine.specs.declared.ends.Ended.TheVariants.{Done}
+use Rattle.examples.proofs.ComputedEnds.{all_fit, IsWhole, whole_after, whole_first, stops_whole, Stops, StopsBy}
+use Rattle.examples.proofs.ComputedRun.{course, plain, no_files}
+use Rattle.examples.proofs.ComputedScript.{verdict, cutting, walked, is_script}
+use Rattle.examples.proofs.ScriptWords.{always, at, unless}
+
+-- the program's own limits
+abbrev own : Limits
+own = limits_of 1048576 4096 65536 18446744073709551615 16384
+
+abbrev program : Program
+program = record {
+  commands = unless (at Last AppendNext) ∷ always PrintFirst ∷ always DeleteFirst ∷ [];
+  expressions = [];
+  texts = [];
+  substitutions = [];
+  tables = [];
+  rfiles = [];
+  wfiles = [];
+  quiet = false;
+  max_nodes = 65536;
+}
+
+abbrev setting : Setting
+setting = setting_of program no_files
+
+-- no line has a newline in it, or more than 500,000 bytes
+abbrev AreLines : List (List ℕ) → Type 0
+AreLines [] = Unit {0}
+AreLines (line ∷ lines) = (list_any is_newline line ≡ false) × (length line ≤ 500000) × AreLines lines
+
+-- the text that has these lines
+abbrev text_of : List (List ℕ) → List ℕ
+text_of [] = []
+text_of (line ∷ lines) = line ++ 10 ∷ text_of lines
+
+-- ---- lines and newlines
+
+by_place : (line : List ℕ) → list_any is_newline line ≡ false → (k d : ℕ) → k < length line → is_newline (slice_index_or line k d) ≡ false
+by_place [] none k d below = absurd (omega arith)
+by_place (b ∷ bs) none k d below = by_test (is_newline b) refl none k below (by_place bs)
+  where
+    by_test : (t : Bool) → is_newline b ≡ t → (t || list_any is_newline bs) ≡ false → (k : ℕ) → k < suc (length bs) →
+        (list_any is_newline bs ≡ false → (k d : ℕ) → k < length bs → is_newline (slice_index_or bs k d) ≡ false) → is_newline (slice_index_or (b ∷ bs) k d) ≡ false
+    by_test true is none k below on = absurd cc
+    by_test false is none zero below on = is
+    by_test false is none (suc k) below on = on none k d (omega arith)
+
+lines_are : (ls : List (List ℕ)) → AreLines ls → lines (text_of ls) ≡ ls
+unfolding lines
+lines_are [] are = refl
+lines_are (line ∷ ls) are = lines_at line (text_of ls) (by_place line are.0) ∙ ap (λ (rest : List (List ℕ)). line ∷ rest) (lines_are ls are.2)
+
+first_newline : (line rest : List ℕ) → list_any is_newline line ≡ false → position_or_len is_newline (line ++ 10 ∷ rest) ≡ length line
+first_newline [] rest none = refl
+first_newline (b ∷ bs) rest none = by_test (is_newline b) refl none (first_newline bs rest)
+  where
+    by_test : (t : Bool) → is_newline b ≡ t → (t || list_any is_newline bs) ≡ false →
+        (list_any is_newline bs ≡ false → position_or_len is_newline (bs ++ 10 ∷ rest) ≡ length bs) → position_or_len is_newline (b ∷ bs ++ 10 ∷ rest) ≡ suc (length bs)
+    by_test true is none on = absurd cc
+    by_test false is none on = rw (is, on none) (omega arith)
+
+no_newline : (line : List ℕ) → list_any is_newline line ≡ false → position_or_len is_newline line ≡ length line
+no_newline [] none = refl
+no_newline (b ∷ bs) none = by_test (is_newline b) refl none (no_newline bs)
+  where
+    by_test : (t : Bool) → is_newline b ≡ t → (t || list_any is_newline bs) ≡ false →
+        (list_any is_newline bs ≡ false → position_or_len is_newline bs ≡ length bs) → position_or_len is_newline (b ∷ bs) ≡ suc (length bs)
+    by_test true is none on = absurd cc
+    by_test false is none on = rw (is, on none) (omega arith)
+
+take_front : (line rest : List ℕ) → take (length line) (line ++ rest) ≡ line
+take_front [] rest = refl
+take_front (b ∷ bs) rest = ap (λ (x : List ℕ). b ∷ x) (take_front bs rest)
+
+drop_front : (line rest : List ℕ) → drop (suc (length line)) (line ++ 10 ∷ rest) ≡ rest
+drop_front [] rest = refl
+drop_front (b ∷ bs) rest = drop_front bs rest
+
+-- of two lines with a newline between them
+before_it : (line rest : List ℕ) → list_any is_newline line ≡ false → before_first is_newline (line ++ 10 ∷ rest) ≡ line
+before_it line rest none = rw (first_newline line rest none) (take_front line (10 ∷ rest))
+
+after_it : (line rest : List ℕ) → list_any is_newline line ≡ false → after_first is_newline (line ++ 10 ∷ rest) ≡ rest
+after_it line rest none =
+    let place : length line + 1 ≡ suc (length line) = omega arith in
+    rw (first_newline line rest none, place) (drop_front line rest)
+
+has_it : (line rest : List ℕ) → list_any is_newline (line ++ 10 ∷ rest) ≡ true
+has_it [] rest = refl
+has_it (b ∷ bs) rest = by_test (is_newline b) (has_it bs rest)
+  where
+    by_test : (t : Bool) → list_any is_newline (bs ++ 10 ∷ rest) ≡ true → (t || list_any is_newline (bs ++ 10 ∷ rest)) ≡ true
+    by_test true h = refl
+    by_test false h = h
+
+all_of_it : (line : List ℕ) → list_any is_newline line ≡ false → before_first is_newline line ≡ line
+all_of_it line none = rw (no_newline line none) (take_all (length line) line (omega arith))
+
+-- what is written for a text is written for its parts
+to_sink-append : (k : ℕ) (a b : List ℕ) → to_sink k (a ++ b) ≡ to_sink k a ++ to_sink k b
+to_sink-append k [] b = refl
+to_sink-append k (x ∷ a) b = ap (λ (rest : List (ℕ × ℕ)). (k, x) ∷ rest) (to_sink-append k a b)
+
+line_first : (line rest : List ℕ) → line_to 0 line ++ to_sink 0 rest ≡ to_sink 0 (line ++ 10 ∷ rest)
+line_first line rest = sym (to_sink-append 0 (line ++ 10 ∷ []) rest) ∙ ap (to_sink 0) (append_assoc line (10 ∷ []) rest)
+
+-- ---- the moves
+
+abbrev state : (lines : List (List ℕ)) (number : ℕ) (pattern : List ℕ) → List Task → (turns : ℕ) → State
+state lines number pattern tasks turns = record {
+  lines = lines;
+  number = number;
+  pattern = pattern;
+  hold = [];
+  replaced = false;
+  queue = [];
+  ranges = false ∷ false ∷ false ∷ [];
+  used = None;
+  tasks = tasks;
+  turns = turns;
+}
+
+abbrev Goes : State → State → List (ℕ × ℕ) → Type 0
+Goes s next bytes = move setting s ≡ Some (record { next = next; writes = bytes })
+
+module _ (rest : List (List ℕ)) (number turns : ℕ) (line : List ℕ) where
+  appends : (next : List ℕ) → Goes (state (next ∷ rest) number line (do_at 0 ∷ []) turns) (state (next ∷ rest) number line (flush ∷ join ∷ do_at 1 ∷ []) (turns + 1)) []
+  unfolding move selects
+  appends next = refl
+
+  joins : (next : List ℕ) → Goes (state (next ∷ rest) number line (flush ∷ join ∷ do_at 1 ∷ []) turns) (state (next ∷ rest) number line (join ∷ do_at 1 ∷ []) turns) []
+  unfolding move
+  joins next = refl
+
+  joined : (next : List ℕ) → Goes (state (next ∷ rest) number line (join ∷ do_at 1 ∷ []) turns) (state rest (number + 1) (line ++ 10 ∷ next) (do_at 1 ∷ []) turns) []
+  unfolding move
+  joined next = refl
+
+  prints_first : (next : List ℕ) → list_any is_newline line ≡ false →
+      Goes (state rest number (line ++ 10 ∷ next) (do_at 1 ∷ []) turns) (state rest number (line ++ 10 ∷ next) (do_at 2 ∷ []) (turns + 1)) (line_to 0 line)
+  unfolding move selects
+  prints_first next none = rw (before_it line next none) refl
+
+  deletes_first : (next : List ℕ) → list_any is_newline line ≡ false →
+      Goes (state rest number (line ++ 10 ∷ next) (do_at 2 ∷ []) turns) (state rest number next (flush ∷ rebegin ∷ []) (turns + 1)) []
+  unfolding move selects
+  deletes_first next none = rw (has_it line next, after_it line next none) refl
+
+  flushes : Goes (state rest number line (flush ∷ rebegin ∷ []) turns) (state rest number line (rebegin ∷ []) turns) []
+  unfolding move
+  flushes = refl
+
+  begins_again : Goes (state rest number line (rebegin ∷ []) turns) (state rest number line (do_at 0 ∷ []) (turns + 1)) []
+  unfolding move
+  begins_again = refl
+
+module _ (number turns : ℕ) (line : List ℕ) where
+  passes_over : Goes (state [] number line (do_at 0 ∷ []) turns) (state [] number line (do_at 1 ∷ []) (turns + 1)) []
+  unfolding move selects
+  passes_over = refl
+
+  prints_last : list_any is_newline line ≡ false → Goes (state [] number line (do_at 1 ∷ []) turns) (state [] number line (do_at 2 ∷ []) (turns + 1)) (line_to 0 line)
+  unfolding move selects
+  prints_last none = rw (all_of_it line none) refl
+
+  deletes_last : list_any is_newline line ≡ false → Goes (state [] number line (do_at 2 ∷ []) turns) (state [] number [] (flush ∷ begin ∷ []) (turns + 1)) []
+  unfolding move selects
+  deletes_last none = rw none refl
+
+  flushes_last : Goes (state [] number line (flush ∷ begin ∷ []) turns) (state [] number line (begin ∷ []) turns) []
+  unfolding move
+  flushes_last = refl
+
+  ends_there : Goes (state [] number line (begin ∷ []) turns) (state [] number line [] turns) []
+  unfolding move
+  ends_there = refl
+
+fits : {lines : List (List ℕ)} {number : ℕ} {pattern : List ℕ} {tasks : List Task} {turns : ℕ} → length pattern ≤ 1048576 → turns ≤ 18446744073709551615 →
+    WithinLimits own (state lines number pattern tasks turns)
+fits small few = record { pattern = small; hold = omega arith; queue = omega arith; turns = few }
+
+-- a run comes to its end after some moves
+abbrev Comes : State → List (ℕ × ℕ) → Type 0
+Comes s out = (t : ℕ) × IsWhole own setting s out Done t
+
+first : {s next : State} {bytes out : List (ℕ × ℕ)} → Goes s next bytes → WithinLimits own s → Comes next out → Comes s (bytes ++ out)
+first go within rest = (suc rest.0, whole_first go within rest.1)
+
+ended : (number turns : ℕ) → turns ≤ 18446744073709551615 → IsWhole own setting (state [] number [] [] turns) [] Done 0
+unfolding course all_fit
+ended number turns few = whole_after 0 refl refl (rw (le-leb turns 18446744073709551615 few) refl)
+
+last_line : (number turns : ℕ) (line : List ℕ) → list_any is_newline line ≡ false → length line ≤ 500000 → turns + 3 ≤ 18446744073709551615 →
+    Comes (state [] number line (do_at 0 ∷ []) turns) (to_sink 0 (line ++ 10 ∷ []))
+last_line number turns line none small few =
+    subst (λ (out : List (ℕ × ℕ)). Comes (state [] number line (do_at 0 ∷ []) turns) out) (line_first line [])
+    (first (passes_over number turns line) (fits (omega (arith, small)) (omega (arith, few)))
+    (first (prints_last number (turns + 1) line none) (fits (omega (arith, small)) (omega (arith, few)))
+    (first (deletes_last number (turns + 1 + 1) line none) (fits (omega (arith, small)) (omega (arith, few)))
+    (first (flushes_last number (turns + 1 + 1 + 1) []) (fits (omega arith) (omega (arith, few)))
+    (first (ends_there number (turns + 1 + 1 + 1) []) (fits (omega arith) (omega (arith, few)))
+    (0, ended number (turns + 1 + 1 + 1) (omega (arith, few))))))))
+
+-- the line in the pattern space and all that are left are written
+all_lines : (rest : List (List ℕ)) (number turns : ℕ) (line : List ℕ) → AreLines (line ∷ rest) → turns + 4 * length rest + 3 ≤ 18446744073709551615 →
+    Comes (state rest number line (do_at 0 ∷ []) turns) (to_sink 0 (text_of (line ∷ rest)))
+all_lines [] number turns line are few = last_line number turns line are.0 are.1 (omega (arith, few))
+all_lines (next ∷ rest) number turns line are few =
+    let none = are.0 in
+    let small = are.1 in
+    let next_small = are.2.1 in
+    let pair : length (line ++ 10 ∷ next) ≤ 1048576 = omega (arith, length-append line (10 ∷ next), small, next_small) in
+    subst (λ (out : List (ℕ × ℕ)). Comes (state (next ∷ rest) number line (do_at 0 ∷ []) turns) out) (line_first line (text_of (next ∷ rest)))
+    (first (appends rest number turns line next) (fits (omega (arith, small)) (omega (arith, few)))
+    (first (joins rest number (turns + 1) line next) (fits (omega (arith, small)) (omega (arith, few)))
+    (first (joined rest number (turns + 1) line next) (fits (omega (arith, small)) (omega (arith, few)))
+    (first (prints_first rest (number + 1) (turns + 1) line next none) (fits pair (omega (arith, few)))
+    (first (deletes_first rest (number + 1) (turns + 1 + 1) line next none) (fits pair (omega (arith, few)))
+    (first (flushes rest (number + 1) (turns + 1 + 1 + 1) next) (fits (omega (arith, next_small)) (omega (arith, few)))
+    (first (begins_again rest (number + 1) (turns + 1 + 1 + 1) next) (fits (omega (arith, next_small)) (omega (arith, few)))
+    (all_lines rest (number + 1) (turns + 1 + 1 + 1 + 1) next are.2 (omega (arith, few))))))))))
+
+-- ---- whole runs
+
+starts : (line : List ℕ) (rest : List (List ℕ)) → Goes (start program.commands (line ∷ rest)) (state rest 1 line (do_at 0 ∷ []) 1) []
+unfolding move
+starts line rest = refl
+
+fits_start : (ls : List (List ℕ)) → WithinLimits own (start program.commands ls)
+fits_start ls = record { pattern = omega arith; hold = omega arith; queue = omega arith; turns = omega arith }
+
+run : (ls : List (List ℕ)) → AreLines ls → length ls ≤ 1000000 → Stops own setting (start program.commands ls) Done (to_sink 0 (text_of ls))
+unfolding course move all_fit
+run [] are few = stops_whole (whole_after 1 refl refl refl) refl
+run (line ∷ rest) are few =
+    stops_whole (first (starts line rest) (fits_start (line ∷ rest)) (all_lines rest 1 1 line are (omega (arith, few)))).1 refl
+
+unchanged : (ls : List (List ℕ)) → AreLines ls → length ls ≤ 1000000 → StopsBy own Basic plain no_files (codes "$!N;P;D") (text_of ls) Done (to_sink 0 (text_of ls))
+unfolding verdict cutting walked item_at past function_at addresses_at address_at second_at text_from name_from
+unchanged ls are few =
+    is_script (subst (λ (x : List (List ℕ)). Stops own setting (start program.commands x) Done (to_sink 0 (text_of ls))) (sym (lines_are ls are)) (run ls are few))
+
+-- Lines of a, each with one less than the one before it.
+
+abbrev stairs : ℕ → List (List ℕ)
+stairs zero = []
+stairs (suc n) = replicate n 97 ∷ stairs n
+
+no_newline_in : (n : ℕ) → list_any is_newline (replicate n 97) ≡ false
+no_newline_in zero = refl
+no_newline_in (suc n) = no_newline_in n
+
+stairs_are : (n : ℕ) → n ≤ 500000 → AreLines (stairs n)
+stairs_are zero few = tt
+stairs_are (suc n) few = (no_newline_in n, omega (arith, few, length-replicate {A = ℕ} n 97), stairs_are n (omega (arith, few)))
+
+stairs-length : (n : ℕ) → length (stairs n) ≡ n
+stairs-length zero = refl
+stairs-length (suc n) = ap suc (stairs-length n)
+
+stairs_unchanged : (n : ℕ) → n ≤ 500000 → StopsBy own Basic plain no_files (codes "$!N;P;D") (text_of (stairs n)) Done (to_sink 0 (text_of (stairs n)))
+stairs_unchanged n few = unchanged (stairs n) (stairs_are n few) (omega (arith, few, stairs-length n))
+
+thousand_lines_unchanged : StopsBy own Basic plain no_files (codes "$!N;P;D") (text_of (stairs 1000)) Done (to_sink 0 (text_of (stairs 1000)))
+thousand_lines_unchanged = stairs_unchanged 1000 (omega arith)
