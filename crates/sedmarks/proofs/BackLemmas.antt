@@ -7,7 +7,7 @@ use Rattle.sedre.specs.Arena.{Written, tree_at}
 use Rattle.sedre.specs.Mirror.{seen}
 use Rattle.sedmarks.specs.Reach.{At}
 use Rattle.sedmarks.specs.Caps.{LastCut}
-use Rattle.sedmarks.specs.Cuts.{LeastFrom}
+use Rattle.sedmarks.specs.PartEnds.{LeastFrom}
 use Rattle.sedmarks.proofs.SpanLemmas.{Spans-forward}
 use Rattle.sedmarks.proofs.MirrorLemmas.{At-mirror}
 

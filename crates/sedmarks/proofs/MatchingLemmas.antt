@@ -7,7 +7,7 @@ use Rattle.std.proofs.lemmas.Option.{slice_get_within, none-some}
 use Rattle.sedre.specs.Tree.{Tree, empty, set, begin, end, seq, alt, group, star, opt}
 use Rattle.sedmarks.specs.Spans.{Copies, no_copy, one_more, Spans, Found, NotFound, SomeFound}
 use Rattle.sedmarks.specs.Caps.{Groups, Caps, forget, LastCut, LastCopy, only, then}
-use Rattle.sedmarks.specs.Cuts.{GreatestBelow}
+use Rattle.sedmarks.specs.PartEnds.{GreatestBelow}
 use Rattle.sedmarks.specs.Reach.{Longest}
 use Rattle.sedmarks.specs.Matching.{any, greatest, copies, takes, spans, longest, first_of, found_from, found, or_else, cut, first_copy, last_start, caps, report, SpansLaw, FoundLaw, NotFoundLaw, SomeFoundLaw, OneCapsLaw, CapsLaw, ReportLaw}
 use Rattle.sedmarks.specs.Caps.{no_groups}

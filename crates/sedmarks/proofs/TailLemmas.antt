@@ -9,7 +9,7 @@ use Rattle.sedre.specs.declared.types.Node.TheVariants.{Star}
 use Rattle.sedmarks.specs.Spans.{Copies, no_copy, one_more}
 use Rattle.sedmarks.specs.Caps.{LastCopy, only, then}
 use Rattle.sedmarks.specs.Reach.{At}
-use Rattle.sedmarks.specs.Cuts.{GreatestBelow, Repeats, TellStarts}
+use Rattle.sedmarks.specs.PartEnds.{GreatestBelow, Repeats, TellStarts}
 use Rattle.sedmarks.proofs.SpanLemmas.{Copies-forward}
 use Rattle.sedmarks.proofs.ReachLemmas.{open_at, close_at}
 use Rattle.sedmarks.proofs.MirrorLemmas.{At-mirror}

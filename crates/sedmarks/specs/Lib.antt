@@ -17,5 +17,5 @@ pub mod Beginnings
 pub mod Ahead
 pub mod RunsAhead
 pub mod Search
-pub mod Cuts
+pub mod PartEnds
 pub mod Work

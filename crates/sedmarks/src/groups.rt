@@ -18,7 +18,7 @@ ghost use Rattle.sedmarks.specs.Costs.{Pays};
 ghost use Rattle.sedre.specs.Steps.{Takes};
 
 use crate::counted::{Marks, Text};
-use crate::cuts::{last_copy, last_cut, reaches};
+use crate::part_ends::{last_copy, last_cut, reaches};
 use crate::scratch::{Plan, Sets, Task};
 use sedre::{Expr, Node, NodeId, Steps};
 use std::alloc::{AllocError, Global};

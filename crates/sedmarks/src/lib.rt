@@ -13,11 +13,11 @@
 pub mod ahead;
 pub mod beginnings;
 pub mod counted;
-pub mod cuts;
 pub mod groups;
 mod laws;
 pub mod matcher;
 pub mod members;
+pub mod part_ends;
 pub mod passes;
 pub mod region;
 pub mod runs_ahead;

@@ -8,7 +8,7 @@ use Rattle.sedre.proofs.MirrorLemmas.{seen-arena, seen-node}
 use Rattle.sedre.specs.declared.types.Node.{Node}
 use Rattle.sedre.specs.declared.types.Node.TheVariants.{Empty, Set, Begin, End, Seq, Alt, Group, Star, Opt}
 use Rattle.sedre.specs.Tree.{Tree}
-use Rattle.sedmarks.specs.Cuts.{LeastFrom}
+use Rattle.sedmarks.specs.PartEnds.{LeastFrom}
 use Rattle.sedmarks.specs.Spans.{Found, NotFound, Copies, no_copy, one_more}
 use Rattle.sedmarks.specs.declared.passes.Starts.{Starts}
 use Rattle.sedmarks.specs.Matching.{takes}

@@ -15,7 +15,7 @@ ghost use Rattle.sedmatch.specs.BackPass.{MeetsBelow, EndsLaterFrom, CameTo, Pas
 ghost use Rattle.sedmatch.specs.NextMatch.{unless_null_at};
 ghost use Rattle.sedmatch.specs.Occurrences.{next_span};
 ghost use Rattle.sedmarks.specs.Search.{starts_to};
-ghost use Rattle.sedmarks.specs.Cuts.{LeastFrom};
+ghost use Rattle.sedmarks.specs.PartEnds.{LeastFrom};
 ghost use Rattle.sedmarks.specs.Matching.{found};
 ghost use Rattle.sedmarks.specs.Costs.{Pays};
 ghost use Rattle.sedre.specs.Steps.{Takes};

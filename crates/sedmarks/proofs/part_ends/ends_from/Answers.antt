@@ -1,0 +1,19 @@
+use Rattle.std.proofs.Common.{length, refl, arith}
+use Rattle.sedmarks.specs.Reach.{one_start}
+use Rattle.sedmarks.proofs.SearchLemmas.{none_entered, pass_cost}
+use Rattle.sedmarks.proofs.part_ends.ends_from.Goals as goal
+
+pub loop-place-init : goal.loop-place-init
+loop-place-init c = record {
+  ends_len = refl;
+  grows = omega arith;
+  cost = omega arith;
+  entered = λ is_more. none_entered c.args.expr.now.nodes c.args.text.now c.args.root (one_start c.args.start) c.clear.new.self c.args.start refl (λ n below. c.clear.ensures.clear n below);
+  ends = λ k on before. absurd (omega arith);
+  closed = λ k on at. refl;
+}
+
+pub returns-clause-cost : goal.returns-clause-cost
+returns-clause-cost c =
+    let paid = pass_cost 21 (length c.args.expr.now.nodes) (length c.args.text.now) c.loop-place.place c.loop-place.steps c.args.steps.now (omega arith) (omega arith) in
+    (omega arith, omega (arith, paid))

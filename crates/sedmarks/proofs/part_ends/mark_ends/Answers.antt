@@ -1,0 +1,20 @@
+use Rattle.std.proofs.Common.{◌-◌, length, refl, arith}
+use Rattle.sedmarks.specs.Reach.{one_start}
+use Rattle.sedmarks.proofs.SearchLemmas.{none_entered}
+use Rattle.sedmarks.proofs.TailLemmas.{mark_cost}
+use Rattle.sedmarks.proofs.part_ends.mark_ends.Goals as goal
+
+pub loop-place-init : goal.loop-place-init
+loop-place-init c = record {
+  ends_len = omega arith;
+  grows = omega arith;
+  cost = omega arith;
+  entered = none_entered c.args.nodes.now.nodes c.args.bytes.now c.args.root (one_start c.args.start) c.clear.new.self c.args.start refl (λ n below. c.clear.ensures.clear n below);
+  told = λ k on before. absurd (omega arith);
+  unset = λ k on up. c.clear-2.ensures.clear (length c.args.bytes.now - k) (omega arith);
+}
+
+pub returns-clause-cost : goal.returns-clause-cost
+returns-clause-cost c =
+    let paid = mark_cost (length c.args.nodes.now.nodes) (length c.args.bytes.now) c.loop-place.place c.loop-place.steps c.args.steps.now (omega arith) (omega arith) (omega arith) in
+    (omega arith, omega (arith, paid))
