@@ -231,7 +231,7 @@ abbrev NumberAfter : Option ℕ → (skip : ℕ) → Option ℕ → List ℕ →
 NumberAfter None skip new bs = NumberAmong bs new
 NumberAfter (Some n) skip new bs = (new ≡ Some n) × (list_any is_digit (drop skip bs) ≡ false)
 
--- digits are passed over behind a number
+-- digits after a number are passed over
 abbrev Skips : Option ℕ → ℕ → Type 0
 Skips (Some n) skip = Unit {0}
 Skips None zero = Unit {0}

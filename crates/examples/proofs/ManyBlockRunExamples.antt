@@ -79,7 +79,7 @@ through most n (suc j) k taken to later ranges end out e f within few on =
     let rest = through most n j (k + 1) (taken + 1) to later (slice_set ranges k (slice_index_or ranges k false)) end out (omega (arith, e)) (omega (arith, f)) within few on in
     (suc rest.0, whole_first (enters n k taken ranges (omega (arith, e, within))) (fits ranges k taken most (omega (arith, f, few))) rest.1)
 
--- behind the last of them the line is written
+-- after the last of them the line is written
 finishes : (most n taken : ℕ) (ranges : List Bool) → taken ≤ most → IsWhole (turns most) (setting n) (before ranges n taken) (to_sink 0 input) Done 5
 unfolding course move selects all_fit
 finishes most n taken ranges few =

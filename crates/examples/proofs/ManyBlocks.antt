@@ -139,7 +139,7 @@ close_closes (suc n) (suc depth) m at below =
     let less : suc depth - 1 ≡ depth = omega arith in
     rw (some, less) (close_closes n depth m (at + 1) (omega arith))
 
--- each block ends behind the last of them
+-- each block ends after the last of them
 ends_behind : (before : List Item) (k n c at to : ℕ) → k < n → suc (commands_in before) + k ≡ c → block_end before (openings at k ++ closings to n) ≡ Some c
 ends_behind before k n c at to below e = close_opens k 0 (suc (commands_in before)) k c at (closings to n) (omega arith) e ∙ close_closes n k c to below
 
@@ -215,7 +215,7 @@ blocks_not_quiet : (n : ℕ) → is_quiet (blocks n) ≡ false
 blocks_not_quiet zero = refl
 blocks_not_quiet (suc n) = not_quiet (braces n ++ replicate (suc n) 125)
 
--- so many commands, each of which ends behind the last one
+-- so many commands, each of which ends after the last one
 abbrev pub program : (most n : ℕ) → Program
 program most n = record {
   commands = replicate n (always (Block n));

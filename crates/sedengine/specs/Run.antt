@@ -92,8 +92,8 @@ pub record TakesInput (g : Setting) (s : State) (old new : Option (List ℕ)) (m
   pub are : s.lines ≡ lines ++ (after g s t).lines
   pub bytes : TakesAtMost old new (size_of lines + more)
 
--- How many bytes may be taken besides the lines: those that are read ahead and, where the run stopped in the middle of a
--- line, those of that line, which are at most one more than a space holds.
+-- How many bytes may be taken besides the lines: those that are read ahead and, where the run may have stopped in the middle
+-- of a line, those of that line, at most one more than a space holds.
 abbrev pub more_at : Limits → Ended → ℕ
 more_at l (PatternFull n) = l.space + 1 + l.look
 more_at l InputBroken = l.space + 1 + l.look
