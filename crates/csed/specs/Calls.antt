@@ -80,13 +80,13 @@ pub record Stops (l : Limits) (g : Setting) (s : State) (room : ℕ) (bytes : Li
   pub cause : Cause l g s (AreWritten bytes) end t
   pub full : cause_of end ≡ 8 → length bytes ≡ room
 
--- The run of the text's script over the input stopped so, where no more is written than there is room for.
+-- The run of the text's script over the input stopped as `Stops` says, with no more written than there is room for.
 abbrev pub StopsFor : List ℕ → Asked → List ℕ → ℕ → List ℕ → Ended → Type 0
 StopsFor text a input room bytes end =
     (p : Program) × GivesScript text a p
     × Stops (record a.limits { output = Some room }) (setting_of p no_files) (start_over p input) room bytes end
 
--- A run stopped so, and the report tells its end.
+-- A run stopped as `StopsFor` says, and the report tells its end.
 abbrev pub IsStopped : List ℕ → Asked → List ℕ → ℕ → List ℕ → SedReport → Type 0
 IsStopped text a input room bytes report =
     (end : Ended) × StopsFor text a input room bytes end × (report ≡ of_end report.written end)

@@ -1,4 +1,4 @@
--- Examples of command lines from their words on: what clap makes of the words, and what the line that they are then writes
+-- Examples of command lines from their words on: what clap makes of the words, and what the resulting line writes
 -- (XCU sed, "Synopsis", "Options", "Operands").
 use Rattle.std.proofs.Common.{◌≡◌, ◌<◌, ◌||◌, ℕ, zero, suc, List, [], ◌∷◌, Bool, true, false, get_or, refl, arith}
 use Rattle.std.specs.Prelude.{codes, encode_utf8, nat_lt}
@@ -131,7 +131,7 @@ two_options_in_a_word = record {
   asks = rw (nE_letters, n_bytes, E_letters) (refl, refl);
 }
 
--- `sed -ep -e P a`: its script may stand in the word of an -e or be the next one.
+-- `sed -ep -e P a`: the script of an -e may stand in the same word or be the next word.
 two_scripts : AsksFor (codes "-ep" ∷ codes "-e" ∷ codes "P" ∷ codes "a" ∷ []) false false (text (codes "p") ∷ text (codes "P") ∷ []) (codes "a" ∷ [])
 unfolding sed_command word_walked bundle_met walk_fault flags_fault defaults_fault
 two_scripts = record {

@@ -158,7 +158,7 @@ cut_there : (l : Limits) (g : Setting) (s : State) (end : Ended) (out : List (�
 cut_there l g s end out t k None e h = absurd cc
 cut_there l g s end out t k (Some j) e h = subst (λ (o : Option ℕ). WholeOrBrokenOff l g s (λ bytes. bytes ≡ out) end t o) (sym e) h
 
--- that is so where the moves are computed
+-- an end is whole where its moves, computed, say so
 pub whole_after : {l : Limits} {g : Setting} {s : State} {end : Ended} {out : List (ℕ × ℕ)} (n : ℕ) →
     (course g n s).writes ≡ out → is_cause l g (course g n s).last end ≡ true → all_fit l g n s ≡ true → IsWhole l g s out end n
 whole_after {l = l} {g = g} {s = s} {end = end} n w c f = record {
@@ -167,7 +167,7 @@ whole_after {l = l} {g = g} {s = s} {end = end} n w c f = record {
   cause = subst (λ (x : State). IsCause l g x end) (sym (course_so g n s).1) (cause_so l g (course g n s).last end c);
 }
 
--- and with one move more, before them
+-- one move more before such moves
 within_first : (l : Limits) (g : Setting) (s : State) (m : Move) (t : ℕ) → move g s ≡ Some m → WithinLimits l s →
     ((k : ℕ) → k ≤ t → WithinLimits l (after g m.next k)) → (k : ℕ) → k ≤ suc t → WithinLimits l (after g s k)
 unfolding after

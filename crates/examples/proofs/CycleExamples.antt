@@ -1,5 +1,5 @@
--- Examples of single cycles, computed by the definitions: the moves of one cycle, what it writes, and how many bytes it takes
--- from the source.
+-- Examples of single cycles, computed by the definitions: the moves of one cycle, what it writes, and how many bytes it may
+-- take from the source.
 use Rattle.std.proofs.Common.{◌≡◌, ℕ, zero, suc, ◌+◌, ◌<◌, List, [], ◌∷◌, ◌++◌, length, Some, refl, ap, sym, ◌∙◌, length-append, arith}
 use Rattle.std.specs.Prelude.{codes}
 use Rattle.sedre.specs.declared.types.Kind.TheVariants.{Basic}
@@ -25,8 +25,7 @@ one_ahead = limits_of 1048576 4096 1 18446744073709551615 16384
 abbrev input : List ℕ
 input = codes "a\nb\nc\n"
 
--- One call of the engine makes the moves of one cycle and writes `out`. What is left of the source then is `rest`; it can't be
--- as little as `less`.
+-- The moves of one cycle write `out`. What is left of the source then may be `rest`; it can't be as little as `less`.
 record FirstCycle (p : Program) (out : List (ℕ × ℕ)) (rest less : List ℕ) : Type 0 where
   moves : ℕ
   cycled : Cycled one_ahead (setting_of p no_files) (start p.commands (lines input)) (λ bytes. bytes ≡ out) (Some input) (Some rest)
@@ -58,7 +57,7 @@ not_so_many g s a b c old new more t before later many takes =
     let taken = takes.bytes in
     omega (arith, size, ap length taken.1, length-append taken.0 new, taken.2, many)
 
--- Of the six bytes the first line's two and the one after them are taken, and no fourth.
+-- Of the six bytes the first line's two and the one after them may be taken, and no fourth.
 abbrev IsFirst : Program → Type 0
 IsFirst p = FirstCycle p (to_sink 0 (codes "a\na\n")) (codes "\nc\n") (codes "c\n")
 

@@ -1,5 +1,5 @@
--- Examples of runs over as many lines as one likes: `$!N;P;D` joins each line with the next one, and writes all of them as they
--- are.
+-- Examples of runs over up to 1,000,000 lines of up to 500,000 bytes: `$!N;P;D` joins each line with the next one, and writes
+-- all of them as they are.
 use Rattle.std.proofs.Common.{◌≡◌, ℕ, zero, suc, ◌+◌, ◌*◌, ◌≤◌, ◌<◌, ◌||◌, Bool, true, false, List, [], ◌∷◌, ◌++◌, length, take, drop, Some, None, refl, sym, ◌∙◌, ap, subst, append_assoc, length-append, take_all, arith}
 use Rattle.std.specs.Prelude.{codes, replicate, slice_index_or}
 use Rattle.std.specs.List.{after_first, before_first, list_any, position_or_len}
@@ -264,7 +264,7 @@ unfolding verdict cutting walked item_at past function_at addresses_at address_a
 unchanged ls are few =
     is_script (subst (λ (x : List (List ℕ)). Stops own setting (start program.commands x) Done (to_sink 0 (text_of ls))) (sym (lines_are ls are)) (run ls are few))
 
--- Lines of a, each with one less than the one before it.
+-- Lines of a, each one byte shorter than the one before it.
 
 abbrev stairs : ℕ → List (List ℕ)
 stairs zero = []

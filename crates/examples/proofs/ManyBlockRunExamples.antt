@@ -1,4 +1,5 @@
--- Examples of runs of scripts of as many blocks as one likes, each within the one before it: each brace takes a turn.
+-- Examples of runs of scripts of as many blocks as one likes, each within the one before it: each
+-- opening brace takes a turn.
 use Rattle.std.proofs.Common.{◌≡◌, ℕ, zero, suc, ◌+◌, ◌-◌, ◌<◌, ◌≤◌, Bool, true, false, List, [], ◌∷◌, ◌++◌, Some, None, refl, subst, arith}
 use Rattle.std.specs.Prelude.{codes, leb, map, replicate, slice_get, slice_index_or, slice_set}
 use Rattle.std.proofs.lemmas.Bool.{le-leb}

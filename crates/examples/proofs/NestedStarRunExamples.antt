@@ -1,4 +1,4 @@
--- Examples of runs with stars in stars, on as many a as one likes: no b stands among them, so nothing is found.
+-- An example of a run with stars in stars, on a line of 60 bytes a: no b stands in it, so nothing is found.
 use Rattle.std.proofs.Common.{◌≡◌, ℕ, List, [], ◌∷◌, ◌++◌, Bool, false, Option, Some, None, refl, sym, ap, subst, arith}
 use Rattle.std.specs.Prelude.{codes, is_some, replicate}
 use Rattle.sedre.specs.declared.types.Kind.TheVariants.{Extended}

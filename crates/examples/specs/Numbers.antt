@@ -3,7 +3,7 @@ use Rattle.std.specs.Prelude.{◌≡◌, ℕ, ◌+◌, ◌-◌, ◌*◌, ◌<◌
 use Rattle.std.specs.List.{list_all, list_any}
 use Rattle.sedscript.specs.Bytes.{is_digit}
 
--- the number that digits write which follow the digits of another number
+-- the number that the digits of n, and these digits after them, write
 abbrev pub decimal_from : ℕ → List ℕ → ℕ
 decimal_from n [] = n
 decimal_from n (d ∷ ds) = decimal_from (n * 10 + (d - 48)) ds

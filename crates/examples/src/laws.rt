@@ -124,16 +124,16 @@ pub fn flags_read()
         × (flags.folded ≡ stands_among 73 (bytes_between script from to)) }
 {}
 
-/// Where flags of `s` are read without a file, the digits among the bytes that were read stand together and write their
-/// number, and there are none where the flags have no number.
+/// Where flags of `s` are read without a file, the digits among the bytes that were read stand together and write the flags'
+/// number; where the flags have no number, there are no digits.
 pub fn number_read()
     ensures { (script : List ℕ) (empty : Bool) (flags : Flags) (from to : ℕ) →
         flags_from script empty no_flags 0 from (drop from script) ≡ Ok (flags, to) → flags.file ≡ None →
         NumberAmong (bytes_between script from to) flags.number }
 {}
 
-/// Where flags with a file are read, a `w` is the first one there, the file's name stands after it, and the flags say of
-/// the bytes before it what flags without a file say of all.
+/// Where flags with a file are read, the file's name stands after the first `w` there, and the flags say of the bytes before
+/// that `w` what flags without a file say of all.
 pub fn flags_before_file()
     ensures { (script : List ℕ) (empty : Bool) (flags : Flags) (from to : ℕ) (name : ℕ × ℕ) →
         flags_from script empty no_flags 0 from (drop from script) ≡ Ok (flags, to) → flags.file ≡ Some name →

@@ -48,7 +48,7 @@ impl Report {
         }
     }
 
-    /// Notes it where what came isn't what the row says.
+    /// Notes where what came isn't what the row says.
     pub(crate) fn compare(&mut self, what: &str, came: &[u8], wanted: &[u8]) {
         if came != wanted && self.is_empty() {
             self.sheet.put_text(what);
@@ -59,7 +59,7 @@ impl Report {
         }
     }
 
-    /// Notes it where what was written isn't what the row says.
+    /// Notes where what was written isn't what the row says.
     pub(crate) fn compare_sheet(&mut self, what: &str, came: &Sheet, wanted: &[u8]) {
         self.compare(what, came.bytes(), wanted);
         if !came.is_whole() {
@@ -67,7 +67,7 @@ impl Report {
         }
     }
 
-    /// Notes it where a number isn't the one that the row says.
+    /// Notes where a number isn't the one that the row says.
     pub(crate) fn compare_numbers(&mut self, what: &str, came: usize, wanted: usize) {
         if came != wanted && self.is_empty() {
             self.sheet.put_text(what);

@@ -17,9 +17,9 @@ use Rattle.sededit.specs.Program.{HasFailed, SinkFailed, StopsEarly, WritesAll, 
 pub Gained-same : (old mid new : ℕ → Option (List ℕ)) (out : List (ℕ × ℕ)) → ((k : ℕ) → new k ≡ mid k) → Gained old mid out → Gained old new out
 Gained-same old mid new out same h = record { each = λ k. rw (same k) (h.each k) }
 
-pub WholeOrCut-same : (l : Limits) (g : Setting) (s : State) (old mid new : ℕ → Option (List ℕ)) (end : Ended) (t : ℕ) (k : Option ℕ) → ((j : ℕ) → new j ≡ mid j) → WholeOrBrokenOff l g s (Gained old mid) end t k → WholeOrBrokenOff l g s (Gained old new) end t k
-WholeOrCut-same l g s old mid new end t None same w = record { within = w.within; sinks = Gained-same old mid new _ same w.sinks; cause = w.cause }
-WholeOrCut-same l g s old mid new end t (Some k) same w = record { within = w.within; b = w.b; byte = w.byte; past = w.past; due = w.due; sinks = Gained-same old mid new _ same w.sinks }
+pub WholeOrBrokenOff-same : (l : Limits) (g : Setting) (s : State) (old mid new : ℕ → Option (List ℕ)) (end : Ended) (t : ℕ) (k : Option ℕ) → ((j : ℕ) → new j ≡ mid j) → WholeOrBrokenOff l g s (Gained old mid) end t k → WholeOrBrokenOff l g s (Gained old new) end t k
+WholeOrBrokenOff-same l g s old mid new end t None same w = record { within = w.within; sinks = Gained-same old mid new _ same w.sinks; cause = w.cause }
+WholeOrBrokenOff-same l g s old mid new end t (Some k) same w = record { within = w.within; b = w.b; byte = w.byte; past = w.past; due = w.due; sinks = Gained-same old mid new _ same w.sinks }
 
 pub WritesAll-same : (p : Program) (input : Option (List ℕ)) (texts : ℕ → Option (List ℕ)) (old mid new : ℕ → Option (List ℕ)) → ((k : ℕ) → new k ≡ mid k) → WritesAll p input texts (Gained old mid) → WritesAll p input texts (Gained old new)
 WritesAll-same p input texts old mid new same h = λ bytes known files told. let w = h bytes known files told in (w.0, w.1, Gained-same old mid new _ same w.2)
@@ -89,10 +89,10 @@ WritesBeginning-from p f0 f1 t0 t1 s0 s1 new r h = λ bytes known files tells.
     let w = h bytes (told f0 f1 bytes r.kept known) files (λ k. r.same_texts k ∙ tells k) in
     (w.0, w.1, Gained-from s0 s1 new _ r.same_sinks w.2)
 
-WholeOrCut-from : (l : Limits) (g : Setting) (s : State) (a b new : ℕ → Option (List ℕ)) (end : Ended) (t : ℕ) (k : Option ℕ) → ((j : ℕ) → b j ≡ a j) →
+WholeOrBrokenOff-from : (l : Limits) (g : Setting) (s : State) (a b new : ℕ → Option (List ℕ)) (end : Ended) (t : ℕ) (k : Option ℕ) → ((j : ℕ) → b j ≡ a j) →
     WholeOrBrokenOff l g s (Gained b new) end t k → WholeOrBrokenOff l g s (Gained a new) end t k
-WholeOrCut-from l g s a b new end t None same w = record { within = w.within; sinks = Gained-from a b new _ same w.sinks; cause = w.cause }
-WholeOrCut-from l g s a b new end t (Some k) same w = record { within = w.within; b = w.b; byte = w.byte; past = w.past; due = w.due; sinks = Gained-from a b new _ same w.sinks }
+WholeOrBrokenOff-from l g s a b new end t None same w = record { within = w.within; sinks = Gained-from a b new _ same w.sinks; cause = w.cause }
+WholeOrBrokenOff-from l g s a b new end t (Some k) same w = record { within = w.within; b = w.b; byte = w.byte; past = w.past; due = w.due; sinks = Gained-from a b new _ same w.sinks }
 
 failed-from : (i0 i1 i : ℕ) (n0 n1 n : ℕ → ℕ) (end : Ended) → i1 ≡ i0 → ((k : ℕ) → n1 k ≡ n0 k) → HasFailed i1 i n1 n end → HasFailed i0 i n0 n end
 failed-from i0 i1 i n0 n1 n InputBroken is same h = rw (← is) h
@@ -109,6 +109,6 @@ cause-from l p f0 f1 t0 t1 s0 s1 new i0 i1 i n0 n1 n r is same (inl h) = inl (
   failed-from i0 i1 i n0 n1 n h.0 is same h.2,
   λ bytes known files tells.
       let w = h.3 bytes (told f0 f1 bytes r.kept known) files (λ k. r.same_texts k ∙ tells k) in
-      (w.0, WholeOrCut-from _ _ _ s0 s1 new _ _ _ r.same_sinks w.1),
+      (w.0, WholeOrBrokenOff-from _ _ _ s0 s1 new _ _ _ r.same_sinks w.1),
 )
 cause-from l p f0 f1 t0 t1 s0 s1 new i0 i1 i n0 n1 n r is same (inr h) = inr (WritesAll-from p f0 f1 t0 t1 s0 s1 new r h.0, sink_failed n0 n1 n same h.1)

@@ -39,7 +39,8 @@ OnlyLastGives (file ∷ []) = ⊤
 OnlyLastGives (file ∷ next ∷ files) = (unwrap_or file [] ≡ []) × OnlyLastGives (next ∷ files)
 
 -- Where the files ahead are told, the first ones were opened, each but the last of these at its end: it is noted of each
--- whether it was missed. A file that wasn't come to isn't opened, and not missed (this project's own).
+-- whether it was missed. A file that the run doesn't reach isn't opened, and doesn't count as missed (this
+-- project's own).
 abbrev pub NotesMissed : Option (List (Option (List ℕ))) → Option (List (Option (List ℕ))) → List Bool → List Bool → Type 0
 NotesMissed None new before after = ⊤
 NotesMissed (Some files) new before after =

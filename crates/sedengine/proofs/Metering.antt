@@ -14,12 +14,12 @@ use Rattle.sedengine.specs.declared.ends.Progress.{Progress}
 use Rattle.sedengine.specs.declared.ends.Progress.TheVariants as progress
 
 -- an end has its cause whatever more is said of what the sinks gained
-WholeOrCut-as : (l : Limits) (g : Setting) (s : State) (P Q : List (ℕ × ℕ) → Type 0) (end : Ended) (t : ℕ) (o : Option ℕ) → ((out : List (ℕ × ℕ)) → P out → Q out) → WholeOrBrokenOff l g s P end t o → WholeOrBrokenOff l g s Q end t o
-WholeOrCut-as l g s P Q end t None f h = record { within = h.within; sinks = f _ h.sinks; cause = h.cause }
-WholeOrCut-as l g s P Q end t (Some k) f h = record { within = h.within; b = h.b; byte = h.byte; past = h.past; due = h.due; sinks = f _ h.sinks }
+WholeOrBrokenOff-as : (l : Limits) (g : Setting) (s : State) (P Q : List (ℕ × ℕ) → Type 0) (end : Ended) (t : ℕ) (o : Option ℕ) → ((out : List (ℕ × ℕ)) → P out → Q out) → WholeOrBrokenOff l g s P end t o → WholeOrBrokenOff l g s Q end t o
+WholeOrBrokenOff-as l g s P Q end t None f h = record { within = h.within; sinks = f _ h.sinks; cause = h.cause }
+WholeOrBrokenOff-as l g s P Q end t (Some k) f h = record { within = h.within; b = h.b; byte = h.byte; past = h.past; due = h.due; sinks = f _ h.sinks }
 
 pub Cause-as : (l : Limits) (g : Setting) (s : State) (P Q : List (ℕ × ℕ) → Type 0) (end : Ended) (t : ℕ) → ((out : List (ℕ × ℕ)) → P out → Q out) → Cause l g s P end t → Cause l g s Q end t
-Cause-as l g s P Q end t f h = WholeOrCut-as l g s P Q end t (named_sink end) f h
+Cause-as l g s P Q end t f h = WholeOrBrokenOff-as l g s P Q end t (named_sink end) f h
 
 Ending-as : (l : Limits) (g : Setting) (s : State) (P Q : List (ℕ × ℕ) → Type 0) (old new : Option (List ℕ)) (now : State) (end : Ended) → ((out : List (ℕ × ℕ)) → P out → Q out) → Ending l g s P old new now end → Ending l g s Q old new now end
 Ending-as l g s P Q old new now end f h = record { t = h.t; cause = Cause-as l g s P Q end h.t f h.cause; takes = h.takes; holds = h.holds }

@@ -93,11 +93,11 @@ InOneCycle-more g s zero h goes = λ k some k_lt. absurd (omega arith)
 InOneCycle-more g s (suc t) h goes = λ k some k_lt. elim (last_or_less k t (omega arith)) [ inl less ↦ h k some (omega arith) | inr same ↦ rw same goes ]
 
 -- An end that comes u moves after the first t comes after t + u moves.
-WholeOrCut-add : (l : Limits) (g : Setting) (s : State) (old mid new : SinkView) (end : Ended) (t u : ℕ) (o : Option ℕ) → Within l g s t → Sent old mid (written g s t) →
+WholeOrBrokenOff-add : (l : Limits) (g : Setting) (s : State) (old mid new : SinkView) (end : Ended) (t u : ℕ) (o : Option ℕ) → Within l g s t → Sent old mid (written g s t) →
     WholeOrBrokenOff l g (after g s t) (Sent mid new) end u o → WholeOrBrokenOff l g s (Sent old new) end (t + u) o
-WholeOrCut-add l g s old mid new end t u None v a h =
+WholeOrBrokenOff-add l g s old mid new end t u None v a h =
     record { within = Within-add l g s t u v h.within; sinks = rw written-add (Sent-append a h.sinks); cause = rw after-add h.cause }
-WholeOrCut-add l g s old mid new end t u (Some k) v a h =
+WholeOrBrokenOff-add l g s old mid new end t u (Some k) v a h =
     let all : written g s (suc (t + u)) ≡ written g s t ++ written g (after g s t) (suc u) = rw (← add-suc) (written-add g s t (suc u)) in
     record {
       within = rw (← add-suc) (Within-add l g s t (suc u) v h.within);
@@ -110,7 +110,7 @@ WholeOrCut-add l g s old mid new end t u (Some k) v a h =
 
 pub Cause-add : (l : Limits) (g : Setting) (s : State) (old mid new : SinkView) (end : Ended) (t u : ℕ) → Within l g s t → Sent old mid (written g s t) →
     Cause l g (after g s t) (Sent mid new) end u → Cause l g s (Sent old new) end (t + u)
-Cause-add l g s old mid new end t u v a h = WholeOrCut-add l g s old mid new end t u (named_sink end) v a h
+Cause-add l g s old mid new end t u v a h = WholeOrBrokenOff-add l g s old mid new end t u (named_sink end) v a h
 
 pub HoldsAt-add : (g : Setting) (s now : State) (t u : ℕ) (o : Option ℕ) → HoldsAt g (after g s t) u now o → HoldsAt g s (t + u) now o
 HoldsAt-add g s now t u None h = rw after-add h

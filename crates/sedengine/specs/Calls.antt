@@ -15,8 +15,8 @@ Puts gained out (Ok u) = gained out
 Puts gained out (Err end) =
     (k : ℕ) × (b : ℕ) × (byte : ℕ) × (named_sink end ≡ Some k) × (slice_get out b ≡ Some (k, byte)) × gained (take b out)
 
--- What a call that may write leaves as it was: of the sinks, only what they hold, their failures and the counts change, and
--- a sink has failed or is full only where the answer names it.
+-- What a call that may write does to the sinks: only what they hold, their failures and the counts change; a sink has failed
+-- only where the answer names it, and one that it names as full has gained exactly the limit.
 pub record Delivers {O : Type 0} (tally : O → SinkView) (count : O → ℕ) (old new : O) (result : Result Unit Ended) : Type 0 where
   pub same_count : count new ≡ count old
   pub same_frame : (tally new).frame ≡ (tally old).frame

@@ -116,7 +116,7 @@ pub record BrokenOff (l : Limits) (g : Setting) (s : State) (gained : List (ℕ 
   pub due : slice_get (written g s (suc t)) b ≡ Some (k, byte)
   pub sinks : gained (take b (written g s (suc t)))
 
--- whole, or cut where a sink takes no more
+-- whole, or broken off where a sink takes no more
 abbrev pub WholeOrBrokenOff : Limits → Setting → State → (List (ℕ × ℕ) → Type 0) → Ended → ℕ → Option ℕ → Type 0
 WholeOrBrokenOff l g s gained end t None = Whole l g s gained end t
 WholeOrBrokenOff l g s gained end t (Some k) = BrokenOff l g s gained k t

@@ -72,7 +72,8 @@ uses_hold HoldMore = true
 uses_hold Exchange = true
 uses_hold other = false
 
--- whether a command writes nothing and takes no line
+-- whether the call for a command writes nothing and takes no line. Not `d` and `D`, whose calls write the queue too, nor `s`,
+-- which may write
 abbrev pub writes_nothing : Action → Bool
 writes_nothing (Append k) = true
 writes_nothing (ReadFile k) = true

@@ -1,6 +1,6 @@
 use Rattle.std.proofs.Common.{Ok, ap, inl, inr, refl, rules}
 use Rattle.sedengine.proofs.Metering.{Cause-as}
-use Rattle.sededit.proofs.RunLemmas.{WholeOrCut-same, WritesAll-same, WritesBeginning-same, has_failed, none_failed, none_refused, sink_failed, some_refused}
+use Rattle.sededit.proofs.RunLemmas.{WholeOrBrokenOff-same, WritesAll-same, WritesBeginning-same, has_failed, none_failed, none_refused, sink_failed, some_refused}
 use Rattle.sededit.proofs.running.run_joined.Goals as goal
 
 pub returns-clause-whole : goal.returns-clause-whole
@@ -31,7 +31,7 @@ returns-clause-cause g c is =
         c.in-Ok.end,
         early,
         has_failed _ _ _ _ _ _ c.in-Ok.end refl e.input e.failed c.finish.ensures.failures,
-        λ bytes known files told. let h = e.ending bytes known files told in (h.t, WholeOrCut-same _ _ _ _ _ _ _ _ _ same (Cause-as _ _ _ _ _ c.in-Ok.end h.t (λ out sent. sent.gained) h.cause)),
+        λ bytes known files told. let h = e.ending bytes known files told in (h.t, WholeOrBrokenOff-same _ _ _ _ _ _ _ _ _ same (Cause-as _ _ _ _ _ c.in-Ok.end h.t (λ out sent. sent.gained) h.cause)),
       )
       | inr flushed ↦ inr (WritesAll-same c.args.script _ _ _ _ _ same (e.whole (ap Ok flushed.0)), sink_failed _ _ _ (none_failed _ _ _ flushed.0 e.failed) flushed.1)
     ]
