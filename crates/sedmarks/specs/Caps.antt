@@ -1,6 +1,6 @@
--- Which span each group of a match has. XBD 9.1 leaves open what repeated groups and empty copies report: where a
--- concatenation is cut, which alternative is taken, which copy is the last, whether an empty one is taken, and which groups
--- are forgotten, is this project's own.
+-- Which span each group of a match has. XBD 9.1 says that parts match the longest from left to right, and that a null string
+-- goes before no match. How that is read here, where a concatenation is cut, which of several alternatives is taken, which
+-- copy is the last or empty, and which groups are forgotten, is this project's own.
 use Rattle.std.specs.Prelude.{◌≡◌, ℕ, ◌<◌, ◌≤◌, ◌⊎◌, List, replicate, slice_set, Option, Some, None, IsTrue}
 use Rattle.sedre.specs.Tree.{Tree, seq, alt, group, star, opt}
 use Rattle.sedmarks.specs.Spans.{Copies, Spans}

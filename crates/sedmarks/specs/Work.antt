@@ -96,7 +96,7 @@ weights nodes [] = 0
 weights nodes (Enter x i j ∷ tasks) = 2 * size (tree_at nodes x) + weights nodes tasks
 weights nodes (Close k i j ∷ tasks) = 1 + weights nodes tasks
 
--- the tasks were begun: those left are ready, weigh less, and take the groups to where the tasks take them
+-- the tasks were begun: those left match their spans, weigh less, and take the groups to where the tasks take them
 abbrev pub LeavesLess : List Node → List ℕ → List Task → Groups → List Task → Groups → Type 0
 LeavesLess nodes w tasks old rest new = ((f : Groups) → DoesAll nodes w rest new f → DoesAll nodes w tasks old f) × AreMatched nodes w rest × (weights nodes rest + 1 ≤ weights nodes tasks)
 
