@@ -2,13 +2,14 @@
 use Rattle.std.proofs.Common.{◌≡◌, ℕ, zero, suc, ◌+◌, ◌<◌, false, List, [], ◌∷◌, drop, Option, Some, None, refl, ◌∙◌, ap, subst, arith}
 use Rattle.std.specs.Prelude.{replicate}
 use Rattle.std.proofs.lemmas.List.{length-replicate}
+use Rattle.std.specs.List.{last_or}
 use Rattle.sedre.specs.declared.types.Kind.TheVariants.{Extended}
 use Rattle.sedre.specs.declared.types.Reason.TheVariants.{OpenGroup}
 use Rattle.sedre.specs.declared.syntax.Item.{Item}
 use Rattle.sedre.specs.declared.syntax.Item.TheVariants.{Open}
 use Rattle.sedre.specs.declared.syntax.Symbol.TheVariants.{Opening}
 use Rattle.sedre.specs.declared.syntax.Here.TheVariants.{Is, Ends}
-use Rattle.sedre.specs.Grammar.{Cut, done, item, last_of, open_groups, unclosed, ExprFaulty}
+use Rattle.sedre.specs.Grammar.{Cut, done, item, open_groups, unclosed, ExprFaulty}
 use Rattle.sedre.specs.Items.{item_at}
 use Rattle.sedre.specs.Symbols.{symbol}
 
@@ -61,7 +62,7 @@ many_open n most =
       cut = cut_at text (suc n) 0 (suc n) None (omega arith) (each_opening (suc n));
       opened = suc n;
       balanced = all_open (suc n) 0 ∙ ap (λ (k : ℕ). Some k) (omega arith);
-      row = unclosed (ends_at text (last_of None (items_of (suc n))) (suc n) (none_after (suc n)));
+      row = unclosed (ends_at text (last_or None (items_of (suc n))) (suc n) (none_after (suc n)));
     })
 
 hundred_thousand_open : ExprFaulty Extended None (replicate 100000 40) 65536 100000 OpenGroup

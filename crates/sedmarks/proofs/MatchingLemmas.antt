@@ -1,6 +1,6 @@
 -- The computed match is the one that the relations tell.
 use Rattle.std.proofs.Common.{◌≡◌, ℕ, zero, suc, ◌+◌, ◌-◌, ◌<◌, ◌≤◌, ◌⊎◌, ◌↔◌, Bool, true, false, ◌&&◌, ◌||◌, List, length, Option, Some, None, IsTrue, refl, sym, ap, ◌∙◌, subst, inl, inr, ⊎_elim, true≢false, arith}
-use Rattle.std.specs.Prelude.{cond, eqb, ltb, slice_get, slice_index_or, slice_set, is_some, IfSome, IfNone}
+use Rattle.std.specs.Prelude.{cond, eqb, ltb, slice_get, slice_index_or, slice_set, is_some, unwrap_or, IfSome, IfNone}
 use Rattle.std.proofs.lemmas.Bool.{and_parts, and_from, or_cases, or_left, or_right, cases_lt, cases_eq, eqb-true, eq-eqb, ltb-true, lt-ltb, cases_Bool}
 use Rattle.std.proofs.lemmas.Bool.Decides.{same_from_decides}
 use Rattle.std.proofs.lemmas.Option.{slice_get_within, none-some}
@@ -9,7 +9,7 @@ use Rattle.sedmarks.specs.Spans.{Copies, no_copy, one_more, Spans, Found, NotFou
 use Rattle.sedmarks.specs.Caps.{Groups, Caps, forget, LastCut, LastCopy, only, then}
 use Rattle.sedmarks.specs.PartEnds.{GreatestBelow}
 use Rattle.sedmarks.specs.Reach.{Longest}
-use Rattle.sedmarks.specs.Matching.{any, greatest, copies, takes, spans, longest, first_of, found_from, found, or_else, cut, first_copy, last_start, caps, report, SpansLaw, FoundLaw, NotFoundLaw, SomeFoundLaw, OneCapsLaw, CapsLaw, ReportLaw}
+use Rattle.sedmarks.specs.Matching.{any, greatest, copies, takes, spans, longest, first_of, found_from, found, cut, first_copy, last_start, caps, report, SpansLaw, FoundLaw, NotFoundLaw, SomeFoundLaw, OneCapsLaw, CapsLaw, ReportLaw}
 use Rattle.sedmarks.specs.Caps.{no_groups}
 use Rattle.sedmarks.proofs.SpanLemmas.{Copies-forward, Spans-forward, Spans-within}
 use Rattle.sedmarks.proofs.CapsLemmas.{Caps-unique}
@@ -85,8 +85,8 @@ module _ (step : ℕ → ℕ → Bool) (R : ℕ → ℕ → Type 0) (each : (i k
 
   first_copy-of : (i j m : ℕ) → i < m → R i m → Copies R j m →
       (best : Option ℕ) → GreatestBelow (λ k. (ltb i k && (step i k && copies j step k j)) ≡ true) (j + 1) best →
-      (i < or_else i best) × (or_else i best ≤ j) × R i (or_else i best) × Copies R j (or_else i best)
-      × ((l : ℕ) → i < l → R i l → Copies R j l → l ≤ or_else i best)
+      (i < unwrap_or best i) × (unwrap_or best i ≤ j) × R i (unwrap_or best i) × Copies R j (unwrap_or best i)
+      × ((l : ℕ) → i < l → R i l → Copies R j l → l ≤ unwrap_or best i)
   first_copy-of i j m lt r rest None none = let on = Copies-forward R j m rest in absurd (none m (omega arith) (test-from i j m lt r rest))
   first_copy-of i j m lt r rest (Some k) some =
       let up = and_parts (ltb i k) (step i k && copies j step k j) some.1 in
@@ -314,7 +314,7 @@ same_test t e w p fits tells =
 
 cut-of : (a b : ℕ → ℕ → Bool) (A B : ℕ → ℕ → Type 0) → ((i k : ℕ) → IsTrue (a i k) ↔ A i k) → ((i k : ℕ) → IsTrue (b i k) ↔ B i k) →
     (i j m : ℕ) → ((k : ℕ) → B k j → k ≤ j) → A i m → B m j →
-    (best : Option ℕ) → GreatestBelow (λ k. (a i k && b k j) ≡ true) (j + 1) best → LastCut A B i j (or_else i best)
+    (best : Option ℕ) → GreatestBelow (λ k. (a i k && b k j) ≡ true) (j + 1) best → LastCut A B i j (unwrap_or best i)
 cut-of a b A B left right i j m on l r None none =
     let within = on m r in absurd (none m (omega arith) (and_from (a i m) (b m j) ((left i m).1 l) ((right m j).1 r)))
 cut-of a b A B left right i j m on l r (Some k) some =

@@ -1,10 +1,14 @@
 -- Where a text holds a byte, and in which order its bytes are read.
 use Rattle.std.specs.Prelude.{◌≡◌, ℕ, ◌+◌, ◌-◌, ◌<◌, ◌≤◌, Bool, true, false, List, reverse, slice_get, Option, Some, None}
 
+-- the first place from p on of which P holds, if there is one
+abbrev pub FirstFrom : (ℕ → Type 0) → ℕ → Option ℕ → Type 0
+FirstFrom P p None = (k : ℕ) → p ≤ k → P k → ⊥
+FirstFrom P p (Some k) = (p ≤ k) × P k × ((h : ℕ) → p ≤ h → h < k → P h → ⊥)
+
 -- the first place from p on that holds the byte, if there is one
 abbrev pub FirstAt : List ℕ → ℕ → ℕ → Option ℕ → Type 0
-FirstAt w byte p None = (k : ℕ) → p ≤ k → slice_get w k ≡ Some byte → ⊥
-FirstAt w byte p (Some k) = (p ≤ k) × (slice_get w k ≡ Some byte) × ((h : ℕ) → p ≤ h → h < k → slice_get w h ≡ Some byte → ⊥)
+FirstAt w byte = FirstFrom (λ k. slice_get w k ≡ Some byte)
 
 -- how many bytes are looked at from p to the place found, or to the end n of the text
 abbrev pub looked_at : ℕ → ℕ → Option ℕ → ℕ

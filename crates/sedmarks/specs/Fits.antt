@@ -23,7 +23,7 @@ HasStack n s = (s.items ≡ []) × (n < vec_capacity s)
 abbrev pub KeepsStack : {A : Type 0} → Vec ℕ A → Vec ℕ A → Type 0
 KeepsStack old new = (new.items ≡ []) × (vec_capacity old ≤ vec_capacity new)
 
--- no nodes are left on the stack, and there is as much room as before
+-- no nodes are left on the plan's stack, and there is as much room as before for nodes and for tasks
 abbrev pub KeepsPlan : Plan → Plan → Type 0
 KeepsPlan old new = (new.stack.items ≡ []) × (vec_capacity old.stack ≤ vec_capacity new.stack) × (vec_capacity old.tasks ≤ vec_capacity new.tasks)
 

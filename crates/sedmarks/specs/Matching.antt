@@ -1,5 +1,5 @@
 -- What is matched, computed by trying all places; the laws below say that it is what the relations tell.
-use Rattle.std.specs.Prelude.{◌≡◌, ℕ, zero, suc, ◌+◌, ◌-◌, ◌≤◌, Bool, false, ◌&&◌, ◌||◌, cond, eqb, ltb, List, length, slice_get, slice_index_or, slice_set, Option, Some, None, IsTrue, is_some, ◌↔◌}
+use Rattle.std.specs.Prelude.{◌≡◌, ℕ, zero, suc, ◌+◌, ◌-◌, ◌≤◌, Bool, false, ◌&&◌, ◌||◌, cond, eqb, ltb, List, length, slice_get, slice_index_or, slice_set, Option, Some, None, IsTrue, is_some, unwrap_or, ◌↔◌}
 use Rattle.sedre.specs.Tree.{Tree, empty, set, begin, end, seq, alt, group, star, opt}
 use Rattle.sedmarks.specs.Spans.{Spans, Found, NotFound, SomeFound}
 use Rattle.sedmarks.specs.Caps.{Groups, Caps, forget, no_groups, IsReport}
@@ -53,17 +53,13 @@ found_from e w (suc n) p = first_of p (longest e w p) (found_from e w n (p + 1))
 unfoldable pub found : Tree → List ℕ → ℕ → Option (ℕ × ℕ)
 found e w p = found_from e w (length w + 1 - p) p
 
-abbrev pub or_else : ℕ → Option ℕ → ℕ
-or_else i None = i
-or_else i (Some k) = k
-
 -- how far a goes when a and b lead from i to j
 unfoldable pub cut : (ℕ → ℕ → Bool) → (ℕ → ℕ → Bool) → ℕ → ℕ → ℕ
-cut a b i j = or_else i (greatest (λ k. a i k && b k j) (j + 1))
+cut a b i j = unwrap_or (greatest (λ k. a i k && b k j) (j + 1)) i
 
 -- how far the first copy goes
 unfoldable pub first_copy : (ℕ → ℕ → Bool) → ℕ → ℕ → ℕ
-first_copy step i j = or_else i (greatest (λ k. ltb i k && (step i k && copies j step k j)) (j + 1))
+first_copy step i j = unwrap_or (greatest (λ k. ltb i k && (step i k && copies j step k j)) (j + 1)) i
 
 -- where the last of at most n copies begins
 unfoldable pub last_start : ℕ → (ℕ → ℕ → Bool) → ℕ → ℕ → ℕ

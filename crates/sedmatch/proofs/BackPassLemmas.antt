@@ -1,6 +1,6 @@
 -- Where a pass forwards and a pass from the text's end meet, a match goes on; where they do not, none does.
 use Rattle.std.proofs.Common.{◌≡◌, ℕ, zero, suc, ◌+◌, ◌-◌, ◌<◌, ◌≤◌, ◌↔◌, Bool, true, false, List, length, reverse, Option, Some, None, IfSome, IsTrue, true≢false, mul-le-mul_left, ◌*◌, refl, sym, ap, ◌∙◌, subst, inl, inr, ⊎_elim, arith}
-use Rattle.std.specs.Prelude.{slice_get, slice_index_or}
+use Rattle.std.specs.Prelude.{slice_get, slice_index_or, unwrap_or}
 use Rattle.std.proofs.lemmas.Bool.{cases_lt}
 use Rattle.sedre.specs.Arena.{Written, IsArena, IsPart, tree, tree_at}
 use Rattle.sedre.specs.Mirror.{mirror_node, seen}
@@ -13,7 +13,7 @@ use Rattle.sedmarks.specs.Spans.{Found, NotFound, Copies, no_copy, one_more}
 use Rattle.sedmarks.specs.declared.passes.Starts.{Starts}
 use Rattle.sedmarks.specs.Matching.{takes}
 use Rattle.sedmarks.specs.Reach.{At, BeginsWith, IsStart, one_start, Enters, at_root, with_whole, after_left, again, OpenAt, SomeSpan, TellBegun, Longest, LongestBelow}
-use Rattle.sedmatch.specs.BackPass.{MeetsBelow, EndsLater, EndsLaterFrom, BeginsAt, KeptStarts, MarkTells, met_to, end_to}
+use Rattle.sedmatch.specs.BackPass.{MeetsBelow, EndsLater, EndsLaterFrom, BeginsAt, KeptStarts, MarkTells, end_to}
 use Rattle.sedmarks.specs.Search.{starts_to}
 use Rattle.std.proofs.lemmas.List.{length-reverse}
 use Rattle.sedmarks.proofs.SpanLemmas.{Copies-append, Copies-forward, Spans-forward, Spans-within}
@@ -349,7 +349,7 @@ met_reached nodes w r start place matched low ahead over tells is_no =
     (λ (ge : place ≤ start). let done : place ≡ start = omega arith in done)
     (cases_lt start place)
 
-pub met_from : (start n : ℕ) (best : Option ℕ) → IfSome best (λ end. (start ≤ end) × (end ≤ n)) → start ≤ met_to start best
+pub met_from : (start n : ℕ) (best : Option ℕ) → IfSome best (λ end. (start ≤ end) × (end ≤ n)) → start ≤ unwrap_or best start
 met_from start n None lies = omega arith
 met_from start n (Some end) lies = lies.0
 

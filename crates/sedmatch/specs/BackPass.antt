@@ -117,23 +117,13 @@ TurnsTo block old new = KeepsBackPass old new × (new.width ≡ old.width) × (n
 abbrev pub FitsRows : ℕ → ℕ → ℕ → ℕ → List (List Bool) → List Bool → Type 0
 FitsRows n r from to rows begins = (to ≤ from + length rows) × ((q : ℕ) → q < length rows → r + 1 ≤ length (row_of rows q)) × (n < length begins)
 
--- there are as many rows as before, each of as many marks, and as many marks beside them
+-- there are as many rows as before, each of as many marks, and as many marks besides
 abbrev pub SameShape : List (List Bool) → List (List Bool) → List Bool → List Bool → Type 0
 SameShape old_rows new_rows old new = (length new_rows ≡ length old_rows) × ((q : ℕ) → q < length old_rows → length (row_of new_rows q) ≡ length (row_of old_rows q)) × (length new ≡ length old)
-
--- the end of the match, or the start where there is none
-abbrev pub met_to : ℕ → Option ℕ → ℕ
-met_to start None = start
-met_to start (Some end) = end
 
 -- the marks tell of each place, counted from the text's end, whether a match begins there
 abbrev pub KeptStarts : Tree → List ℕ → List Bool → Type 0
 KeptStarts e w marks = (i : ℕ) → i ≤ length w → IsTrue (slice_index_or marks (length w - i) false) ↔ ((k : ℕ) × Spans e w i k)
-
--- the place found, or the text's end
-abbrev pub begin_to : ℕ → Option ℕ → ℕ
-begin_to n None = n
-begin_to n (Some place) = place
 
 -- the end of the match found, or the text's end
 abbrev pub end_to : ℕ → Option (ℕ × ℕ) → ℕ

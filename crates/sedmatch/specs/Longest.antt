@@ -1,16 +1,11 @@
 -- Private to the proofs: no contract of a public item cites what stands here.
 -- What is known on the way of a pass from one start, which notes the longest match so far.
 use Rattle.std.specs.Prelude.{ℕ, ◌+◌, ◌<◌, ◌≤◌, List, length, Option, IfSome, IsTrue}
-use Rattle.sedre.specs.Tree.{Tree}
 use Rattle.sedre.specs.Arena.{Written, tree}
 use Rattle.sedmatch.specs.declared.table_matcher.Passed.{Passed}
 use Rattle.sedmatch.specs.declared.tables.Table.{Table}
 use Rattle.sedmarks.specs.Reach.{one_start, LongestBelow}
 use Rattle.sedmatch.specs.Tables.{StateAt}
-
--- the match, if there is one, is the longest from the start of those that end below n, and ends at `stop` or before
-abbrev pub BestTo : Tree → List ℕ → ℕ → ℕ → ℕ → Option ℕ → Type 0
-BestTo e w start stop n best = LongestBelow e w start n best × IfSome best (λ end. (start ≤ end) × (end ≤ stop))
 
 -- the pass from the start is in the state at the place, and `stop` is still to come
 pub record PassIsAt (x : Written) (r : ℕ) (t : Table) (w : List ℕ) (start stop place state : ℕ) : Type 0 where

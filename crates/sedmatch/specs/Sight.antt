@@ -10,7 +10,7 @@ use Rattle.sedmatch.specs.Between.{PartedSpans, CanPart}
 use Rattle.sedneedles.specs.Word.{WordSpans}
 use Rattle.sedneedles.specs.Choice.{ChoiceAt, ChoiceSpans}
 use Rattle.sedneedles.specs.Few.{HasFew}
-use Rattle.sedmarks.specs.Bytes.{AreBytes}
+use Rattle.sedmarks.specs.Bytes.{AreBytes, FirstFrom}
 use Rattle.sedmatch.specs.declared.sight.First.{First}
 use Rattle.sedmatch.specs.declared.sight.First.TheVariants.{Among, Member}
 use Rattle.sedmatch.specs.declared.sight.Sight.{Sight}
@@ -58,8 +58,7 @@ CanStart (Choice literals) w i = ChoiceAt literals w i
 
 -- the first place from p on at which the byte can come first
 abbrev pub FirstWith : First → List ℕ → ℕ → Option ℕ → Type 0
-FirstWith first w p None = (k : ℕ) → p ≤ k → StartsWith first w k → ⊥
-FirstWith first w p (Some k) = (p ≤ k) × StartsWith first w k × ((h : ℕ) → p ≤ h → h < k → StartsWith first w h → ⊥)
+FirstWith first w = FirstFrom (StartsWith first w)
 
 -- the first place from p on at which a match begins
 abbrev pub FirstStart : Sight → List ℕ → ℕ → Option ℕ → Type 0

@@ -3,15 +3,15 @@
 //! A pass from the text's end tells for each place which nodes begin there in the mirrored expression: after them the
 //! match goes on to its end. So a pass forwards can stop where none of the nodes that begin there is one of those.
 //!
-//! What the pass from the end tells is kept for one block of places alone, and of the others with which marks it came
-//! to them. A block is made again when the first of its places is asked for; places are asked for from the text's
+//! What the pass from the end tells is kept for one block of places only; of each other block, only the marks with which
+//! the pass reached it. A block is made again when the first of its places is asked for; places are asked for from the text's
 //! beginning to its end, so that each block is made twice in all.
-ghost use Rattle.std.specs.Prelude.{◌≡◌, ℕ, ◌+◌, ◌-◌, ◌*◌, ◌^◌, ◌<◌, ◌≤◌, ◌↔◌, length, IsTrue, IfSome, IfOk, true, false, slice_index_or, Option, Some, if◌then◌else◌};
+ghost use Rattle.std.specs.Prelude.{◌≡◌, ℕ, ◌+◌, ◌-◌, ◌*◌, ◌^◌, ◌<◌, ◌≤◌, ◌↔◌, length, IsTrue, IfSome, IfOk, true, false, slice_index_or, Option, Some, unwrap_or, if◌then◌else◌};
 ghost use Rattle.sedre.specs.Arena.{tree};
 ghost use Rattle.sedmarks.specs.Nodes.{IsArenaRoot, IsNode, IsRoot};
 ghost use Rattle.sedmarks.specs.PartMarks.{takes_next};
 ghost use Rattle.sedmarks.specs.Reach.{Longest, TellBegun, TellEntered, one_start};
-ghost use Rattle.sedmatch.specs.BackPass.{MeetsBelow, EndsLaterFrom, CameTo, PassTells, MarksGrow, BlockTells, HasKept, IsKept, Served, ServedAfter, HasBackPass, FitsRows, SameShape, KeepsBackPass, HasPlace, TurnsTo, BlockTakes, low_of, met_to, begin_to, end_to, blocks_cost};
+ghost use Rattle.sedmatch.specs.BackPass.{MeetsBelow, EndsLaterFrom, CameTo, PassTells, MarksGrow, BlockTells, HasKept, IsKept, Served, ServedAfter, HasBackPass, FitsRows, SameShape, KeepsBackPass, HasPlace, TurnsTo, BlockTakes, low_of, end_to, blocks_cost};
 ghost use Rattle.sedmatch.specs.NextMatch.{unless_null_at};
 ghost use Rattle.sedmatch.specs.Occurrences.{next_span};
 ghost use Rattle.sedmarks.specs.Search.{starts_to};
@@ -32,9 +32,9 @@ use std::alloc::{AllocError, Global};
 pub struct BackPass {
     /// For each place, counted from the text's end, whether a match begins there.
     pub begins: Marks,
-    /// For each block of places the marks with which the pass came to the first of them.
+    /// For each block of places, the marks with which the pass reached its first place.
     pub edges: Rows,
-    /// For each place of one block which nodes begin there in the mirrored expression.
+    /// For each place of one block, which nodes begin there in the mirrored expression.
     pub rows: Rows,
     /// The marks of the pass. One forwards has its own.
     pub sets: Sets,
@@ -131,7 +131,7 @@ fn pass_places(
     }
 }
 
-/// Makes the rows of a block, to whose first place the marks have come.
+/// Makes the rows of a block whose first place the marks have reached.
 fn make_block(
     nodes: &Nodes,
     bytes: &Bytes,
@@ -169,7 +169,7 @@ fn make_block(
     back_pass.block = block;
 }
 
-/// Makes the rows of the next block of a pass over the whole text, and keeps with which marks the pass came to it.
+/// Makes the rows of the next block of a pass over the whole text, and keeps the marks with which the pass reached it.
 fn keep_block(
     nodes: &Nodes,
     bytes: &Bytes,
@@ -237,7 +237,7 @@ pub fn keep_back_pass(
     keep_blocks(&nodes, &bytes, root, back_pass, steps);
 }
 
-/// Makes the rows of a block again, from the marks with which the pass came to it.
+/// Makes the rows of a block again, from the marks with which the pass reached it.
 fn remake(
     nodes: &Nodes,
     bytes: &Bytes,
@@ -324,7 +324,7 @@ fn meets(
     false
 }
 
-/// Whether a match from the start that the marks are of ends after the place.
+/// Whether a match that begins at `start`, to which the marks belong, ends after `place`.
 fn goes_on(
     expr: &Expr,
     root: usize,
@@ -373,11 +373,11 @@ fn longest_met(
     requires room { HasBackPass (length text.now) (length expr.now.nodes) back_pass.old }
     requires served { Served expr.now text.now root start back_pass.old }
     ensures kept { KeepsBackPass back_pass.old back_pass.new }
-    ensures served { Served expr.now text.now root (met_to start result) back_pass.new }
+    ensures served { Served expr.now text.now root (unwrap_or result start) back_pass.new }
     ensures longest { Longest (tree expr.now) text.now start result }
     ensures lies { IfSome result (λ end. (start ≤ end) × (end ≤ length text.now)) }
     ensures cost { let m = length expr.now.nodes in
-        Pays steps.old steps.new (m + 25 * m * (met_to start result + 1) + blocks_cost m back_pass.old) (25 * m * start + blocks_cost m back_pass.new) }
+        Pays steps.old steps.new (m + 25 * m * (unwrap_or result start + 1) + blocks_cost m back_pass.old) (25 * m * start + blocks_cost m back_pass.new) }
 {
     sets.entered.clear(root + 1, steps);
     let mut best = None;
@@ -398,7 +398,7 @@ fn next_begin(text: &Text, begins: &Marks, from: usize, steps: &mut Steps) -> Op
     requires from { from ≤ length text.now }
     requires begins { length text.now < length begins.now }
     ensures first { LeastFrom (λ i. IsTrue (slice_index_or begins.now (length text.now - i) false)) from (length text.now + 1) result }
-    ensures cost { Pays steps.old steps.new (begin_to (length text.now) result + 1) from }
+    ensures cost { Pays steps.old steps.new (unwrap_or result (length text.now) + 1) from }
 {
     let len = text.len();
     for place in from..len + 1 {
@@ -422,7 +422,7 @@ pub fn is_null_at(span: Option<(usize, usize)>, at: usize) -> bool
 }
 
 /// The leftmost-longest span that begins at `from` or later, by what is kept of the pass from the text's end.
-/// It costs steps for the bytes up to its end alone, besides those for the blocks that it comes to.
+/// It takes steps only for the bytes up to the span's end, and for the blocks that it reaches.
 fn next_met(
     expr: &Expr,
     root: usize,
@@ -443,9 +443,7 @@ fn next_met(
     ensures cost { let m = length expr.now.nodes in
         Pays steps.old steps.new (27 * m + 25 * m * end_to (length text.now) result + blocks_cost m back_pass.old) (25 * m * from + blocks_cost m back_pass.new) }
 {
-    let Some(start) = next_begin(text, &back_pass.begins, from, steps) else {
-        return None;
-    };
+    let start = next_begin(text, &back_pass.begins, from, steps)?;
     match longest_met(expr, root, text, start, back_pass, sets, steps) {
         None => unreachable!(),
         Some(end) => Some((start, end)),

@@ -11,7 +11,7 @@ use sedmarks::counted::{Text, uncounted};
 use sedmarks::members::byte_at;
 use sedre::{ByteSet, Steps};
 
-/// The begin of the run of bytes of the set that ends before `to`, not before `from`.
+/// The beginning of the run of bytes of the set that ends before `to`, or `from` if the run reaches further back.
 // As a part of a large function it would be slower by the byte.
 #[inline(never)]
 fn run_back(set: &ByteSet, bytes: &[u8], from: usize, to: usize) -> usize
@@ -74,7 +74,7 @@ pub fn find_last(
     }
 }
 
-/// The begin of the run of bytes of the set that ends before `to`, not before `from`.
+/// The beginning of the run of bytes of the set that ends before `to`, or `from` if the run reaches further back.
 /// Counts a look for each byte from `to` down to the one that ends the run, or to `from` where none does.
 #[inline(always)]
 pub fn run_begin(text: &Text, set: &ByteSet, from: usize, to: usize, steps: &mut Steps) -> usize

@@ -6,8 +6,8 @@
 //! there is one, and as many times the nodes again where groups are reported. A step is one look at a node, a byte,
 //! a mark or a cell. They work in the room of a [`Scratch`] and take no memory. They stand in `sedmarks`.
 //!
-//! A [`TableMatcher`] keeps what such a search finds out of an expression, and looks it up in the next one: at most
-//! places that is one cell of a table in place of all nodes. Where a match begins and ends then takes steps in
+//! A [`TableMatcher`] keeps what such a search finds out of an expression, and looks it up in the next one: at nearly
+//! every place that is one cell of a table in place of all nodes. Where a match begins and ends then takes steps in
 //! proportion to the text, whatever the answer: 128 times nodes times places at most. What an expression tells of all
 //! its matches is found out once, when such a matcher is made: a literal that they hold, the rarest bytes at fixed
 //! distances after their beginning (both in `sedneedles`), and whether they are seen at the first look.

@@ -1,4 +1,7 @@
 //! The search for the leftmost of the longest spans by tables, in which each byte is passed four times at most.
+//!
+//! A function whose name ends in `_by` goes on by a table, and where that is full by marks, in one whose name ends in `_on`. One
+//! that ends in `_in` goes over the text forwards by either.
 ghost use Rattle.std.specs.Prelude.{Some, true, Bool, List, ◌≡◌, ℕ, ◌+◌, ◌-◌, ◌*◌, ◌<◌, ◌≤◌, ◌↔◌, length, IsTrue};
 ghost use Rattle.sedre.specs.Arena.{tree};
 ghost use Rattle.sedre.specs.Mirror.{seen};
@@ -34,7 +37,7 @@ pub struct FirstEnd {
     pub ends: Ends,
 }
 
-/// Whether a match ends at the end of the text.
+/// The first end at `place`, the end of the text, if a match ends there.
 fn at_last(place: usize, ends: Ends) -> Option<FirstEnd>
     ensures first { (nodes : List Node) (w : List ℕ) (r from : ℕ) (marks : List Bool) → r + 1 ≡ length nodes → place ≡ length w → from ≤ place →
         (IsTrue ends.last ↔ SomeSpan nodes w r (starts_from from w) place) → NoneEndsBefore nodes w r from place →
@@ -144,7 +147,7 @@ fn first_end(
     }
 }
 
-/// Up to where matches can end that begin from `start` to `last`, given what is told of a place.
+/// A place after which no match ends that begins from `start` to `last`, given what is told of a place.
 fn bound_on(
     expr: &Nodes,
     root: usize,
@@ -203,8 +206,8 @@ fn enter(
     }
 }
 
-/// Up to where matches can end that begin from `start` to `last`, by a table in which no place after the first is a
-/// start, given what is told of the last.
+/// A place after which no match ends that begins from `start` to `last`, by a table in which no place after the first is
+/// a start, given what is told of the last.
 fn bound_by(
     expr: &Nodes,
     root: usize,
@@ -261,7 +264,7 @@ fn bound_by(
     }
 }
 
-/// The better of a place at which a match ends, if it does, and the last one before.
+/// `place` if a match ends there, and otherwise `best`, the last such place before it.
 fn later(
     nodes: &Nodes,
     root: usize,
@@ -403,7 +406,7 @@ pub fn first_end_in(
     first_end(&nodes, root, &bytes, from, table, sets, steps)
 }
 
-/// Up to where matches can end, in a text read forwards.
+/// A place after which no match of the region ends, in a text read forwards.
 fn bound_in(
     expr: &Expr,
     root: usize,

@@ -28,8 +28,8 @@ use std::alloc::{AllocError, Global};
 /// finds. Most texts never need that pass. All searches in one text together take at most 416 steps for each node and
 /// place, whatever the expression and the text.
 ///
-/// All room is taken in [`Occurrences::new`]: a bit for each byte of the longest text, twice the root of its length
-/// many rows of a bit for each node, and 24 KiB of marks.
+/// All room is taken in [`Occurrences::new`]: a bit for each byte of the longest text, rows of a bit for each node,
+/// about twice as many as the square root of that length, and 24 KiB of marks.
 #[derive(Drop)]
 pub struct Occurrences {
     back_pass: BackPass,
@@ -80,7 +80,7 @@ impl Occurrences {
     }
 }
 
-/// Makes the pass from the text's end, if it wasn't made.
+/// Makes the pass from the text's end, if it hasn't been made yet.
 fn see_met(
     expr: &Expr,
     root: usize,

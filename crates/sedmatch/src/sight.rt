@@ -83,7 +83,7 @@ fn first_of(set: &ByteSet) -> First
     }
 }
 
-/// How the matches of the expression look, a concatenation of these parts, if they are of a run and one byte after it.
+/// How the matches of a concatenation of these parts look, if each is a run and one byte after it.
 fn trail_sight(expr: &Expr, a: NodeId, b: NodeId, steps: &mut Steps) -> Option<Sight>
     requires root { slice_get expr.now.nodes (length expr.now.nodes - 1) ≡ Some (Seq a b) }
     requires arena { IsArena expr.now.nodes }

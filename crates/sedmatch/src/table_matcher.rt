@@ -2,9 +2,10 @@
 ghost use Rattle.std.specs.Prelude.{IfOk, IfSome, IfNone, true, false, is_some, ◌≡◌, ◌+◌, ◌-◌, ◌*◌, ◌/◌, ◌<◌, ◌≤◌, ◌↔◌, length, IsTrue};
 ghost use Rattle.sedre.specs.Arena.{tree};
 ghost use Rattle.sedmarks.specs.Nodes.{IsRoot};
+ghost use Rattle.sedmarks.specs.Search.{IsBest};
 ghost use Rattle.sedmarks.specs.Spans.{SomeFound};
 ghost use Rattle.sedmatch.specs.Tables.{IsSingle, IsSweep, IsTable, StateAt, ends_of};
-ghost use Rattle.sedmatch.specs.Longest.{BestTo, HasPassed, PassIsAt};
+ghost use Rattle.sedmatch.specs.Longest.{HasPassed, PassIsAt};
 ghost use Rattle.sedmarks.specs.Places.{InOrder};
 ghost use Rattle.sedmarks.specs.Reach.{Longest, LongestBelow, one_start};
 ghost use Rattle.sedmarks.specs.Answer.{IsComputed, MatchAnswer, SpanAnswer};
@@ -115,7 +116,7 @@ const NO_ENDS: Ends = Ends {
     goes: false,
 };
 
-/// Where a pass from one start came to by filled cells.
+/// Where a pass from one start has arrived by filled cells.
 #[derive(Clone, Copy)]
 pub struct Passed {
     /// The state.
@@ -227,7 +228,7 @@ fn follow_noting(
     requires root { root + 1 ≡ length expr.now.nodes }
     requires table { IsSingle expr.now.nodes root table.now }
     requires at { PassIsAt expr.now root table.now text.now start stop from state }
-    requires best { BestTo (tree expr.now) text.now start stop (from + 1) before }
+    requires best { IsBest (tree expr.now) text.now start (from + 1) stop before }
     ensures passed { HasPassed expr.now root table.now text.now start stop from result }
     ensures counts { TakesAtLeast steps.old steps.new (2 * (result.place - from)) }
     ensures cost { Pays steps.old steps.new (2 * result.place + 2) (2 * from) }
@@ -285,7 +286,7 @@ fn follow_best(
     requires table { IsSingle expr.now.nodes root table.now }
     requires at { PassIsAt expr.now root table.now text.now start stop from state }
     requires inner { IsTrue inner → IsTrue (ends_of table.now.ends.items state).inner }
-    requires best { BestTo (tree expr.now) text.now start stop (from + 1) before }
+    requires best { IsBest (tree expr.now) text.now start (from + 1) stop before }
     ensures passed { HasPassed expr.now root table.now text.now start stop from result }
     ensures counts { TakesAtLeast steps.old steps.new (2 * (result.place - from)) }
     ensures cost { Pays steps.old steps.new (2 * result.place + 2) (2 * from) }
@@ -324,8 +325,8 @@ fn longest_at(
     requires order { InOrder start stop (length text.now) }
     requires state { state < table.now.count }
     requires at { StateAt expr.now.nodes text.now root (one_start start) stop table.now state }
-    requires best { BestTo (tree expr.now) text.now start stop stop before }
-    ensures best { BestTo (tree expr.now) text.now start stop (stop + 1) result }
+    requires best { IsBest (tree expr.now) text.now start stop stop before }
+    ensures best { IsBest (tree expr.now) text.now start (stop + 1) stop result }
 {
     let here = ends_at(stop, text.len(), table.ends[state]);
     better(before, stop, here)

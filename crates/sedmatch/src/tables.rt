@@ -32,7 +32,7 @@ const CELLS: usize = 4096;
 /// A full table is worth emptying if this many bytes for each state were passed by its cells since the last time.
 const WORTH: usize = 8;
 
-/// By how many bits the inverse of a number of columns is moved.
+/// By how many bits the inverse of a number of columns is shifted.
 const INVERSE_BITS: u32 = 20;
 
 /// A table for one expression.
@@ -50,7 +50,7 @@ pub struct Table {
     pub classes: Vec<u8>,
     /// How many classes there are.
     pub columns: usize,
-    /// About 2²⁰ divided by that, by which a state is told from its cells' place without a division.
+    /// About 2²⁰ divided by the number of columns: with it a state is told from its cells' place without a division.
     pub inverse: usize,
     /// By a digest of its marks, one more than the number of a state that may have them, or 0.
     pub index: Vec<u8>,
@@ -130,7 +130,7 @@ fn find_state(
     }
 }
 
-/// Makes the cells from a place on those of a state from which nothing is known yet. Counts a look for each.
+/// Clears the cells from a place on, for a state after which nothing is known yet. Counts a look for each.
 fn clear_cells(cells: &mut Vec<u16>, from: usize, count: usize, steps: &mut Steps)
     requires inside { from + count ≤ vec_len cells.old }
     ensures len { length cells.new.items ≡ length cells.old.items }

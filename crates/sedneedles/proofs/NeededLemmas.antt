@@ -1,6 +1,6 @@
 -- Literals that the spans of an expression hold.
 use Rattle.std.proofs.Common.{◌≡◌, ℕ, ◌+◌, ◌-◌, ◌<◌, ◌≤◌, ◌⊎◌, ◌↔◌, Bool, List, [], ◌∷◌, ◌++◌, length, take, drop, Option, Some, None, IsTrue, refl, sym, ap, ◌∙◌, subst, inl, inr, ⊎_elim, arith, length-append, length-drop, length-take}
-use Rattle.std.specs.Prelude.{slice_get, slice_index}
+use Rattle.std.specs.Prelude.{IfSome, slice_get, slice_index}
 use Rattle.std.proofs.lemmas.Bool.{cases_lt}
 use Rattle.std.proofs.lemmas.List.{take_rest, get_or-drop, get_or_append_left, get_or-append-add, get_or_push, get_or-take}
 use Rattle.std.proofs.lemmas.Option.{slice_get_within, get_or_from_slice_get, slice_get-get_or}
@@ -14,7 +14,7 @@ use Rattle.sedmarks.specs.Spans.{NotFound}
 use Rattle.sedmarks.specs.Reach.{At}
 use Rattle.sedmarks.specs.Beginnings.{CanBegin}
 use Rattle.sedmarks.specs.declared.beginnings.Begins.TheVariants.{WithSet}
-use Rattle.sedneedles.specs.Needed.{IsOfSet, LinksTo, BeginsAs, IsLiteral, GoesOnAs, IsUpTo, IsSole, LastLiteral, AllHold, AllEndWith, IsNeeded, FirstLiteral, Narrowed}
+use Rattle.sedneedles.specs.Needed.{IsOfSet, LinksTo, BeginsAs, IsLiteral, GoesOnAs, IsSole, LastLiteral, AllHold, AllEndWith, IsNeeded, FirstLiteral, Narrowed}
 use Rattle.sedneedles.specs.declared.needed.Needed.{Needed}
 use Rattle.sedneedles.specs.declared.needed.Literal.{Literal}
 use Rattle.sedneedles.specs.declared.needed.Link.TheVariants.{OneOf, Last, Inner}
@@ -134,8 +134,8 @@ module _ (nodes : List Node) (x : ℕ) where
       let g = second w (f.0 + length l.bytes.items) j h.0.fits there in
       (g.0, omega (arith, f.1, g.1), g.2, g.3)
 
-pub up_to_some : (x r : ℕ) (o : Option ℕ) → o ≡ Some r → IsUpTo x o → r ≤ x
-up_to_some x r o e h = subst (IsUpTo x) e h
+pub up_to_some : (x r : ℕ) (o : Option ℕ) → o ≡ Some r → IfSome o (λ y. y ≤ x) → r ≤ x
+up_to_some x r o e h = subst (λ p. IfSome p (λ y. y ≤ x)) e h
 
 module _ (w rest : List ℕ) (p : ℕ) (from : p ≤ length w) (e : rest ≡ take (length w - p) (drop p w)) (literal : List ℕ) where
   same_rest : rest ≡ drop p w

@@ -1,7 +1,7 @@
 -- Private to the proofs: no contract of a public item cites what stands here.
 -- Up to three bytes, one of which is sought.
 use Rattle.std.specs.Prelude.{Bool, ◌≡◌, ◌⊎◌, ℕ, ◌<◌, ◌≤◌, ◌↔◌, List, length, slice_get, slice_index, Option, Some, None}
-use Rattle.sedmarks.specs.Bytes.{AreBytes}
+use Rattle.sedmarks.specs.Bytes.{AreBytes, FirstFrom}
 use Rattle.sedmarks.specs.Spans.{IsIn}
 use Rattle.sedmarks.specs.Beginnings.{CanBegin}
 use Rattle.sedmarks.specs.declared.beginnings.Begins.{Begins}
@@ -24,8 +24,7 @@ FewAt few w i = (c : ℕ) × (slice_get w i ≡ Some c) × HasFew few c
 
 -- the first place from p on at which one of the few stands, if there is one
 abbrev pub FirstFew : Few → List ℕ → ℕ → Option ℕ → Type 0
-FirstFew few w p None = (k : ℕ) → p ≤ k → FewAt few w k → ⊥
-FirstFew few w p (Some k) = (p ≤ k) × FewAt few w k × ((h : ℕ) → p ≤ h → h < k → FewAt few w h → ⊥)
+FirstFew few w = FirstFrom (FewAt few w)
 
 -- the byte is one of those gathered before
 abbrev pub Gathered : Option Few → ℕ → Type 0

@@ -4,6 +4,7 @@ use Rattle.std.specs.Prelude.{◌≡◌, ℕ, ◌+◌, ◌-◌, ◌<◌, ◌≤�
 use Rattle.memchr.specs.Find.{OccursAt}
 use Rattle.sedre.specs.Tree.{Tree}
 use Rattle.sedre.specs.declared.types.Node.{Node}
+use Rattle.sedmarks.specs.Bytes.{FirstFrom}
 use Rattle.sedmarks.specs.Spans.{Spans, NotFound, IsIn}
 use Rattle.sedmarks.specs.Reach.{At}
 use Rattle.sedmarks.specs.Search.{NoneIn}
@@ -47,11 +48,6 @@ abbrev pub LastLiteral : List ℕ → List ℕ → ℕ → ℕ → Option ℕ �
 LastLiteral w literal p q None = (k : ℕ) → p ≤ k → k + length literal ≤ q → OccursAt w literal k → ⊥
 LastLiteral w literal p q (Some k) = (p ≤ k) × (k + length literal ≤ q) × OccursAt w literal k × ((h : ℕ) → k < h → h + length literal ≤ q → OccursAt w literal h → ⊥)
 
--- the rest, if there is one, is the node or stands before it
-abbrev pub IsUpTo : ℕ → Option ℕ → Type 0
-IsUpTo x None = Unit {0}
-IsUpTo x (Some y) = y ≤ x
-
 -- each span of the node x holds the literal
 abbrev pub AllHold : List Node → ℕ → List ℕ → Type 0
 AllHold nodes x literal = (w : List ℕ) (i j : ℕ) → i ≤ length w → At nodes w x i j → (k : ℕ) × (i ≤ k) × OccursAt w literal k
@@ -67,8 +63,7 @@ IsNeeded e (Some n) = (w : List ℕ) (i j : ℕ) → i ≤ length w → Spans e 
 
 -- the first place from p on at which the literal stands, if there is one
 abbrev pub FirstLiteral : List ℕ → List ℕ → ℕ → Option ℕ → Type 0
-FirstLiteral w literal p None = (k : ℕ) → p ≤ k → OccursAt w literal k → ⊥
-FirstLiteral w literal p (Some k) = (p ≤ k) × OccursAt w literal k × ((h : ℕ) → p ≤ h → h < k → OccursAt w literal h → ⊥)
+FirstLiteral w literal = FirstFrom (OccursAt w literal)
 
 -- how many bytes are passed from p to the end of the literal of m bytes, or to the end n of the text
 abbrev pub passed_to : ℕ → ℕ → ℕ → Option ℕ → ℕ

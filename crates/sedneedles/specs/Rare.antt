@@ -1,12 +1,12 @@
 -- Private to the proofs: no contract of a public item cites what stands here.
--- Few bytes of which one stands at a fixed distance after the beginning of every match.
+-- A few bytes, one of which stands at a fixed distance after the beginning of every match.
 use Rattle.std.specs.Prelude.{ℕ, ◌+◌, ◌<◌, ◌≤◌, Bool, List, Option, Some, None}
 use Rattle.sedre.specs.Tree.{Tree}
 use Rattle.sedre.specs.declared.types.Node.{Node}
 use Rattle.sedmarks.specs.Spans.{Spans}
 use Rattle.sedmarks.specs.Reach.{At}
 use Rattle.sedneedles.specs.Few.{FewAt}
-use Rattle.sedmarks.specs.Bytes.{AreBytes}
+use Rattle.sedmarks.specs.Bytes.{AreBytes, FirstFrom}
 use Rattle.sedmarks.specs.Beginnings.{CanBegin}
 use Rattle.sedmarks.specs.declared.beginnings.Begins.TheVariants.{WithSet}
 use Rattle.sedneedles.specs.declared.rare.Fixed.{Fixed}
@@ -27,8 +27,7 @@ RareAt r w i = StandsAt r.sought w i × HeldAt r.held w i
 
 -- the first place from p on after which one of the bytes stands at the distance, if there is one
 abbrev pub FirstFixed : Fixed → List ℕ → ℕ → Option ℕ → Type 0
-FirstFixed f w p None = (k : ℕ) → p ≤ k → StandsAt f w k → ⊥
-FirstFixed f w p (Some k) = (p ≤ k) × StandsAt f w k × ((h : ℕ) → p ≤ h → h < k → StandsAt f w h → ⊥)
+FirstFixed f w = FirstFrom (StandsAt f w)
 
 -- after no place from p up to but not including q one of each stands at its distance
 abbrev pub ApartIn : Fixed → Fixed → List ℕ → ℕ → ℕ → Type 0
@@ -40,8 +39,7 @@ RareNowhere r w p q = (h : ℕ) → p ≤ h → h < q → RareAt r w h → ⊥
 
 -- the first place from p on after which the rarest and the next rarest stand at their distances, if there is one
 abbrev pub FirstRare : Rare → List ℕ → ℕ → Option ℕ → Type 0
-FirstRare r w p None = (k : ℕ) → p ≤ k → RareAt r w k → ⊥
-FirstRare r w p (Some k) = (p ≤ k) × RareAt r w k × RareNowhere r w p k
+FirstRare r w = FirstFrom (RareAt r w)
 
 -- one of the bytes stands at the distance after the beginning of each span of the expression
 abbrev pub AllStand : Tree → Fixed → Type 0

@@ -4,7 +4,7 @@
 ghost use Rattle.std.specs.Prelude.{◌≡◌, ◌<◌, ◌≤◌, ◌⊎◌, length, IfOk, IfSome};
 ghost use Rattle.sedre.specs.Arena.{tree};
 ghost use Rattle.sedre.specs.Tree.{Tree};
-ghost use Rattle.sedneedles.specs.Needed.{IsOfSet, LinksTo, IsLiteral, IsSole, IsUpTo, AllHold, AllEndWith, IsNeeded, Narrowed};
+ghost use Rattle.sedneedles.specs.Needed.{IsOfSet, LinksTo, IsLiteral, IsSole, AllHold, AllEndWith, IsNeeded, Narrowed};
 ghost use Rattle.sedmarks.specs.Nodes.{IsNode};
 ghost use Rattle.sedmarks.specs.Costs.{Pays};
 ghost use Rattle.sedre.specs.Steps.{Takes, Counted};
@@ -101,7 +101,7 @@ pub fn literal_from(
 ) -> Result<Literal, AllocError>
     requires inside { IsNode expr.now.nodes from }
     ensures literal { IfOk result (λ l. IsLiteral expr.now.nodes from l) }
-    ensures up_to { IfOk result (λ l. IsUpTo from l.rest) }
+    ensures up_to { IfOk result (λ l. IfSome l.rest (λ y. y ≤ from)) }
     ensures cost { Takes steps.old steps.new 131074 }
 {
     let mut bytes = Vec::new(alloc);

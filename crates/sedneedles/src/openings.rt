@@ -1,5 +1,5 @@
-//! The first two bytes of each literal of a choice, compared with 32 places at once: at most places they tell that none
-//! of the literals stands there.
+//! The first two bytes of each literal of a choice, compared with 32 places at once: at nearly every place they tell that
+//! none of the literals stands there.
 ghost use Rattle.std.specs.Prelude.{◌≡◌, ℕ, ◌+◌, ◌^◌, ◌<◌, ◌≤◌, length, slice_get, IfOk, IfSome, Some};
 ghost use Rattle.std.specs.Int.{bit_at};
 ghost use Rattle.sedneedles.specs.Choice.{AreHeads, ChoiceAt, FirstChoice};

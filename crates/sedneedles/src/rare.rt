@@ -1,4 +1,4 @@
-//! Few bytes of which one stands at a fixed distance after the beginning of every match: the rarest are sought, the
+//! A few bytes, one of which stands at a fixed distance after the beginning of every match: the rarest are sought, the
 //! next rarest are compared with what stands there, and after them the nodes that come first in a match.
 ghost use Rattle.std.specs.Prelude.{ℕ, ◌+◌, ◌*◌, ◌<◌, ◌≤◌, ◌↔◌, ◌⊎◌, Some, length, IfSome, IsTrue};
 ghost use Rattle.sedre.specs.Arena.{tree, tree_at};
@@ -133,7 +133,7 @@ impl Rare {
         }
     }
 
-    /// A place before which, from `from` on, a match can begin nowhere, as far as vectors tell.
+    /// A place such that no match begins from `from` up to it, as far as vectors tell.
     fn pass(&self, text: &Text, from: usize, steps: &mut Steps) -> usize
         requires from { from ≤ length text.now }
         ensures after { from ≤ result }

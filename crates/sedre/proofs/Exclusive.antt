@@ -1,5 +1,6 @@
 -- A text that reads as an expression within the limits has no fault, and reads as no other.
 use Rattle.std.proofs.Common.{Bool, ◌≡◌, ℕ, zero, suc, ◌≤◌, List, [], ◌∷◌, ◌++◌, Option, Some, None, refl, ap, subst, ◌∙◌, sym, append-nil, arith}
+use Rattle.std.specs.List.{last_or}
 use Rattle.sedre.specs.declared.types.Kind.{Kind}
 use Rattle.sedre.specs.declared.types.Reason.{Reason}
 use Rattle.sedre.specs.declared.syntax.Here.TheVariants.{Is, Ends, Bad}
@@ -8,7 +9,7 @@ use Rattle.sedre.specs.declared.syntax.Item.TheVariants.{Byte, Open, Close, Bar,
 use Rattle.sedre.specs.Tree.{Tree, size, depth}
 use Rattle.sedre.specs.Repeats.{concatenation, alternation}
 use Rattle.sedre.specs.Items.{item_at}
-use Rattle.sedre.specs.Grammar.{AreAlternatives, ArePieces, IsPiece, first, another, none, more, byte, begin_anchor, end_anchor, subexpression, repeated, Cut, done, item, last_of, open_groups, ReadsAs, Row, bad, stray, unclosed, deep, large, FaultyWith}
+use Rattle.sedre.specs.Grammar.{AreAlternatives, ArePieces, IsPiece, first, another, none, more, byte, begin_anchor, end_anchor, subexpression, repeated, Cut, done, item, open_groups, ReadsAs, Row, bad, stray, unclosed, deep, large, FaultyWith}
 use Rattle.sedre.specs.Stacks.{Nesting}
 use Rattle.sedre.proofs.Complete.{alternatives_read, at as state_at}
 
@@ -64,11 +65,11 @@ module _ (kind : Kind) (folded : Bool) (delimiter : Option ℕ) (text : List ℕ
   record After (before : Option Item) (at : ℕ) (is : List Item) (to : ℕ) (js : List Item) (mid : ℕ) : Type 0 where
     pub rest : List Item
     pub whole : is ≡ js ++ rest
-    pub cut : Cut kind folded delimiter text (last_of before js) mid rest to
-    pub last : last_of before is ≡ last_of (last_of before js) rest
+    pub cut : Cut kind folded delimiter text (last_or before js) mid rest to
+    pub last : last_or before is ≡ last_or (last_or before js) rest
 
   -- a whole cut begins with each other one
-  begins : {before : Option Item} {at to mid : ℕ} {is js : List Item} → Cut kind folded delimiter text before at is to → item_at kind folded delimiter text (last_of before is) to ≡ Ends →
+  begins : {before : Option Item} {at to mid : ℕ} {is js : List Item} → Cut kind folded delimiter text before at is to → item_at kind folded delimiter text (last_or before is) to ≡ Ends →
       Cut kind folded delimiter text before at js mid → After before at is to js mid
   begins {is = is} c e done = record { rest = is; whole = refl; cut = c; last = refl }
   begins done e (item f d) = absurd cc
@@ -83,12 +84,12 @@ module _ (kind : Kind) (folded : Bool) (delimiter : Option ℕ) (text : List ℕ
       subst D same_item (record { rest = b.rest; whole = ap (λ (r : List Item). i ∷ r) b.whole; cut = b.cut; last = b.last })
 
   never_bad : {before : Option Item} {mid to : ℕ} {rest : List Item} {place : ℕ} {reason : Reason} → Cut kind folded delimiter text before mid rest to →
-      item_at kind folded delimiter text (last_of before rest) to ≡ Ends → item_at kind folded delimiter text before mid ≡ Bad (record { place = place; reason = reason }) → ⊥
+      item_at kind folded delimiter text (last_or before rest) to ≡ Ends → item_at kind folded delimiter text before mid ≡ Bad (record { place = place; reason = reason }) → ⊥
   never_bad done e f = cc
   never_bad (item g c) e f = cc
 
   closes : {before : Option Item} {mid to next : ℕ} {rest : List Item} → Cut kind folded delimiter text before mid rest to →
-      item_at kind folded delimiter text (last_of before rest) to ≡ Ends → item_at kind folded delimiter text before mid ≡ Is Close next → (more_items : List Item) × (rest ≡ Close ∷ more_items)
+      item_at kind folded delimiter text (last_or before rest) to ≡ Ends → item_at kind folded delimiter text before mid ≡ Is Close next → (more_items : List Item) × (rest ≡ Close ∷ more_items)
   closes done e f = absurd cc
   closes (item {next = n} {i = i} {is = is} g c) e f =
       let same : i ≡ Close = cc in
@@ -99,12 +100,12 @@ module _ (kind : Kind) (folded : Bool) (delimiter : Option ℕ) (text : List ℕ
   at_end done f = refl
   at_end (item g c) f = absurd cc
 
-  same_items : {before : Option Item} {at to mid : ℕ} {is js : List Item} → After before at is to js mid → item_at kind folded delimiter text (last_of before js) mid ≡ Ends → is ≡ js
+  same_items : {before : Option Item} {at to mid : ℕ} {is js : List Item} → After before at is to js mid → item_at kind folded delimiter text (last_or before js) mid ≡ Ends → is ≡ js
   same_items {js = js} b f = b.whole ∙ ap (λ (r : List Item). js ++ r) (at_end b.cut f) ∙ append-nil js
 
   -- the fault's row can't hold
   no_row : (max_nodes : ℕ) {groups to mid opened place : ℕ} {is js : List Item} {bs : List Tree} {reason : Reason} → AreAlternatives 0 is bs groups →
-      item_at kind folded delimiter text (last_of None is) to ≡ Ends → After None 0 is to js mid → open_groups 0 js ≡ Some opened →
+      item_at kind folded delimiter text (last_or None is) to ≡ Ends → After None 0 is to js mid → open_groups 0 js ≡ Some opened →
       depth (alternation bs) ≤ 600 → size (alternation bs) ≤ max_nodes → Row kind folded delimiter text max_nodes js opened mid place reason → ⊥
   no_row max_nodes {to = to} {is = is} {js = js} a e b balanced shallow small (bad f) =
       never_bad b.cut (ap (λ (x : Option Item). item_at kind folded delimiter text x to) (sym b.last) ∙ e) f

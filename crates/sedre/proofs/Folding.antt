@@ -1,6 +1,7 @@
 -- What is a fault doesn't depend on whether case is folded: items and trees are the same but for the sets in them.
 use Rattle.std.proofs.Common.{◌≡◌, ◌⊎◌, inl, inr, ℕ, zero, suc, ◌+◌, ◌-◌, false, Bool, List, [], ◌∷◌, ◌++◌, drop, Option, Some, None, Ok, Err, refl, ap, subst, sym, ◌∙◌, arith}
 use Rattle.std.specs.Prelude.{nat_eq}
+use Rattle.std.specs.List.{last_or}
 use Rattle.sedre.specs.declared.types.Kind.{Kind}
 use Rattle.sedre.specs.declared.types.Reason.{Reason}
 use Rattle.sedre.specs.declared.types.ExprFault.{ExprFault}
@@ -17,7 +18,7 @@ use Rattle.sedre.specs.Repeats.{concatenation, alternation, copies, optional, fu
 use Rattle.sedre.specs.Brackets.{ListedBytes, judged, list_at, listed, items_from, is_negated}
 use Rattle.sedre.specs.Symbols.{symbol}
 use Rattle.sedre.specs.Items.{item_at, item_for, list_item}
-use Rattle.sedre.specs.Grammar.{AreAlternatives, ArePieces, IsPiece, first, another, none, more, byte, begin_anchor, end_anchor, subexpression, repeated, Cut, done, item, last_of, open_groups, Row, bad, stray, unclosed, deep, large, FaultyWith}
+use Rattle.sedre.specs.Grammar.{AreAlternatives, ArePieces, IsPiece, first, another, none, more, byte, begin_anchor, end_anchor, subexpression, repeated, Cut, done, item, open_groups, Row, bad, stray, unclosed, deep, large, FaultyWith}
 
 -- ---- trees
 
@@ -263,7 +264,7 @@ module _ (kind : Kind) (f g : Bool) (delimiter : Option ℕ) (text : List ℕ) w
     pub items : List Item
     pub cut : Cut kind g delimiter text after at items to
     pub alike : Alike is items
-    pub last : AlikeBefore (last_of before is) (last_of after items)
+    pub last : AlikeBefore (last_or before is) (last_or after items)
 
   cut_alike : {before after : Option Item} {at to : ℕ} {is : List Item} → Cut kind f delimiter text before at is to → AlikeBefore before after → CutAlike before after at is to
   cut_alike done b = record { items = []; cut = done; alike = empty; last = b }
@@ -272,7 +273,7 @@ module _ (kind : Kind) (f g : Bool) (delimiter : Option ℕ) (text : List ℕ) w
       let r = cut_alike c (there h.2) in
       record { items = h.0 ∷ r.items; cut = item h.1 r.cut; alike = next h.2 r.alike; last = r.last }
 
-  row_alike : {max_nodes opened to place : ℕ} {reason : Reason} {is js : List Item} → Alike is js → AlikeBefore (last_of None is) (last_of None js) →
+  row_alike : {max_nodes opened to place : ℕ} {reason : Reason} {is js : List Item} → Alike is js → AlikeBefore (last_or None is) (last_or None js) →
       Row kind f delimiter text max_nodes is opened to place reason → Row kind g delimiter text max_nodes js opened to place reason
   row_alike {to = to} a b (bad e) = bad (bad_alike (here_alike to b) e)
   row_alike {to = to} a b (stray {next = n} e) =

@@ -1,5 +1,6 @@
 -- A text has one first fault at most.
 use Rattle.std.proofs.Common.{Bool, ◌≡◌, ℕ, ◌⊎◌, inl, inr, List, [], ◌∷◌, ◌++◌, Option, Some, None, refl, ap, subst, ◌∙◌, sym, append-nil, arith}
+use Rattle.std.specs.List.{last_or}
 use Rattle.sedre.specs.declared.types.Kind.{Kind}
 use Rattle.sedre.specs.declared.types.Reason.{Reason}
 use Rattle.sedre.specs.declared.types.ExprFault.{ExprFault}
@@ -9,7 +10,7 @@ use Rattle.sedre.specs.declared.syntax.Item.{Item}
 use Rattle.sedre.specs.declared.syntax.Item.TheVariants.{Close}
 use Rattle.sedre.specs.Tree.{Tree, depth}
 use Rattle.sedre.specs.Repeats.{alternation}
-use Rattle.sedre.specs.Grammar.{AreAlternatives, Cut, done, item, last_of, open_groups, Row, bad, stray, unclosed, deep, large, FaultyWith}
+use Rattle.sedre.specs.Grammar.{AreAlternatives, Cut, done, item, open_groups, Row, bad, stray, unclosed, deep, large, FaultyWith}
 use Rattle.sedre.proofs.Exclusive.{one_reading, go_on, open-append}
 
 -- the place and the reason that both have
@@ -55,7 +56,7 @@ module _ (kind : Kind) (folded : Bool) (delimiter : Option ℕ) (text : List ℕ
   record After (before : Option Item) (is : List Item) (to : ℕ) (js : List Item) (mid : ℕ) : Type 0 where
     pub rest : List Item
     pub whole : is ≡ js ++ rest
-    pub cut : Cut kind folded delimiter text (last_of before js) mid rest to
+    pub cut : Cut kind folded delimiter text (last_or before js) mid rest to
 
   -- of two cuts from one place one goes on after the other
   either : {before : Option Item} {at to mid : ℕ} {is js : List Item} → Cut kind folded delimiter text before at is to → Cut kind folded delimiter text before at js mid →
@@ -75,7 +76,7 @@ module _ (kind : Kind) (folded : Bool) (delimiter : Option ℕ) (text : List ℕ
       ])
 
   -- no balanced cut goes on after a fault
-  row_ends : {o n mid to p : ℕ} {js rest : List Item} {r : Reason} → Row kind folded delimiter text max_nodes js o mid p r → Cut kind folded delimiter text (last_of None js) mid rest to →
+  row_ends : {o n mid to p : ℕ} {js rest : List Item} {r : Reason} → Row kind folded delimiter text max_nodes js o mid p r → Cut kind folded delimiter text (last_or None js) mid rest to →
       open_groups o rest ≡ Some n → (rest ≡ []) × (to ≡ mid)
   row_ends w done h = (refl, refl)
   row_ends (bad f) (item g c) h = absurd cc

@@ -1,5 +1,6 @@
 -- A fault is told in the text or at its end.
 use Rattle.std.proofs.Common.{◌≡◌, ℕ, zero, suc, ◌+◌, ◌-◌, ◌<◌, ◌≤◌, List, [], ◌∷◌, length, drop, Bool, true, false, not, ◌&&◌, ◌==◌, nat_le, if◌then◌else◌, Option, Some, None, Result, Ok, Err, IfErr, refl, ap, subst, arith, length-drop}
+use Rattle.std.specs.List.{last_or}
 use Rattle.sedre.specs.declared.types.Kind.{Kind}
 use Rattle.sedre.specs.declared.types.Kind.TheVariants.{Basic, Extended}
 use Rattle.sedre.specs.declared.types.Reason.{Reason}
@@ -17,7 +18,7 @@ use Rattle.sedre.specs.Brackets.{items, item, items_from, is_negated, is_dash, g
 use Rattle.sedre.specs.Intervals.{interval}
 use Rattle.sedre.specs.Symbols.{symbol}
 use Rattle.sedre.specs.Items.{is_first, is_repeatable, is_repeat, ends_alternative, repeats, interval_item, list_item, star_item, question_item, caret_item, dollar_item, item_for, item_at}
-use Rattle.sedre.specs.Grammar.{last_of, Row, bad, stray, unclosed, deep, large, FaultyWith}
+use Rattle.sedre.specs.Grammar.{Row, bad, stray, unclosed, deep, large, FaultyWith}
 
 -- the items of a list stand up to a place
 abbrev StandUpTo : ℕ → List (ℕ × Element) → Type 0
@@ -176,8 +177,8 @@ module _ (kind : Kind) (folded : Bool) (delimiter : Option ℕ) (text : List ℕ
   item_here before at = rest_here before at (drop at text) refl
 
   row_within : (max_nodes : ℕ) {is : List Item} {opened to place : ℕ} {reason : Reason} → Row kind folded delimiter text max_nodes is opened to place reason → place ≤ length text
-  row_within max_nodes (bad {is = is} {to = to} e) = subst (HereUpTo (length text) to) e (item_here (last_of None is) to)
-  row_within max_nodes (stray {is = is} {to = to} e) = subst (HereUpTo (length text) to) e (item_here (last_of None is) to)
+  row_within max_nodes (bad {is = is} {to = to} e) = subst (HereUpTo (length text) to) e (item_here (last_or None is) to)
+  row_within max_nodes (stray {is = is} {to = to} e) = subst (HereUpTo (length text) to) e (item_here (last_or None is) to)
   row_within max_nodes (unclosed e) = omega arith
   row_within max_nodes (deep bs e a far) = omega arith
   row_within max_nodes (large bs e a near far) = omega arith

@@ -1,5 +1,6 @@
 -- What a reader has read so far.
 use Rattle.std.proofs.Common.{Bool, ◌≡◌, ◌≢◌, ℕ, suc, ◌<◌, ◌≤◌, List, [], ◌∷◌, ◌++◌, length, true, Option, Some, None, refl, ap, subst, ◌∙◌, arith}
+use Rattle.std.specs.List.{last_or}
 use Rattle.sedre.specs.declared.types.Kind.{Kind}
 use Rattle.sedre.specs.declared.types.Reason.{Reason}
 use Rattle.sedre.specs.declared.types.Reason.TheVariants.{StrayClose, OpenGroup, TooDeep, TooManyNodes}
@@ -9,7 +10,7 @@ use Rattle.sedre.specs.declared.syntax.Item.TheVariants.{Byte, Open, Close, Bar,
 use Rattle.sedre.specs.Tree.{Tree, set, size, depth}
 use Rattle.sedre.specs.Repeats.{alternation, repetition}
 use Rattle.sedre.specs.Items.{item_at, is_repeatable}
-use Rattle.sedre.specs.Grammar.{none, byte, begin_anchor, end_anchor, Cut, done, item, last_of, open_groups, ReadsAs, bad, stray, unclosed, deep, large, FaultyWith}
+use Rattle.sedre.specs.Grammar.{none, byte, begin_anchor, end_anchor, Cut, done, item, open_groups, ReadsAs, bad, stray, unclosed, deep, large, FaultyWith}
 use Rattle.sedre.specs.Stacks.{Level, Nesting, start, step, with_last, all_alternatives}
 use Rattle.sedre.proofs.Sound.{Stands, base, only as only_pieces, stands_piece, stands_bar, stands_repeat, stands_open, stands_close, stands_whole}
 use Rattle.sedre.proofs.Exclusive.{open-append, go_on}
@@ -19,7 +20,7 @@ use Rattle.sedre.proofs.Repeating.{repeat_follows}
 pub record Reading (kind : Kind) (folded : Bool) (delimiter : Option ℕ) (text : List ℕ) (before : Option Item) (at : ℕ) (s : Nesting) : Type 0 where
   pub items : List Item
   pub cut : Cut kind folded delimiter text None 0 items at
-  pub last : last_of None items ≡ before
+  pub last : last_or None items ≡ before
   pub balanced : open_groups 0 items ≡ Some (length s.below)
   pub stands : Stands items s.opened s.top s.below
   pub ready : is_repeatable before ≡ true → s.top.pieces ≢ []
@@ -28,11 +29,11 @@ pub reading_start : (kind : Kind) (folded : Bool) (delimiter : Option ℕ) (text
 reading_start kind folded delimiter text = record { items = []; cut = done; last = refl; balanced = refl; stands = base (only_pieces none); ready = λ h. absurd cc }
 
 pub cut-snoc : {kind : Kind} {folded : Bool} {delimiter : Option ℕ} {text : List ℕ} {before : Option Item} {at to next : ℕ} {is : List Item} {i : Item} →
-    Cut kind folded delimiter text before at is to → item_at kind folded delimiter text (last_of before is) to ≡ Is i next → Cut kind folded delimiter text before at (is ++ i ∷ []) next
+    Cut kind folded delimiter text before at is to → item_at kind folded delimiter text (last_or before is) to ≡ Is i next → Cut kind folded delimiter text before at (is ++ i ∷ []) next
 cut-snoc done f = item f done
 cut-snoc (item g c) f = item g (cut-snoc c f)
 
-last-snoc : (before : Option Item) (is : List Item) (i : Item) → last_of before (is ++ i ∷ []) ≡ Some i
+last-snoc : (before : Option Item) (is : List Item) (i : Item) → last_or before (is ++ i ∷ []) ≡ Some i
 last-snoc before [] i = refl
 last-snoc before (j ∷ is) i = last-snoc (Some j) is i
 
@@ -50,14 +51,14 @@ module _ (kind : Kind) (folded : Bool) (delimiter : Option ℕ) (text : List ℕ
   pub reading_step : {before : Option Item} {at next : ℕ} {i : Item} {s : Nesting} → Reading kind folded delimiter text before at s →
       item_at kind folded delimiter text before at ≡ Is i next → (i ≡ Close → s.below ≢ []) → Reading kind folded delimiter text (Some i) next (step i s)
   reading_step {before = before} {at = at} {next = next} {i = i} {s = s} r f closes =
-      let f' : item_at kind folded delimiter text (last_of None r.items) at ≡ Is i next = ap (λ (x : Option Item). item_at kind folded delimiter text x at) r.last ∙ f in
+      let f' : item_at kind folded delimiter text (last_or None r.items) at ≡ Is i next = ap (λ (x : Option Item). item_at kind folded delimiter text x at) r.last ∙ f in
       let c = cut-snoc r.cut f' in
       let l = last-snoc None r.items i in
       let o : open_groups 0 (r.items ++ i ∷ []) ≡ open_groups (length s.below) (i ∷ []) =
       open-append 0 r.items (i ∷ []) ∙ ap (λ (x : Option ℕ). go_on x (i ∷ [])) r.balanced in
       by_item i s r.items f closes c l o r.stands r.ready
     where
-      closing : (opened : ℕ) (top : Level) (below : List Level) (is : List Item) → below ≢ [] → Cut kind folded delimiter text None 0 (is ++ Close ∷ []) next → last_of None (is ++ Close ∷ []) ≡ Some Close →
+      closing : (opened : ℕ) (top : Level) (below : List Level) (is : List Item) → below ≢ [] → Cut kind folded delimiter text None 0 (is ++ Close ∷ []) next → last_or None (is ++ Close ∷ []) ≡ Some Close →
           open_groups 0 (is ++ Close ∷ []) ≡ open_groups (length below) (Close ∷ []) → Stands is opened top below →
           Reading kind folded delimiter text (Some Close) next (step Close (record { opened = opened; top = top; below = below }))
       closing opened top [] is ne c l o st = absurd (ne refl)
@@ -65,7 +66,7 @@ module _ (kind : Kind) (folded : Bool) (delimiter : Option ℕ) (text : List ℕ
           record { items = is ++ Close ∷ []; cut = c; last = l; balanced = o; stands = stands_close st; ready = λ _. not_empty k.pieces _ }
 
       by_item : (i : Item) (s : Nesting) (is : List Item) → item_at kind folded delimiter text before at ≡ Is i next → (i ≡ Close → s.below ≢ []) →
-          Cut kind folded delimiter text None 0 (is ++ i ∷ []) next → last_of None (is ++ i ∷ []) ≡ Some i → open_groups 0 (is ++ i ∷ []) ≡ open_groups (length s.below) (i ∷ []) →
+          Cut kind folded delimiter text None 0 (is ++ i ∷ []) next → last_or None (is ++ i ∷ []) ≡ Some i → open_groups 0 (is ++ i ∷ []) ≡ open_groups (length s.below) (i ∷ []) →
           Stands is s.opened s.top s.below → (is_repeatable before ≡ true → s.top.pieces ≢ []) → Reading kind folded delimiter text (Some i) next (step i s)
       by_item (Byte members) s is f closes c l o st ready = record { items = is ++ Byte members ∷ []; cut = c; last = l; balanced = o; stands = stands_piece st byte; ready = λ _. not_empty s.top.pieces (set members) }
       by_item Open s is f closes c l o st ready = record { items = is ++ Open ∷ []; cut = c; last = l; balanced = o; stands = stands_open st; ready = λ h. absurd cc }
@@ -109,7 +110,7 @@ module _ (kind : Kind) (folded : Bool) (delimiter : Option ℕ) (text : List ℕ
       let f' = ap (λ (x : Option Item). item_at kind folded delimiter text x at) r.last ∙ f in
       by_levels s.below r.balanced more_than f'
     where
-      by_levels : (ls : List Level) → open_groups 0 r.items ≡ Some (length ls) → 0 < length ls → item_at kind folded delimiter text (last_of None r.items) at ≡ Ends → FaultyWith kind folded delimiter text max_nodes (length text) OpenGroup
+      by_levels : (ls : List Level) → open_groups 0 r.items ≡ Some (length ls) → 0 < length ls → item_at kind folded delimiter text (last_or None r.items) at ≡ Ends → FaultyWith kind folded delimiter text max_nodes (length text) OpenGroup
       by_levels [] o h g = absurd (omega (arith, h))
       by_levels (k ∷ ks) o h g = record { items = r.items; to = at; cut = r.cut; opened = suc (length ks); balanced = o; row = unclosed g }
 

@@ -22,21 +22,20 @@ is_delimiter (Some d) b = d == b
 
 -- how many bytes stand before the first c with a ] after it
 abbrev pub before_closing : ℕ → List ℕ → Option ℕ
-before_closing c [] = None
-before_closing c (x ∷ []) = None
 before_closing c (x ∷ y ∷ rest) =
     if x == c && y == 93 then Some 0 else option_map (λ n. n + 1) (before_closing c (y ∷ rest))
+before_closing c left = None
 
--- what a form holds, from the bytes after its opening: at least one byte, so that [.].] and [=]=] name ]
+-- what a form holds, from the bytes after its opening: at least one byte, so that [.].] and [=]=] name ]. A backslash and
+-- the delimiter are two bytes there (both this project's own)
 abbrev pub content : ℕ → List ℕ → Option (List ℕ)
 content c [] = None
 content c (x ∷ rest) = option_map (λ n. x ∷ take n rest) (before_closing c rest)
 
 -- [=x=] and [.x.] hold one byte: each collating element of the POSIX locale is one (XBD 7.3.2)
 abbrev pub of_one : List ℕ → (ℕ → Element) → Element
-of_one [] make = Wrong LongCollating
 of_one (x ∷ []) make = make x
-of_one (x ∷ y ∷ rest) make = Wrong LongCollating
+of_one held make = Wrong LongCollating
 
 -- [:name:] names a class
 abbrev pub of_class : Option Class → Element
@@ -84,9 +83,8 @@ is_dash element = false
 
 -- whether what stands after a range goes on as another one, as in a-c-e
 abbrev pub goes_on : List (ℕ × Element) → Bool
-goes_on [] = false
-goes_on (x ∷ []) = false
 goes_on (x ∷ y ∷ rest) = is_dash x.1
+goes_on left = false
 
 -- the bytes that some items list, or their first fault
 abbrev pub ListedBytes : Type 0
@@ -115,10 +113,9 @@ end_of element = None
 -- a range between two ends, by byte value (XBD 9.3.5, 7); `on`: it goes on as another one, which is refused: this
 -- project's own
 abbrev pub between_ends : (place : ℕ) → Option ℕ → Option ℕ → (on : Bool) → ListedBytes
-between_ends place None last on = fault place BadRange
-between_ends place (Some a) None on = fault place BadRange
 between_ends place (Some a) (Some b) on =
     if nat_le a b && not on then Ok (set_of (between a b)) else fault place BadRange
+between_ends place first last on = fault place BadRange
 
 -- a range from an end at a place to its last item, whose own fault comes before that of the range
 abbrev pub range_to : (place : ℕ) → Option ℕ → ℕ × Element → (on : Bool) → ListedBytes

@@ -1,6 +1,7 @@
 -- The grammar of expressions over items (XBD 9.5.2, 9.5.3): a text is alternatives, an alternative is pieces, a piece
 -- is an atom with its repetitions; and the first fault of a text that is none.
 use Rattle.std.specs.Prelude.{◌≡◌, ℕ, zero, suc, List, [], ◌∷◌, ◌++◌, length, ◌<◌, ◌≤◌, Bool, false, Option, Some, None}
+use Rattle.std.specs.List.{last_or}
 use Rattle.sedre.specs.declared.syntax.Item.{Item}
 use Rattle.sedre.specs.declared.syntax.Item.TheVariants.{Byte, Open, Close, Bar, Repeat, AtBegin, AtEnd}
 use Rattle.sedre.specs.declared.types.Kind.{Kind}
@@ -35,6 +36,7 @@ mutual
     end_anchor : {g : ℕ} → IsPiece g (AtEnd ∷ []) end g
     subexpression : {g h : ℕ} {is : List Item} {bs : List Tree} →
         AreAlternatives (suc g) is bs h → IsPiece g (Open ∷ is ++ Close ∷ []) (group (suc g) (alternation bs)) h
+    -- the groups of what is repeated count, also where no copy of it is left (this project's own)
     repeated : {g h : ℕ} (least : ℕ) (most : Option ℕ) {is : List Item} {t : Tree} →
         IsPiece g is t h → IsPiece g (is ++ Repeat least most ∷ []) (repetition least most t) h
 
@@ -45,11 +47,6 @@ pub data Cut (kind : Kind) (folded : Bool) (delimiter : Option ℕ) (text : List
   item : {before : Option Item} {at next to : ℕ} {i : Item} {is : List Item} →
       item_at kind folded delimiter text before at ≡ Is i next → Cut kind folded delimiter text (Some i) next is to →
       Cut kind folded delimiter text before at (i ∷ is) to
-
--- the last item, or the one before where there is none
-abbrev pub last_of : Option Item → List Item → Option Item
-last_of before [] = before
-last_of before (i ∷ is) = last_of (Some i) is
 
 -- how many groups are open after the items, where each closing has its opening
 abbrev pub open_groups : ℕ → List Item → Option ℕ
@@ -65,7 +62,7 @@ pub record ReadsAs (kind : Kind) (folded : Bool) (delimiter : Option ℕ) (text 
   pub items : List Item
   pub to : ℕ
   pub cut : Cut kind folded delimiter text None 0 items to
-  pub ends : item_at kind folded delimiter text (last_of None items) to ≡ Ends
+  pub ends : item_at kind folded delimiter text (last_or None items) to ≡ Ends
   pub alternatives : List Tree
   pub grammar : AreAlternatives 0 items alternatives groups
   pub is : alternation alternatives ≡ e
@@ -76,24 +73,24 @@ pub data Row (kind : Kind) (folded : Bool) (delimiter : Option ℕ) (text : List
     List Item → (opened to place : ℕ) → Reason → Type 0 where
   -- the next item is none
   bad : {is : List Item} {opened to place : ℕ} {reason : Reason} →
-      item_at kind folded delimiter text (last_of None is) to ≡ Bad (record { place = place; reason = reason }) →
+      item_at kind folded delimiter text (last_or None is) to ≡ Bad (record { place = place; reason = reason }) →
       Row kind folded delimiter text max_nodes is opened to place reason
   -- a group closes where none is open (in an extended expression this project's own)
   stray : {is : List Item} {to next : ℕ} →
-      item_at kind folded delimiter text (last_of None is) to ≡ Is Close next →
+      item_at kind folded delimiter text (last_or None is) to ≡ Is Close next →
       Row kind folded delimiter text max_nodes is 0 to to StrayClose
   -- the text ends and a group is open
   unclosed : {is : List Item} {opened to : ℕ} →
-      item_at kind folded delimiter text (last_of None is) to ≡ Ends →
+      item_at kind folded delimiter text (last_or None is) to ≡ Ends →
       Row kind folded delimiter text max_nodes is (suc opened) to (length text) OpenGroup
   -- the expression is too deep
   deep : {is : List Item} {to groups : ℕ} (bs : List Tree) →
-      item_at kind folded delimiter text (last_of None is) to ≡ Ends → AreAlternatives 0 is bs groups →
+      item_at kind folded delimiter text (last_or None is) to ≡ Ends → AreAlternatives 0 is bs groups →
       600 < depth (alternation bs) →
       Row kind folded delimiter text max_nodes is 0 to (length text) TooDeep
   -- it isn't, and has too many nodes
   large : {is : List Item} {to groups : ℕ} (bs : List Tree) →
-      item_at kind folded delimiter text (last_of None is) to ≡ Ends → AreAlternatives 0 is bs groups →
+      item_at kind folded delimiter text (last_or None is) to ≡ Ends → AreAlternatives 0 is bs groups →
       depth (alternation bs) ≤ 600 → max_nodes < size (alternation bs) →
       Row kind folded delimiter text max_nodes is 0 to (length text) TooManyNodes
 

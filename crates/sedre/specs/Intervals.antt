@@ -26,7 +26,7 @@ abbrev pub begins : List ℕ → ℕ → Bool
 begins [] b = false
 begins (c ∷ rest) b = c == b
 
--- whether the interval closes at the front, by } or \}; a backslash and the delimiter are no closing
+-- whether the interval closes at the front, by } or \}; a backslash and the delimiter are no closing (this project's own)
 abbrev pub closes : Kind → Option ℕ → List ℕ → Bool
 closes Basic delimiter front = begins front 92 && begins (drop 1 front) 125 && not (is_delimiter delimiter 125)
 closes Extended delimiter front = begins front 125
@@ -46,7 +46,7 @@ limit kind delimiter least digits front (Some (most, more)) =
     if closes kind delimiter (drop more front) && nat_le least most
     then bounds least (Some most) (digits + 1 + more + closing_width kind) else None
 
--- after the first number
+-- after the first number; without one there is no interval (this project's own)
 abbrev pub after_least : Kind → Option ℕ → List ℕ → Option (ℕ × ℕ) → Option Interval
 after_least kind delimiter front None = None
 after_least kind delimiter front (Some (least, digits)) =

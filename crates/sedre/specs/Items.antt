@@ -40,7 +40,7 @@ abbrev pub is_repeat : Option Item → Bool
 is_repeat (Some (Repeat least most)) = true
 is_repeat before = false
 
--- whether the text, a group or an alternative ends at the front
+-- whether the text, a group or an alternative ends at the front. An escaped delimiter ends none (this project's own)
 abbrev pub ends_alternative : Option (Symbol × ℕ) → Bool
 ends_alternative None = true
 ends_alternative (Some (Closing, n)) = true

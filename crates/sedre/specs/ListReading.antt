@@ -1,6 +1,6 @@
 -- Private to the proofs: no contract of a public item cites what stands here.
 -- What the reader of bracket expressions sees of what is left of a text.
-use Rattle.std.specs.Prelude.{ℕ, ◌+◌, List, [], ◌∷◌, drop, Bool, false, not, slice_index_or, ◌&&◌, ◌==◌, Option, Result}
+use Rattle.std.specs.Prelude.{ℕ, ◌+◌, List, ◌∷◌, drop, Bool, false, not, slice_index_or, ◌&&◌, ◌==◌, Option, Result}
 use Rattle.std.specs.Prelude.{Ok, Err, if◌then◌else◌}
 use Rattle.sedre.specs.Brackets.{item, single, range, ListedBytes, is_negated}
 use Rattle.sedre.specs.declared.types.ExprFault.{ExprFault}
@@ -8,9 +8,8 @@ use Rattle.sedre.specs.declared.byte_set.ByteSet.{ByteSet}
 
 -- whether - and the beginning of a further item stand at the front
 abbrev pub is_range : List ℕ → Bool
-is_range [] = false
-is_range (b ∷ []) = false
 is_range (b ∷ c ∷ rest) = b == 45 && not (c == 93)
+is_range left = false
 
 -- what an item or a range lists, and the place after it
 abbrev pub located : ℕ → ListedBytes → Result (ByteSet × ℕ) ExprFault

@@ -61,7 +61,8 @@ escaped Basic b =
 escaped Extended b = escaped_literal b
 
 -- the symbol at the front of what is left of a text, and how many bytes it has; a backslash and the delimiter are
--- the delimiter itself (XCU sed, "Regular Expressions in sed"). That one at the end is refused is this project's own
+-- the delimiter itself (XCU sed, "Regular Expressions in sed"). That a backslash at the end is refused, and that the delimiter
+-- without one keeps its meaning, is this project's own
 abbrev pub symbol : Kind → Option ℕ → List ℕ → Option (Symbol × ℕ)
 symbol kind delimiter [] = None
 symbol kind delimiter (b ∷ []) = Some (if b == 92 then (Unknown LastBackslash, 1) else (alone kind b, 1))

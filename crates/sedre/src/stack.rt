@@ -22,13 +22,6 @@ fn sum_within(a: usize, b: usize, limit: usize) -> usize
     }
 }
 
-/// The larger of two numbers.
-fn larger(a: usize, b: usize) -> usize
-    ensures { result ≡ max a b }
-{
-    if a < b { b } else { a }
-}
-
 /// One level deeper, up to 601.
 fn deeper(a: usize) -> usize
     ensures { result ≡ min 600 a + 1 }
@@ -137,10 +130,10 @@ impl Stack {
         let left = self.parts.pop().unwrap();
         let (first, second) = (root_at(left.end), root_at(right.end));
         if alternatives {
-            let depth = larger(left.depth, right.inner);
+            let depth = left.depth.max(right.inner);
             self.put(Node::Alt(first, second), right.end, deeper(depth), depth)
         } else {
-            let depth = larger(left.depth, right.depth);
+            let depth = left.depth.max(right.depth);
             self.put(Node::Seq(first, second), right.end, depth, depth)
         }
     }

@@ -1,7 +1,8 @@
 use Rattle.std.proofs.Common.{◌≡◌, ◌+◌, ◌≤◌, ◌∙◌, IfSome, length, refl, subst, sym, arith, rules, true≢false}
+use Rattle.std.specs.Prelude.{unwrap_or}
 use Rattle.sedre.specs.Arena.{tree}
 use Rattle.sedmarks.specs.Reach.{one_start, Entered, LongestBelow, Marked, Below}
-use Rattle.sedmatch.specs.BackPass.{met_to, EndsLaterFrom, blocks_cost}
+use Rattle.sedmatch.specs.BackPass.{EndsLaterFrom, blocks_cost}
 use Rattle.sedmarks.proofs.SearchLemmas.{none_entered, next_entered, LongestBelow-none, Longest-from_below}
 use Rattle.sedmatch.proofs.BackPassLemmas.{met_reached, met_from, met_cost, goes_end, best_hit, best_miss, best_all}
 use Rattle.sedmatch.proofs.back_pass.longest_met.Goals.{then-here, else-here}
@@ -43,13 +44,13 @@ returns-then-not-goes_on-clause-served c =
     let start = c.args.start in
     let place = c.loop-place.place in
     let order : start ≤ place = omega (arith, c.loop-place.auto.place) in
-    let end : place ≤ met_to start c.if-here.best = (elim c.if-here.branch [
-      | then-here w ↦ subst (λ b. place ≤ met_to start b) (sym w.best-is) (omega arith)
+    let end : place ≤ unwrap_or c.if-here.best start = (elim c.if-here.branch [
+      | then-here w ↦ subst (λ b. place ≤ unwrap_or b start) (sym w.best-is) (omega arith)
       | else-here w ↦
           let same : place ≡ start = met_reached c.args.expr.now.nodes c.args.text.now c.args.root start place c.advance_from-here.result.matched order c.loop-place.invariant.ahead
           (λ h. true≢false (sym (c.goes_on.ensures.goes.1 h) ∙ c.if-not-goes_on.true)) c.advance_from-here.ensures.spans w.if-here.false in
           let from = met_from start (length c.args.text.now) c.loop-place.best c.loop-place.invariant.lies in
-          subst (λ b. place ≤ met_to start b) (sym w.best-is) (omega arith)
+          subst (λ b. place ≤ unwrap_or b start) (sym w.best-is) (omega arith)
     ]) in
     (c.goes_on.ensures.served.0, omega (arith, c.goes_on.ensures.served.1))
 
@@ -59,15 +60,15 @@ returns-then-not-goes_on-clause-cost c =
     let place = c.loop-place.place in
     let m = length c.args.expr.now.nodes in
     let order : start ≤ place = omega (arith, c.loop-place.auto.place) in
-    let end : place ≤ met_to start c.if-here.best = (elim c.if-here.branch [
-      | then-here w ↦ subst (λ b. place ≤ met_to start b) (sym w.best-is) (omega arith)
+    let end : place ≤ unwrap_or c.if-here.best start = (elim c.if-here.branch [
+      | then-here w ↦ subst (λ b. place ≤ unwrap_or b start) (sym w.best-is) (omega arith)
       | else-here w ↦
           let same : place ≡ start = met_reached c.args.expr.now.nodes c.args.text.now c.args.root start place c.advance_from-here.result.matched order c.loop-place.invariant.ahead
           (λ h. true≢false (sym (c.goes_on.ensures.goes.1 h) ∙ c.if-not-goes_on.true)) c.advance_from-here.ensures.spans w.if-here.false in
           let from = met_from start (length c.args.text.now) c.loop-place.best c.loop-place.invariant.lies in
-          subst (λ b. place ≤ met_to start b) (sym w.best-is) (omega arith)
+          subst (λ b. place ≤ unwrap_or b start) (sym w.best-is) (omega arith)
     ]) in
-    let paid = met_cost m start place (met_to start c.if-here.best) (blocks_cost m c.goes_on.new.back_pass) (blocks_cost m c.args.back_pass.now) c.args.steps.now c.goes_on.new.steps (omega arith) end in
+    let paid = met_cost m start place (unwrap_or c.if-here.best start) (blocks_cost m c.goes_on.new.back_pass) (blocks_cost m c.args.back_pass.now) c.args.steps.now c.goes_on.new.steps (omega arith) end in
     (omega arith, omega (arith, paid))
 
 pub loop-place-preserved : goal.loop-place-preserved
