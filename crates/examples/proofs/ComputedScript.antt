@@ -19,7 +19,7 @@ use Rattle.sedscript.specs.Expressions.{IsRead, in_script, Gives, value, after_e
 use Rattle.sedscript.specs.Items.{item_at}
 use Rattle.sedscript.specs.Files.{files_in}
 use Rattle.sedscript.specs.Targets.{target_fault}
-use Rattle.sedscript.specs.Script.{Program, Cut, done, IsEnd, texts_of, none_counted, substitutions_of, tables_of, commands_of, is_quiet, Means, Faulty, early, afterwards}
+use Rattle.sedscript.specs.Script.{Program, CutScript, done, IsEnd, texts_of, none_counted, substitutions_of, tables_of, commands_of, is_quiet, Means, Faulty, early, afterwards}
 use Rattle.sedscript.proofs.Cuts.{cut_more}
 
 -- what reading comes to: expressions and a value, or a fault
@@ -147,14 +147,14 @@ module _ (text : List ℕ) (kind : Kind) (max_nodes : ℕ) where
 
   -- what they say where cutting comes to this
   abbrev pub CutsTo : Cutting → Type 0
-  CutsTo (cut_to is es at) = Cut text kind max_nodes 0 0 is es at × IsEnd text at
+  CutsTo (cut_to is es at) = CutScript text kind max_nodes 0 0 is es at × IsEnd text at
   CutsTo (stopped f) = Faulty text kind max_nodes f
   CutsTo endless = Unit {0}
 
   met_cuts : (rest : Item → List Written → ℕ → Cutting) (is : List Item) (es : List Written) (at : ℕ) (here : Found Here)
-      (byte : Option ℕ) → Cut text kind max_nodes 0 0 is es at → Says (item_at text (length es) at) here →
+      (byte : Option ℕ) → CutScript text kind max_nodes 0 0 is es at → Says (item_at text (length es) at) here →
       slice_get text (past Separator text at) ≡ byte →
-      ((i : Item) (fs : List Written) (next : ℕ) → Cut text kind max_nodes 0 0 (is ++ i ∷ []) (es ++ fs) next →
+      ((i : Item) (fs : List Written) (next : ℕ) → CutScript text kind max_nodes 0 0 (is ++ i ∷ []) (es ++ fs) next →
       CutsTo (rest i fs next)) →
       CutsTo (met rest is es at here byte)
   met_cuts rest is es at here None c h e on = (c, e)
@@ -164,7 +164,7 @@ module _ (text : List ℕ) (kind : Kind) (max_nodes : ℕ) where
   met_cuts rest is es at (failed f) (Some b) c h e on = early is es at c h
   met_cuts rest is es at unsettled (Some b) c h e on = tt
 
-  cutting_cuts : (n : ℕ) (is : List Item) (es : List Written) (at : ℕ) → Cut text kind max_nodes 0 0 is es at →
+  cutting_cuts : (n : ℕ) (is : List Item) (es : List Written) (at : ℕ) → CutScript text kind max_nodes 0 0 is es at →
       CutsTo (cutting n is es at)
   unfolding cutting
   cutting_cuts zero is es at c = tt

@@ -21,7 +21,7 @@ use Rattle.sedscript.specs.Files.{files_in}
 use Rattle.sedscript.specs.Functions.{may_end}
 use Rattle.sedscript.specs.Items.{function_at, item_at}
 use Rattle.sedscript.specs.Reading.{Reading, plainly}
-use Rattle.sedscript.specs.Script.{Cut, done, item, IsEnd, Program, Means, commands_of, is_quiet, none_counted, substitutions_of, tables_of, texts_of}
+use Rattle.sedscript.specs.Script.{CutScript, done, item, IsEnd, Program, Means, commands_of, is_quiet, none_counted, substitutions_of, tables_of, texts_of}
 use Rattle.sedscript.specs.Targets.{block_end, close_in, commands_in, leaves, target_fault_in}
 use Rattle.examples.proofs.ManyBracesExamples.{opening, openings, braces, stays, no_addresses, gives_opening}
 use Rattle.examples.proofs.ScriptWords.{always}
@@ -98,8 +98,8 @@ module _ (kind : Kind) (most : ℕ) where
   gives_closing text at there blank end = subst (λ (r : Reading Here). Gives text kind most r [] (Is (closing at) (at + 1))) (sym (closes_at text at there blank end)) value
 
   cut_closings : (text : List ℕ) (n at to : ℕ) → at + n ≡ to → length text ≡ to → ((k : ℕ) → at ≤ k → k < to → slice_get text k ≡ Some 125) →
-      Cut text kind most 0 at (closings at n) [] to
-  cut_closings text zero at to e len each = subst (Cut text kind most 0 at [] []) (omega (arith, e)) done
+      CutScript text kind most 0 at (closings at n) [] to
+  cut_closings text zero at to e len each = subst (CutScript text kind most 0 at [] []) (omega (arith, e)) done
   cut_closings text (suc zero) at to e len each =
       item [] []
       (gives_closing text at (each at (omega arith) (omega (arith, e))) (blank_at_end text (at + 1) (omega (arith, e, len)))
@@ -111,13 +111,13 @@ module _ (kind : Kind) (most : ℕ) where
       (gives_closing text at (each at (omega arith) (omega (arith, e))) (blank_after text (at + 1) next) (ap may_end next))
       (cut_closings text (suc n) (at + 1) to (omega (arith, e)) len (λ k from before. each k (omega (arith, from)) before))
 
-  cut_openings : (text : List ℕ) (n at to end : ℕ) (is : List Item) → at + n ≡ to → ((k : ℕ) → k < to → slice_get text k ≡ Some 123) → Cut text kind most 0 to is [] end →
-      Cut text kind most 0 at (openings at n ++ is) [] end
-  cut_openings text zero at to end is e each rest = subst (λ (x : ℕ). Cut text kind most 0 x is [] end) (omega (arith, e)) rest
+  cut_openings : (text : List ℕ) (n at to end : ℕ) (is : List Item) → at + n ≡ to → ((k : ℕ) → k < to → slice_get text k ≡ Some 123) → CutScript text kind most 0 to is [] end →
+      CutScript text kind most 0 at (openings at n ++ is) [] end
+  cut_openings text zero at to end is e each rest = subst (λ (x : ℕ). CutScript text kind most 0 x is [] end) (omega (arith, e)) rest
   cut_openings text (suc n) at to end is e each rest =
       item [] [] (gives_opening kind most text at (each at (omega (arith, e)))) (cut_openings text n (at + 1) to end is (omega (arith, e)) each rest)
 
-  cut_blocks : (n : ℕ) → Cut (blocks n) kind most 0 0 (items_of n) [] (n + n)
+  cut_blocks : (n : ℕ) → CutScript (blocks n) kind most 0 0 (items_of n) [] (n + n)
   cut_blocks n =
       cut_openings (blocks n) n 0 n (n + n) (closings n n) (omega arith) (opened_there n (replicate n 125))
       (cut_closings (blocks n) n n (n + n) refl (long n) (λ k from before. closed_there n n k (n + n) from before refl))

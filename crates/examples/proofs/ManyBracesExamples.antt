@@ -18,7 +18,7 @@ use Rattle.sedscript.specs.Bytes.{belongs, past}
 use Rattle.sedscript.specs.Expressions.{Gives, value}
 use Rattle.sedscript.specs.Items.{function_at, item_at}
 use Rattle.sedscript.specs.Reading.{Reading, plainly}
-use Rattle.sedscript.specs.Script.{Cut, done, item, IsEnd, Faulty, afterwards}
+use Rattle.sedscript.specs.Script.{CutScript, done, item, IsEnd, Faulty, afterwards}
 use Rattle.sedscript.specs.Targets.{close_in, target_fault}
 use Rattle.examples.proofs.ScriptWords.{fault_at}
 
@@ -80,8 +80,8 @@ module _ (kind : Kind) (most : ℕ) where
   gives_opening text at there = subst (λ (r : Reading Here). Gives text kind most r [] (Is (opening at) (at + 1))) (sym (opens_at text at there)) value
 
   -- the text from a place on is cut into opening braces
-  cut_at : (text : List ℕ) (n at to : ℕ) → at + n ≡ to → ((k : ℕ) → k < to → slice_get text k ≡ Some 123) → Cut text kind most 0 at (openings at n) [] to
-  cut_at text zero at to e each = subst (Cut text kind most 0 at [] []) (omega (arith, e)) done
+  cut_at : (text : List ℕ) (n at to : ℕ) → at + n ≡ to → ((k : ℕ) → k < to → slice_get text k ≡ Some 123) → CutScript text kind most 0 at (openings at n) [] to
+  cut_at text zero at to e each = subst (CutScript text kind most 0 at [] []) (omega (arith, e)) done
   cut_at text (suc n) at to e each =
       item [] [] (gives_opening text at (each at (omega (arith, e)))) (cut_at text n (at + 1) to (omega (arith, e)) each)
 

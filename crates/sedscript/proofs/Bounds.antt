@@ -44,7 +44,7 @@ use Rattle.sedscript.specs.Expressions.{Gives, value, after_expression}
 use Rattle.sedscript.specs.Targets.{leaves, counted, commands_in, label_in, is_label, close_in, is_close, depth_after, block_end}
 use Rattle.sedscript.specs.declared.script.Named.{Named}
 use Rattle.sedscript.specs.Parts.{program_of, IsNamed}
-use Rattle.sedscript.specs.Script.{Cut, done, item, is_quiet, with_text, texts_of, with_substitution, substitutions_of, with_table, tables_of, substitution_of, table_between, counts_with, none_counted, action_of, simple_action, text_action, branch_action, file_action, sink_of, with_action, commands_of, Judged, Means, Program}
+use Rattle.sedscript.specs.Script.{CutScript, done, item, is_quiet, with_text, texts_of, with_substitution, substitutions_of, with_table, tables_of, substitution_of, table_between, counts_with, none_counted, action_of, simple_action, text_action, branch_action, file_action, sink_of, with_action, commands_of, Judged, Means, Program}
 use Rattle.sedscript.specs.declared.substitution.Substitution.{Substitution}
 use Rattle.sedscript.specs.Ranges.{Sizes, sizes_of, IsOneOf, SinkWithin, AddressWithin, ActionWithin, CommandWithin, SubstitutionWithin, InRange}
 use Rattle.sedscript.specs.Letters.{verb_of}
@@ -454,7 +454,7 @@ function_more : (m n : ℕ) (f : Function) → m ≤ n → FunctionWithin m f �
 function_more m n (Substitute s e f) le h = (one_more m n e le h.0, h.1)
 function_more m n f le h = tt
 
-cut_within : (text : List ℕ) (kind : Kind) (m count at to n : ℕ) (is : List Item) (es : List Written) → Cut text kind m count at is es to → n ≡ count + length es → ItemsWithin n is
+cut_within : (text : List ℕ) (kind : Kind) (m count at to n : ℕ) (is : List Item) (es : List Written) → CutScript text kind m count at is es to → n ≡ count + length es → ItemsWithin n is
 cut_within text kind m count at to n _ _ done e = tt
 cut_within text kind m count at to n _ _ (item {next = next} {i = i} {is = is} es fs read rest) e = (
   (let here = gives_bounds HereWithin text kind m count (item_at text count at) es (Is i next) read (item_bounds text count at) in
@@ -527,7 +527,7 @@ fit_read : {A : Type 0} (text : List ℕ) (kind : Kind) (m : ℕ) (r : Reading A
 fit_read text kind m _ _ x value = tt
 fit_read text kind m _ _ x (after_expression {k = k} {es = es} e is g) = (is.fits, fit_read text kind m (k e.groups) es x g)
 
-cut_fit : (text : List ℕ) (kind : Kind) (m count at to : ℕ) (is : List Item) (es : List Written) → Cut text kind m count at is es to → AllFit m es
+cut_fit : (text : List ℕ) (kind : Kind) (m count at to : ℕ) (is : List Item) (es : List Written) → CutScript text kind m count at is es to → AllFit m es
 cut_fit text kind m count at to _ _ done = tt
 cut_fit text kind m count at to _ _ (item {next = next} {i = i} {is = is} es fs read rest) =
     fit_append m es fs (fit_read text kind m (item_at text count at) es (Is i next) read) (cut_fit text kind m (count + length es) next to is fs rest)

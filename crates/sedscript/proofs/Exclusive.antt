@@ -13,7 +13,7 @@ use Rattle.sedscript.specs.Bytes.{past, bytes_between}
 use Rattle.sedscript.specs.Reading.{Pattern, Reading}
 use Rattle.sedscript.specs.Items.{item_at, item_from}
 use Rattle.sedscript.specs.Expressions.{IsRead, Gives, value, after_expression, Fails, no_expression, later}
-use Rattle.sedscript.specs.Script.{Cut, done, item, IsEnd, Means, Faulty, early, afterwards, Program, Judged}
+use Rattle.sedscript.specs.Script.{CutScript, done, item, IsEnd, Means, Faulty, early, afterwards, Program, Judged}
 use Rattle.sedscript.specs.Targets.{target_fault}
 
 -- a text reads as one expression, with one number of groups
@@ -53,7 +53,7 @@ is_next i j a b e = (cc, cc)
 
 -- no fault stands after a cut that another cut goes on from
 pub cut_no_fault : (text : List ℕ) (kind : Kind) (m count at to stop : ℕ) (is js : List Item) (es fs : List Written) (f : ScriptFault) (n : ℕ) → ReadsAsOne →
-    Cut text kind m count at is es to → IsEnd text to → Cut text kind m count at js fs stop → n ≡ count + length fs → Fails text kind m (item_at text n stop) f → ⊥
+    CutScript text kind m count at is es to → IsEnd text to → CutScript text kind m count at js fs stop → n ≡ count + length fs → Fails text kind m (item_at text n stop) f → ⊥
 cut_no_fault text kind m count at to stop _ _ _ _ f n one done ends done e bad =
     no_fails text kind m (item_at text n at) [] Ends f one (end_gives text kind m n at ends) bad
 cut_no_fault text kind m count at to stop _ _ _ _ f n one done ends (item {next = next} {i = j} es fs is rest) e bad =
@@ -67,12 +67,12 @@ cut_no_fault text kind m count at to stop _ _ _ _ f n one (item {next = next} {i
     let same = is_next i j next other both.0 in
     let long : length gs ≡ length es = sym both.1 in
     cut_no_fault text kind m (count + length es) next to stop is0 js0 fs hs f n one rest ends
-    (subst (λ (k : ℕ). Cut text kind m (count + k) next js0 hs stop) long (subst (λ (k : ℕ). Cut text kind m (count + length gs) k js0 hs stop) (sym same.1) rest'))
+    (subst (λ (k : ℕ). CutScript text kind m (count + k) next js0 hs stop) long (subst (λ (k : ℕ). CutScript text kind m (count + length gs) k js0 hs stop) (sym same.1) rest'))
     (e ∙ (ap (λ (k : ℕ). count + k) (length-append gs hs) ∙ omega (arith, long))) bad
 
 -- two cuts up to the end have the same items
 pub cut_same : (text : List ℕ) (kind : Kind) (m count at to stop : ℕ) (is js : List Item) (es fs : List Written) → ReadsAsOne →
-    Cut text kind m count at is es to → IsEnd text to → Cut text kind m count at js fs stop → IsEnd text stop → is ≡ js
+    CutScript text kind m count at is es to → IsEnd text to → CutScript text kind m count at js fs stop → IsEnd text stop → is ≡ js
 cut_same text kind m count at to stop _ _ _ _ one done ends done stops = refl
 cut_same text kind m count at to stop _ _ _ _ one done ends (item {next = next} {i = j} es fs is rest) stops =
     let same = gives_one text kind m (item_at text count at) [] es Ends (Is j next) one (end_gives text kind m count at ends) is in
@@ -85,7 +85,7 @@ cut_same text kind m count at to stop _ _ _ _ one (item {next = next} {i = i} {i
     let same = is_next i j next other both.0 in
     let long : length gs ≡ length es = sym both.1 in
     let tail : is0 ≡ js0 = cut_same text kind m (count + length es) next to stop is0 js0 fs hs one rest ends
-    (subst (λ (k : ℕ). Cut text kind m (count + k) next js0 hs stop) long (subst (λ (k : ℕ). Cut text kind m (count + length gs) k js0 hs stop) (sym same.1) rest')) stops in
+    (subst (λ (k : ℕ). CutScript text kind m (count + k) next js0 hs stop) long (subst (λ (k : ℕ). CutScript text kind m (count + length gs) k js0 hs stop) (sym same.1) rest')) stops in
     ap (λ (y : List Item). i ∷ y) tail ∙ ap (λ (x : Item). x ∷ js0) same.0
 
 -- a text that is cut to its end with nothing wrong has no fault

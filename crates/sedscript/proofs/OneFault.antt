@@ -12,7 +12,7 @@ use Rattle.sedscript.specs.Bytes.{bytes_between}
 use Rattle.sedscript.specs.Reading.{Reading}
 use Rattle.sedscript.specs.Items.{item_at}
 use Rattle.sedscript.specs.Expressions.{Fails, own, no_expression, later, in_script}
-use Rattle.sedscript.specs.Script.{Cut, done, item, Faulty, early, afterwards}
+use Rattle.sedscript.specs.Script.{CutScript, done, item, Faulty, early, afterwards}
 use Rattle.sedscript.specs.Targets.{target_fault}
 use Rattle.sedscript.proofs.Exclusive.{ReadsAsOne, as_other, gives_one, no_fails, is_next, cut_no_fault, cut_same}
 
@@ -40,8 +40,8 @@ fails_one text kind m _ f g one once (later {p = p} {k = k} d is h) (later e is'
 
 -- after two cuts from one place stands one fault
 pub cut_one_fault : (text : List ℕ) (kind : Kind) (m count at to stop : ℕ) (is js : List Item) (es fs : List Written) (f g : ScriptFault) (n k : ℕ) → ReadsAsOne → OneExprFault →
-    Cut text kind m count at is es to → n ≡ count + length es → Fails text kind m (item_at text n to) f →
-    Cut text kind m count at js fs stop → k ≡ count + length fs → Fails text kind m (item_at text k stop) g → f ≡ g
+    CutScript text kind m count at is es to → n ≡ count + length es → Fails text kind m (item_at text n to) f →
+    CutScript text kind m count at js fs stop → k ≡ count + length fs → Fails text kind m (item_at text k stop) g → f ≡ g
 cut_one_fault text kind m count at to stop _ _ _ _ f g n k one once done e bad done d worse =
     let same : k ≡ n = d ∙ sym e in
     fails_one text kind m (item_at text n at) f g one once bad (subst (λ (x : ℕ). Fails text kind m (item_at text x at) g) same worse)
@@ -57,7 +57,7 @@ cut_one_fault text kind m count at to stop _ _ _ _ f g n k one once (item {next 
     let long : length gs ≡ length es = sym both.1 in
     cut_one_fault text kind m (count + length es) next to stop is0 js0 fs hs f g n k one once
     rest (e ∙ (ap (λ (x : ℕ). count + x) (length-append es fs) ∙ omega arith)) bad
-    (subst (λ (x : ℕ). Cut text kind m (count + x) next js0 hs stop) long (subst (λ (x : ℕ). Cut text kind m (count + length gs) x js0 hs stop) (sym same.1) rest'))
+    (subst (λ (x : ℕ). CutScript text kind m (count + x) next js0 hs stop) long (subst (λ (x : ℕ). CutScript text kind m (count + length gs) x js0 hs stop) (sym same.1) rest'))
     (d ∙ (ap (λ (x : ℕ). count + x) (length-append gs hs) ∙ omega (arith, long))) worse
 
 -- the first fault of a text is one

@@ -10,7 +10,7 @@ use Rattle.sedscript.specs.Bytes.{bytes_between}
 use Rattle.sedscript.specs.Reading.{Reading}
 use Rattle.sedscript.specs.Items.{item_at}
 use Rattle.sedscript.specs.Expressions.{Gives, value, after_expression}
-use Rattle.sedscript.specs.Script.{Cut, done, item, IsEnd, Program, Means, commands_of, none_counted, texts_of, substitutions_of, tables_of}
+use Rattle.sedscript.specs.Script.{CutScript, done, item, IsEnd, Program, Means, commands_of, none_counted, texts_of, substitutions_of, tables_of}
 use Rattle.sedscript.specs.declared.items.FileUse.TheVariants.{Read, Write}
 use Rattle.sedscript.specs.Files.{files_in}
 use Rattle.sedscript.proofs.Exclusive.{ReadsAsOne, gives_one, end_gives, is_next, cut_same}
@@ -29,7 +29,7 @@ gives_alike look text kind m _ _ _ a b alike one (after_expression {p = p} {k = 
 
 -- two cuts up to the end have the same expressions
 pub cut_alike : {X : Type 0} (look : Written → X) (text : List ℕ) (kind : Kind) (m count at to stop : ℕ) (is js : List Item) (es fs : List Written) → Alike look → ReadsAsOne →
-    Cut text kind m count at is es to → IsEnd text to → Cut text kind m count at js fs stop → IsEnd text stop → map look es ≡ map look fs
+    CutScript text kind m count at is es to → IsEnd text to → CutScript text kind m count at js fs stop → IsEnd text stop → map look es ≡ map look fs
 cut_alike look text kind m count at to stop _ _ _ _ alike one done ends done stops = refl
 cut_alike look text kind m count at to stop _ _ _ _ alike one done ends (item {next = next} {i = j} es fs is rest) stops =
     let same = gives_one text kind m (item_at text count at) [] es Ends (Is j next) one (end_gives text kind m count at ends) is in
@@ -43,7 +43,7 @@ cut_alike look text kind m count at to stop _ _ _ _ alike one (item {next = next
     let long : length gs ≡ length es = sym both.1 in
     let here = gives_alike look text kind m (item_at text count at) es gs (Is i next) (Is j other) alike one is is' in
     let tail = cut_alike look text kind m (count + length es) next to stop is0 js0 fs hs alike one rest ends
-    (subst (λ (k : ℕ). Cut text kind m (count + k) next js0 hs stop) long (subst (λ (k : ℕ). Cut text kind m (count + length gs) k js0 hs stop) (sym same.1) rest')) stops in
+    (subst (λ (k : ℕ). CutScript text kind m (count + k) next js0 hs stop) long (subst (λ (k : ℕ). CutScript text kind m (count + length gs) k js0 hs stop) (sym same.1) rest')) stops in
     map-append look es fs ∙ (ap (λ xs. xs ++ map look fs) here ∙ (ap (λ xs. map look gs ++ xs) tail ∙ sym (map-append look gs hs)))
 
 -- a text means one script only: of an expression this is its tree and its number of groups

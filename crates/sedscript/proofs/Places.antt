@@ -45,7 +45,7 @@ use Rattle.sedscript.specs.Addresses.{Addressed, Headed, headed, line_of, folds_
 use Rattle.sedscript.specs.Items.{substitute_with, substitute_at, function_of, function_with, function_at, function_after, item_with, item_from, item_at}
 use Rattle.sedscript.specs.Expressions.{Gives, value, after_expression, Fails, own, no_expression, later}
 use Rattle.sedscript.specs.Targets.{fault_if, target_fault_at, target_fault_in, depth_after, block_end, label_in}
-use Rattle.sedscript.specs.Script.{Cut, done, item, Faulty, early, afterwards}
+use Rattle.sedscript.specs.Script.{CutScript, done, item, Faulty, early, afterwards}
 
 -- places
 
@@ -573,7 +573,7 @@ abbrev ItemsUpTo : ℕ → List Item → Type 0
 ItemsUpTo n [] = Unit {0}
 ItemsUpTo n (i ∷ is) = (i.place ≤ n) × ItemsUpTo n is
 
-cut_up_to : (text : List ℕ) (kind : Kind) (m count at to : ℕ) (is : List Item) (es : List Written) → Cut text kind m count at is es to → at ≤ length text → (to ≤ length text) × ItemsUpTo (length text) is
+cut_up_to : (text : List ℕ) (kind : Kind) (m count at to : ℕ) (is : List Item) (es : List Written) → CutScript text kind m count at is es to → at ≤ length text → (to ≤ length text) × ItemsUpTo (length text) is
 cut_up_to text kind m count at to _ _ done le = (le, tt)
 cut_up_to text kind m count at to _ _ (item {next = next} {i = i} {is = is} es fs read rest) le =
     let here = reading_gives (HereUpTo (length text)) (length text) text kind m (item_at text count at) es (Is i next) read (item_read text count at le) in

@@ -22,8 +22,8 @@ pub record Addressed : Type 0 where
 abbrev pub found : Option Address → ℕ → ℕ → Result Addressed ScriptFault
 found address at count = Ok (record { address = address; at = at; count = count })
 
--- the address of the line whose number has its digits between two places. The number 0 and numbers from 2 ^ 64 on are
--- refused (this project's own)
+-- the address of the line whose number has its digits between two places. Leading zeros are accepted, and the number 0 and
+-- numbers from 2 ^ 64 on are refused (this project's own)
 abbrev pub line_of : ℕ → ℕ → ℕ → Option ℕ → Result Addressed ScriptFault
 line_of count from to None = fault BadAddress from
 line_of count from to (Some zero) = fault BadAddress from

@@ -16,7 +16,8 @@ no_flags = record { number = None; global = false; print = false; folded = false
 abbrev pub ends_flags : ℕ → Bool
 ends_flags b = is_blank b || may_end (Some b)
 
--- the flags with this number, whose digits begin at a place. It is from 1 to 2 ^ 64 - 1 (the end: this project's own)
+-- the flags with this number, whose digits begin at a place. It is from 1 to 2 ^ 64 - 1, and leading zeros are accepted (the
+-- end and the zeros: this project's own)
 abbrev pub numbered : Flags → ℕ → Option ℕ → Result Flags ScriptFault
 numbered f at None = fault BadNumber at
 numbered f at (Some zero) = fault BadNumber at

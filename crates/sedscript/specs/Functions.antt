@@ -69,7 +69,8 @@ ends_line None = true
 ends_line (Some b) = b == 10
 
 -- where the text of `a`, `i` or `c` begins and ends that is expected at a place, after the blanks that follow its
--- letter. If no backslash and newline stand before it, it is a one-line form (this project's own)
+-- letter. If no backslash and newline stand before it, it is a one-line form; after these it may be empty (both this
+-- project's own)
 unfoldable pub text_from : List ℕ → ℕ → Option (ℕ × ℕ)
 text_from text from =
     if is_byte 92 (slice_get text from) && is_byte 10 (slice_get text (from + 1))
@@ -94,8 +95,8 @@ abbrev pub branch_of : List ℕ → BranchUse → ℕ → Result (Function × �
 branch_of text u from = ended text (Branch u from (past Name text from)) (past Name text from)
 
 -- where the name of a file begins and ends, which is expected at a place, after its letter: blanks before it are passed
--- over (that none are needed is this project's own), and it goes up to the newline, so that blanks at its end,
--- semicolons and closing braces belong to it. None where it is empty
+-- over, and it goes up to the newline. That no blank is needed, and that blanks at its end, semicolons and closing braces
+-- belong to it, is this project's own. None where it is empty
 unfoldable pub name_from : List ℕ → ℕ → Option (ℕ × ℕ)
 name_from text at =
     if past Line text (past Blank text at) == past Blank text at then None

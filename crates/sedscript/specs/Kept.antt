@@ -20,34 +20,34 @@ abbrev pub no_addresses : Addresses
 no_addresses = record { first = None; second = None; negate = false }
 
 -- the addresses that an item keeps in this way, with a number; a list has those that need more room
-abbrev pub addresses_of : List Addresses → Given → ℕ → Addresses
-addresses_of heads g.Nothing n = no_addresses
-addresses_of heads g.Line n = record no_addresses { first = Some (address.Line n) }
-addresses_of heads g.Last n = record no_addresses { first = Some address.Last }
-addresses_of heads g.Listed n = unwrap_or (slice_get heads n) no_addresses
+abbrev pub kept_addresses : List Addresses → Given → ℕ → Addresses
+kept_addresses heads g.Nothing n = no_addresses
+kept_addresses heads g.Line n = record no_addresses { first = Some (address.Line n) }
+kept_addresses heads g.Last n = record no_addresses { first = Some address.Last }
+kept_addresses heads g.Listed n = unwrap_or (slice_get heads n) no_addresses
 
 -- the function that an item keeps in this way, with two places; a list has those that need more room
-abbrev pub function_of : List Function → Brief → ℕ → ℕ → Function
-function_of longs (b.Plain s) from to = f.Plain s
-function_of longs b.Open from to = f.Open
-function_of longs b.Close from to = f.Close
-function_of longs b.Label from to = f.Label from to
-function_of longs (b.Branch u) from to = f.Branch u from to
-function_of longs (b.Text t) from to = f.Text t from to
-function_of longs (b.File u) from to = f.File u from to
-function_of longs b.Comment from to = f.Comment
-function_of longs b.Listed from to = unwrap_or (slice_get longs from) f.Comment
+abbrev pub kept_function : List Function → Brief → ℕ → ℕ → Function
+kept_function longs (b.Plain s) from to = f.Plain s
+kept_function longs b.Open from to = f.Open
+kept_function longs b.Close from to = f.Close
+kept_function longs b.Label from to = f.Label from to
+kept_function longs (b.Branch u) from to = f.Branch u from to
+kept_function longs (b.Text t) from to = f.Text t from to
+kept_function longs (b.File u) from to = f.File u from to
+kept_function longs b.Comment from to = f.Comment
+kept_function longs b.Listed from to = unwrap_or (slice_get longs from) f.Comment
 
 -- the item of a compact form
-abbrev pub item_of : List Addresses → List Function → Kept → Item
-item_of heads longs k = record {
-  addresses = addresses_of heads k.given k.head;
+abbrev pub kept_item : List Addresses → List Function → Kept → Item
+kept_item heads longs k = record {
+  addresses = kept_addresses heads k.given k.head;
   place = k.place;
-  function = function_of longs k.function k.from k.to;
+  function = kept_function longs k.function k.from k.to;
 }
 
-abbrev pub items_of : List Addresses → List Function → List Kept → List Item
-items_of heads longs ks = map (item_of heads longs) ks
+abbrev pub kept_items : List Addresses → List Function → List Kept → List Item
+kept_items heads longs ks = map (kept_item heads longs) ks
 
 -- where the addresses are listed, they stand in a list of this length
 abbrev pub IsGiven : ℕ → Given → ℕ → Type 0

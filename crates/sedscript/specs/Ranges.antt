@@ -38,10 +38,9 @@ IsOneOf expressions (Some k) = k < expressions
 
 -- where an address names an expression, it is one of so many, and where it names a line, that is 1 or more
 abbrev pub AddressWithin : ℕ → Option Address → Type 0
-AddressWithin expressions None = Unit {0}
 AddressWithin expressions (Some (Line n)) = 1 ≤ n
-AddressWithin expressions (Some Last) = Unit {0}
 AddressWithin expressions (Some (Match e)) = IsOneOf expressions e
+AddressWithin expressions other = Unit {0}
 
 -- a sink is the standard output, or one of so many files that are written
 abbrev pub SinkWithin : ℕ → Option ℕ → Type 0

@@ -18,9 +18,9 @@ pub use Rattle.sedscript.specs.declared.substitution.Piece.{Piece}
 pub use Rattle.sedscript.specs.declared.substitution.Piece.TheVariants.{Literal as literal, Whole as whole}
 pub use Rattle.sedscript.specs.declared.substitution.Piece.TheVariants.{Group as group}
 
--- what this byte stands for where it is escaped. The delimiter stands for itself, whatever byte it is; 0 for the
--- whole match (this project's own), and another digit for that group of it; `n` for a newline, `t` for a tab (this
--- project's own); a newline for itself, as do other bytes that are neither letters nor digits (this
+-- what this byte stands for where it is escaped. The delimiter stands for itself, whatever byte it is (this project's own);
+-- 0 for the whole match (this project's own), and another digit for that group of it; `n` for a newline, `t` for a tab
+-- (this project's own); a newline for itself, as do other bytes that are neither letters nor digits (this
 -- project's own). Other letters are refused (this project's own)
 abbrev pub escaped_piece : ℕ → ℕ → Option Piece
 escaped_piece delimiter b =
@@ -60,9 +60,8 @@ exceeds (Some limit) k = nat_lt limit k
 -- what is wrong with a piece, or with an escape that stands for none, at a place (this project's own)
 abbrev pub piece_fault : Option ℕ → ℕ → Option Piece → Option ScriptFault
 piece_fault limit place None = Some (record { place = place; reason = BadEscape })
-piece_fault limit place (Some (literal b)) = None
-piece_fault limit place (Some whole) = None
 piece_fault limit place (Some (group k)) = fault_if (exceeds limit k) GroupAbsent place
+piece_fault limit place other = None
 
 -- what is wrong with the escape of a byte, whose backslash stands at a place
 abbrev pub escape_fault : ℕ → Option ℕ → ℕ → ℕ → Option ScriptFault
@@ -85,6 +84,5 @@ pieces_in (Group k ∷ ps) = group k ∷ pieces_in ps
 -- the groups of the pieces have numbers from 1 to this one
 abbrev pub GroupsWithin : ℕ → List Piece → Type 0
 GroupsWithin n [] = Unit {0}
-GroupsWithin n (literal b ∷ ps) = GroupsWithin n ps
-GroupsWithin n (whole ∷ ps) = GroupsWithin n ps
 GroupsWithin n (group k ∷ ps) = (1 ≤ k) × (k ≤ n) × GroupsWithin n ps
+GroupsWithin n (other ∷ ps) = GroupsWithin n ps

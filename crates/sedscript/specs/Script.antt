@@ -55,12 +55,12 @@ pub record Program : Type 0 where
   pub max_nodes : ℕ
 
 -- the text has these items and expressions from one place, with so many expressions before it, up to another
-pub data Cut (text : List ℕ) (kind : Kind) (max_nodes : ℕ) : ℕ → ℕ → List Item → List Written → ℕ → Type 0 where
-  done : {count at : ℕ} → Cut text kind max_nodes count at [] [] at
+pub data CutScript (text : List ℕ) (kind : Kind) (max_nodes : ℕ) : ℕ → ℕ → List Item → List Written → ℕ → Type 0 where
+  done : {count at : ℕ} → CutScript text kind max_nodes count at [] [] at
   item : {count at next to : ℕ} {i : Item} {is : List Item} (es fs : List Written) →
       Gives text kind max_nodes (item_at text count at) es (Is i next) →
-      Cut text kind max_nodes (count + length es) next is fs to →
-      Cut text kind max_nodes count at (i ∷ is) (es ++ fs) to
+      CutScript text kind max_nodes (count + length es) next is fs to →
+      CutScript text kind max_nodes count at (i ∷ is) (es ++ fs) to
 
 -- nothing but separators follows a place
 abbrev pub IsEnd : List ℕ → ℕ → Type 0
@@ -193,17 +193,16 @@ commands_of text all before n (i ∷ is) =
     with_action i.addresses (action_of text all before n is i.function)
     (commands_of text all (before ++ i ∷ []) (counts_with n i.function) is)
 
--- whether the first line is exactly `#n` (this project's own narrowing)
+-- whether the first line of the whole text, whatever parts made it, is exactly `#n` (this project's own narrowing)
 abbrev pub is_quiet : List ℕ → Bool
-is_quiet [] = false
-is_quiet (a ∷ []) = false
 is_quiet (a ∷ b ∷ []) = a == 35 && b == 110
 is_quiet (a ∷ b ∷ c ∷ bs) = a == 35 && b == 110 && c == 10
+is_quiet other = false
 
 -- the text is cut to its end into these items and expressions, and no label or block is wrong
 pub record Judged (text : List ℕ) (kind : Kind) (max_nodes : ℕ) (items : List Item) (expressions : List Written)
     (to : ℕ) : Type 0 where
-  pub cut : Cut text kind max_nodes 0 0 items expressions to
+  pub cut : CutScript text kind max_nodes 0 0 items expressions to
   pub ends : IsEnd text to
   pub settled : target_fault text items ≡ None
 
@@ -225,9 +224,9 @@ pub record Means (text : List ℕ) (kind : Kind) (max_nodes : ℕ) (s : Program)
 pub data Faulty (text : List ℕ) (kind : Kind) (max_nodes : ℕ) : ScriptFault → Type 0 where
   -- that of the item after these, which have none
   early : {f : ScriptFault} (items : List Item) (es : List Written) (to : ℕ) →
-      Cut text kind max_nodes 0 0 items es to → Fails text kind max_nodes (item_at text (length es) to) f →
+      CutScript text kind max_nodes 0 0 items es to → Fails text kind max_nodes (item_at text (length es) to) f →
       Faulty text kind max_nodes f
   -- that of the labels and blocks of a text which is cut to its end
   afterwards : {f : ScriptFault} (items : List Item) (es : List Written) (to : ℕ) →
-      Cut text kind max_nodes 0 0 items es to → IsEnd text to → target_fault text items ≡ Some f →
+      CutScript text kind max_nodes 0 0 items es to → IsEnd text to → target_fault text items ≡ Some f →
       Faulty text kind max_nodes f

@@ -6,7 +6,8 @@ abbrev pub escapes : Bool → ℕ → Bool
 escapes escaped b = b == 92 && not escaped
 
 -- where a string between delimiters ends: at the first delimiter that isn't escaped. None where a newline stands before
--- that. An escaped newline may stand in a replacement, which `breaks` lines there, but not in a string of `y`
+-- that. An escaped newline may stand in a replacement, which `breaks` lines there, but not in a string of `y` (this
+-- project's own)
 abbrev pub string_end : (breaks : Bool) → ℕ → (escaped : Bool) → ℕ → List ℕ → Option ℕ
 string_end breaks delimiter escaped at [] = None
 string_end breaks delimiter escaped at (b ∷ bs) =

@@ -11,8 +11,8 @@ use Rattle.sedscript.specs.Targets.{fault_if}
 -- a byte of a string, and its place (of an escape: the place of its backslash)
 pub use Rattle.sedscript.specs.declared.transliteration.Char.{Char}
 
--- what this byte stands for where it is escaped. The delimiter and the backslash stand for themselves, `n` for a
--- newline, `t` for a tab (this project's own); other bytes are refused (this project's own)
+-- what this byte stands for where it is escaped. The delimiter stands for itself, whatever byte it is (this project's own),
+-- as does the backslash; `n` for a newline, `t` for a tab (this project's own); other bytes are refused (this project's own)
 abbrev pub escaped_byte : ℕ → ℕ → Option ℕ
 escaped_byte delimiter b =
     if b == delimiter || b == 92 then Some b

@@ -2,7 +2,7 @@
 //! each takes little room: what only a few of them need stands in lists of its own.
 
 ghost use Rattle.std.specs.Prelude.{◌≡◌, ◌<◌, ◌++◌, ◌∷◌, [], Some, length, slice_get, slice_index_or, IfOk, OnOk};
-ghost use Rattle.sedscript.specs.Kept.{addresses_of, function_of, item_of, IsGiven, IsBrief, IsKept, Longer};
+ghost use Rattle.sedscript.specs.Kept.{kept_addresses, kept_function, kept_item, IsGiven, IsBrief, IsKept, Longer};
 
 use crate::items::{Addresses, BranchUse, FileUse, Function, Item, Simple, TextUse};
 use crate::types::Address;
@@ -59,9 +59,9 @@ const NO_ADDRESSES: Addresses = Addresses {
 
 /// The addresses that an item keeps as `given` and `head`.
 #[inline]
-fn addresses_of(heads: &[Addresses], given: Given, head: u64) -> Addresses
+fn kept_addresses(heads: &[Addresses], given: Given, head: u64) -> Addresses
     requires { IsGiven (length heads.now) given head }
-    ensures { result ≡ addresses_of heads.now given head }
+    ensures { result ≡ kept_addresses heads.now given head }
 {
     match given {
         Given::Nothing => NO_ADDRESSES,
@@ -79,9 +79,9 @@ fn addresses_of(heads: &[Addresses], given: Given, head: u64) -> Addresses
 
 /// The function that an item keeps as `function`, `from` and `to`.
 #[inline]
-fn function_of(longs: &[Function], function: Brief, from: usize, to: usize) -> Function
+fn kept_function(longs: &[Function], function: Brief, from: usize, to: usize) -> Function
     requires { IsBrief (length longs.now) function from }
-    ensures { result ≡ function_of longs.now function from to }
+    ensures { result ≡ kept_function longs.now function from to }
 {
     match function {
         Brief::Plain(simple) => Function::Plain(simple),
@@ -103,7 +103,7 @@ fn keep_addresses(
 ) -> Result<(Given, u64), AllocError>
     ensures longer { Longer heads.old.items heads.new.items }
     ensures kept { IfOk result (λ g. IsGiven (length heads.new.items) g.0 g.1
-        × (addresses_of heads.new.items g.0 g.1 ≡ addresses)) }
+        × (kept_addresses heads.new.items g.0 g.1 ≡ addresses)) }
 {
     match addresses {
         Addresses {
@@ -136,7 +136,7 @@ fn keep_function(
 ) -> Result<(Brief, usize, usize), AllocError>
     ensures longer { Longer longs.old.items longs.new.items }
     ensures kept { IfOk result (λ b. IsBrief (length longs.new.items) b.0 b.1
-        × (function_of longs.new.items b.0 b.1 b.2 ≡ function)) }
+        × (kept_function longs.new.items b.0 b.1 b.2 ≡ function)) }
 {
     match function {
         Function::Plain(simple) => Ok((Brief::Plain(simple), 0, 0)),
@@ -164,7 +164,7 @@ fn keep(
     ensures heads { Longer heads.old.items heads.new.items }
     ensures longs { Longer longs.old.items longs.new.items }
     ensures kept { IfOk result (λ k. IsKept (length heads.new.items) (length longs.new.items) k
-        × (item_of heads.new.items longs.new.items k ≡ item)) }
+        × (kept_item heads.new.items longs.new.items k ≡ item)) }
 {
     let (given, head) = keep_addresses(heads, item.addresses)?;
     let (function, from, to) = keep_function(longs, item.function)?;
@@ -191,12 +191,12 @@ pub struct Items {
 impl Model for Items {
     ghost use Rattle.std.specs.Prelude.{List, length};
     ghost use Rattle.std.specs.List.{All};
-    ghost use Rattle.sedscript.specs.Kept.{items_of, IsKept};
+    ghost use Rattle.sedscript.specs.Kept.{kept_items, IsKept};
     ghost use Rattle.sedscript.specs.declared.items.Item.{Item};
 
     ghost Value = { List Item };
 
-    ghost view = { λ s. items_of s.heads.items s.longs.items s.kept.items };
+    ghost view = { λ s. kept_items s.heads.items s.longs.items s.kept.items };
 
     ghost invariant = { λ s. All (IsKept (length s.heads.items) (length s.longs.items)) s.kept.items };
 }
@@ -229,9 +229,9 @@ impl Items {
     {
         let kept = self.kept[k];
         Item {
-            addresses: addresses_of(&self.heads, kept.given, kept.head),
+            addresses: kept_addresses(&self.heads, kept.given, kept.head),
             place: kept.place,
-            function: function_of(&self.longs, kept.function, kept.from, kept.to),
+            function: kept_function(&self.longs, kept.function, kept.from, kept.to),
         }
     }
 

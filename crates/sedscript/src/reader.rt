@@ -1,7 +1,7 @@
 //! The reader of scripts.
 
 ghost use Rattle.std.specs.Prelude.{◌≡◌, ◌≤◌, ◌⊎◌, [], IfOk, IfErr, OnOk, length};
-ghost use Rattle.sedscript.specs.Script.{Cut, IsEnd, Means, Faulty};
+ghost use Rattle.sedscript.specs.Script.{CutScript, IsEnd, Means, Faulty};
 ghost use Rattle.sedscript.specs.Answers.{IsJudged};
 ghost use Rattle.sedscript.specs.Parts.{IsNamed};
 ghost use Rattle.sedscript.specs.Tables.{TargetsAre, FilesAre};
@@ -21,10 +21,10 @@ use sedre::laws::{fault_within, reads_as_one};
 use std::alloc::{AllocError, Global};
 
 /// Answers where the last item of a text ends, and cuts the text into its items and regular expressions.
-fn cut(source: &Source, items: &mut Items, exprs: &mut Vec<Expr>) -> Result<usize, ScriptFault>
+fn cut_text(source: &Source, items: &mut Items, exprs: &mut Vec<Expr>) -> Result<usize, ScriptFault>
     requires empty { (items.old ≡ []) × (exprs.old.items ≡ []) }
     ensures cut { IfOk result (λ to.
-        Cut source.now.text.now source.now.kind source.now.max_nodes 0 0 items.new exprs.new.items to
+        CutScript source.now.text.now source.now.kind source.now.max_nodes 0 0 items.new exprs.new.items to
         × IsEnd source.now.text.now to) }
     ensures fault { IfErr result (λ f.
         Faulty source.now.text.now source.now.kind source.now.max_nodes f ⊎ (f ≡ NO_MEMORY)) }
@@ -56,7 +56,7 @@ fn judge<'a>(
     ensures fault { IfErr result (λ f.
         Faulty source.now.text.now source.now.kind source.now.max_nodes f ⊎ (f ≡ NO_MEMORY)) }
 {
-    cut(source, items, exprs)?;
+    cut_text(source, items, exprs)?;
     let targets = targets_of(source.alloc, source.text, items)?;
     match target_fault(source.text, items, &targets) {
         Some(fault) => Err(fault),

@@ -75,8 +75,8 @@ fn text_end(text: &[u8], start: Inside, from: usize) -> Option<usize>
     }
 }
 
-/// The begin and the end of the text that is expected at `from`, after the blanks that follow its letter; None where it
-/// is missing.
+/// Where the text begins and ends that is expected at `from`, after the blanks that follow its letter; None where it is
+/// missing.
 #[tactic(auto, unfolding(crate::specs::Functions::text_from))]
 pub fn text_from(text: &[u8], from: usize) -> Option<(usize, usize)>
     requires { from ≤ length text.now }

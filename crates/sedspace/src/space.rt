@@ -128,10 +128,8 @@ impl Space {
         if first < bytes.len() && bytes[first] == b'\n' {
             return Some(first);
         }
-        match newline_in(&bytes[first..]) {
-            Some(at) => Some(first + at),
-            None => None,
-        }
+        let at = newline_in(&bytes[first..])?;
+        Some(first + at)
     }
 
     /// Removes all bytes.
@@ -157,7 +155,7 @@ impl Space {
         }
     }
 
-    /// Appends the bytes. Where that would pass the limit, and only there, it answers `Full` and changes nothing.
+    /// Appends the bytes, or answers `Full` and changes nothing, exactly where they would pass the limit.
     pub fn append(&mut self, bytes: &[u8]) -> Result<(), Full>
         ensures ok { OnOk result (self.new ≡ record self.old { bytes = self.old.bytes ++ bytes.now }) }
         ensures fits { OnOk result (length self.old.bytes + length bytes.now ≤ self.old.limit) }
@@ -206,8 +204,8 @@ impl Space {
         Ok(())
     }
 
-    /// Appends a newline and the bytes, as the commands `G`, `H` and `N` do. Where that would pass the limit, and only
-    /// there, it answers `Full` and changes nothing.
+    /// Appends a newline and the bytes, as the commands `G`, `H` and `N` do; or answers `Full` and changes nothing, exactly
+    /// where they would pass the limit.
     pub fn append_line(&mut self, bytes: &[u8]) -> Result<(), Full>
         ensures ok { OnOk result (self.new ≡ record self.old { bytes = self.old.bytes ++ 10 ∷ bytes.now }) }
         ensures fits { OnOk result (length self.old.bytes + 1 + length bytes.now ≤ self.old.limit) }
@@ -223,8 +221,8 @@ impl Space {
         }
     }
 
-    /// Replaces the contents by the bytes. Where these are more than the limit, and only there, it answers `Full` and
-    /// changes nothing.
+    /// Replaces the contents by the bytes, or answers `Full` and changes nothing, exactly where these are more than the
+    /// limit.
     pub fn set(&mut self, bytes: &[u8]) -> Result<(), Full>
         ensures ok { OnOk result (self.new ≡ record self.old { bytes = bytes.now }) }
         ensures fits { OnOk result (length bytes.now ≤ self.old.limit) }

@@ -2,7 +2,7 @@ use Rattle.std.proofs.Common.{inl, inr, length, arith}
 use Rattle.std.proofs.lemmas.Result.{err_from_is_err_and}
 use Rattle.sedscript.specs.Script.{early}
 use Rattle.sedscript.proofs.Cuts.{cut_next, cut_ends, end_here, next_here, cut_start}
-use Rattle.sedscript.proofs.reader.cut.Goals as goal
+use Rattle.sedscript.proofs.reader.cut_text.Goals as goal
 
 pub items-init : goal.items-init
 items-init c = record { within = omega arith; cut = cut_start c.args.source.now.text.now c.args.source.now.kind c.args.source.now.max_nodes _ _ c.requires.empty.0 c.requires.empty.1 }
