@@ -20,7 +20,7 @@ use Rattle.sedscript.specs.Items.{substitute_at, function_at, item_at}
 use Rattle.sedspace.specs.Lines.{lines}
 use Rattle.sedengine.specs.Limits.{Limits, limits_of}
 use Rattle.sedengine.specs.Move.{move, start, to_sink}
-use Rattle.sedengine.specs.Run.{finds_in, match_at as occurrence_of, search_in}
+use Rattle.sedengine.specs.Run.{finds_in, match_with_span as occurrence_of, search_in}
 use Rattle.sedengine.specs.Select.{selects}
 use Rattle.sedengine.specs.State.{Setting}
 use Rattle.sedengine.specs.Substitute.{Occurrence, occurrences_from}

@@ -9,13 +9,13 @@ use Rattle.sedscript.specs.declared.types.Action.TheVariants.{Block}
 use Rattle.sedspace.specs.Stream.{Stream, TakesAtMost, left, lines_left}
 use Rattle.sedengine.specs.Limits.{Limits}
 use Rattle.sedengine.specs.State.{Entry, Task, do_at, State, Move, Setting}
-use Rattle.sedengine.specs.Select.{Choice, selects}
+use Rattle.sedengine.specs.Select.{Selection, selects}
 use Rattle.sedengine.specs.Move.{move, reach, performs, acts, passes, writing, quietly, queueing, then_do, none_left, in_table, is_active, tells_at}
 use Rattle.sedengine.specs.Ends.{WithinLimits, reaches, reads, asks_last, is_next, names_last}
 use Rattle.sedengine.specs.Meters.{Sent, SinkView}
 use Rattle.sedengine.specs.Calls.{Puts}
 use Rattle.sedengine.specs.Run.{RunState, at_lines, setting}
-use Rattle.sedengine.specs.Choose.{Judges, as_choice, reached_with, current}
+use Rattle.sedengine.specs.Choose.{Judges, as_selection, reached_with, current}
 use Rattle.sedengine.specs.Queueing.{QueuesOrFull, queued_more}
 use Rattle.sedengine.specs.Steps.{Reaches, HasAction, Moves, Performs, PerformsSteps, Steps, TakesLines}
 use Rattle.sedengine.specs.Inside.{run_of, entry_by, entry_for, IsConsistent}
@@ -141,7 +141,7 @@ module _ {R : Type 0} (remaining : R → Option (List ℕ)) (old new : Stream R)
   bytes_stay : (n : ℕ) → TakesAtMost (left remaining old) (left remaining new) n
   bytes_stay n = TakesAtMost-more _ _ _ _ (omega arith) (rw (none_taken taken.lines ls taken.are) at taken.bytes)
 
-  reach_as : (choice : Option Choice) → selects (current e (none_left ls)) (is_active e.state k) c ≡ choice →
+  reach_as : (choice : Option Selection) → selects (current e (none_left ls)) (is_active e.state k) c ≡ choice →
       move (setting e files) (at_lines e ls) ≡ option_and_then (performs (setting e files) (at_lines e ls) k c) choice
   reach_as choice h =
       move_at _ _ _ t ∙ ap (reach (setting e files) (at_lines e ls) k) (command_seen a e k c seen is) ∙ ap (option_and_then (performs (setting e files) (at_lines e ls) k c)) h
@@ -163,10 +163,10 @@ module _ {R : Type 0} (remaining : R → Option (List ℕ)) (old new : Stream R)
       stops other h = absurd h
 
   -- The addresses chose.
-  module _ (choice : Chosen) (used : Option ℕ) (e1 e2 : RunState) (chose : selects (current e (none_left ls)) (is_active e.state k) c ≡ Some (as_choice choice used)) (came : e1 ≡ reached_with e k (slice_set e.state.ranges k choice.active) used) where
+  module _ (choice : Chosen) (used : Option ℕ) (e1 e2 : RunState) (chose : selects (current e (none_left ls)) (is_active e.state k) c ≡ Some (as_selection choice used)) (came : e1 ≡ reached_with e k (slice_set e.state.ranges k choice.active) used) where
     moves_as : (b : Bool) → choice.yes ≡ b → move (setting e files) (at_lines e ls) ≡
         cond b (acts (setting e files) (at_lines (reached_with e k (slice_set e.state.ranges k choice.active) used) ls) (tells_at c choice.end) c.action) (passes (at_lines (reached_with e k (slice_set e.state.ranges k choice.active) used) ls) c.action)
-    moves_as b chosen = reach_as (Some (as_choice choice used)) chose ∙
+    moves_as b chosen = reach_as (Some (as_selection choice used)) chose ∙
         ap (λ b. cond b (acts (setting e files) (at_lines (reached_with e k (slice_set e.state.ranges k choice.active) used) ls) (tells_at c choice.end) c.action) (passes (at_lines (reached_with e k (slice_set e.state.ranges k choice.active) used) ls) c.action)) chosen
 
     acted : (P : List (ℕ × ℕ) → Type 0) (r : Result Unit Ended) → Moves e.limits (setting e files) (at_lines e ls) (at_lines e2 ls) P r → Steps remaining old new ls e.limits (setting e files) e e2 P r

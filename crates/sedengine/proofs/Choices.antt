@@ -8,8 +8,8 @@ use Rattle.sedmatch.specs.Matching.{found}
 use Rattle.sedscript.specs.declared.types.Address.{Address}
 use Rattle.sedscript.specs.declared.types.Address.TheVariants.{Line, Last, Match}
 use Rattle.sedscript.specs.declared.types.Command.{Command}
-use Rattle.sedengine.specs.Select.{Current, Answer, Choice, answer, on_idle, on_active, of_addresses, negated, selects, ends_at_once}
-use Rattle.sedengine.specs.Choose.{deciding, deciding_in, decides, choice_by_match, chosen_idle, chosen_active, as_choice, is_over, turned, yes_by_number, Answers, Judges}
+use Rattle.sedengine.specs.Select.{Current, Answer, Selection, answer, on_idle, on_active, of_addresses, negated, selects, ends_at_once}
+use Rattle.sedengine.specs.Choose.{deciding, deciding_in, decides, choice_by_match, chosen_idle, chosen_active, as_selection, turned, yes_by_number, Answers, Judges}
 use Rattle.sedengine.specs.Ends.{is_dollar}
 use Rattle.sedengine.specs.declared.ends.Ended.{Ended}
 use Rattle.sedengine.specs.declared.ends.Ended.TheVariants.{Done, PatternFull, HoldFull, QueueFull, TurnsSpent, NoPrevious, InputBroken, OutputBroken, OutputFull}
@@ -22,25 +22,20 @@ finds_as expressions k e v w b inside is same found_as =
     found_as ∙ ap (λ (x : List ℕ). is_some (found (tree e) x 0)) same ∙ ap (λ (o : Option Written). has_match o w) (sym (slice_get_read expressions (length expressions) k e refl inside is))
 
 -- the choice that follows from the answer of the address that decides
-abbrev follows : Current → Bool → Option Address → Option Address → Answer → Option Choice
-follows c active first second a = Some (as_choice (choice_by_match first second active c.number a.yes) a.used)
+abbrev follows : Current → Bool → Option Address → Option Address → Answer → Option Selection
+follows c active first second a = Some (as_selection (choice_by_match first second active c.number a.yes) a.used)
 
 ext : {A B : Type 0} (o : Option A) (f g : A → Option B) → ((a : A) → f a ≡ g a) → option_and_then f o ≡ option_and_then g o
 ext {A} {B} None f g h = refl
 ext {A} {B} (Some a) f g h = h a
 
-over_same : (c : Current) (second : Address) → ends_at_once c second ≡ is_over second c.number
-over_same c (Line n) = refl
-over_same c Last = refl
-over_same c (Match e) = refl
-
 idle_follows : (c : Current) (second : Address) (yes : Bool) (used : Option ℕ) →
-    Some (cond yes (as_choice (record { yes = true; end = ends_at_once c second; active = not (ends_at_once c second) }) used) (as_choice (record { yes = false; end = false; active = false }) used))
-    ≡ Some (as_choice (chosen_idle second c.number yes) used)
-idle_follows c second true used = ap (λ over. Some (as_choice (record { yes = true; end = over; active = not over }) used)) (over_same c second)
+    Some (cond yes (as_selection (record { yes = true; end = ends_at_once c.number second; active = not (ends_at_once c.number second) }) used) (as_selection (record { yes = false; end = false; active = false }) used))
+    ≡ Some (as_selection (chosen_idle second c.number yes) used)
+idle_follows c second true used = refl
 idle_follows c second false used = refl
 
-on_idle-as : (c : Current) (first second : Address) → on_idle c first second ≡ option_and_then (λ (a : Answer). Some (as_choice (chosen_idle second c.number a.yes) a.used)) (answer c first)
+on_idle-as : (c : Current) (first second : Address) → on_idle c first second ≡ option_and_then (λ (a : Answer). Some (as_selection (chosen_idle second c.number a.yes) a.used)) (answer c first)
 on_idle-as c first second = ext (answer c first) _ _ (λ a. idle_follows c second a.yes a.used)
 
 le_as : (a b : ℕ) → nat_le a b ≡ (nat_lt a b || nat_eq a b)
@@ -48,13 +43,13 @@ le_as a b = grind (arith, nat_tests)
 
 -- an active range up to the line n, by how the number of this line compares
 line_follows : (c : Current) (first : Address) (n : ℕ) (less same : Bool) →
-    cond less (Some (as_choice (record { yes = true; end = false; active = true }) c.used)) (cond same (Some (as_choice (record { yes = true; end = true; active = false }) c.used)) (on_idle c first (Line n)))
-    ≡ option_and_then (λ (a : Answer). Some (as_choice (cond less (record { yes = true; end = false; active = true }) (cond same (record { yes = true; end = true; active = false }) (chosen_idle (Line n) c.number a.yes))) a.used)) (decides c (cond (less || same) None (Some first)))
+    cond less (Some (as_selection (record { yes = true; end = false; active = true }) c.used)) (cond same (Some (as_selection (record { yes = true; end = true; active = false }) c.used)) (on_idle c first (Line n)))
+    ≡ option_and_then (λ (a : Answer). Some (as_selection (cond less (record { yes = true; end = false; active = true }) (cond same (record { yes = true; end = true; active = false }) (chosen_idle (Line n) c.number a.yes))) a.used)) (decides c (cond (less || same) None (Some first)))
 line_follows c first n true same = refl
 line_follows c first n false true = refl
 line_follows c first n false false = on_idle-as c first (Line n)
 
-on_active-as : (c : Current) (first second : Address) → on_active c first second ≡ option_and_then (λ (a : Answer). Some (as_choice (chosen_active second c.number a.yes) a.used)) (decides c (deciding_in first second c.number))
+on_active-as : (c : Current) (first second : Address) → on_active c first second ≡ option_and_then (λ (a : Answer). Some (as_selection (chosen_active second c.number a.yes) a.used)) (decides c (deciding_in first second c.number))
 on_active-as c first (Line n) = rw (le_as c.number n) (line_follows c first n (nat_lt c.number n) (nat_eq c.number n))
 on_active-as c first Last = refl
 on_active-as c first (Match e) = refl
@@ -68,7 +63,7 @@ of_addresses-as c false (Some first) (Some second) = on_idle-as c first second
 
 -- with the answer of the address that decides
 pub selects_some : (c : Current) (active : Bool) (command : Command) (matched : Bool) (used : Option ℕ) → decides c (deciding command.first command.second active c.number) ≡ Some (record { yes = matched; used = used }) →
-    selects c active command ≡ Some (as_choice (turned command.negate (choice_by_match command.first command.second active c.number matched)) used)
+    selects c active command ≡ Some (as_selection (turned command.negate (choice_by_match command.first command.second active c.number matched)) used)
 unfolding selects
 selects_some c active command matched used h =
     ap (λ o. option_and_then (λ choice. Some (negated command.negate choice)) o) (of_addresses-as c active command.first command.second ∙ ap (λ o. option_and_then (follows c active command.first command.second) o) h)
@@ -114,7 +109,7 @@ judges_err c a active command number used (OutputFull k) same_active same h = h
 
 pub judges_ok : (c : Current) (a active : Bool) (command : Command) (matched : Bool) (number : ℕ) (used used' : Option ℕ) (choice : Chosen) → a ≡ active → number ≡ c.number → used' ≡ used →
     choice ≡ turned command.negate (choice_by_match command.first command.second a number matched) → decides c (deciding command.first command.second a c.number) ≡ Some (record { yes = matched; used = used }) →
-    selects c active command ≡ Some (as_choice choice used')
+    selects c active command ≡ Some (as_selection choice used')
 judges_ok c a active command matched number used used' choice same_active same_number same_used is h =
     rw (is, same_used, same_number, ← same_active) (selects_some c a command matched used h)
 
@@ -125,16 +120,16 @@ some_of : (a b : Bool) → Some a ≡ Some b → a ≡ b
 some_of a b h = cc
 
 straight : (c : Current) (active : Bool) (first second : Option Address) (negate applies : Bool) → yes_by_number first second negate c.number ≡ Some applies →
-    option_and_then (λ choice. Some (negated negate choice)) (of_addresses c active first second) ≡ Some (as_choice (record { yes = applies; end = false; active = active }) c.used)
-straight c active None second negate applies h = ap (λ b. Some (as_choice (record { yes = b; end = false; active = active }) c.used)) (some_of _ _ h)
-straight c active (Some (Line n)) None negate applies h = ap (λ b. Some (as_choice (record { yes = b; end = false; active = active }) c.used)) (some_of _ _ h)
+    option_and_then (λ choice. Some (negated negate choice)) (of_addresses c active first second) ≡ Some (as_selection (record { yes = applies; end = false; active = active }) c.used)
+straight c active None second negate applies h = ap (λ b. Some (as_selection (record { yes = b; end = false; active = active }) c.used)) (some_of _ _ h)
+straight c active (Some (Line n)) None negate applies h = ap (λ b. Some (as_selection (record { yes = b; end = false; active = active }) c.used)) (some_of _ _ h)
 straight c active (Some (Line n)) (Some second) negate applies h = cc
 straight c active (Some Last) second negate applies h = cc
 straight c active (Some (Match e)) second negate applies h = cc
 
 -- what the line number alone tells
 pub selects_by_number : (c : Current) (a active : Bool) (command : Command) (applies : Bool) (number : ℕ) (used : Option ℕ) → a ≡ active → number ≡ c.number → used ≡ c.used →
-    Some applies ≡ yes_by_number command.first command.second command.negate number → selects c active command ≡ Some (as_choice (record { yes = applies; end = false; active = a }) used)
+    Some applies ≡ yes_by_number command.first command.second command.negate number → selects c active command ≡ Some (as_selection (record { yes = applies; end = false; active = a }) used)
 unfolding selects
 selects_by_number c a active command applies number used same_active same_number same_used h =
     rw (same_used, ← same_active) (straight c a command.first command.second command.negate applies (sym (rw same_number at h)))

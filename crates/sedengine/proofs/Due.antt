@@ -1,7 +1,8 @@
 -- A text that is made in a space, part by part.
 use Rattle.std.proofs.Common.{◌≡◌, ℕ, ◌+◌, ◌-◌, ◌<◌, ◌≤◌, List, [], ◌++◌, Bool, true, false, length, drop, take}
 use Rattle.std.proofs.Common.{Option, Some, None, Result, Ok, Err, refl, sym, subst, ap, ◌∙◌, arith}
-use Rattle.std.proofs.Common.{append_assoc, length-append, length-drop}
+use Rattle.std.proofs.Common.{append_assoc, length-append, length-drop, ◌*◌, suc}
+use Rattle.std.proofs.Math.Nat.{mul-suc}
 use Rattle.std.specs.Prelude.{OnOk, OnErr, IsErr, IfSome, slice_range, if◌then◌else◌}
 use Rattle.std.proofs.Math.Seq.{take-length}
 use Rattle.std.proofs.lemmas.Bool.{false≢true}
@@ -13,9 +14,9 @@ use Rattle.sedscript.specs.declared.substitution.Piece.{Piece}
 use Rattle.sedspace.specs.Spaces.{Contents}
 use Rattle.sedspace.specs.declared.errors.Full.{Full}
 use Rattle.sedengine.specs.Substitute.{Occurrence, to_replace, next_occurrence, occurrences, put_for, replaced_from}
-use Rattle.sedengine.specs.Run.{match_at, search_for}
+use Rattle.sedengine.specs.Run.{match_with_span, search_for}
 use Rattle.sedengine.specs.SubstituteParts.{Appends, GroupsOf, Replaces, Skips, has_group, with_groups}
-use Rattle.sedengine.specs.SubstituteParts.{occurrence, occurrences_after, pending}
+use Rattle.sedengine.specs.SubstituteParts.{later_cost, occurrence, occurrences_after, pending, told_cost}
 use Rattle.sedengine.proofs.Occurrences.{after_is}
 use Rattle.sedengine.proofs.PieceLemmas.{put_same}
 
@@ -121,7 +122,7 @@ due_rest old mid new all e w ps global at (Some span) r is due rest = let never 
 
 -- after an occurrence that is replaced the next one is, with the flag `g`
 pub more_pending : (e : Written) (w : List ℕ) (global : Bool) (q : ℕ) (r : Option (ℕ × ℕ)) → global ≡ true →
-    q ≤ length w → match_at e w r ≡ next_occurrence (search_for (Some e) w) (length w) (Some q) →
+    q ≤ length w → match_with_span e w r ≡ next_occurrence (search_for (Some e) w) (length w) (Some q) →
     rest_after e w global q ≡ pending e w global r
 more_pending e w true q r is fits next = after_is e w (Some q) r fits next
 more_pending e w false q r is fits next = absurd (false≢true is)
@@ -137,10 +138,10 @@ lies_on n q None lies = tt
 lies_on n q (Some span) lies = (lies.2.0, lies.0, lies.1)
 
 -- the chosen occurrences are pending where the first of them comes next
-pub chosen_is : (e : Written) (w : List ℕ) (number : ℕ) (global : Bool) (last : Option ℕ) (r : Option (ℕ × ℕ)) →
-    Skips e w (number - 1) (Some last) → match_at e w r ≡ next_occurrence (search_for (Some e) w) (length w) last →
+pub to_replace_is : (e : Written) (w : List ℕ) (number : ℕ) (global : Bool) (last : Option ℕ) (r : Option (ℕ × ℕ)) →
+    Skips e w (number - 1) (Some last) → match_with_span e w r ≡ next_occurrence (search_for (Some e) w) (length w) last →
     to_replace number global (occurrences (search_for (Some e) w) (length w)) ≡ pending e w global r
-chosen_is e w number global last r skips next = by_flag global r (skips.0 ∙ after_is e w last r skips.1 next)
+to_replace_is e w number global last r skips next = by_flag global r (skips.0 ∙ after_is e w last r skips.1 next)
   where
     by_flag : (global : Bool) (r : Option (ℕ × ℕ)) →
         drop (number - 1) (occurrences (search_for (Some e) w) (length w)) ≡ pending e w true r →
@@ -168,3 +169,29 @@ replaces_full w ps ms ns old empty new f (Err g) is same some cleared full =
     let longer : old.limit < length (replaced_from w ps 0 ns) = omega arith in
     subst (λ (ms : List Occurrence). (0 < length ms) × (old.limit < length (replaced_from w ps 0 ms))) (sym same)
     (some, longer)
+
+told_most : (span : ℕ × ℕ) (wanted : Bool) (k : ℕ) → told_cost (Some span) wanted k ≤ k
+told_most span true k = omega arith
+told_most span false k = omega arith
+
+-- after an occurrence is replaced, what its successor's groups took is no longer due
+pub groups_paid : (k a a' b : ℕ) (e : Written) (w : List ℕ) (global wanted : Bool) (o : Option (ℕ × ℕ)) (span : ℕ × ℕ) (r : Option (ℕ × ℕ)) →
+    o ≡ Some span → rest_after e w global span.1 ≡ pending e w global r → a + later_cost k (pending e w global o) ≤ b →
+    a' ≤ a + told_cost r wanted k → a' + later_cost k (pending e w global r) ≤ b
+groups_paid k a a' b e w global wanted o span None is more before cost = omega (arith, before, cost)
+groups_paid k a a' b e w global wanted o span (Some next) is more before cost =
+    let now : a + k * length (rest_after e w global span.1) ≤ b = subst (λ (p : Option (ℕ × ℕ)). a + later_cost k (pending e w global p) ≤ b) is before in
+    let long : length (rest_after e w global span.1) ≡ suc (length (rest_after e w global next.1)) = ap length more in
+    let product = ap (λ (n : ℕ). k * n) long ∙ mul-suc k (length (rest_after e w global next.1)) in
+    let most = told_most next wanted k in
+    omega (arith, now, cost, product, most)
+
+-- what the groups of all that is replaced took
+pub groups_took : (k a b c : ℕ) (e : Written) (w : List ℕ) (global wanted : Bool) (first : ℕ × ℕ) (ms : List Occurrence) →
+    ms ≡ pending e w global (Some first) → (a ≤ b) × (b ≤ a + told_cost (Some first) wanted k) →
+    (b ≤ c) × (c ≤ b + later_cost k (pending e w global (Some first))) → (a ≤ c) × (c ≤ a + k * length ms)
+groups_took k a b c e w global wanted first ms is told later =
+    let long : length ms ≡ suc (length (rest_after e w global first.1)) = ap length is in
+    let product = ap (λ (n : ℕ). k * n) long ∙ mul-suc k (length (rest_after e w global first.1)) in
+    let most = told_most first wanted k in
+    (omega (arith, told.0, later.0), omega (arith, told.1, later.1, product, most))

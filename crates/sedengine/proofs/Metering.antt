@@ -7,7 +7,7 @@ use Rattle.sedengine.specs.State.{State, Setting}
 use Rattle.sedengine.specs.Devices.{part, FillsSink, GainedWithin}
 use Rattle.sedengine.specs.Ends.{Cause, WholeOrBrokenOff, named_sink}
 use Rattle.sedengine.specs.Meters.{Frame, FullSink, InLimit, Meter, Sent, SinkView, counted}
-use Rattle.sedengine.specs.Run.{Cycles, Ending, RunState, Sends, at_lines, outcome, setting}
+use Rattle.sedengine.specs.Run.{Cycles, Ending, Input, RunState, Sends, at_lines, outcome, setting}
 use Rattle.sedengine.specs.declared.ends.Ended.{Ended}
 use Rattle.sedengine.specs.declared.ends.Ended.TheVariants.{OutputFull}
 use Rattle.sedengine.specs.declared.ends.Progress.{Progress}
@@ -21,10 +21,10 @@ WholeOrBrokenOff-as l g s P Q end t (Some k) f h = record { within = h.within; b
 pub Cause-as : (l : Limits) (g : Setting) (s : State) (P Q : List (ℕ × ℕ) → Type 0) (end : Ended) (t : ℕ) → ((out : List (ℕ × ℕ)) → P out → Q out) → Cause l g s P end t → Cause l g s Q end t
 Cause-as l g s P Q end t f h = WholeOrBrokenOff-as l g s P Q end t (named_sink end) f h
 
-Ending-as : (l : Limits) (g : Setting) (s : State) (P Q : List (ℕ × ℕ) → Type 0) (old new : Option (List ℕ)) (now : State) (end : Ended) → ((out : List (ℕ × ℕ)) → P out → Q out) → Ending l g s P old new now end → Ending l g s Q old new now end
+Ending-as : (l : Limits) (g : Setting) (s : State) (P Q : List (ℕ × ℕ) → Type 0) (old new : Input) (now : State) (end : Ended) → ((out : List (ℕ × ℕ)) → P out → Q out) → Ending l g s P old new now end → Ending l g s Q old new now end
 Ending-as l g s P Q old new now end f h = record { t = h.t; cause = Cause-as l g s P Q end h.t f h.cause; takes = h.takes; holds = h.holds }
 
-Cycles-as : (l : Limits) (g : Setting) (s : State) (P Q : List (ℕ × ℕ) → Type 0) (old new : Option (List ℕ)) (e : RunState) (sent : List ℕ) (left : Option (List (List ℕ))) (r : Progress) → ((out : List (ℕ × ℕ)) → P out → Q out) →
+Cycles-as : (l : Limits) (g : Setting) (s : State) (P Q : List (ℕ × ℕ) → Type 0) (old new : Input) (e : RunState) (sent : List ℕ) (left : Option (List (List ℕ))) (r : Progress) → ((out : List (ℕ × ℕ)) → P out → Q out) →
     Cycles l g s P old new e left r → Cycles l g s Q old new (record e { sent = sent }) left r
 unfolding Ending-as
 Cycles-as l g s P Q old new e sent left progress.More f (rest, are, h) =
@@ -79,7 +79,7 @@ sends e e' m m' old new f f' a a' r out limit same frame before now within full 
     }
 
 -- A call of the machine m by the meter, which became m' and led to the machine m', is one of the engine that is seen as e.
-module _ {O : Type 0} (contents : O → ℕ → Option (List ℕ)) (m m' : RunState) (meter meter' : Meter) (e : RunState) (before after now : O) (f f' : ℕ → ℕ) (a a' : Frame) (files : ℕ → List ℕ) (ls : List (List ℕ)) (old new : Option (List ℕ))
+module _ {O : Type 0} (contents : O → ℕ → Option (List ℕ)) (m m' : RunState) (meter meter' : Meter) (e : RunState) (before after now : O) (f f' : ℕ → ℕ) (a a' : Frame) (files : ℕ → List ℕ) (ls : List (List ℕ)) (old new : Input)
     (seen : record m { sent = meter.sent } ≡ e) (limit : meter.most ≡ m.limits.output) (is : now ≡ after) (same : meter'.most ≡ meter.most) (frame : a'.most ≡ meter'.most) (within : InLimit meter'.most meter'.sent) where
   sends_all : (r : Result Unit Ended) → FullSink (tally_of (contents after) f' meter'.most meter'.sent a') r → (out : List (ℕ × ℕ)) →
       Sent (tally_of (contents before) f meter.most meter.sent a) (tally_of (contents after) f' meter'.most meter'.sent a') out →

@@ -12,8 +12,8 @@ use Rattle.sedengine.specs.Move.{move, acts, newline, none_left, quietly, then_d
 use Rattle.sedengine.specs.Ends.{WithinLimits, IsCause, named_sink, line_at, reads, takes_turn}
 use Rattle.sedengine.specs.Held.{SameLengths}
 use Rattle.sedengine.specs.Meters.{Sent, SinkView}
-use Rattle.sedengine.specs.Run.{RunState, at_lines, setting, size_of, starts_cycle}
-use Rattle.sedengine.specs.Steps.{Moves, PerformsSteps, Ran, StepsFrom, TakesLines, lost}
+use Rattle.sedengine.specs.Run.{RunState, at_lines, setting, size_of, starts_cycle, lost}
+use Rattle.sedengine.specs.Steps.{Moves, PerformsSteps, Ran, StepsFrom, TakesLines}
 use Rattle.sedengine.specs.Bringing.{Brings, brought}
 use Rattle.sedengine.specs.Choose.{TellsLine}
 use Rattle.sedengine.specs.declared.place.Place.TheVariants as p

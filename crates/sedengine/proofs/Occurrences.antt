@@ -12,7 +12,7 @@ use Rattle.sedmatch.specs.Occurrences.{EndsWithin, LiesOn}
 use Rattle.sedmatch.proofs.MatchingLemmas.{found-iff, Found-within}
 use Rattle.sedmatch.proofs.SpanLemmas.{Spans-forward, Spans-within}
 use Rattle.sedengine.specs.Substitute.{Occurrence, whole_span, next_occurrence, with_rest, occurrences_from}
-use Rattle.sedengine.specs.Run.{match_at, search_for}
+use Rattle.sedengine.specs.Run.{match_with_span, search_for}
 use Rattle.sedengine.specs.SubstituteParts.{Skips, occurrence, occurrences_after, pending}
 
 -- a match lies in the text, after the place from which it is sought
@@ -32,7 +32,7 @@ pub record Ordered (sought : ℕ → Option Occurrence) (n : ℕ) : Type 0 where
   pub lies : (p : ℕ) (m : Occurrence) → p ≤ n → sought p ≡ Some m → LiesFrom n p m
 
 match_lies : (e : Written) (w : List ℕ) (p : ℕ) (r : Option (ℕ × ℕ)) (m : Occurrence) → p ≤ length w →
-    found (tree e) w p ≡ r → match_at e w r ≡ Some m → LiesFrom (length w) p m
+    found (tree e) w p ≡ r → match_with_span e w r ≡ Some m → LiesFrom (length w) p m
 match_lies e w p None m fits is at = let none : None ≡ Some m = at in cc
 match_lies e w p (Some span) m fits is at =
     let same : occurrence e w span ≡ m = cc in
@@ -125,7 +125,7 @@ from_some sought n most last m o fits some is =
 
 -- the occurrences after a place are the one that comes next and those after it
 pub after_is : (e : Written) (w : List ℕ) (last : Option ℕ) (r : Option (ℕ × ℕ)) → EndsWithin (length w) last →
-    match_at e w r ≡ next_occurrence (search_for (Some e) w) (length w) last →
+    match_with_span e w r ≡ next_occurrence (search_for (Some e) w) (length w) last →
     occurrences_after e w last ≡ pending e w true r
 after_is e w None None fits is = from_none (search_for (Some e) w) (length w) (length w + 1) None (sym is)
 after_is e w (Some q) None fits is = from_none (search_for (Some e) w) (length w) (length w - q) (Some q) (sym is)
@@ -149,7 +149,7 @@ drop_more ms k count more none =
 pub skips_none : (e : Written) (w : List ℕ) (last : Option ℕ) (k count : ℕ) (skipped : Option (Option ℕ)) →
     skipped ≡ None → k ≤ count → EndsWithin (length w) last →
     drop k (occurrences_after e w None) ≡ occurrences_after e w last →
-    match_at e w None ≡ next_occurrence (search_for (Some e) w) (length w) last → Skips e w count skipped
+    match_with_span e w None ≡ next_occurrence (search_for (Some e) w) (length w) last → Skips e w count skipped
 skips_none e w last k count None none more fits skipped is =
     drop_more (occurrences_after e w None) k count more (skipped ∙ after_is e w last None fits is)
 skips_none e w last k count (Some place) none more fits skipped is = let never : Some place ≡ None = none in cc
@@ -157,7 +157,7 @@ skips_none e w last k count (Some place) none more fits skipped is = let never :
 -- one more is skipped
 pub skips_one : (e : Written) (w : List ℕ) (last : Option ℕ) (k : ℕ) (span : ℕ × ℕ) → EndsWithin (length w) last →
     drop k (occurrences_after e w None) ≡ occurrences_after e w last →
-    match_at e w (Some span) ≡ next_occurrence (search_for (Some e) w) (length w) last →
+    match_with_span e w (Some span) ≡ next_occurrence (search_for (Some e) w) (length w) last →
     drop (k + 1) (occurrences_after e w None) ≡ occurrences_after e w (Some span.1)
 skips_one e w last k span fits skipped is =
     sym (drop-drop 1 k (occurrences_after e w None)) ∙ ap (drop 1) (skipped ∙ after_is e w last (Some span) fits is)

@@ -8,8 +8,8 @@ use Rattle.sedengine.specs.Move.{after, written}
 use Rattle.sedengine.specs.Meters.{Sent, SinkView}
 use Rattle.sedengine.specs.Ends.{WithinLimits, Within, named_sink}
 use Rattle.sedengine.specs.Held.{HoldsAt, SameLengths}
-use Rattle.sedengine.specs.Run.{RunState, setting, setting_of, at_lines, size_of, more_at, TakesInput, Ending, EndingInCycle, Cycled, InOneCycle, starts_cycle}
-use Rattle.sedengine.specs.Steps.{Ran, TakesLines, Halted, Steps, lost, KeepsRun}
+use Rattle.sedengine.specs.Run.{RunState, setting, setting_of, at_lines, size_of, lost, more_at, Input, input_of, TakesLeft, Ending, EndingInCycle, Cycled, InOneCycle, starts_cycle}
+use Rattle.sedengine.specs.Steps.{Ran, TakesLines, Halted, Steps, KeepsRun}
 use Rattle.sedengine.specs.declared.ends.Ended.{Ended}
 use Rattle.sedengine.specs.declared.ends.Ended.TheVariants.{PatternFull, InputBroken}
 use Rattle.sedengine.proofs.Sending.{Sent-append, Sent-none}
@@ -51,14 +51,17 @@ same_setting old new files s = ap (λ p. setting_of p files) s.script
 pub KeepsRun-then : {a b c : RunState} → KeepsRun a b → KeepsRun b c → KeepsRun a c
 KeepsRun-then s t = record { script = t.script ∙ s.script; limits = t.limits ∙ s.limits; ended = t.ended ∙ s.ended }
 
--- from the lines and the bytes ahead to what was taken from the source
+-- what was taken from the source, by what was taken of all that was still to come
 pub takes_of : {R : Type 0} (remaining : R → Option (List ℕ)) (from to : Stream R) (l : Limits) (g : Setting) (s : State) (t n m : ℕ) (lines : List (List ℕ)) → s.lines ≡ lines ++ (after g s t).lines →
     TakesAtMost (left remaining from) (left remaining to) (size_of lines + n) → (k : ℕ) × TakesAtMost (remaining from.source) (remaining to.source) k →
-    length to.ahead ≤ max (length from.ahead) l.look → n + l.look ≤ m → TakesInput g s (remaining from.source) (remaining to.source) m t
+    length to.ahead ≤ max (length from.ahead) l.look → n + l.look ≤ m → TakesLeft g s (input_of remaining from) (input_of remaining to) n m t
 takes_of {R} remaining from to l g s t n m lines are gone shrinks ahead most = record {
-  lines = lines;
-  are = are;
-  bytes = TakesAtMost-more _ _ _ _ (omega arith) (source_takes from.ahead to.ahead (remaining from.source) (remaining to.source) _ l.look shrinks gone ahead);
+  input = record {
+    lines = lines;
+    are = are;
+    bytes = TakesAtMost-more _ _ _ _ (omega arith) (source_takes from.ahead to.ahead (remaining from.source) (remaining to.source) _ l.look shrinks gone ahead);
+  };
+  all = gone;
 }
 
 pub lost_more : (l : Limits) (end : Ended) → lost l end + l.look ≤ more_at l end
@@ -100,7 +103,7 @@ module _ {R : Type 0} (remaining : R → Option (List ℕ)) (from at to : Stream
 
   abbrev pub stop_on : (e' : RunState) (end : Ended) → Steps remaining at to r.rest e.limits (setting e files) e e' (Sent mid new) (Err end) →
       (k : ℕ) × TakesAtMost (remaining from.source) (remaining to.source) k → length to.ahead ≤ max (length from.ahead) from.look → from.look ≡ a.limits.look →
-      Ending a.limits (setting a files) s (Sent old new) (remaining from.source) (remaining to.source) e'.state end
+      Ending a.limits (setting a files) s (Sent old new) (input_of remaining from) (input_of remaining to) e'.state end
   stop_on e' end halted shrinks ahead look =
       let g : Setting = setting a files in
       let h = halted_on e' end halted in
@@ -135,7 +138,7 @@ module _ {R : Type 0} (remaining : R → Option (List ℕ)) (from at to : Stream
 pub cycled : {R : Type 0} (remaining : R → Option (List ℕ)) (from to : Stream R) (l : Limits) (g : Setting) (s : State) (e : RunState) (old new : SinkView) →
     (r : Reached remaining from to l g s e old new) → 0 < r.t → InOneCycle g s r.t → starts_cycle e.state.tasks ≡ true →
     (k : ℕ) × TakesAtMost (remaining from.source) (remaining to.source) k → length to.ahead ≤ max (length from.ahead) from.look → from.look ≡ l.look →
-    (rest : List (List ℕ)) × (lines_left remaining to ≡ Some rest) × Cycled l g s (Sent old new) (remaining from.source) (remaining to.source) (at_lines e rest)
+    (rest : List (List ℕ)) × (lines_left remaining to ≡ Some rest) × Cycled l g s (Sent old new) (input_of remaining from) (input_of remaining to) (at_lines e rest)
 cycled {R} remaining from to l g s e old new r some one starts shrinks ahead look =
     let are : s.lines ≡ r.taken.lines ++ (after g s r.t).lines = r.taken.are ∙ ap (λ x. r.taken.lines ++ x) (sym (ap (λ (x : State). x.lines) r.is)) in (
       r.rest,
@@ -153,8 +156,8 @@ cycled {R} remaining from to l g s e old new r some one starts shrinks ahead loo
     )
 
 -- the end is that of the engine as it is seen
-pub ending_seen : {l : Limits} {g : Setting} {s : State} {P : List (ℕ × ℕ) → Type 0} {old new : Option (List ℕ)} {end : Ended} (e e' : RunState) → e' ≡ e → Ending l g s P old new e.state end → Ending l g s P old new e'.state end
+pub ending_seen : {l : Limits} {g : Setting} {s : State} {P : List (ℕ × ℕ) → Type 0} {old new : Input} {end : Ended} (e e' : RunState) → e' ≡ e → Ending l g s P old new e.state end → Ending l g s P old new e'.state end
 ending_seen {l} {g} {s} {P} {old} {new} {end} e e' same h = let S : RunState → Type 0 = λ e. Ending l g s P old new e.state end in subst S (sym same) h
 
-pub cycle_seen : {l : Limits} {g : Setting} {s : State} {P : List (ℕ × ℕ) → Type 0} {old new : Option (List ℕ)} {end : Ended} (e e' : RunState) → e' ≡ e → EndingInCycle l g s P old new e.state end → EndingInCycle l g s P old new e'.state end
+pub cycle_seen : {l : Limits} {g : Setting} {s : State} {P : List (ℕ × ℕ) → Type 0} {old new : Input} {end : Ended} (e e' : RunState) → e' ≡ e → EndingInCycle l g s P old new e.state end → EndingInCycle l g s P old new e'.state end
 cycle_seen {l} {g} {s} {P} {old} {new} {end} e e' same h = let S : RunState → Type 0 = λ e. EndingInCycle l g s P old new e.state end in subst S (sym same) h

@@ -12,7 +12,7 @@ use Rattle.sedspace.specs.declared.errors.Full.{Full}
 use Rattle.sedengine.specs.State.{Task, begin, rebegin, do_at, print_pattern, empty_pattern, flush, copy, fetch, join, State, Move, Setting}
 use Rattle.sedengine.specs.Substitute.{Occurrence, to_replace, occurrences, replaced_from}
 use Rattle.sedengine.specs.Select.{stands_for}
-use Rattle.sedengine.specs.Move.{move, becomes, chosen_in, quietly, writing, line_to, line_to_file, replaces, written_by}
+use Rattle.sedengine.specs.Move.{move, becomes, to_replace_in, quietly, writing, line_to, line_to_file, replaces, written_by}
 use Rattle.sedengine.specs.Ends.{WithinLimits, Leads, reaches, line_at}
 use Rattle.sedengine.specs.Held.{SameLengths}
 use Rattle.sedengine.specs.Meters.{Sent, SinkView}
@@ -75,14 +75,14 @@ leads_full s t (m ∷ ms) space some more = (_, refl, more)
 pub makes_full : (a : Inside) (r : RunState) (seen : run_of a ≡ r) (es : List Written) (same : es ≡ a.script.expressions) (k e : ℕ) (files : ℕ → List ℕ) (ls : List (List ℕ)) (t : Substitution) (new : Contents) (now : State) (f : Full) → a.pattern.limit ≡ a.limits.space →
     slice_get r.script.substitutions k ≡ Some t →
     ((t : Substitution) → slice_get a.script.substitutions k ≡ Some t → ReplacesIn t (to_replace t.number t.global (occurrences (search_in es e a.pattern.bytes) (length a.pattern.bytes))) a.pattern new (Err f)) →
-    Makes r.limits (replaces (record (at_lines r ls) { used = Some e }) t (chosen_in (setting r files) t e r.state.pattern)) t (at_lines r ls) now (Err (PatternFull a.number))
+    Makes r.limits (replaces (record (at_lines r ls) { used = Some e }) t (to_replace_in (setting r files) t e r.state.pattern)) t (at_lines r ls) now (Err (PatternFull a.number))
 makes_full a r seen es same k e files ls t new now f limit is h =
-    let Q : RunState → Type 0 = λ r. slice_get r.script.substitutions k ≡ Some t → Makes r.limits (replaces (record (at_lines r ls) { used = Some e }) t (chosen_in (setting r files) t e r.state.pattern)) t (at_lines r ls) now (Err (PatternFull a.number)) in
+    let Q : RunState → Type 0 = λ r. slice_get r.script.substitutions k ≡ Some t → Makes r.limits (replaces (record (at_lines r ls) { used = Some e }) t (to_replace_in (setting r files) t e r.state.pattern)) t (at_lines r ls) now (Err (PatternFull a.number)) in
     subst Q seen
     (λ is.
     let made = rw same at (h t is) in
-    let more : a.limits.space < length (replaced_from a.pattern.bytes t.replacement 0 (chosen_in (setting (run_of a) files) t e a.pattern.bytes)) = rw limit at made.1 in
-    (leads_full (record (at_lines (run_of a) ls) { used = Some e }) t (chosen_in (setting (run_of a) files) t e a.pattern.bytes) a.limits.space made.0 more, refl)) is
+    let more : a.limits.space < length (replaced_from a.pattern.bytes t.replacement 0 (to_replace_in (setting (run_of a) files) t e a.pattern.bytes)) = rw limit at made.1 in
+    (leads_full (record (at_lines (run_of a) ls) { used = Some e }) t (to_replace_in (setting (run_of a) files) t e a.pattern.bytes) a.limits.space made.0 more, refl)) is
 
 some_of : {A : Type 0} (x y : A) → Some x ≡ Some y → x ≡ y
 some_of x y h = cc
@@ -188,13 +188,13 @@ replaces_some s t (m ∷ ms) some = refl
 pub makes_some : (a : Inside) (r : RunState) (seen : run_of a ≡ r) (es : List Written) (same : es ≡ a.script.expressions) (k e : ℕ) (files : ℕ → List ℕ) (ls : List (List ℕ)) (t : Substitution) (new : Contents) →
     slice_get r.script.substitutions k ≡ Some t →
     ((t : Substitution) → slice_get a.script.substitutions k ≡ Some t → ReplacesIn t (to_replace t.number t.global (occurrences (search_in es e a.pattern.bytes) (length a.pattern.bytes))) a.pattern new (Ok true)) →
-    Makes r.limits (replaces (record (at_lines r ls) { used = Some e }) t (chosen_in (setting r files) t e r.state.pattern)) t (at_lines r ls)
+    Makes r.limits (replaces (record (at_lines r ls) { used = Some e }) t (to_replace_in (setting r files) t e r.state.pattern)) t (at_lines r ls)
     (record (at_lines (run_of a) ls) { pattern = new.bytes; used = Some e; replaced = true }) (Ok true)
 makes_some a r seen es same k e files ls t new is h =
     let now : State = record (at_lines (run_of a) ls) { pattern = new.bytes; used = Some e; replaced = true } in
-    let Q : RunState → Type 0 = λ r. slice_get r.script.substitutions k ≡ Some t → replaces (record (at_lines r ls) { used = Some e }) t (chosen_in (setting r files) t e r.state.pattern) ≡ writing (written_by t now.pattern) now in
+    let Q : RunState → Type 0 = λ r. slice_get r.script.substitutions k ≡ Some t → replaces (record (at_lines r ls) { used = Some e }) t (to_replace_in (setting r files) t e r.state.pattern) ≡ writing (written_by t now.pattern) now in
     let s : State = record (at_lines (run_of a) ls) { used = Some e } in
-    let ms = chosen_in (setting (run_of a) files) t e a.pattern.bytes in
+    let ms = to_replace_in (setting (run_of a) files) t e a.pattern.bytes in
     subst Q seen
     (λ is.
     let made = rw same at (h t is) in
@@ -203,11 +203,11 @@ makes_some a r seen es same k e files ls t new is h =
 pub makes_none : (a : Inside) (r : RunState) (seen : run_of a ≡ r) (es : List Written) (same : es ≡ a.script.expressions) (k e : ℕ) (files : ℕ → List ℕ) (ls : List (List ℕ)) (t : Substitution) (new : Contents) →
     slice_get r.script.substitutions k ≡ Some t →
     ((t : Substitution) → slice_get a.script.substitutions k ≡ Some t → ReplacesIn t (to_replace t.number t.global (occurrences (search_in es e a.pattern.bytes) (length a.pattern.bytes))) a.pattern new (Ok false)) →
-    Makes r.limits (replaces (record (at_lines r ls) { used = Some e }) t (chosen_in (setting r files) t e r.state.pattern)) t (at_lines r ls)
+    Makes r.limits (replaces (record (at_lines r ls) { used = Some e }) t (to_replace_in (setting r files) t e r.state.pattern)) t (at_lines r ls)
     (record (at_lines (run_of a) ls) { pattern = new.bytes; used = Some e }) (Ok false)
 makes_none a r seen es same k e files ls t new is h =
     let now : State = record (at_lines (run_of a) ls) { pattern = new.bytes; used = Some e } in
-    let Q : RunState → Type 0 = λ r. slice_get r.script.substitutions k ≡ Some t → replaces (record (at_lines r ls) { used = Some e }) t (chosen_in (setting r files) t e r.state.pattern) ≡ quietly now in
+    let Q : RunState → Type 0 = λ r. slice_get r.script.substitutions k ≡ Some t → replaces (record (at_lines r ls) { used = Some e }) t (to_replace_in (setting r files) t e r.state.pattern) ≡ quietly now in
     let s : State = record (at_lines (run_of a) ls) { used = Some e } in
     subst Q seen
     (λ is.

@@ -12,8 +12,8 @@ use Rattle.sedengine.specs.Move.{move, start, quietly, then_do, none_left}
 use Rattle.sedengine.specs.Ends.{WithinLimits, IsCause, line_at, takes_turn, reads, named_sink}
 use Rattle.sedengine.specs.Held.{SameLengths}
 use Rattle.sedengine.specs.Meters.{Sent, SinkView}
-use Rattle.sedengine.specs.Run.{RunState, at_lines, setting}
-use Rattle.sedengine.specs.Steps.{Ran, Moves, TakesLines, Halted, Steps, lost}
+use Rattle.sedengine.specs.Run.{RunState, at_lines, setting, lost}
+use Rattle.sedengine.specs.Steps.{Ran, Moves, TakesLines, Halted, Steps}
 use Rattle.sedengine.specs.Inside.{run_of, tasks_of, entries_of, IsConsistent, IsEmptied}
 use Rattle.sedengine.specs.declared.machine.Machine.TheInside.{Inside}
 use Rattle.sedengine.specs.declared.place.Place.{Place}

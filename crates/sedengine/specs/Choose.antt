@@ -4,7 +4,7 @@ use Rattle.std.specs.Prelude.{◌≡◌, ℕ, ◌+◌, Bool, true, false, not, O
 use Rattle.sedscript.specs.declared.types.Address.{Address}
 use Rattle.sedscript.specs.declared.types.Address.TheVariants.{Line, Last, Match}
 use Rattle.sedscript.specs.declared.types.Command.{Command}
-use Rattle.sedengine.specs.Select.{Current, Answer, Choice, answer, selects}
+use Rattle.sedengine.specs.Select.{Current, Answer, Selection, answer, ends_at_once, selects}
 use Rattle.sedengine.specs.State.{do_at}
 use Rattle.sedengine.specs.Ends.{names_last}
 use Rattle.sedengine.specs.Run.{RunState, finds_in}
@@ -23,15 +23,9 @@ deciding None second active number = None
 deciding (Some first) None active number = Some first
 deciding (Some first) (Some second) active number = if active then deciding_in first second number else Some first
 
--- whether a range that begins here is over at once
-abbrev pub is_over : Address → ℕ → Bool
-is_over (Line n) number = nat_le n number
-is_over Last number = false
-is_over (Match e) number = false
-
 abbrev pub chosen_idle : Address → ℕ → Bool → Chosen
 chosen_idle second number matched =
-    if matched then record { yes = true; end = is_over second number; active = not (is_over second number) }
+    if matched then record { yes = true; end = ends_at_once number second; active = not (ends_at_once number second) }
     else record { yes = false; end = false; active = false }
 
 abbrev pub chosen_active : Address → ℕ → Bool → Chosen
@@ -54,7 +48,7 @@ choice_by_match (Some first) (Some second) active number matched = choice_in_ran
 abbrev pub turned : Bool → Chosen → Chosen
 turned negate c = record c { yes = if negate then not c.yes else c.yes }
 
--- The yes of a command that has no address, or that has one and it is a line number: the line number alone tells it.
+-- Whether a command applies, if it has no address or one that is a line number: the line number alone tells.
 abbrev pub yes_by_number : Option Address → Option Address → Bool → ℕ → Option Bool
 yes_by_number None second negate number = Some (if negate then false else true)
 yes_by_number (Some (Line n)) None negate number = Some (if negate then not (nat_eq n number) else nat_eq n number)
@@ -87,12 +81,12 @@ Answers c a used asks (Err InputBroken) = asks ≡ true
 Answers c a used asks (Err _) = ⊥
 
 -- the choice with the expression last used after it
-abbrev pub as_choice : Chosen → Option ℕ → Choice
-as_choice c used = record { yes = c.yes; end = c.end; active = c.active; used = used }
+abbrev pub as_selection : Chosen → Option ℕ → Selection
+as_selection c used = record { yes = c.yes; end = c.end; active = c.active; used = used }
 
 -- What a call that judges the addresses of a command answers, used being the expression last used after it.
 abbrev pub Judges : Current → Bool → Command → Option ℕ → Result Chosen Ended → Type 0
-Judges c active command used (Ok choice) = selects c active command ≡ Some (as_choice choice used)
+Judges c active command used (Ok choice) = selects c active command ≡ Some (as_selection choice used)
 Judges c active command used (Err (NoPrevious n)) = (selects c active command ≡ None) × (n ≡ c.number)
 Judges c active command used (Err InputBroken) = names_last command ≡ true
 Judges c active command used (Err _) = ⊥

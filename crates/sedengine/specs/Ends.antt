@@ -24,12 +24,11 @@ Within l g s t = (k : ℕ) → k ≤ t → WithinLimits l (after g s k)
 
 -- whether the first task takes a turn: the start of a cycle that has a line, a command, a byte of a file
 abbrev pub takes_turn : Setting → State → List Task → Bool
-takes_turn g s [] = false
 takes_turn g s (begin ∷ rest) = not (none_left s.lines)
 takes_turn g s (rebegin ∷ rest) = true
 takes_turn g s (do_at k ∷ rest) = is_some (slice_get g.commands k)
 takes_turn g s (copy k o ∷ rest) = is_some (slice_get (g.files k) o)
-takes_turn g s (other ∷ rest) = false
+takes_turn g s other = false
 
 -- a first task that takes a turn has one left
 abbrev pub HasTurn : Limits → Setting → State → Type 0
@@ -37,11 +36,10 @@ HasTurn l g s = takes_turn g s s.tasks ≡ true → s.turns < l.turns
 
 -- the line that the first task is about: that of the state, or the one that it fetches
 abbrev pub line_at : State → List Task → ℕ
-line_at s [] = s.number
 line_at s (begin ∷ rest) = s.number + 1
 line_at s (fetch ∷ rest) = s.number + 1
 line_at s (join ∷ rest) = s.number + 1
-line_at s (other ∷ rest) = s.number
+line_at s other = s.number
 
 -- whether an address is `$`
 abbrev pub is_dollar : Option Address → Bool
@@ -63,18 +61,16 @@ asks_last (Some c) = names_last c || is_next c.action
 
 -- whether the first task may look at the input: it fetches a line, or reaches a command with an address `$` or an `n`
 abbrev pub reads : Setting → List Task → Bool
-reads g [] = false
 reads g (begin ∷ rest) = true
 reads g (fetch ∷ rest) = true
 reads g (join ∷ rest) = true
 reads g (do_at k ∷ rest) = asks_last (slice_get g.commands k)
-reads g (other ∷ rest) = false
+reads g other = false
 
 -- whether the first task reaches a command, or the end of the script
 abbrev pub reaches : List Task → Bool
-reaches [] = false
 reaches (do_at k ∷ rest) = true
-reaches (other ∷ rest) = false
+reaches other = false
 
 -- there is a move, and what it leads to is so
 abbrev pub Leads : Option Move → (Move → Type 0) → Type 0

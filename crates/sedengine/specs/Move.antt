@@ -11,7 +11,7 @@ use Rattle.sedscript.specs.declared.types.Action.TheVariants.{AppendHold, CopyHo
 use Rattle.sedscript.specs.declared.types.Action.TheVariants.{Append, AppendNext, DeleteFirst, NextLine, ReadFile, WriteFile}
 use Rattle.sedscript.specs.declared.types.Action.TheVariants.{List as listing}
 use Rattle.sedscript.specs.declared.substitution.Substitution.{Substitution}
-use Rattle.sedengine.specs.Select.{◌>>=◌, Current, Choice, selects, stands_for}
+use Rattle.sedengine.specs.Select.{◌>>=◌, Current, Selection, selects, stands_for}
 use Rattle.sedengine.specs.Listing.{listed}
 use Rattle.sedengine.specs.Substitute.{Occurrence, occurrences, to_replace, replaced_from}
 use Rattle.sedengine.specs.State.{Entry, text, file, Task, begin, rebegin, do_at, print_pattern, empty_pattern, flush, copy, fetch, join, State, Move, Setting}
@@ -58,12 +58,14 @@ flushes s rest [] = quietly (then_do rest s)
 flushes s rest (text bytes ∷ queue) = writing (line_to 0 bytes) (record s { queue = queue; tasks = flush ∷ rest })
 flushes s rest (file k ∷ queue) = quietly (record s { queue = queue; tasks = copy k 0 ∷ flush ∷ rest })
 
--- a file's bytes are written as they are: no newline is added after the last one (this project's own)
+-- a file's bytes are written as they are, with no newline added after the last one; a file that can't be read is told as
+-- empty, and one whose reading fails midway as what was read (all this project's own)
 abbrev pub copies : State → List Task → ℕ → ℕ → Option ℕ → Option Move
 copies s rest k o None = quietly (then_do rest s)
 copies s rest k o (Some b) = writing ((0, b) ∷ []) (record s { tasks = copy k (o + 1) ∷ rest; turns = s.turns + 1 })
 
--- the next line replaces the pattern space, or is appended to it; where there is none the run ends
+-- the next line replaces the pattern space, or is appended to it; where there is none the run ends, which for the first no
+-- run comes to (this project's own)
 abbrev pub fetches : State → List Task → List (List ℕ) → Option Move
 fetches s rest [] = quietly (then_do [] s)
 fetches s rest (line ∷ lines) = quietly (then_do rest (with_line line lines s))
@@ -73,8 +75,8 @@ joins s rest [] = quietly (then_do [] s)
 joins s rest (line ∷ lines) = quietly (then_do rest (with_line (s.pattern ++ newline ∷ line) lines s))
 
 -- the occurrences in the pattern space that a substitution with the expression e replaces
-abbrev pub chosen_in : Setting → Substitution → ℕ → List ℕ → List Occurrence
-chosen_in g t e w = to_replace t.number t.global (occurrences (g.search e w) (length w))
+abbrev pub to_replace_in : Setting → Substitution → ℕ → List ℕ → List Occurrence
+to_replace_in g t e w = to_replace t.number t.global (occurrences (g.search e w) (length w))
 
 -- the text with a newline for the sink of a flag `w`, where the flag is given
 abbrev pub line_to_file : Option ℕ → List ℕ → List (ℕ × ℕ)
@@ -101,7 +103,7 @@ abbrev pub substitutes : Setting → State → Option Substitution → Option Mo
 substitutes g s None = quietly s
 substitutes g s (Some t) = do
   e ← stands_for t.expression s.used
-  replaces (record s { used = Some e }) t (chosen_in g t e s.pattern)
+  replaces (record s { used = Some e }) t (to_replace_in g t e s.pattern)
 
 -- the byte that stands in a table for a byte
 abbrev pub in_table : Option (List ℕ) → ℕ → ℕ
@@ -205,7 +207,7 @@ abbrev pub is_active : State → ℕ → Bool
 is_active s k = slice_index_or s.ranges k false
 
 -- the state that has reached command k: the turn is taken, its addresses are judged, and the next task is the next command
-abbrev pub reached : State → ℕ → Choice → State
+abbrev pub reached : State → ℕ → Selection → State
 reached s k choice = record s {
   ranges = slice_set s.ranges k choice.active;
   used = choice.used;
@@ -219,7 +221,7 @@ abbrev pub tells_at : Command → Bool → Bool
 tells_at c end = is_none c.second || end || c.negate
 
 -- a command with its choice
-abbrev pub performs : Setting → State → ℕ → Command → Choice → Option Move
+abbrev pub performs : Setting → State → ℕ → Command → Selection → Option Move
 performs g s k c choice =
     if choice.yes then acts g (reached s k choice) (tells_at c choice.end) c.action else passes (reached s k choice) c.action
 

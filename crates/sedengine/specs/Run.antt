@@ -3,7 +3,7 @@ use Rattle.std.specs.Prelude.{◌≡◌, ℕ, ◌+◌, ◌<◌, Bool, true, fals
 use Rattle.sedre.specs.Arena.{Written, tree}
 use Rattle.sedmatch.specs.Matching.{found, report}
 use Rattle.sedscript.specs.Script.{Program}
-use Rattle.sedspace.specs.Stream.{TakesAtMost}
+use Rattle.sedspace.specs.Stream.{Stream, TakesAtMost, left}
 use Rattle.sedengine.specs.Limits.{Limits}
 use Rattle.sedengine.specs.State.{Task, begin, rebegin, State, Setting}
 use Rattle.sedengine.specs.Substitute.{Occurrence}
@@ -47,15 +47,15 @@ has_match (Some e) w = is_some (found (tree e) w 0)
 abbrev pub finds_in : List Written → ℕ → List ℕ → Bool
 finds_in expressions k w = has_match (slice_get expressions k) w
 
--- the match of an expression in a text that has a span, with its groups (XBD 9.1)
-abbrev pub match_at : Written → List ℕ → Option (ℕ × ℕ) → Option Occurrence
-match_at e w None = None
-match_at e w (Some span) = Some (record { start = span.0; end = span.1; groups = report (tree e) w span.0 span.1 })
+-- the match of an expression in a text, by its span, with its groups (XBD 9.1)
+abbrev pub match_with_span : Written → List ℕ → Option (ℕ × ℕ) → Option Occurrence
+match_with_span e w None = None
+match_with_span e w (Some span) = Some (record { start = span.0; end = span.1; groups = report (tree e) w span.0 span.1 })
 
 -- the leftmost-longest match of an expression that begins at a place or later
 abbrev pub search_for : Option Written → List ℕ → ℕ → Option Occurrence
 search_for None w from = None
-search_for (Some e) w from = match_at e w (found (tree e) w from)
+search_for (Some e) w from = match_with_span e w (found (tree e) w from)
 
 -- the leftmost-longest match of the expression of a number that begins at a place or later
 abbrev pub search_in : List Written → ℕ → List ℕ → ℕ → Option Occurrence
@@ -92,6 +92,12 @@ pub record TakesInput (g : Setting) (s : State) (old new : Option (List ℕ)) (m
   pub are : s.lines ≡ lines ++ (after g s t).lines
   pub bytes : TakesAtMost old new (size_of lines + more)
 
+-- how many bytes of a line that isn't given may be gone at an end
+abbrev pub lost : Limits → Ended → ℕ
+lost l (PatternFull n) = l.space
+lost l InputBroken = l.space
+lost l other = 0
+
 -- How many bytes may be taken besides the lines: those that are read ahead and, where the run may have stopped in the middle
 -- of a line, those of that line, at most one more than a space holds.
 abbrev pub more_at : Limits → Ended → ℕ
@@ -99,21 +105,35 @@ more_at l (PatternFull n) = l.space + 1 + l.look
 more_at l InputBroken = l.space + 1 + l.look
 more_at l other = l.look
 
--- A run from the state s came to this end: after some moves, which took lines from the source and led to the state
--- `now`. `gained` says what the sinks gained, and `old` and `new` what the source had still to give.
+-- what is still to come: from the source, and in all, with the bytes that are ahead
+pub record Input : Type 0 where
+  pub source : Option (List ℕ)
+  pub all : Option (List ℕ)
+
+-- what is still to come by a reader of lines, where its source tells its bytes
+abbrev pub input_of : {R : Type 0} → (R → Option (List ℕ)) → Stream R → Input
+input_of remaining lines = record { source = remaining lines.source; all = left remaining lines }
+
+-- The first t moves took lines, of all that was still to come their bytes alone and at most `lost` more. So what calls one
+-- after another take from the source is at most their lines, what was lost, and what is ahead in the end.
+pub record TakesLeft (g : Setting) (s : State) (old new : Input) (lost more : ℕ) (t : ℕ) : Type 0 where
+  pub input : TakesInput g s old.source new.source more t
+  pub all : TakesAtMost old.all new.all (size_of input.lines + lost)
+
+-- A run from the state s came to this end: after some moves, which took lines and led to the state `now`. `gained` says
+-- what the sinks gained, and `old` and `new` what was still to come.
 pub record Ending (l : Limits) (g : Setting) (s : State) (gained : List (ℕ × ℕ) → Type 0)
-    (old new : Option (List ℕ)) (now : State) (end : Ended) : Type 0 where
+    (old new : Input) (now : State) (end : Ended) : Type 0 where
   pub t : ℕ
   pub cause : Cause l g s gained end t
-  pub takes : TakesInput g s old new (more_at l end) t
+  pub takes : TakesLeft g s old new (lost l end) (more_at l end) t
   pub holds : HoldsAt g s t now (named_sink end)
 
 -- whether a cycle starts with the first task
 abbrev pub starts_cycle : List Task → Bool
-starts_cycle [] = false
 starts_cycle (begin ∷ rest) = true
 starts_cycle (rebegin ∷ rest) = true
-starts_cycle (other ∷ rest) = false
+starts_cycle other = false
 
 -- no cycle starts between the first of t moves and the last
 abbrev pub InOneCycle : Setting → State → ℕ → Type 0
@@ -121,7 +141,7 @@ InOneCycle g s t = (k : ℕ) → 0 < k → k < t → starts_cycle (after g s k).
 
 -- One cycle was made from the state s: at least one move, up to where the next cycle starts.
 pub record Cycled (l : Limits) (g : Setting) (s : State) (gained : List (ℕ × ℕ) → Type 0)
-    (old new : Option (List ℕ)) (now : State) : Type 0 where
+    (old new : Input) (now : State) : Type 0 where
   pub t : ℕ
   pub some : 0 < t
   pub is : after g s t ≡ now
@@ -129,16 +149,16 @@ pub record Cycled (l : Limits) (g : Setting) (s : State) (gained : List (ℕ × 
   pub one : InOneCycle g s t
   pub within : Within l g s t
   pub sinks : gained (written g s t)
-  pub takes : TakesInput g s old new l.look t
+  pub takes : TakesLeft g s old new 0 l.look t
 
 -- The end came within one cycle.
 pub record EndingInCycle (l : Limits) (g : Setting) (s : State) (gained : List (ℕ × ℕ) → Type 0)
-    (old new : Option (List ℕ)) (now : State) (end : Ended) : Type 0 where
+    (old new : Input) (now : State) (end : Ended) : Type 0 where
   pub ending : Ending l g s gained old new now end
   pub one : InOneCycle g s (ending.t + 1)
 
 -- What one cycle answers; `left` are the lines left after it.
-abbrev pub Cycles : Limits → Setting → State → (List (ℕ × ℕ) → Type 0) → Option (List ℕ) → Option (List ℕ) →
+abbrev pub Cycles : Limits → Setting → State → (List (ℕ × ℕ) → Type 0) → Input → Input →
     RunState → Option (List (List ℕ)) → Progress → Type 0
 Cycles l g s gained old new e left progress.More =
     (rest : List (List ℕ)) × (left ≡ Some rest) × Cycled l g s gained old new (at_lines e rest)

@@ -23,7 +23,7 @@ pub record Answer : Type 0 where
 
 -- the answer for a command's addresses: whether they select, whether this is the range's end, and after it whether the
 -- range is active and the expression last used
-pub record Choice : Type 0 where
+pub record Selection : Type 0 where
   pub yes : Bool
   pub end : Bool
   pub active : Bool
@@ -45,25 +45,24 @@ answer c Last = Some (record { yes = c.last; used = c.used })
 answer c (Match e) = option_and_then (λ k. Some (record { yes = c.finds k c.pattern; used = Some k })) (stands_for e c.used)
 
 -- "if the second address is a number less than or equal to the line number first selected, only one line shall be
--- selected"
-abbrev pub ends_at_once : Current → Address → Bool
-ends_at_once c (Line n) = nat_le n c.number
-ends_at_once c Last = false
-ends_at_once c (Match e) = false
+-- selected". A number that has passed begins no range (this project's own)
+abbrev pub ends_at_once : ℕ → Address → Bool
+ends_at_once number (Line n) = nat_le n number
+ends_at_once number other = false
 
 -- A range that isn't active begins with a pattern space that matches its first address; the second is tried from the
 -- next one on ("the inclusive range from the first pattern space that matches the first address through the next
 -- pattern space that matches the second").
-abbrev pub on_idle : Current → Address → Address → Option Choice
+abbrev pub on_idle : Current → Address → Address → Option Selection
 on_idle c first second = do
   a ← answer c first
   Some (if a.yes
-      then record { yes = true; end = ends_at_once c second; active = not (ends_at_once c second); used = a.used }
+      then record { yes = true; end = ends_at_once c.number second; active = not (ends_at_once c.number second); used = a.used }
       else record { yes = false; end = false; active = false; used = a.used })
 
 -- An active range goes on through the pattern space that matches its second address. Where that is the number of a line
 -- that has passed, the range is over, and the pattern space is judged anew (this project's own).
-abbrev pub on_active : Current → Address → Address → Option Choice
+abbrev pub on_active : Current → Address → Address → Option Selection
 on_active c first (Line n) =
     if nat_lt c.number n then Some (record { yes = true; end = false; active = true; used = c.used })
     else (if nat_eq c.number n then Some (record { yes = true; end = true; active = false; used = c.used })
@@ -75,7 +74,7 @@ on_active c first (Match e) = do
 
 -- "An editing command with no addresses shall select every pattern space", with one address "each pattern space that
 -- matches the address", with two addresses a range
-abbrev pub of_addresses : Current → Bool → Option Address → Option Address → Option Choice
+abbrev pub of_addresses : Current → Bool → Option Address → Option Address → Option Selection
 of_addresses c active None second = Some (record { yes = true; end = false; active = active; used = c.used })
 of_addresses c active (Some first) None = do
   a ← answer c first
@@ -83,11 +82,12 @@ of_addresses c active (Some first) None = do
 of_addresses c active (Some first) (Some second) = if active then on_active c first second else on_idle c first second
 
 -- `!` turns the yes alone: "the function shall be applied if the addresses do not select the pattern space"
-abbrev pub negated : Bool → Choice → Choice
+abbrev pub negated : Bool → Selection → Selection
 negated n choice = record choice { yes = if n then not choice.yes else choice.yes }
 
--- what the addresses of a command choose, whose range is active or not
-unfoldable pub selects : Current → Bool → Command → Option Choice
+-- what the addresses of a command choose, whose range is active or not. One address is judged at most; one that isn't judged
+-- asks nothing, and isn't the expression last used (this project's own)
+unfoldable pub selects : Current → Bool → Command → Option Selection
 selects c active command = do
   choice ← of_addresses c active command.first command.second
   Some (negated command.negate choice)

@@ -11,7 +11,7 @@ use Rattle.sedengine.specs.Meters.{Sent, SinkView}
 use Rattle.sedengine.specs.Move.{acts, move, after, written}
 use Rattle.sedengine.specs.Ends.{WithinLimits, HasTurn, Within, Cause, named_sink, reaches, reads}
 use Rattle.sedengine.specs.Held.{HoldsAt, SameLengths}
-use Rattle.sedengine.specs.Run.{RunState, InOneCycle, at_lines, setting, size_of}
+use Rattle.sedengine.specs.Run.{RunState, InOneCycle, at_lines, lost, setting, size_of}
 use Rattle.sedengine.specs.declared.ends.Ended.{Ended}
 use Rattle.sedengine.specs.declared.ends.Ended.TheVariants.{PatternFull, InputBroken}
 
@@ -46,8 +46,8 @@ pub record Reaches (l : Limits) (g : Setting) (s there : State) : Type 0 where
   pub number : s.number ≡ there.number
   pub same : SameLengths s there
 
--- What a call answers that makes the move o, and perhaps moves after it, from whichever state has that move and comes to
--- the command that acts in the state `there`.
+-- What a call answers that makes the move o, and perhaps moves after it, from any state that has that move and in which the
+-- command is reached that acts in the state `there`.
 abbrev pub Performs : Limits → Setting → Option Move → State → State → (List (ℕ × ℕ) → Type 0) →
     Result Unit Ended → Type 0
 Performs l g o there now gained r = (s : State) → Reaches l g s there → move g s ≡ o → Moves l g s now gained r
@@ -98,12 +98,6 @@ pub record TakesLines {R : Type 0} (remaining : R → Option (List ℕ)) (old ne
   pub are : ls ≡ lines ++ rest
   pub bytes : TakesAtMost (left remaining old) (left remaining new) (size_of lines)
 
--- how many bytes are gone at an end that belong to no line that was taken
-abbrev pub lost : Limits → Ended → ℕ
-lost l (PatternFull n) = l.space
-lost l InputBroken = l.space
-lost l other = 0
-
 -- Moves were made that took these lines, and then the end came.
 pub record Halted {R : Type 0} (remaining : R → Option (List ℕ)) (old new : Stream R) (l : Limits) (g : Setting)
     (s : State) (e : RunState) (gained : List (ℕ × ℕ) → Type 0) (end : Ended) : Type 0 where
@@ -125,8 +119,8 @@ abbrev pub Steps : {R : Type 0} → (R → Option (List ℕ)) → Stream R → S
     RunState → RunState → (List (ℕ × ℕ) → Type 0) → Result Unit Ended → Type 0
 Steps remaining old new ls l g e e' gained r = StepsFrom remaining old new ls l g (at_lines e ls) e' gained r
 
--- What a call answers that makes the move o, perhaps moves after it, and may take lines, from whichever state has that move
--- and comes to the command that acts in the state `there`; `asks` says whether that command asks if a line is left.
+-- What a call answers that makes the move o, perhaps moves after it, and may take lines, from any state that has that move and
+-- in which the command is reached that acts in the state `there`; `asks` says whether that command asks if a line is left.
 abbrev pub PerformsSteps : {R : Type 0} → (R → Option (List ℕ)) → Stream R → Stream R → List (List ℕ) → Limits →
     Setting → Option Move → Bool → State → RunState → (List (ℕ × ℕ) → Type 0) → Result Unit Ended → Type 0
 PerformsSteps remaining old new ls l g o asks there e' gained r =

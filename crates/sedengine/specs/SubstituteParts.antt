@@ -1,6 +1,6 @@
 -- Private to the proofs: no contract of a public item cites what stands here.
 -- What the parts of a substitution tell.
-use Rattle.std.specs.Prelude.{◌≡◌, ℕ, ◌+◌, ◌-◌, ◌<◌, List, [], ◌∷◌, ◌++◌, length, drop, Bool, true, false}
+use Rattle.std.specs.Prelude.{◌≡◌, ℕ, ◌+◌, ◌-◌, ◌*◌, ◌<◌, List, [], ◌∷◌, ◌++◌, length, drop, Bool, true, false}
 use Rattle.std.specs.Prelude.{Option, Some, None, IfSome, Result, Ok, Err, if◌then◌else◌}
 use Rattle.sedre.specs.Arena.{Written, tree}
 use Rattle.sedmatch.specs.Caps.{Groups}
@@ -14,7 +14,7 @@ use Rattle.sedscript.specs.declared.substitution.Piece.TheVariants.{Literal as l
 use Rattle.sedspace.specs.Spaces.{Contents}
 use Rattle.sedspace.specs.declared.errors.Full.{Full}
 use Rattle.sedengine.specs.Substitute.{Occurrence, next_occurrence, occurrences_from, occurrences, replaced_from}
-use Rattle.sedengine.specs.Run.{match_at, search_for}
+use Rattle.sedengine.specs.Run.{match_with_span, search_for}
 
 -- what a substitution answers where these occurrences are to be replaced in the text w: whether there are any, and then
 -- the text made; Full where that would be longer than the space
@@ -31,9 +31,8 @@ Appends old new bytes (Err f) = (old.limit < length old.bytes + length bytes) ×
 -- whether one of the pieces is a group of the match
 abbrev pub has_group : List Piece → Bool
 has_group [] = false
-has_group (literal b ∷ ps) = has_group ps
-has_group (whole ∷ ps) = has_group ps
 has_group (group k ∷ ps) = true
+has_group (other ∷ ps) = has_group ps
 
 -- every group's span lies in a text of n bytes
 abbrev pub GroupsIn : ℕ → Groups → Type 0
@@ -56,7 +55,7 @@ GroupsOf e w wanted (Some span) groups = wanted ≡ true → groups ≡ report (
 -- span lies after that place
 abbrev pub IsNext : Written → List ℕ → Option ℕ → Option (ℕ × ℕ) → Type 0
 IsNext e w last found =
-    (match_at e w found ≡ next_occurrence (search_for (Some e) w) (length w) last) × IfSome found (LiesOn (length w) last)
+    (match_with_span e w found ≡ next_occurrence (search_for (Some e) w) (length w) last) × IfSome found (LiesOn (length w) last)
 
 -- the occurrences after the one that ended at a place, or all
 abbrev pub occurrences_after : Written → List ℕ → Option ℕ → List Occurrence
@@ -87,3 +86,13 @@ ServesAfter e w skipped old new = KeepsRoom old new × IfSome skipped (λ last. 
 abbrev pub owed_skipped : ℕ → ℕ → Option (Option ℕ) → Occurrences → ℕ
 owed_skipped m n None o = 0
 owed_skipped m n (Some last) o = owed m n last o
+
+-- what telling the groups of what was found takes at most, where they are wanted, if those of one occurrence take k
+abbrev pub told_cost : Option (ℕ × ℕ) → Bool → ℕ → ℕ
+told_cost None wanted k = 0
+told_cost (Some span) wanted k = if wanted then k else 0
+
+-- what telling the groups of all occurrences but the first takes at most, if those of one take k
+abbrev pub later_cost : ℕ → List Occurrence → ℕ
+later_cost k [] = 0
+later_cost k (m ∷ ms) = k * length ms

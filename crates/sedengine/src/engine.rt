@@ -7,7 +7,7 @@ ghost use Rattle.sedspace.specs.Stream.{lines_left, ReadsOn};
 ghost use Rattle.sedengine.specs.Move.{start};
 ghost use Rattle.sedengine.specs.Devices.{FailedSink, FailedSource, SameSinks};
 ghost use Rattle.sedengine.specs.Held.{total_of, bound_of};
-ghost use Rattle.sedengine.specs.Run.{outcome, Cycles, Ending, SameRun, Sends, TellsFiles, at_lines, end_answered, setting};
+ghost use Rattle.sedengine.specs.Run.{outcome, Cycles, Ending, SameRun, Sends, TellsFiles, at_lines, end_answered, setting, input_of};
 
 use crate::ends::{Ended, Held, Progress};
 use crate::limits::Limits;
@@ -88,7 +88,7 @@ impl Engine {
             (files : ℕ → List ℕ) → TellsFiles (T.text texts.old) files →
             Cycles self.old.limits (setting self.old files) (at_lines self.old ls)
             (Sends self.old self.new (O.contents outputs.old) (O.contents outputs.new) (outcome result))
-            (R.remaining lines.old.source) (R.remaining lines.new.source)
+            (input_of R.remaining lines.old) (input_of R.remaining lines.new)
             self.new (lines_left R.remaining lines.new) result) }
         // A device that the end names has failed in this call, and no other sink has; where a next cycle is due none has.
         ensures input { IsNone self.old.ended → lines.old.fault ≡ None →
@@ -133,7 +133,7 @@ impl Engine {
             (files : ℕ → List ℕ) → TellsFiles (T.text texts.old) files →
             Ending self.old.limits (setting self.old files) (at_lines self.old ls)
             (Sends self.old self.new (O.contents outputs.old) (O.contents outputs.new) (Err result))
-            (R.remaining lines.old.source) (R.remaining lines.new.source) self.new.state result) }
+            (input_of R.remaining lines.old) (input_of R.remaining lines.new) self.new.state result) }
         // The device that the end names has failed in this run, and no other sink has.
         ensures input { result ≡ Ended.InputBroken → IsNone self.old.ended → lines.old.fault ≡ None →
             Rose (R.failures lines.old.source) (R.failures lines.new.source) }

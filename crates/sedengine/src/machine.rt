@@ -10,7 +10,7 @@ ghost use Rattle.sedengine.specs.Calls.{Delivers};
 ghost use Rattle.sedengine.specs.Meters.{Sent};
 ghost use Rattle.sedengine.specs.Held.{total_of, bound_of};
 ghost use Rattle.sedengine.specs.Parts.{AreParts};
-ghost use Rattle.sedengine.specs.Run.{outcome, Cycles, Ending, SameRun, TellsFiles, at_lines, end_answered, setting};
+ghost use Rattle.sedengine.specs.Run.{outcome, Cycles, Ending, SameRun, TellsFiles, at_lines, end_answered, setting, input_of};
 
 mod addresses;
 mod commands;
@@ -44,7 +44,7 @@ pub(crate) struct Machine {
     build: Space,
     queue: Queue,
     scratch: Scratch,
-    // How far the searches of a substitution are that seeks more than one occurrence.
+    // How far a substitution that seeks more than one occurrence has searched.
     seeking: Occurrences,
     // For each regular expression of the script, what seeks it.
     matchers: Vec<TableMatcher>,
@@ -143,7 +143,7 @@ impl Machine {
             (files : ℕ → List ℕ) → TellsFiles (T.text texts.old) files →
             Cycles self.old.limits (setting self.old files) (at_lines self.old ls)
             (Sent (O.tally outputs.old) (O.tally outputs.new))
-            (R.remaining lines.old.source) (R.remaining lines.new.source)
+            (input_of R.remaining lines.old) (input_of R.remaining lines.new)
             self.new (lines_left R.remaining lines.new) result) }
         ensures input { IsNone self.old.ended → lines.old.fault ≡ None →
             FailedSource (R.failures lines.old.source) (R.failures lines.new.source) (outcome result) }
@@ -182,7 +182,7 @@ impl Machine {
             (files : ℕ → List ℕ) → TellsFiles (T.text texts.old) files →
             Ending self.old.limits (setting self.old files) (at_lines self.old ls)
             (Sent (O.tally outputs.old) (O.tally outputs.new))
-            (R.remaining lines.old.source) (R.remaining lines.new.source) self.new.state result) }
+            (input_of R.remaining lines.old) (input_of R.remaining lines.new) self.new.state result) }
         ensures input { result ≡ Ended.InputBroken → IsNone self.old.ended → lines.old.fault ≡ None →
             Rose (R.failures lines.old.source) (R.failures lines.new.source) }
         ensures output { IsNone self.old.ended → Delivers O.tally O.count outputs.old outputs.new (Err result) }

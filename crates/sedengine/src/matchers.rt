@@ -13,13 +13,13 @@ use std::alloc::{AllocError, Global};
 /// How many states all tables of one sort have together, as long as none has fewer than [`FEWEST_STATES`].
 const STATES_OF_ALL: usize = 16_384;
 
-/// In a script of more expressions than these they have no tables.
+/// A script with more expressions than this has no tables.
 const MOST_EXPRESSIONS: usize = 16_384;
 
 /// The most states that a table has.
 const MOST_STATES: usize = 64;
 
-/// With fewer states than these a table is full so soon that it saves hardly any time.
+/// With fewer states than this a table fills up so soon that it saves hardly any time.
 const FEWEST_STATES: usize = 8;
 
 /// How many states each table has in a script of this many expressions: fewer where there are many, and none where even

@@ -3,7 +3,8 @@
 //! At a line one address decides at most: the first of an idle range, the second of an active one. Only that one is
 //! judged, and the choice follows from whether it matches.
 ghost use Rattle.std.specs.Prelude.{◌≡◌, ◌<◌, ◌≤◌, length};
-ghost use Rattle.sedengine.specs.Choose.{choice_by_match, chosen_active, chosen_idle, deciding, is_over, turned, yes_by_number};
+ghost use Rattle.sedengine.specs.Choose.{choice_by_match, chosen_active, chosen_idle, deciding, turned, yes_by_number};
+ghost use Rattle.sedengine.specs.Select.{ends_at_once};
 ghost use Rattle.sedengine.specs.Fitting.{AllFit};
 ghost use Rattle.sedengine.specs.Run.{finds_in};
 
@@ -35,7 +36,7 @@ pub(crate) fn deciding(command: &Command, active: bool, number: u64) -> Option<A
     }
 }
 
-/// Whether a command applies that has no address, or that has one and it is a line number. None for others.
+/// Whether a command applies, if it has no address or one that is a line number; None for any other.
 pub(crate) fn yes_by_number(command: &Command, number: u64) -> Option<bool>
     ensures { result ≡ yes_by_number command.now.first command.now.second command.now.negate number }
 {
@@ -84,7 +85,7 @@ fn choose_straight(
     }
 }
 
-/// On a range that isn't active.
+/// The choice where the range isn't active.
 fn choose_idle(second: Address, number: u64, matched: bool) -> Chosen
     ensures { result ≡ chosen_idle second number matched }
 {
@@ -95,7 +96,7 @@ fn choose_idle(second: Address, number: u64, matched: bool) -> Chosen
             active: false,
         };
     }
-    let over = is_over(second, number);
+    let over = ends_at_once(second, number);
     Chosen {
         yes: true,
         end: over,
@@ -103,7 +104,7 @@ fn choose_idle(second: Address, number: u64, matched: bool) -> Chosen
     }
 }
 
-/// On an active range.
+/// The choice where the range is active.
 fn choose_active(second: Address, number: u64, matched: bool) -> Chosen
     ensures { result ≡ chosen_active second number matched }
 {
@@ -128,8 +129,8 @@ fn choose_active(second: Address, number: u64, matched: bool) -> Chosen
 }
 
 /// Whether a range that begins at the line of this number is over there.
-fn is_over(second: Address, number: u64) -> bool
-    ensures { result ≡ is_over second number }
+fn ends_at_once(second: Address, number: u64) -> bool
+    ensures { result ≡ ends_at_once number second }
 {
     match second {
         Address::Line(line) => line <= number,

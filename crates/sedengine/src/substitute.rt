@@ -13,7 +13,8 @@ ghost use Rattle.sedengine.specs.Substitute.{to_replace, occurrences, put_for, r
 ghost use Rattle.sedengine.specs.Fitting.{seeks_more};
 ghost use Rattle.sedengine.specs.Run.{search_for};
 ghost use Rattle.sedengine.specs.SubstituteParts.{Appends, GroupsIn, GroupsOf, IsNext, Replaces};
-ghost use Rattle.sedengine.specs.SubstituteParts.{SeeksAsBefore, ServesAfter, Skips, has_group, owed_skipped, pending, with_groups};
+ghost use Rattle.sedengine.specs.SubstituteParts.{SeeksAsBefore, ServesAfter, Skips, has_group, later_cost, owed_skipped};
+ghost use Rattle.sedengine.specs.SubstituteParts.{pending, told_cost, with_groups};
 
 use sedmatch::{Occurrences, Scratch, TableMatcher, Text};
 use sedre::Steps;
@@ -26,8 +27,8 @@ type Groups = [Option<(usize, usize)>; 10];
 /// Writes into `build` the text with the occurrences that the substitution chooses replaced, and answers whether there are
 /// any.
 ///
-/// All its searches together take steps in proportion to the text. Groups are decided within each occurrence, and counted
-/// apart.
+/// All its searches together take `steps` in proportion to the text. Groups are told within each occurrence that is
+/// replaced, and counted apart in `group_steps`.
 pub(crate) fn build_text(
     substitution: &Substitution,
     matcher: &mut TableMatcher,
@@ -36,6 +37,7 @@ pub(crate) fn build_text(
     seeking: &mut Occurrences,
     scratch: &mut Scratch,
     steps: &mut Steps,
+    group_steps: &mut Steps,
 ) -> Result<bool, Full>
     requires fits { FitInto (length text.now) (length matcher.old.nodes) scratch.old }
     requires short { length text.now ≤ build.old.limit }
@@ -50,10 +52,22 @@ pub(crate) fn build_text(
     ensures same { SeeksAsBefore matcher.old matcher.new scratch.old scratch.new }
     ensures kept { KeepsRoom seeking.old seeking.new }
     ensures cost { Takes steps.old steps.new (416 * length matcher.old.nodes * (length text.now + 1)) }
+    ensures group_cost { let m = length matcher.old.nodes in let n = length text.now in
+        Takes group_steps.old group_steps.new (51 * m * m * (n + 1) * (n + 1)
+        * length (to_replace substitution.now.number substitution.now.global
+        (occurrences (search_for (Some matcher.old) text.now) n))) }
 {
     seeking.begin(matcher, &Text::new(text), scratch);
     let skipped = substitution.number - 1;
-    let Some(last) = skip(matcher, text, skipped, seeking, scratch, steps) else {
+    let Some(last) = end_of_skipped(
+        matcher,
+        text,
+        skipped,
+        seeking,
+        scratch,
+        steps,
+        group_steps,
+    ) else {
         return Ok(false);
     };
     let wanted = needs_groups(substitution.replacement.parts());
@@ -67,6 +81,7 @@ pub(crate) fn build_text(
         seeking,
         scratch,
         steps,
+        group_steps,
     ) else {
         return Ok(false);
     };
@@ -81,18 +96,20 @@ pub(crate) fn build_text(
         seeking,
         scratch,
         steps,
+        group_steps,
     )?;
     Ok(true)
 }
 
 /// Where the last of the first `count` occurrences ended: `Some(None)` if `count` is 0, and None if there are fewer.
-fn skip(
+fn end_of_skipped(
     matcher: &mut TableMatcher,
     text: &[u8],
     count: u64,
     seeking: &mut Occurrences,
     scratch: &mut Scratch,
     steps: &mut Steps,
+    group_steps: &mut Steps,
 ) -> Option<Option<usize>>
     requires fits { FitInto (length text.now) (length matcher.old.nodes) scratch.old }
     requires more { 0 < count → RoomFor (length text.now) (length matcher.old.nodes) seeking.old }
@@ -105,12 +122,21 @@ fn skip(
     ensures serves { ServesAfter matcher.old text.now result seeking.old seeking.new }
     ensures cost { let m = length matcher.old.nodes in let n = length text.now in
         Pays steps.old steps.new (416 * m * (n + 1)) (owed_skipped m n result seeking.new) }
+    ensures no_groups { group_steps.new ≡ group_steps.old }
 {
     let mut last = None;
     'occurrences: for _ in 0..count {
         let groups = &mut [None; 10];
         let (_, end) = next_occurrence(
-            matcher, text, last, false, groups, seeking, scratch, steps,
+            matcher,
+            text,
+            last,
+            false,
+            groups,
+            seeking,
+            scratch,
+            steps,
+            group_steps,
         )?;
         last = Some(end);
     }
@@ -131,7 +157,7 @@ fn needs_groups(parts: &[Part]) -> bool
 
 /// The next occurrence, after the one that ended at `last`, if there was one. Its groups are put into `groups` if `wanted`
 /// says so.
-// Where a line has many occurrences, a call's own cost counts.
+// Inlined, since on a line with many occurrences the cost of the call itself matters.
 #[inline(always)]
 fn next_occurrence(
     matcher: &mut TableMatcher,
@@ -142,6 +168,7 @@ fn next_occurrence(
     seeking: &mut Occurrences,
     scratch: &mut Scratch,
     steps: &mut Steps,
+    group_steps: &mut Steps,
 ) -> Option<(usize, usize)>
     requires last { EndsWithin (length text.now) last }
     requires fits { FitInto (length text.now) (length matcher.old.nodes) scratch.old }
@@ -154,15 +181,17 @@ fn next_occurrence(
     ensures serves { ServesOn matcher.old text.now result seeking.old seeking.new }
     ensures cost { let m = length matcher.old.nodes in let n = length text.now in
         Pays steps.old steps.new (owed m n last seeking.old) (owed_after m n result seeking.new) }
+    ensures group_cost { let m = length matcher.old.nodes in let n = length text.now in
+        Takes group_steps.old group_steps.new (told_cost result wanted (51 * m * m * (n + 1) * (n + 1))) }
 {
     let span = matcher.next_occurrence(&Text::new(text), last, seeking, scratch, steps)?;
     if wanted {
-        tell_groups(matcher, text, span, groups, scratch);
+        tell_groups(matcher, text, span, groups, scratch, group_steps);
     }
     Some(span)
 }
 
-/// Tells the groups of an occurrence. They are decided within its span alone, and counted apart.
+/// Tells the groups of an occurrence. They are decided within its span alone.
 // It is no part of its caller, which would clear the room for the groups at each call.
 #[inline(never)]
 fn tell_groups(
@@ -171,6 +200,7 @@ fn tell_groups(
     span: (usize, usize),
     groups: &mut Groups,
     scratch: &mut Scratch,
+    steps: &mut Steps,
 )
     requires text { length text.now ≤ scratch.old.text }
     requires nodes { length matcher.now.nodes ≤ scratch.old.nodes }
@@ -179,8 +209,10 @@ fn tell_groups(
     ensures groups { groups.new ≡ report (tree matcher.now) text.now span.0 span.1 }
     ensures groups_in { GroupsIn (length text.now) groups.new }
     ensures scratch { scratch.new ≡ scratch.old }
+    ensures cost { let m = length matcher.now.nodes in let n = length text.now in
+        Takes steps.old steps.new (51 * m * m * (n + 1) * (n + 1)) }
 {
-    let told = matcher.groups_of(&Text::new(text), span.0, span.1, scratch, &mut Steps::new());
+    let told = matcher.groups_of(&Text::new(text), span.0, span.1, scratch, steps);
     *groups = told;
 }
 
@@ -195,6 +227,7 @@ fn append_replaced(
     seeking: &mut Occurrences,
     scratch: &mut Scratch,
     steps: &mut Steps,
+    group_steps: &mut Steps,
 ) -> Result<(), Full>
     requires fits { FitInto (length text.now) (length matcher.old.nodes) scratch.old }
     requires lies { LiesOn (length text.now) None first }
@@ -210,6 +243,9 @@ fn append_replaced(
     ensures kept { KeepsRoom seeking.old seeking.new }
     ensures cost { let m = length matcher.old.nodes in let n = length text.now in
         Takes steps.old steps.new (owed m n (Some first.1) seeking.old) }
+    ensures group_cost { let m = length matcher.old.nodes in let n = length text.now in
+        Takes group_steps.old group_steps.new (later_cost (51 * m * m * (n + 1) * (n + 1))
+        (pending matcher.old text.now substitution.now.global (Some first))) }
 {
     let parts = substitution.replacement.parts();
     let wanted = needs_groups(parts);
@@ -221,7 +257,17 @@ fn append_replaced(
         copied = span.1;
         let last = Some(copied);
         occurrence = if substitution.global {
-            next_occurrence(matcher, text, last, wanted, groups, seeking, scratch, steps)
+            next_occurrence(
+                matcher,
+                text,
+                last,
+                wanted,
+                groups,
+                seeking,
+                scratch,
+                steps,
+                group_steps,
+            )
         } else {
             None
         };

@@ -1,4 +1,4 @@
-//! The commands (XCU sed, "Editing Commands in sed"): each has a case in `act` and a function of its own.
+//! The commands (XCU sed, "Editing Commands in sed"): `act` and the calls that it passes commands on to have a case for each.
 ghost use Rattle.std.specs.Prelude.{◌≡◌, ◌<◌, ◌≤◌, ◌+◌, [], ◌∷◌, None, Ok, Err, OnOk, ℕ, List, true, false, decimal, length, slice_get};
 ghost use Rattle.sedspace.specs.Lines.{is_newline};
 ghost use Rattle.std.specs.List.{before_first};

@@ -16,8 +16,8 @@ use crate::write::write_line;
 use sedspace::Texts;
 
 impl Machine {
-    /// The command `c`: deletes the pattern space, writes its text where `tells` says so, writes the queue, and the next
-    /// cycle starts.
+    /// The command `c`: deletes the pattern space, writes its text where `tells` says so, writes the queue, and starts the
+    /// next cycle.
     pub(super) fn act_change<O: Sinks, T: Texts>(
         &mut self,
         text: usize,
@@ -45,7 +45,7 @@ impl Machine {
         self.end_cycle(Place::Begin, outputs, texts)
     }
 
-    /// The command `d`: deletes the pattern space, writes the queue, and the next cycle starts.
+    /// The command `d`: deletes the pattern space, writes the queue, and starts the next cycle.
     pub(super) fn act_delete<O: Sinks, T: Texts>(
         &mut self,
         outputs: &mut O,
@@ -66,7 +66,7 @@ impl Machine {
         self.end_cycle(Place::Begin, outputs, texts)
     }
 
-    /// The command `D`: deletes the pattern space up to its first newline, writes the queue, and a cycle starts with what is
+    /// The command `D`: deletes the pattern space up to its first newline, writes the queue, and starts a cycle with what is
     /// left. Without a newline it is `d`.
     pub(super) fn act_delete_first<O: Sinks, T: Texts>(
         &mut self,

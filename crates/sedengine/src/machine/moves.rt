@@ -5,7 +5,7 @@ ghost use Rattle.std.specs.Io.KnownBytes.{Keeps};
 ghost use Rattle.sedspace.specs.Stream.{lines_left};
 ghost use Rattle.sedengine.specs.Meters.{Sent};
 ghost use Rattle.sedengine.specs.Calls.{Reads, Delivers};
-ghost use Rattle.sedengine.specs.Run.{Cycles, Ending, TellsFiles, at_lines, setting, starts_cycle, outcome};
+ghost use Rattle.sedengine.specs.Run.{Cycles, Ending, TellsFiles, at_lines, setting, starts_cycle, outcome, input_of};
 ghost use Rattle.sedengine.specs.Steps.{KeepsRun, Steps, weight};
 
 use super::Machine;
@@ -55,7 +55,7 @@ impl Machine {
             (files : ℕ → List ℕ) → TellsFiles (T.text texts.old) files →
             Ending self.old.limits (setting self.old files) (at_lines self.old ls)
             (Sent (O.tally outputs.old) (O.tally outputs.new))
-            (R.remaining lines.old.source) (R.remaining lines.new.source) self.new.state result) }
+            (input_of R.remaining lines.old) (input_of R.remaining lines.new) self.new.state result) }
         ensures input { Reads {T = Unit {0}} R.remaining R.failures R.reference lines.old lines.new (Err result) }
         ensures output { Delivers O.tally O.count outputs.old outputs.new (Err result) }
         ensures same { KeepsRun self.old self.new }
@@ -90,7 +90,7 @@ impl Machine {
             (files : ℕ → List ℕ) → TellsFiles (T.text texts.old) files →
             Cycles self.old.limits (setting self.old files) (at_lines self.old ls)
             (Sent (O.tally outputs.old) (O.tally outputs.new))
-            (R.remaining lines.old.source) (R.remaining lines.new.source)
+            (input_of R.remaining lines.old) (input_of R.remaining lines.new)
             self.new (lines_left R.remaining lines.new) result) }
         ensures input { Reads R.remaining R.failures R.reference lines.old lines.new (outcome result) }
         ensures output { Delivers O.tally O.count outputs.old outputs.new (outcome result) }

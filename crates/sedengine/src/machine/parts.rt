@@ -11,7 +11,7 @@ use sedscript::Script;
 use sedspace::{Queue, Space};
 use std::alloc::{AllocError, Global};
 
-/// All that a machine holds beside its script.
+/// All that a machine holds besides its script.
 #[derive(Drop)]
 pub(super) struct Parts {
     pub(super) ranges: Vec<bool>,

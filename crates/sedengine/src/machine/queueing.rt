@@ -85,7 +85,7 @@ impl Machine {
         self.flush(outputs, texts)
     }
 
-    /// Writes the queue, and the next cycle starts at this place.
+    /// Writes the queue, and starts the next cycle at this place.
     pub(super) fn end_cycle<O: Sinks, T: Texts>(
         &mut self,
         place: Place,

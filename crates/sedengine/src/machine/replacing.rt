@@ -78,6 +78,7 @@ impl Machine {
             &mut self.seeking,
             &mut self.scratch,
             &mut Steps::new(),
+            &mut Steps::new(),
         );
         match built {
             Ok(true) => {

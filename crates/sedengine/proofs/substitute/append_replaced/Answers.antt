@@ -2,7 +2,7 @@ use Rattle.std.proofs.Common.{arith, ◌-◌, ◌∙◌, Bool, Err, ap, drop, le
 use Rattle.std.specs.Prelude.{slice_range}
 use Rattle.sedengine.specs.SubstituteParts.{GroupsOf, has_group}
 use Rattle.sedengine.proofs.Due.{appended, due_after, due_cut, due_full, due_next, due_rest}
-use Rattle.sedengine.proofs.Due.{lies_on, more_pending, none_pending}
+use Rattle.sedengine.proofs.Due.{groups_paid, lies_on, more_pending, none_pending}
 use Rattle.sedengine.proofs.substitute.append_replaced.Goals as goal
 
 pub returns-in_err-append-clause-appends : goal.returns-in_err-append-clause-appends
@@ -56,6 +56,9 @@ occurrences-preserved-then-substitution c =
           let paid = rw i.matcher at next.ensures.cost.1 in
           let before = rw c.in-Some.is at i.cost in
           omega (arith, paid, before);
+      groups_grow = omega (arith, i.groups_grow, next.ensures.group_cost.0);
+      group_cost = groups_paid _ _ _ _ e w s.global c.needs_groups-wanted.result l.occurrence span next.result c.in-Some.is more i.group_cost
+          (rw i.matcher at next.ensures.group_cost.1);
       limit = due.0;
       copied = lies.2;
       lies = lies_on (length w) span.1 next.result next.ensures.next.1;
@@ -84,6 +87,8 @@ occurrences-preserved c =
       serves = tt;
       grows = i.grows;
       cost = (let before = i.cost in omega (arith, before));
+      groups_grow = i.groups_grow;
+      group_cost = (let before = i.group_cost in omega (arith, before));
       limit = due.0;
       copied = lies.2;
       lies = tt;

@@ -1,9 +1,13 @@
-use Rattle.std.proofs.Common.{◌≡◌, ◌≤◌, ℕ, ◌+◌, ◌-◌, ◌++◌, Option, Some, None, length}
+use Rattle.std.proofs.Common.{◌≡◌, ◌≤◌, ℕ, ◌+◌, ◌-◌, ◌*◌, ◌++◌, Option, Some, None, length}
 use Rattle.std.specs.Prelude.{IfSome}
 use Rattle.sedmatch.specs.Occurrences.{KeepsRoom, Serves, owed, owed_after}
 use Rattle.sedengine.specs.Substitute.{replaced_from}
-use Rattle.sedengine.specs.SubstituteParts.{GroupsIn, GroupsOf, has_group, pending}
+use Rattle.sedengine.specs.SubstituteParts.{GroupsIn, GroupsOf, has_group, later_cost, pending}
 use Rattle.sedengine.proofs.substitute.append_replaced.Given as goal
+
+-- what the groups of one occurrence take at most, for m nodes and n bytes
+abbrev each : ℕ → ℕ → ℕ
+each m n = 51 * m * m * (n + 1) * (n + 1)
 
 abbrev pub invariant-occurrences : goal.invariant-occurrences
 invariant-occurrences l = record {
@@ -14,6 +18,11 @@ invariant-occurrences l = record {
   grows : l.fn.steps ≤ l.steps;
   cost : l.steps + owed_after (length l.fn.matcher.nodes) (length l.text) l.occurrence l.seeking
       ≤ l.fn.steps + owed (length l.fn.matcher.nodes) (length l.text) (Some l.fn.first.1) l.fn.seeking;
+  groups_grow : l.fn.group_steps ≤ l.group_steps;
+  group_cost : l.group_steps
+      + later_cost (each (length l.fn.matcher.nodes) (length l.text)) (pending l.fn.matcher l.text l.substitution.global l.occurrence)
+      ≤ l.fn.group_steps
+      + later_cost (each (length l.fn.matcher.nodes) (length l.text)) (pending l.fn.matcher l.text l.substitution.global (Some l.fn.first));
   limit : l.build.limit ≡ l.fn.build.limit;
   copied : l.copied ≤ length l.text;
   lies : IfSome l.occurrence (λ span. (l.copied ≤ span.0) × (span.0 ≤ span.1) × (span.1 ≤ length l.text));

@@ -1,13 +1,13 @@
 use Rattle.std.proofs.Common.{Some, None, length, arith}
 use Rattle.sedengine.proofs.Fitting.{more_of_all, more_of_later, room_later}
 use Rattle.sedengine.specs.SubstituteParts.{pending}
-use Rattle.sedengine.proofs.Due.{chosen_is, replaces_full, replaces_made}
+use Rattle.sedengine.proofs.Due.{to_replace_is, groups_took, replaces_full, replaces_made}
 use Rattle.sedengine.proofs.substitute.build_text.Goals as goal
 
 pub returns-in_default-next_occurrence-clause-replaces : goal.returns-in_default-next_occurrence-clause-replaces
 returns-in_default-next_occurrence-clause-replaces c =
     let s = c.args.substitution.now in
-    chosen_is c.args.matcher.now c.args.text.now s.number s.global c.in-Some.last None c.in-Some.ensures.skips
+    to_replace_is c.args.matcher.now c.args.text.now s.number s.global c.in-Some.last None c.in-Some.ensures.skips
     (rw c.in-Some.ensures.same.0 at c.in_default-next_occurrence.ensures.next.0)
 
 pub returns-in_err-append_replaced-clause-replaces : goal.returns-in_err-append_replaced-clause-replaces
@@ -16,7 +16,7 @@ returns-in_err-append_replaced-clause-replaces c =
     let e = c.args.matcher.now in
     let w = c.args.text.now in
     let first = Some c.in-Some-next_occurrence.first in
-    let same = chosen_is e w s.number s.global c.in-Some.last first c.in-Some.ensures.skips
+    let same = to_replace_is e w s.number s.global c.in-Some.last first c.in-Some.ensures.skips
     (rw c.in-Some.ensures.same.0 at c.in-Some-next_occurrence.ensures.next.0) in
     replaces_full w s.replacement _ (pending e w s.global first) c.args.build.now c.clear.new.self c.append_replaced.new.build
     c.in_err-append_replaced.field-0.0 c.from_residual.result c.from_residual.ensures.0 same (omega arith) c.clear.ensures
@@ -28,13 +28,13 @@ returns-clause-replaces c =
     let e = c.args.matcher.now in
     let w = c.args.text.now in
     let first = Some c.in-Some-next_occurrence.first in
-    let same = chosen_is e w s.number s.global c.in-Some.last first c.in-Some.ensures.skips
+    let same = to_replace_is e w s.number s.global c.in-Some.last first c.in-Some.ensures.skips
     (rw c.in-Some.ensures.same.0 at c.in-Some-next_occurrence.ensures.next.0) in
     replaces_made w s.replacement _ (pending e w s.global first) c.args.build.now c.clear.new.self c.append_replaced.new.build
     same (omega arith) c.clear.ensures (rw (c.in-Some-next_occurrence.ensures.same.0, c.in-Some.ensures.same.0) at c.in_ok-append_replaced.ensures.appends)
 
-pub skip-requires-clause-more : goal.skip-requires-clause-more
-skip-requires-clause-more c = λ some.
+pub end_of_skipped-requires-clause-more : goal.end_of_skipped-requires-clause-more
+end_of_skipped-requires-clause-more c = λ some.
     c.begin.ensures.room _ _ (c.requires.more (more_of_later c.args.substitution.now (omega (arith, some))))
 
 pub returns-in_default-clause-kept : goal.returns-in_default-clause-kept
@@ -44,7 +44,7 @@ returns-in_default-clause-kept c = λ text nodes has.
 pub next_occurrence-requires-clause-more : goal.next_occurrence-requires-clause-more
 next_occurrence-requires-clause-more c =
     rw c.in-Some.ensures.same.0
-    (room_later c.args.substitution.now (length c.args.text.now) (length c.args.matcher.now.nodes) c.in-Some.last c.skip.new.seeking
+    (room_later c.args.substitution.now (length c.args.text.now) (length c.args.matcher.now.nodes) c.in-Some.last c.end_of_skipped.new.seeking
     (λ first. let none = c.in-Some.ensures.none first in cc)
     (λ more. c.in-Some.ensures.serves.0 _ _ (c.begin.ensures.room _ _ (c.requires.more more))))
 
@@ -67,3 +67,27 @@ pub returns-clause-kept : goal.returns-clause-kept
 returns-clause-kept c = λ text nodes has.
     c.in_ok-append_replaced.ensures.kept text nodes (c.in-Some-next_occurrence.ensures.serves.0 text nodes
     (c.in-Some.ensures.serves.0 text nodes (c.begin.ensures.room text nodes has)))
+
+pub returns-in_err-append_replaced-clause-group_cost : goal.returns-in_err-append_replaced-clause-group_cost
+returns-in_err-append_replaced-clause-group_cost c =
+    let s = c.args.substitution.now in
+    let e = c.args.matcher.now in
+    let w = c.args.text.now in
+    let first = c.in-Some-next_occurrence.first in
+    let same = to_replace_is e w s.number s.global c.in-Some.last (Some first) c.in-Some.ensures.skips
+    (rw c.in-Some.ensures.same.0 at c.in-Some-next_occurrence.ensures.next.0) in
+    groups_took _ _ _ _ e w s.global c.needs_groups-wanted.result first _ same
+    (rw (c.in-Some.ensures.same.0, c.in-Some.ensures.no_groups) at c.in-Some-next_occurrence.ensures.group_cost)
+    (rw (c.in-Some-next_occurrence.ensures.same.0, c.in-Some.ensures.same.0) at c.in_err-append_replaced.ensures.group_cost)
+
+pub returns-clause-group_cost : goal.returns-clause-group_cost
+returns-clause-group_cost c =
+    let s = c.args.substitution.now in
+    let e = c.args.matcher.now in
+    let w = c.args.text.now in
+    let first = c.in-Some-next_occurrence.first in
+    let same = to_replace_is e w s.number s.global c.in-Some.last (Some first) c.in-Some.ensures.skips
+    (rw c.in-Some.ensures.same.0 at c.in-Some-next_occurrence.ensures.next.0) in
+    groups_took _ _ _ _ e w s.global c.needs_groups-wanted.result first _ same
+    (rw (c.in-Some.ensures.same.0, c.in-Some.ensures.no_groups) at c.in-Some-next_occurrence.ensures.group_cost)
+    (rw (c.in-Some-next_occurrence.ensures.same.0, c.in-Some.ensures.same.0) at c.in_ok-append_replaced.ensures.group_cost)

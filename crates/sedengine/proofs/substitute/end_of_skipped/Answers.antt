@@ -1,7 +1,7 @@
 use Rattle.std.proofs.Common.{◌≡◌, ℕ, None, length, arith}
 use Rattle.sedengine.proofs.Fitting.{room_if}
 use Rattle.sedengine.proofs.Occurrences.{ends_in, skips_none, skips_one}
-use Rattle.sedengine.proofs.substitute.skip.Goals as goal
+use Rattle.sedengine.proofs.substitute.end_of_skipped.Goals as goal
 
 pub returns-in_err-end-clause-skips : goal.returns-in_err-end-clause-skips
 returns-in_err-end-clause-skips c =
@@ -21,6 +21,7 @@ occurrences-preserved c =
       kept = λ text nodes has. c.in_ok-end.ensures.serves.0 text nodes (l.invariant.kept text nodes has);
       serves = rw l.invariant.matcher at c.in_ok-end.ensures.serves.1;
       grows = omega (arith, l.invariant.grows, c.in_ok-end.ensures.cost.0);
+      no_groups = omega (arith, l.invariant.no_groups, c.in_ok-end.ensures.group_cost.0, c.in_ok-end.ensures.group_cost.1);
       cost = (let paid = rw l.invariant.matcher at c.in_ok-end.ensures.cost.1 in omega (arith, paid, l.invariant.cost));
       last = ends_in _ l.last span c.in_ok-end.ensures.next.1;
       skipped = skips_one c.args.matcher.now c.args.text.now l.last l.counter span l.invariant.last l.invariant.skipped

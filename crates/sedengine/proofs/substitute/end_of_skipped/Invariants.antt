@@ -1,7 +1,7 @@
 use Rattle.std.proofs.Common.{◌≡◌, ◌+◌, ◌*◌, ◌≤◌, length, drop, None}
 use Rattle.sedmatch.specs.Occurrences.{EndsWithin, KeepsRoom, Serves, owed}
 use Rattle.sedengine.specs.SubstituteParts.{occurrences_after}
-use Rattle.sedengine.proofs.substitute.skip.Given as goal
+use Rattle.sedengine.proofs.substitute.end_of_skipped.Given as goal
 
 abbrev pub invariant-occurrences : goal.invariant-occurrences
 invariant-occurrences l = record {
@@ -12,6 +12,7 @@ invariant-occurrences l = record {
   kept : KeepsRoom l.fn.seeking l.seeking;
   serves : Serves l.fn.matcher l.text l.last l.seeking;
   grows : l.fn.steps ≤ l.steps;
+  no_groups : l.group_steps ≡ l.fn.group_steps;
   cost : l.steps + owed (length l.fn.matcher.nodes) (length l.text) l.last l.seeking
       ≤ l.fn.steps + 416 * length l.fn.matcher.nodes * (length l.text + 1);
   skipped : drop l.counter (occurrences_after l.fn.matcher l.text None) ≡ occurrences_after l.fn.matcher l.text l.last;
