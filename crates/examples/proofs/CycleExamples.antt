@@ -25,10 +25,12 @@ one_ahead = limits_of 1048576 4096 1 18446744073709551615 16384
 abbrev input : List ℕ
 input = codes "a\nb\nc\n"
 
--- The moves of one cycle write `out`. What is left of the source then may be `rest`; it can't be as little as `less`.
-record FirstCycle (p : Program) (out : List (ℕ × ℕ)) (rest less : List ℕ) : Type 0 where
+-- The moves of one cycle write `out`. What is left of the source then may be `rest`, and in all `left`; it can't be as little
+-- as `less`.
+record FirstCycle (p : Program) (out : List (ℕ × ℕ)) (left rest less : List ℕ) : Type 0 where
   moves : ℕ
-  cycled : Cycled one_ahead (setting_of p no_files) (start p.commands (lines input)) (λ bytes. bytes ≡ out) (Some input) (Some rest)
+  cycled : Cycled one_ahead (setting_of p no_files) (start p.commands (lines input)) (λ bytes. bytes ≡ out)
+      (record { source = Some input; all = Some input }) (record { source = Some rest; all = Some left })
       (after (setting_of p no_files) (start p.commands (lines input)) moves)
   no_more : TakesInput (setting_of p no_files) (start p.commands (lines input)) (Some input) (Some less) one_ahead.look moves → ⊥
 
@@ -57,9 +59,9 @@ not_so_many g s a b c old new more t before later many takes =
     let taken = takes.bytes in
     omega (arith, size, ap length taken.1, length-append taken.0 new, taken.2, many)
 
--- Of the six bytes the first line's two and the one after them may be taken, and no fourth.
+-- Of the six bytes the first line's two are gone, and the one after them may be taken from the source, and no fourth.
 abbrev IsFirst : Program → Type 0
-IsFirst p = FirstCycle p (to_sink 0 (codes "a\na\n")) (codes "\nc\n") (codes "c\n")
+IsFirst p = FirstCycle p (to_sink 0 (codes "a\na\n")) (codes "b\nc\n") (codes "\nc\n") (codes "c\n")
 
 first_cycle : Script (codes "p") Basic IsFirst
 unfolding verdict cutting walked item_at past function_at addresses_at address_at second_at text_from name_from lines after written move selects all_fit
@@ -73,7 +75,10 @@ first_cycle = is_script {text = codes "p"} {kind = Basic} {Fits = IsFirst} (reco
     one = between _ refl refl refl refl refl;
     within = within_so one_ahead _ 6 _ refl;
     sinks = refl;
-    takes = record { lines = codes "a" ∷ []; are = refl; bytes = (codes "a\nb", refl, omega arith) };
+    takes = record {
+      input = record { lines = codes "a" ∷ []; are = refl; bytes = (codes "a\nb", refl, omega arith) };
+      all = (codes "a\n", refl, omega arith);
+    };
   };
   no_more = not_so_many _ _ (codes "a") (codes "b") (codes "c") input (codes "c\n") 1 6 refl refl (omega arith);
 })

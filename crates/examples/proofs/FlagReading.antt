@@ -10,16 +10,16 @@ use Rattle.sedscript.specs.declared.items.Flags.{Flags}
 use Rattle.sedscript.specs.Bytes.{is_digit, with_digits, bytes_between}
 use Rattle.sedscript.specs.Functions.{fault, name_from, ◌>>=◌}
 use Rattle.sedscript.specs.Flags.{no_flags, ends_flags, numbered, with_number, with_flag, with_file, flags_from}
-use Rattle.examples.specs.Among.{stands_among}
+use Rattle.sedscript.specs.Transliteration.{is_among}
 use Rattle.examples.specs.Numbers.{decimal_from, WritesNumber, NumberAmong}
 
 -- the flags after some bytes, by those before
 pub record Told (f g : Flags) (bs : List ℕ) : Type 0 where
-  pub global : g.global ≡ (f.global || stands_among 103 bs)
-  pub print : g.print ≡ (f.print || stands_among 112 bs)
-  pub folded : g.folded ≡ (f.folded || stands_among 73 bs)
+  pub global : g.global ≡ (f.global || is_among bs 103)
+  pub print : g.print ≡ (f.print || is_among bs 112)
+  pub folded : g.folded ≡ (f.folded || is_among bs 73)
   pub file : g.file ≡ f.file
-  pub none_named : stands_among 119 bs ≡ false
+  pub none_named : is_among bs 119 ≡ false
 
 or_false : (x : Bool) → x ≡ (x || false)
 or_false true = refl
@@ -39,11 +39,11 @@ told_none f = record { global = or_false f.global; print = or_false f.print; fol
 
 told_then : (f h g : Flags) (b : ℕ) (bs : List ℕ) → Told f h (b ∷ []) → Told h g bs → Told f g (b ∷ bs)
 told_then f h g b bs t u = record {
-  global = or_three f.global (b == 103) (stands_among 103 bs) h.global g.global t.global u.global;
-  print = or_three f.print (b == 112) (stands_among 112 bs) h.print g.print t.print u.print;
-  folded = or_three f.folded (b == 73) (stands_among 73 bs) h.folded g.folded t.folded u.folded;
+  global = or_three f.global (b == 103) (is_among bs 103) h.global g.global t.global u.global;
+  print = or_three f.print (b == 112) (is_among bs 112) h.print g.print t.print u.print;
+  folded = or_three f.folded (b == 73) (is_among bs 73) h.folded g.folded t.folded u.folded;
   file = u.file ∙ t.file;
-  none_named = or_none (b == 119) (stands_among 119 bs) t.none_named u.none_named;
+  none_named = or_none (b == 119) (is_among bs 119) t.none_named u.none_named;
 }
 
 same_ok : {A : Type 0} (a b : A) → ◌≡◌ {A = Result A ScriptFault} (Ok a) (Ok b) → a ≡ b
@@ -402,7 +402,7 @@ flags_read text empty f g zero at to (b ∷ bs) d s e =
 -- what the flags say of bytes
 abbrev Says : Flags → List ℕ → Type 0
 Says flags bytes =
-    (flags.global ≡ stands_among 103 bytes) × (flags.print ≡ stands_among 112 bytes) × (flags.folded ≡ stands_among 73 bytes)
+    (flags.global ≡ is_among bytes 103) × (flags.print ≡ is_among bytes 112) × (flags.folded ≡ is_among bytes 73)
 
 all_read : (script : List ℕ) (empty : Bool) (flags : Flags) (from to : ℕ) → flags_from script empty no_flags 0 from (drop from script) ≡ Ok (flags, to) →
     Read script no_flags flags 0 from to (drop from script)
@@ -430,7 +430,7 @@ without script flags from to r none = elim r.ending [
 ]
 
 pub flags_told : (script : List ℕ) (empty : Bool) (flags : Flags) (from to : ℕ) → flags_from script empty no_flags 0 from (drop from script) ≡ Ok (flags, to) → flags.file ≡ None →
-    (flags.global ≡ stands_among 103 (bytes_between script from to)) × (flags.print ≡ stands_among 112 (bytes_between script from to)) × (flags.folded ≡ stands_among 73 (bytes_between script from to))
+    (flags.global ≡ is_among (bytes_between script from to) 103) × (flags.print ≡ is_among (bytes_between script from to) 112) × (flags.folded ≡ is_among (bytes_between script from to) 73)
 flags_told script empty flags from to e none = (without script flags from to (all_read script empty flags from to e) none).says
 
 pub number_told : (script : List ℕ) (empty : Bool) (flags : Flags) (from to : ℕ) → flags_from script empty no_flags 0 from (drop from script) ≡ Ok (flags, to) → flags.file ≡ None →
@@ -446,8 +446,8 @@ at_front (c ∷ bytes) more zero b e = (let same : c ≡ b = cc in ap (λ (x : �
 at_front (c ∷ bytes) more (suc i) b e = at_front bytes more i b e
 
 pub before_file : (script : List ℕ) (empty : Bool) (flags : Flags) (from to : ℕ) (name : ℕ × ℕ) → flags_from script empty no_flags 0 from (drop from script) ≡ Ok (flags, to) → flags.file ≡ Some name →
-    (w : ℕ) × (from ≤ w) × (slice_get script w ≡ Some 119) × (stands_among 119 (bytes_between script from w) ≡ false) × (name_from script (w + 1) ≡ Some name) × (to ≡ name.1)
-    × (flags.global ≡ stands_among 103 (bytes_between script from w)) × (flags.print ≡ stands_among 112 (bytes_between script from w)) × (flags.folded ≡ stands_among 73 (bytes_between script from w))
+    (w : ℕ) × (from ≤ w) × (slice_get script w ≡ Some 119) × (is_among (bytes_between script from w) 119 ≡ false) × (name_from script (w + 1) ≡ Some name) × (to ≡ name.1)
+    × (flags.global ≡ is_among (bytes_between script from w) 103) × (flags.print ≡ is_among (bytes_between script from w) 112) × (flags.folded ≡ is_among (bytes_between script from w) 73)
     × NumberAmong (bytes_between script from w) flags.number
 before_file script empty flags from to name e some =
     let r = all_read script empty flags from to e in

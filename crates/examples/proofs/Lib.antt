@@ -24,6 +24,7 @@ mod HostileExamples
 mod JoinedExamples
 mod JoinedLinesRunExamples
 mod LabelEnds
+mod LimitExamples
 mod ListExamples
 mod ListReading
 mod ListingExamples
@@ -33,6 +34,7 @@ mod ManyBracesExamples
 mod ManyGroupsExamples
 mod MatchExamples
 mod MatchingExamples
+mod MissedExamples
 mod MoveExamples
 mod NestedGroupExamples
 mod NestedStarExamples

@@ -10,7 +10,7 @@ use Rattle.sedre.specs.declared.types.ExprFault.{ExprFault}
 use Rattle.sedre.specs.declared.byte_set.ByteSet.{ByteSet}
 use Rattle.sedre.specs.Sets.{set_of, has, only, union, complement}
 use Rattle.sedre.specs.Brackets.{item, items, items_from, single, both, listed, judged, matched, is_negated, ListedBytes, list_at}
-use Rattle.examples.specs.Among.{stands_among}
+use Rattle.sedscript.specs.Transliteration.{is_among}
 use Rattle.examples.specs.Lists.{ArePlain}
 
 abbrev Items : Type 0
@@ -63,12 +63,12 @@ one_by_one place b (c ∷ d ∷ bs) p = rw (ne_eqb c 45 p.2) refl
 same_test : (c b : ℕ) → (c == b) ≡ (b == c)
 same_test c b = elim (eqb_tells c b) [ inl h ↦ h.0 ∙ sym (eq-eqb b c (sym h.1)) | inr h ↦ h.0 ∙ sym (ne_eqb b c (λ e. h.1 (sym e))) ]
 
-one_more : (b : ℕ) (bs : List ℕ) → union (only b) (set_of (λ c. stands_among c bs)) ≡ set_of (λ c. stands_among c (b ∷ bs))
+one_more : (b : ℕ) (bs : List ℕ) → union (only b) (set_of (λ c. is_among bs c)) ≡ set_of (λ c. is_among (b ∷ bs) c)
 one_more b bs =
-    set_of-same (λ c. has (only b) c || has (set_of (λ c. stands_among c bs)) c) (λ c. stands_among c (b ∷ bs))
-    (λ c low. rw (has-set_of (λ c. c == b) c low) (rw (has-set_of (λ c. stands_among c bs) c low) (rw (same_test c b) refl)))
+    set_of-same (λ c. has (only b) c || has (set_of (λ c. is_among bs c)) c) (λ c. is_among (b ∷ bs) c)
+    (λ c low. rw (has-set_of (λ c. c == b) c low) (rw (has-set_of (λ c. is_among bs c) c low) (rw (same_test c b) refl)))
 
-all_listed : (place : ℕ) (bs : List ℕ) → ArePlain bs → listed (placed place bs) ≡ Ok (set_of (λ c. stands_among c bs))
+all_listed : (place : ℕ) (bs : List ℕ) → ArePlain bs → listed (placed place bs) ≡ Ok (set_of (λ c. is_among bs c))
 all_listed place [] p = refl
 all_listed place (b ∷ bs) p =
     one_by_one place b bs p.4
@@ -92,10 +92,10 @@ unfolding list_at
 of_text before xs = ap (whole (length before)) (drop_past before xs 91)
 
 judged_by : (negated : Bool) (at place : ℕ) (bs : List ℕ) (found : Items) → ArePlain bs → found ≡ (placed place bs, Some (place + length bs + 1)) →
-    judged false negated at (listed found.0) found.1 ≡ Ok (matched false negated (set_of (λ c. stands_among c bs)), place + length bs + 1)
+    judged false negated at (listed found.0) found.1 ≡ Ok (matched false negated (set_of (λ c. is_among bs c)), place + length bs + 1)
 judged_by negated at place bs found p e = rw e (rw (all_listed place bs p) refl)
 
-plain_front : (at : ℕ) (bs rest : List ℕ) → 0 < length bs → ArePlain bs → whole at (bs ++ 93 ∷ rest) ≡ Ok (set_of (λ c. stands_among c bs), at + 1 + length bs + 1)
+plain_front : (at : ℕ) (bs rest : List ℕ) → 0 < length bs → ArePlain bs → whole at (bs ++ 93 ∷ rest) ≡ Ok (set_of (λ c. is_among bs c), at + 1 + length bs + 1)
 plain_front at [] rest h p = absurd (omega (arith, h))
 plain_front at (b ∷ bs) rest h p = rw (ne_eqb b 94 p.3) (judged_by false at (at + 1) (b ∷ bs) (items None true 0 (at + 1) (b ∷ bs ++ 93 ∷ rest)) p (all_items (at + 1) (b ∷ bs) rest h p))
 
@@ -103,19 +103,19 @@ abbrev answer : List Bool → ℕ → Found
 answer set next = Ok (set, next)
 
 pub list_matches : (before bytes after : List ℕ) → 0 < length bytes → ArePlain bytes →
-    list_at false None (before ++ 91 ∷ (bytes ++ 93 ∷ after)) (length before) ≡ Ok (set_of (λ c. stands_among c bytes), length before + length bytes + 2)
+    list_at false None (before ++ 91 ∷ (bytes ++ 93 ∷ after)) (length before) ≡ Ok (set_of (λ c. is_among bytes c), length before + length bytes + 2)
 list_matches before bytes after some p =
     of_text before (bytes ++ 93 ∷ after)
     ∙ (plain_front (length before) bytes after some p
-    ∙ (let e : length before + 1 + length bytes + 1 ≡ length before + length bytes + 2 = omega arith in ap (answer (set_of (λ c. stands_among c bytes))) e))
+    ∙ (let e : length before + 1 + length bytes + 1 ≡ length before + length bytes + 2 = omega arith in ap (answer (set_of (λ c. is_among bytes c))) e))
 
-others : (bs : List ℕ) → complement (set_of (λ c. stands_among c bs)) ≡ set_of (λ c. not (stands_among c bs))
-others bs = set_of-same (λ c. not (has (set_of (λ c. stands_among c bs)) c)) (λ c. not (stands_among c bs)) (λ c low. ap not (has-set_of (λ c. stands_among c bs) c low))
+others : (bs : List ℕ) → complement (set_of (λ c. is_among bs c)) ≡ set_of (λ c. not (is_among bs c))
+others bs = set_of-same (λ c. not (has (set_of (λ c. is_among bs c)) c)) (λ c. not (is_among bs c)) (λ c low. ap not (has-set_of (λ c. is_among bs c) c low))
 
 pub others_match : (before bytes after : List ℕ) → 0 < length bytes → ArePlain bytes →
-    list_at false None (before ++ 91 ∷ 94 ∷ (bytes ++ 93 ∷ after)) (length before) ≡ Ok (set_of (λ c. not (stands_among c bytes)), length before + length bytes + 3)
+    list_at false None (before ++ 91 ∷ 94 ∷ (bytes ++ 93 ∷ after)) (length before) ≡ Ok (set_of (λ c. not (is_among bytes c)), length before + length bytes + 3)
 others_match before bytes after some p =
     of_text before (94 ∷ (bytes ++ 93 ∷ after))
     ∙ (judged_by true (length before) (length before + 1 + 1) bytes (items None true 0 (length before + 1 + 1) (bytes ++ 93 ∷ after)) p (all_items (length before + 1 + 1) bytes after some p)
     ∙ (ap (λ (s : List Bool). answer s (length before + 1 + 1 + length bytes + 1)) (others bytes)
-    ∙ (let e : length before + 1 + 1 + length bytes + 1 ≡ length before + length bytes + 3 = omega arith in ap (answer (set_of (λ c. not (stands_among c bytes)))) e)))
+    ∙ (let e : length before + 1 + 1 + length bytes + 1 ≡ length before + length bytes + 3 = omega arith in ap (answer (set_of (λ c. not (is_among bytes c)))) e)))

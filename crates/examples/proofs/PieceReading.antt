@@ -5,7 +5,7 @@ use Rattle.sedscript.specs.Bytes.{is_digit}
 use Rattle.sedscript.specs.declared.substitution.Piece.{Piece}
 use Rattle.sedscript.specs.declared.substitution.Piece.TheVariants.{Literal as literal, Whole as whole, Group as group}
 use Rattle.sedscript.specs.Replacement.{escaped_piece, pieces_from, pieces_of, is_letter, GroupsWithin}
-use Rattle.examples.specs.Replacements.{written_pieces}
+use Rattle.examples.specs.WrittenReplacements.{written_pieces}
 
 no_escape : (t : Bool) → (t && false) ≡ false
 no_escape true = refl

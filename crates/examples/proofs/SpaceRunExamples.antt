@@ -23,6 +23,11 @@ use Rattle.sedengine.specs.Substitute.{occurrences_from}
 use Rattle.examples.proofs.ComputedRun.{course, ends_after, Writes, QuietlyWrites, Edits, plain, no_files}
 use Rattle.sedre.specs.declared.types.Kind.TheVariants.{Basic}
 
+-- `g` brings back what `h` kept.
+copied_from_the_hold_space : Writes (codes "h;s/a/b/;g") (codes "a\n") (codes "a\n")
+unfolding verdict cutting walked item_at past function_at addresses_at address_at second_at text_from name_from lines course move selects match_at substitute_at substituted delimiter_at outcome rest_of expression_item_at interval set_of tree_at tree_within list_at list_end found found_from longest greatest spans any copies report caps cut first_copy last_start occurrences_from
+copied_from_the_hold_space = is_script (ends_after 200 refl refl)
+
 reversed_lines : Writes (codes "1!G;h;$!d") (codes "1\n2\n3\n") (codes "3\n2\n1\n")
 unfolding verdict cutting walked item_at past function_at addresses_at address_at second_at text_from name_from lines course move selects
 reversed_lines = is_script (ends_after 200 refl refl)

@@ -13,6 +13,21 @@ use Rattle.sedengine.specs.Select.{selects}
 use Rattle.examples.proofs.ComputedRun.{course, ends_after, Writes, QuietlyWrites}
 use Rattle.sedengine.specs.Listing.{listed}
 
+-- With one address the text is written in place of each line that it selects.
+change_a_line : Writes (codes "2c\\\nT") (codes "1\n2\n3\n") (codes "1\nT\n3\n")
+unfolding verdict cutting walked item_at past function_at addresses_at address_at second_at text_from name_from lines course move selects
+change_a_line = is_script (ends_after 200 refl refl)
+
+-- A second number that isn't above the line's ends the range at once.
+change_a_range_of_one : Writes (codes "2,1c\\\nT") (codes "1\n2\n3\n") (codes "1\nT\n3\n")
+unfolding verdict cutting walked item_at past function_at addresses_at address_at second_at text_from name_from lines course move selects
+change_a_range_of_one = is_script (ends_after 200 refl refl)
+
+-- A range that begins on the last line stays open, and no text is written for it.
+change_an_open_range : Writes (codes "2,3c\\\nT") (codes "1\n2\n") (codes "1\n")
+unfolding verdict cutting walked item_at past function_at addresses_at address_at second_at text_from name_from lines course move selects
+change_an_open_range = is_script (ends_after 200 refl refl)
+
 -- The text is written where the range ends.
 change_a_range : Writes (codes "2,3c\\\nT") (codes "1\n2\n3\n4\n") (codes "1\nT\n4\n")
 unfolding verdict cutting walked item_at past function_at addresses_at address_at second_at text_from name_from lines course move selects

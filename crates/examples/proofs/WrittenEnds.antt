@@ -6,7 +6,7 @@ use Rattle.sedscript.specs.declared.substitution.Piece.{Piece}
 use Rattle.sedscript.specs.declared.substitution.Piece.TheVariants.{Literal as literal, Whole as whole, Group as group}
 use Rattle.examples.specs.Strings.{written}
 use Rattle.sedscript.specs.Replacement.{GroupsWithin}
-use Rattle.examples.specs.Replacements.{written_pieces}
+use Rattle.examples.specs.WrittenReplacements.{written_pieces}
 
 no_break : (t : Bool) → (t && false) ≡ false
 no_break true = refl

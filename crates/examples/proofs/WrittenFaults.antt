@@ -9,7 +9,7 @@ use Rattle.sedscript.specs.declared.substitution.Piece.TheVariants.{Literal as l
 use Rattle.sedscript.specs.Transliteration.{escaped_byte, string_fault}
 use Rattle.sedscript.specs.Replacement.{escaped_piece, piece_fault, replacement_fault, GroupsWithin}
 use Rattle.examples.specs.Strings.{written}
-use Rattle.examples.specs.Replacements.{written_pieces}
+use Rattle.examples.specs.WrittenReplacements.{written_pieces}
 use Rattle.examples.proofs.PieceReading.{special, group_escape}
 
 -- ---- strings of `y`

@@ -12,15 +12,14 @@ ghost use Rattle.sedscript.specs.declared.substitution.Piece.{Piece};
 ghost use Rattle.sedscript.specs.Replacement.{pieces_of, replacement_fault, GroupsWithin};
 ghost use Rattle.sedscript.specs.Script.{unescaped_from};
 ghost use Rattle.sedscript.specs.Strings.{string_end};
-ghost use Rattle.sedscript.specs.Transliteration.{table_of, chars_from, bytes_of, string_fault};
+ghost use Rattle.sedscript.specs.Transliteration.{table_of, chars_from, bytes_of, is_among, string_fault};
 ghost use Rattle.examples.specs.Backslashes.{IsUnescaped, NoneUnescaped};
 ghost use Rattle.examples.specs.Labels.{EndsLabel};
 ghost use Rattle.examples.specs.Texts.{backslashed};
 ghost use Rattle.examples.specs.Strings.{NoneTwice, written};
-ghost use Rattle.examples.specs.Among.{stands_among};
 ghost use Rattle.examples.specs.Numbers.{NumberAmong};
 ghost use Rattle.examples.specs.Lists.{ArePlain};
-ghost use Rattle.examples.specs.Replacements.{written_pieces};
+ghost use Rattle.examples.specs.WrittenReplacements.{written_pieces};
 
 /// A text of `a`, `i` or `c` ends at the first newline with an even number of backslashes directly before it, or at the
 /// end of the script.
@@ -119,9 +118,9 @@ pub fn replacement_faultless()
 pub fn flags_read()
     ensures { (script : List ℕ) (empty : Bool) (flags : Flags) (from to : ℕ) →
         flags_from script empty no_flags 0 from (drop from script) ≡ Ok (flags, to) → flags.file ≡ None →
-        (flags.global ≡ stands_among 103 (bytes_between script from to))
-        × (flags.print ≡ stands_among 112 (bytes_between script from to))
-        × (flags.folded ≡ stands_among 73 (bytes_between script from to)) }
+        (flags.global ≡ is_among (bytes_between script from to) 103)
+        × (flags.print ≡ is_among (bytes_between script from to) 112)
+        × (flags.folded ≡ is_among (bytes_between script from to) 73) }
 {}
 
 /// Where flags of `s` are read without a file, the digits among the bytes that were read stand together and write the flags'
@@ -137,11 +136,11 @@ pub fn number_read()
 pub fn flags_before_file()
     ensures { (script : List ℕ) (empty : Bool) (flags : Flags) (from to : ℕ) (name : ℕ × ℕ) →
         flags_from script empty no_flags 0 from (drop from script) ≡ Ok (flags, to) → flags.file ≡ Some name →
-        (w : ℕ) × (from ≤ w) × (slice_get script w ≡ Some 119) × (stands_among 119 (bytes_between script from w) ≡ false)
+        (w : ℕ) × (from ≤ w) × (slice_get script w ≡ Some 119) × (is_among (bytes_between script from w) 119 ≡ false)
         × (name_from script (w + 1) ≡ Some name) × (to ≡ name.1)
-        × (flags.global ≡ stands_among 103 (bytes_between script from w))
-        × (flags.print ≡ stands_among 112 (bytes_between script from w))
-        × (flags.folded ≡ stands_among 73 (bytes_between script from w))
+        × (flags.global ≡ is_among (bytes_between script from w) 103)
+        × (flags.print ≡ is_among (bytes_between script from w) 112)
+        × (flags.folded ≡ is_among (bytes_between script from w) 73)
         × NumberAmong (bytes_between script from w) flags.number }
 {}
 
@@ -149,12 +148,12 @@ pub fn flags_before_file()
 pub fn list_matches()
     ensures { (before bytes after : List ℕ) → 0 < length bytes → ArePlain bytes →
         list_at false None (before ++ 91 ∷ (bytes ++ 93 ∷ after)) (length before)
-        ≡ Ok (set_of (λ c. stands_among c bytes), length before + length bytes + 2) }
+        ≡ Ok (set_of (λ c. is_among bytes c), length before + length bytes + 2) }
 {}
 
 /// With a `^` before these bytes, it matches exactly the others.
 pub fn others_match()
     ensures { (before bytes after : List ℕ) → 0 < length bytes → ArePlain bytes →
         list_at false None (before ++ 91 ∷ 94 ∷ (bytes ++ 93 ∷ after)) (length before)
-        ≡ Ok (set_of (λ c. not (stands_among c bytes)), length before + length bytes + 3) }
+        ≡ Ok (set_of (λ c. not (is_among bytes c)), length before + length bytes + 3) }
 {}

@@ -39,7 +39,7 @@ pub(crate) fn may_wait(rt: &HostRuntime, name: &str) -> bool {
     is_no_file(fs::metadata(rt, name))
 }
 
-// Whether this isn't said of an ordinary file.
+// Whether this is the metadata of anything but an ordinary file.
 fn is_no_file(metadata: io::Result<Metadata>) -> bool {
     match metadata {
         Ok(metadata) => !metadata.is_file(),

@@ -11,7 +11,7 @@ use std::io::{Seek, SeekFrom};
 use std::marker::Model;
 use std::str;
 
-/// A file that is being read: that of a number, up to a place.
+/// A file that is being read: its number, and how far it has been read.
 #[derive(Drop)]
 struct Reading {
     file: File,

@@ -9,7 +9,7 @@ use Rattle.sedengine.specs.State.{State, Setting}
 use Rattle.sedengine.specs.Move.{start, written}
 use Rattle.sedengine.specs.Devices.{part, FillsSink, GainedWithin}
 use Rattle.sedengine.specs.Ends.{WholeOrBrokenOff}
-use Rattle.sedengine.specs.Run.{RunState, Ending, Sends, at_lines, setting, setting_of}
+use Rattle.sedengine.specs.Run.{RunState, Ending, Input, Sends, at_lines, setting, setting_of}
 use Rattle.sedengine.specs.declared.ends.Ended.{Ended}
 use Rattle.sedengine.specs.declared.ends.Ended.TheVariants.{Done, OutputFull}
 use Rattle.sedengine.proofs.Metering.{Cause-as}
@@ -42,12 +42,16 @@ from_start l p e' old new r out h = record {
 }
 
 -- a run of an opened engine over all lines is an edit
-pub Edits-run : (l : Limits) (p : Program) (files : ℕ → List ℕ) (e e' : RunState) (x : List ℕ) (sinks sinks' : ℕ → Option (List ℕ)) (old old' new new' : Option (List ℕ)) (now : State) (end : Ended) →
-    e ≡ opened l p → old' ≡ old → new' ≡ new → Ending e.limits (setting e files) (at_lines e (lines x)) (Sends e e' sinks sinks' (Err end)) old' new' now end →
+pub Edits-run : (l : Limits) (p : Program) (files : ℕ → List ℕ) (e e' : RunState) (x : List ℕ) (sinks sinks' : ℕ → Option (List ℕ)) (old new : Option (List ℕ)) (before after : Input) (now : State) (end : Ended) →
+    e ≡ opened l p → before.source ≡ old → after.source ≡ new → Ending e.limits (setting e files) (at_lines e (lines x)) (Sends e e' sinks sinks' (Err end)) before after now end →
     Edits l (setting_of p files) (start_over p x) (GainedWithin l.output nothing_before sinks sinks' (Err end)) old new end
-Edits-run l p files e e' x sinks sinks' old old' new new' now end is before after h =
-    let h' = rw (is, before, after) at h in
-    record { t = h'.t; cause = Cause-as l _ _ _ _ end h'.t (from_start l p e' sinks sinks' (Err end)) h'.cause; takes = h'.takes }
+Edits-run l p files e e' x sinks sinks' old new before after now end is same_old same_new h =
+    let h' = rw is at h in
+    record {
+      t = h'.t;
+      cause = Cause-as l _ _ _ _ end h'.t (from_start l p e' sinks sinks' (Err end)) h'.cause;
+      takes = (let input = h'.takes.input in rw (same_old, same_new) at input);
+    }
 
 -- what the sinks gained is a beginning of what is written
 pub Gains-beginning : (l : Limits) (g : Setting) (s : State) (gained : List (ℕ × ℕ) → Type 0) (end : Ended) (t : ℕ) (k : Option ℕ) →

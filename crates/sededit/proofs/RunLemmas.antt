@@ -3,23 +3,21 @@ use Rattle.std.proofs.Common.{◌≡◌, ◌∙◌, ◌≤◌, ◌⊎◌, inl, i
 use Rattle.sedspace.specs.Failures.{Rose}
 use Rattle.sedscript.specs.Script.{Program}
 use Rattle.sedengine.specs.Limits.{Limits}
-use Rattle.sedengine.specs.State.{State, Setting}
-use Rattle.sedengine.specs.Devices.{FailedSink, Gained}
-use Rattle.sedengine.specs.Ends.{WholeOrBrokenOff}
+use Rattle.sedengine.specs.Devices.{FailedSink, Gained, SinksAtEnd}
 use Rattle.sedengine.specs.declared.ends.Ended.{Ended}
-use Rattle.sedengine.specs.declared.ends.Ended.TheVariants.{Done, InputBroken, OutputBroken}
+use Rattle.sedengine.specs.declared.ends.Ended.TheVariants.{Done, InputBroken, OutputBroken, OutputFull}
+use Rattle.sedengine.proofs.Metering.{Cause-as}
 use Rattle.std.specs.Option.{option_map}
 use Rattle.sededit.specs.Joined.{joined}
 use Rattle.sededit.specs.Opening.{KeepsFiles, WereRefused, contents}
-use Rattle.sededit.specs.Program.{HasFailed, SinkFailed, StopsEarly, WritesAll, WritesBeginning}
+use Rattle.sededit.specs.Program.{GainsBy, HasFailed, SinkFailed, StopsEarly, WritesAll, WritesBeginning}
 
 -- what sinks gained stands where they hold the same afterwards
 pub Gained-same : (old mid new : ℕ → Option (List ℕ)) (out : List (ℕ × ℕ)) → ((k : ℕ) → new k ≡ mid k) → Gained old mid out → Gained old new out
 Gained-same old mid new out same h = record { each = λ k. rw (same k) (h.each k) }
 
-pub WholeOrBrokenOff-same : (l : Limits) (g : Setting) (s : State) (old mid new : ℕ → Option (List ℕ)) (end : Ended) (t : ℕ) (k : Option ℕ) → ((j : ℕ) → new j ≡ mid j) → WholeOrBrokenOff l g s (Gained old mid) end t k → WholeOrBrokenOff l g s (Gained old new) end t k
-WholeOrBrokenOff-same l g s old mid new end t None same w = record { within = w.within; sinks = Gained-same old mid new _ same w.sinks; cause = w.cause }
-WholeOrBrokenOff-same l g s old mid new end t (Some k) same w = record { within = w.within; b = w.b; byte = w.byte; past = w.past; due = w.due; sinks = Gained-same old mid new _ same w.sinks }
+pub GainsBy-same : (l : Limits) (old mid new : ℕ → Option (List ℕ)) (end : Ended) (out : List (ℕ × ℕ)) → ((k : ℕ) → new k ≡ mid k) → GainsBy l old mid end out → GainsBy l old new end out
+GainsBy-same l old mid new end out same h = record { gained = Gained-same old mid new out same h.gained; within = h.within; full = h.full }
 
 pub WritesAll-same : (p : Program) (input : Option (List ℕ)) (texts : ℕ → Option (List ℕ)) (old mid new : ℕ → Option (List ℕ)) → ((k : ℕ) → new k ≡ mid k) → WritesAll p input texts (Gained old mid) → WritesAll p input texts (Gained old new)
 WritesAll-same p input texts old mid new same h = λ bytes known files told. let w = h bytes known files told in (w.0, w.1, Gained-same old mid new _ same w.2)
@@ -31,12 +29,13 @@ Rose-more : (a b c : ℕ) → Rose a b → b ≤ c → Rose a c
 Rose-more a b c h more = omega (arith, h, more)
 
 -- the device that an answered end names has failed, also after a flush
-pub has_failed : {E : Type 0} (input_old input_new : ℕ) (old mid new : ℕ → ℕ) (r : Result Ended E) (end : Ended) → r ≡ Ok end →
-    (r ≡ Ok InputBroken → Rose input_old input_new) → FailedSink old mid (Err end) → ((k : ℕ) → mid k ≤ new k) →
-    HasFailed input_old input_new old new end
-has_failed input_old input_new old mid new r InputBroken is input failed more = input is
-has_failed input_old input_new old mid new r (OutputBroken k) is input failed more = Rose-more _ _ _ failed.0 (more k)
-has_failed input_old input_new old mid new r _ is input failed more = tt
+pub has_failed : {E : Type 0} (most : Option ℕ) (input_old input_new : ℕ) (old mid new : ℕ → ℕ) (r : Result Ended E) (end : Ended) → r ≡ Ok end →
+    (r ≡ Ok InputBroken → Rose input_old input_new) → SinksAtEnd most old mid (Err end) → ((k : ℕ) → mid k ≤ new k) →
+    HasFailed most input_old input_new old new end
+has_failed most input_old input_new old mid new r InputBroken is input failed more = input is
+has_failed most input_old input_new old mid new r (OutputBroken k) is input failed more = Rose-more _ _ _ failed.0.0 (more k)
+has_failed most input_old input_new old mid new r (OutputFull k) is input failed more = failed.1
+has_failed most input_old input_new old mid new r _ is input failed more = tt
 
 -- a sink that failed after others had not has failed since
 pub sink_failed : (old mid new : ℕ → ℕ) → ((k : ℕ) → mid k ≡ old k) → SinkFailed mid new → SinkFailed old new
@@ -56,10 +55,10 @@ some_refused true old new is h = h
 some_refused false old new is h = absurd cc
 
 -- how a run stopped, said of the same input and numbers under other names
-pub cause_moved : (l : Limits) (p : Program) (texts : ℕ → Option (List ℕ)) (gained : List (ℕ × ℕ) → Type 0) (old new : ℕ → ℕ) (W : Type 0) (x y : Option (List ℕ)) (a b a' b' : ℕ) →
-    y ≡ x → a' ≡ a → b' ≡ b → StopsEarly l p x texts gained (HasFailed a b old new) ⊎ (WritesAll p x texts gained × W) →
-    StopsEarly l p y texts gained (HasFailed a' b' old new) ⊎ (WritesAll p y texts gained × W)
-cause_moved l p texts gained old new W x y a b a' b' input before after h = rw (input, before, after) h
+pub cause_moved : (l : Limits) (p : Program) (texts : ℕ → Option (List ℕ)) (by : Ended → List (ℕ × ℕ) → Type 0) (gained : List (ℕ × ℕ) → Type 0) (old new : ℕ → ℕ) (W : Type 0) (x y : Option (List ℕ)) (a b a' b' : ℕ) →
+    y ≡ x → a' ≡ a → b' ≡ b → StopsEarly l p x texts by (HasFailed l.output a b old new) ⊎ (WritesAll p x texts gained × W) →
+    StopsEarly l p y texts by (HasFailed l.output a' b' old new) ⊎ (WritesAll p y texts gained × W)
+cause_moved l p texts by gained old new W x y a b a' b' input before after h = rw (input, before, after) h
 
 -- a run over what was made ready for it, said of how things stood before
 pub record Ready (files0 files1 : Option (List (Option (List ℕ)))) (texts0 texts1 sinks0 sinks1 : ℕ → Option (List ℕ)) : Type 0 where
@@ -89,26 +88,25 @@ WritesBeginning-from p f0 f1 t0 t1 s0 s1 new r h = λ bytes known files tells.
     let w = h bytes (told f0 f1 bytes r.kept known) files (λ k. r.same_texts k ∙ tells k) in
     (w.0, w.1, Gained-from s0 s1 new _ r.same_sinks w.2)
 
-WholeOrBrokenOff-from : (l : Limits) (g : Setting) (s : State) (a b new : ℕ → Option (List ℕ)) (end : Ended) (t : ℕ) (k : Option ℕ) → ((j : ℕ) → b j ≡ a j) →
-    WholeOrBrokenOff l g s (Gained b new) end t k → WholeOrBrokenOff l g s (Gained a new) end t k
-WholeOrBrokenOff-from l g s a b new end t None same w = record { within = w.within; sinks = Gained-from a b new _ same w.sinks; cause = w.cause }
-WholeOrBrokenOff-from l g s a b new end t (Some k) same w = record { within = w.within; b = w.b; byte = w.byte; past = w.past; due = w.due; sinks = Gained-from a b new _ same w.sinks }
+GainsBy-from : (l : Limits) (a b new : ℕ → Option (List ℕ)) (end : Ended) (out : List (ℕ × ℕ)) → ((k : ℕ) → b k ≡ a k) → GainsBy l b new end out → GainsBy l a new end out
+GainsBy-from l a b new end out same h = record { gained = Gained-from a b new out same h.gained; within = h.within; full = h.full }
 
-failed-from : (i0 i1 i : ℕ) (n0 n1 n : ℕ → ℕ) (end : Ended) → i1 ≡ i0 → ((k : ℕ) → n1 k ≡ n0 k) → HasFailed i1 i n1 n end → HasFailed i0 i n0 n end
-failed-from i0 i1 i n0 n1 n InputBroken is same h = rw (← is) h
-failed-from i0 i1 i n0 n1 n (OutputBroken k) is same h = rw (← same k) h
-failed-from i0 i1 i n0 n1 n _ is same h = tt
+failed-from : (most : Option ℕ) (i0 i1 i : ℕ) (n0 n1 n : ℕ → ℕ) (end : Ended) → i1 ≡ i0 → ((k : ℕ) → n1 k ≡ n0 k) → HasFailed most i1 i n1 n end → HasFailed most i0 i n0 n end
+failed-from most i0 i1 i n0 n1 n InputBroken is same h = rw (← is) h
+failed-from most i0 i1 i n0 n1 n (OutputBroken k) is same h = rw (← same k) h
+failed-from most i0 i1 i n0 n1 n (OutputFull k) is same h = h
+failed-from most i0 i1 i n0 n1 n _ is same h = tt
 
 pub cause-from : (l : Limits) (p : Program) (f0 f1 : Option (List (Option (List ℕ)))) (t0 t1 s0 s1 new : ℕ → Option (List ℕ)) (i0 i1 i : ℕ) (n0 n1 n : ℕ → ℕ) →
     Ready f0 f1 t0 t1 s0 s1 → i1 ≡ i0 → ((k : ℕ) → n1 k ≡ n0 k) →
-    StopsEarly l p (all_joined f1) t1 (Gained s1 new) (HasFailed i1 i n1 n) ⊎ (WritesAll p (all_joined f1) t1 (Gained s1 new) × SinkFailed n1 n) →
-    StopsEarly l p (all_joined f0) t0 (Gained s0 new) (HasFailed i0 i n0 n) ⊎ (WritesAll p (all_joined f0) t0 (Gained s0 new) × SinkFailed n0 n)
+    StopsEarly l p (all_joined f1) t1 (GainsBy l s1 new) (HasFailed l.output i1 i n1 n) ⊎ (WritesAll p (all_joined f1) t1 (Gained s1 new) × SinkFailed n1 n) →
+    StopsEarly l p (all_joined f0) t0 (GainsBy l s0 new) (HasFailed l.output i0 i n0 n) ⊎ (WritesAll p (all_joined f0) t0 (Gained s0 new) × SinkFailed n0 n)
 cause-from l p f0 f1 t0 t1 s0 s1 new i0 i1 i n0 n1 n r is same (inl h) = inl (
   h.0,
   h.1,
-  failed-from i0 i1 i n0 n1 n h.0 is same h.2,
+  failed-from l.output i0 i1 i n0 n1 n h.0 is same h.2,
   λ bytes known files tells.
       let w = h.3 bytes (told f0 f1 bytes r.kept known) files (λ k. r.same_texts k ∙ tells k) in
-      (w.0, WholeOrBrokenOff-from _ _ _ s0 s1 new _ _ _ r.same_sinks w.1),
+      (w.0, Cause-as l _ _ _ _ h.0 w.0 (λ out sent. GainsBy-from l s0 s1 new h.0 out r.same_sinks sent) w.1),
 )
 cause-from l p f0 f1 t0 t1 s0 s1 new i0 i1 i n0 n1 n r is same (inr h) = inr (WritesAll-from p f0 f1 t0 t1 s0 s1 new r h.0, sink_failed n0 n1 n same h.1)

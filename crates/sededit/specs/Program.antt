@@ -1,5 +1,5 @@
 -- What the program does with the words of its command line (XCU sed, "Options", "Operands", "Exit Status").
-use Rattle.std.specs.Prelude.{◌≡◌, ◌≢◌, ◌||◌, ℕ, Bool, true, false, List, [], ◌∷◌, map, Option, Some, slice_get}
+use Rattle.std.specs.Prelude.{◌≡◌, ◌≢◌, ◌||◌, ℕ, Bool, true, false, List, [], ◌∷◌, map, Option, Some, None, Err, slice_get}
 use Rattle.std.specs.Option.{ForSome, option_map, option_map_or}
 use Rattle.std.specs.String.{string_bytes}
 use Rattle.clap.specs.Words.{IsAmong, Text, fault_of, matches_of, takes}
@@ -9,14 +9,15 @@ use Rattle.sedscript.specs.Script.{Means, Program}
 use Rattle.sedscript.specs.ScriptText.{with_part}
 use Rattle.sedre.specs.declared.types.Kind.{Kind}
 use Rattle.sedre.specs.declared.types.Kind.TheVariants.{Basic, Extended}
+use Rattle.sedengine.specs.Devices.{GainedWithin}
 use Rattle.sedengine.specs.Ends.{Cause}
 use Rattle.sedengine.specs.Limits.{Limits}
 use Rattle.sedengine.specs.Move.{to_sink}
 use Rattle.sedengine.specs.Run.{TellsFiles, setting_of}
 use Rattle.sedengine.specs.declared.ends.Ended.{Ended}
-use Rattle.sedengine.specs.declared.ends.Ended.TheVariants.{Done, InputBroken, OutputBroken}
+use Rattle.sedengine.specs.declared.ends.Ended.TheVariants.{Done, InputBroken, OutputBroken, OutputFull}
 use Rattle.sededit.specs.CommandLine.{Given, IsCommandLine, IsLine, file, given, sed_command, text}
-use Rattle.sededit.specs.Editing.{GainsAll, GainsBeginning, start_over}
+use Rattle.sededit.specs.Editing.{GainsAll, GainsBeginning, nothing_before, start_over}
 use Rattle.sededit.specs.Joined.{joined}
 use Rattle.sededit.specs.MemoryFiles.{dash}
 use Rattle.sededit.specs.Opening.{GivesWhole, contents}
@@ -28,7 +29,8 @@ kind_with true = Extended
 kind_with false = Basic
 
 -- The text that the parts of a script make, after those before: the texts of -e and what the files of -f hold, a newline
--- after each that doesn't end with one (XCU sed, "Options"). A file that isn't told may hold any bytes.
+-- after each that doesn't end with one (XCU sed, "Options"). A file that isn't told may hold any bytes; `-` is a file's name
+-- like others there (this project's own).
 abbrev pub MakesText : (List ℕ → Option (Option (List ℕ))) → List ℕ → List Given → List ℕ → Type 0
 MakesText files before [] whole = whole ≡ before
 MakesText files before (text part ∷ parts) whole = MakesText files (with_part before part) parts whole
@@ -85,20 +87,25 @@ WritesBeginning p input texts gained = ForSome input (λ bytes.
     (files : ℕ → List ℕ) → TellsFiles texts files → GainsBeginning (setting_of p files) (start_over p bytes) gained)
 
 -- The device that an end names has failed, whether it tells its bytes or not: by the numbers of failures that the
--- input and each sink had before and have after.
-abbrev pub HasFailed : ℕ → ℕ → (ℕ → ℕ) → (ℕ → ℕ) → Ended → Type 0
-HasFailed input_old input_new sinks_old sinks_new InputBroken = Rose input_old input_new
-HasFailed input_old input_new sinks_old sinks_new (OutputBroken k) = Rose (sinks_old k) (sinks_new k)
-HasFailed input_old input_new sinks_old sinks_new _ = Unit {0}
+-- input and each sink had before and have after. A sink is named as full only where there is a limit on the output.
+abbrev pub HasFailed : Option ℕ → ℕ → ℕ → (ℕ → ℕ) → (ℕ → ℕ) → Ended → Type 0
+HasFailed most input_old input_new sinks_old sinks_new InputBroken = Rose input_old input_new
+HasFailed most input_old input_new sinks_old sinks_new (OutputBroken k) = Rose (sinks_old k) (sinks_new k)
+HasFailed most input_old input_new sinks_old sinks_new (OutputFull k) = most ≢ None
+HasFailed most input_old input_new sinks_old sinks_new _ = Unit {0}
+
+-- what the sinks gained in a run that came to an end, within the limit on the output, where there is one
+abbrev pub GainsBy : Limits → (old new : ℕ → Option (List ℕ)) → Ended → List (ℕ × ℕ) → Type 0
+GainsBy limits old new end = GainedWithin limits.output nothing_before old new (Err end)
 
 -- The run of a script came to another end than the ordinary one; a device that this end names has failed; and where the
--- input and the texts are told, the end has its cause, after some moves.
-abbrev pub StopsEarly : Limits → Program → Option (List ℕ) → (ℕ → Option (List ℕ)) → (List (ℕ × ℕ) → Type 0) →
-    (Ended → Type 0) → Type 0
+-- input and the texts are told, the end has its cause, after some moves. `gained` says what the sinks gained at an end.
+abbrev pub StopsEarly : Limits → Program → Option (List ℕ) → (ℕ → Option (List ℕ)) →
+    (Ended → List (ℕ × ℕ) → Type 0) → (Ended → Type 0) → Type 0
 StopsEarly limits p input texts gained failed =
     (end : Ended) × (end ≢ Done) × failed end × ForSome input (λ bytes.
     (files : ℕ → List ℕ) → TellsFiles texts files →
-    ((t : ℕ) × Cause limits (setting_of p files) (start_over p bytes) gained end t))
+    ((t : ℕ) × Cause limits (setting_of p files) (start_over p bytes) (gained end) end t))
 
 -- some sink has failed in this call
 abbrev pub SinkFailed : (ℕ → ℕ) → (ℕ → ℕ) → Type 0

@@ -5,7 +5,7 @@ ghost use Rattle.std.specs.Io.KnownBytes.{Keeps};
 ghost use Rattle.sedspace.specs.Failures.{Rose};
 ghost use Rattle.sedscript.specs.Script.{Faulty, Means};
 ghost use Rattle.sedscript.specs.declared.types.ScriptFault.{ScriptFault};
-ghost use Rattle.sedengine.specs.Devices.{FailedSink, Gained, GainedWithin, SameSinks};
+ghost use Rattle.sedengine.specs.Devices.{Gained, GainedWithin, SameSinks, SinksAtEnd};
 ghost use Rattle.sedengine.specs.Run.{TellsFiles, setting_of};
 ghost use Rattle.sededit.specs.Editing.{Edits, GainsAll, GainsBeginning, nothing_before, start_over};
 
@@ -75,9 +75,11 @@ pub fn edit<R: ByteSource, O: Outputs, T: Texts>(
         (files : ℕ → List ℕ) → TellsFiles (T.text texts.old) files →
         GainsAll (setting_of script files) (start_over script bytes)
         (Gained (O.contents outputs.old) (O.contents outputs.new))) }
-    // A device that the end names has failed, whether it tells its bytes or not; and no other sink has.
+    // A device that the end names has failed, whether it tells its bytes or not, and no other sink has; and a sink is full
+    // only where the limits have one on the output.
     ensures input { result ≡ Ok Ended.InputBroken → Rose (R.failures source.old) (R.failures source.new) }
-    ensures failed { IfOk result (λ end. FailedSink (O.failures outputs.old) (O.failures outputs.new) (Err end)) }
+    ensures failed { IfOk result (λ end.
+        SinksAtEnd limits.output (O.failures outputs.old) (O.failures outputs.new) (Err end)) }
     ensures same_sinks { SameSinks O.count O.names outputs.old outputs.new }
     ensures same_reference { R.reference source.new ≡ R.reference source.old }
     // The texts are only read.

@@ -29,7 +29,7 @@ pub struct Joined<'a, I: Inputs> {
 
 impl<'a, I: Inputs> Model for Joined<'a, I> {
     ghost use Rattle.std.specs.Prelude.{◌≡◌, ◌≤◌, false, map, take, drop, length, string_bytes, vec_len};
-    ghost use Rattle.sededit.specs.Joining.{Joining};
+    ghost use Rattle.sededit.specs.FilesInTurn.{Joining};
     ghost use Rattle.sededit.specs.Opening.{WereRefused};
 
     ghost Value = { Joining I };
@@ -48,7 +48,7 @@ impl<'a, I: Inputs> Model for Joined<'a, I> {
 }
 
 impl<'a, I: Inputs> Joined<'a, I> {
-    ghost use Rattle.sededit.specs.Joining.{Joining, joined_files, left, left_of_file, OpensNext};
+    ghost use Rattle.sededit.specs.FilesInTurn.{Joining, joined_files, left, left_of_file, OpensNext};
 
     /// Makes a source of the files of these names, of which none is opened yet. Where a request for memory is refused,
     /// the inputs are dropped: lend them to keep them.
@@ -165,7 +165,7 @@ impl<'a, I: Inputs> Joined<'a, I> {
 }
 
 impl<'a, I: Inputs> ByteSource for Joined<'a, I> {
-    ghost use Rattle.sededit.specs.Joining.{Joining, left, left_of_file, Opened};
+    ghost use Rattle.sededit.specs.FilesInTurn.{Joining, left, left_of_file, Opened};
 
     ghost remaining = { λ j. left I.current I.ahead j };
 

@@ -6,7 +6,7 @@ ghost use Rattle.sedengine.specs.Devices.{Gained};
 ghost use Rattle.sedengine.specs.Move.{to_sink};
 ghost use Rattle.clap.specs.Words.{kind_of};
 ghost use Rattle.sededit.specs.MemoryFiles.{dash};
-ghost use Rattle.sededit.specs.Program.{AsksHelp, HasFailed, Runs, RunsLine, SinkFailed, StopsEarly, WritesAll, WritesBeginning};
+ghost use Rattle.sededit.specs.Program.{AsksHelp, GainsBy, HasFailed, Runs, RunsLine, SinkFailed, StopsEarly, WritesAll, WritesBeginning};
 ghost use Rattle.sededit.specs.Program.{WritesHelp, or_standard, texts_of};
 ghost use Rattle.sededit.specs.Sinks.{Creates, CreatesFirst, CreatesUpTo};
 
@@ -42,8 +42,9 @@ use std::string::ToString;
 ///   memory`. Nothing was written.
 /// * 2: the script ran over the whole input, but for files that couldn't be opened: `sed: cannot open NAME` for each
 /// * 4: the run stopped, as `sed: line 7: F1 PatternFull`, `sed: line 7: F2 HoldFull`,
-///   `sed: line 7: F3 QueueFull`, `sed: F4 TurnsSpent`, `sed: line 7: F5 NoPrevious`, `sed: F6 InputBroken` or
-///   `sed: F7 OutputBroken 0`. What was written stands. Files that were missed are named before.
+///   `sed: line 7: F3 QueueFull`, `sed: F4 TurnsSpent`, `sed: line 7: F5 NoPrevious`, `sed: F6 InputBroken`,
+///   `sed: F7 OutputBroken 0` or, if the limits have one on the output, `sed: F8 OutputFull 0`. What was written stands.
+///   Files that were missed are named before.
 pub fn command<S: AsStr, I: Inputs, O: Sinks, N: Names, E: Write>(
     alloc: Global,
     words: &[S],
@@ -76,13 +77,14 @@ pub fn command<S: AsStr, I: Inputs, O: Sinks, N: Names, E: Write>(
         (map S.text words.now) (Creates (O.names sinks.old) (O.names sinks.new))
         (λ p input texts. WritesBeginning p input texts (Gained (O.contents sinks.old) (O.contents sinks.new)))
         ⊎ (AsksHelp (map S.text words.now) × WritesHelp (Gained (O.contents sinks.old) (O.contents sinks.new))) }
-    // It stopped for a cause, and a device that this cause names has failed in this call; or all was written, and some
+    // It stopped for a cause, within the limits, and a device that this cause names has failed in this call; or all was
+    // written, and some
     // sink failed when it was flushed; or a sink failed as help was written.
     ensures cause { result ≡ STOPPED →
         Runs (I.text inputs.old) (I.ahead inputs.old) (N.file names.old) (N.text names.old) limits.nodes
         (map S.text words.now) (Creates (O.names sinks.old) (O.names sinks.new))
-        (λ p input texts. StopsEarly limits p input texts (Gained (O.contents sinks.old) (O.contents sinks.new))
-        (HasFailed (I.failures inputs.old) (I.failures inputs.new) (O.failures sinks.old) (O.failures sinks.new))
+        (λ p input texts. StopsEarly limits p input texts (GainsBy limits (O.contents sinks.old) (O.contents sinks.new))
+        (HasFailed limits.output (I.failures inputs.old) (I.failures inputs.new) (O.failures sinks.old) (O.failures sinks.new))
         ⊎ (WritesAll p input texts (Gained (O.contents sinks.old) (O.contents sinks.new))
         × SinkFailed (O.failures sinks.old) (O.failures sinks.new)))
         ⊎ (AsksHelp (map S.text words.now) × SinkFailed (O.failures sinks.old) (O.failures sinks.new)) }
@@ -129,8 +131,8 @@ fn run_line<I: Inputs, O: Sinks, N: Names, E: Write>(
     ensures cause { result ≡ STOPPED →
         RunsLine (I.text inputs.old) (I.ahead inputs.old) (N.file names.old) (N.text names.old) limits.nodes line.now
         (Creates (O.names sinks.old) (O.names sinks.new))
-        (λ p input texts. StopsEarly limits p input texts (Gained (O.contents sinks.old) (O.contents sinks.new))
-        (HasFailed (I.failures inputs.old) (I.failures inputs.new) (O.failures sinks.old) (O.failures sinks.new))
+        (λ p input texts. StopsEarly limits p input texts (GainsBy limits (O.contents sinks.old) (O.contents sinks.new))
+        (HasFailed limits.output (I.failures inputs.old) (I.failures inputs.new) (O.failures sinks.old) (O.failures sinks.new))
         ⊎ (WritesAll p input texts (Gained (O.contents sinks.old) (O.contents sinks.new))
         × SinkFailed (O.failures sinks.old) (O.failures sinks.new))) }
     ensures refused { result ≡ REFUSED → (k : ℕ) → O.contents sinks.new k ≡ O.contents sinks.old k }

@@ -3,8 +3,8 @@ ghost use Rattle.std.specs.Prelude.{◌≡◌, ◌≢◌, ◌<◌, ◌≤◌, �
 ghost use Rattle.std.specs.String.{string_bytes};
 ghost use Rattle.sedspace.specs.Failures.{Rose};
 ghost use Rattle.sedengine.specs.Devices.{Gained};
-ghost use Rattle.sededit.specs.Joining.{joined_files, left};
-ghost use Rattle.sededit.specs.Program.{HasFailed, SinkFailed, StopsEarly, WritesAll, WritesBeginning};
+ghost use Rattle.sededit.specs.FilesInTurn.{joined_files, left};
+ghost use Rattle.sededit.specs.Program.{GainsBy, HasFailed, SinkFailed, StopsEarly, WritesAll, WritesBeginning};
 
 use crate::edit;
 use crate::inputs::Inputs;
@@ -96,8 +96,8 @@ fn run_joined<I: Inputs, O: Sinks, T: Texts, E: Write>(
     ensures stopped { result ≡ STOPPED → WritesBeginning script (left I.current I.ahead joined.old)
         (T.text texts.old) (Gained (O.contents sinks.old) (O.contents sinks.new)) }
     ensures cause { result ≡ STOPPED → StopsEarly limits script (left I.current I.ahead joined.old)
-        (T.text texts.old) (Gained (O.contents sinks.old) (O.contents sinks.new))
-        (HasFailed (I.failures joined.old.inputs) (I.failures joined.new.inputs)
+        (T.text texts.old) (GainsBy limits (O.contents sinks.old) (O.contents sinks.new))
+        (HasFailed limits.output (I.failures joined.old.inputs) (I.failures joined.new.inputs)
         (O.failures sinks.old) (O.failures sinks.new))
         ⊎ (WritesAll script (left I.current I.ahead joined.old)
         (T.text texts.old) (Gained (O.contents sinks.old) (O.contents sinks.new))
@@ -141,8 +141,8 @@ pub(crate) fn run<I: Inputs, O: Sinks, T: Texts, E: Write>(
         (T.text texts.old) (Gained (O.contents sinks.old) (O.contents sinks.new)) }
     ensures cause { result ≡ STOPPED → StopsEarly limits script
         (joined_files I.ahead inputs.old (map string_bytes names.now))
-        (T.text texts.old) (Gained (O.contents sinks.old) (O.contents sinks.new))
-        (HasFailed (I.failures inputs.old) (I.failures inputs.new) (O.failures sinks.old) (O.failures sinks.new))
+        (T.text texts.old) (GainsBy limits (O.contents sinks.old) (O.contents sinks.new))
+        (HasFailed limits.output (I.failures inputs.old) (I.failures inputs.new) (O.failures sinks.old) (O.failures sinks.new))
         ⊎ (WritesAll script (joined_files I.ahead inputs.old (map string_bytes names.now))
         (T.text texts.old) (Gained (O.contents sinks.old) (O.contents sinks.new))
         × SinkFailed (O.failures sinks.old) (O.failures sinks.new)) }

@@ -1,10 +1,10 @@
 -- What a metered call of the machine tells of the engine.
 use Rattle.std.proofs.Common.{◌≡◌, ℕ, suc, zero, ◌+◌, ◌≤◌, List, [], ◌∷◌, length, get_or, Option, Some, None, Result, Ok, Err, refl, subst, sym, ap, ◌∙◌, arith}
-use Rattle.std.specs.Prelude.{IfSome}
+use Rattle.std.specs.Prelude.{IfSome, ◌≢◌}
 use Rattle.std.specs.List.{All}
 use Rattle.sedengine.specs.Limits.{Limits}
 use Rattle.sedengine.specs.State.{State, Setting}
-use Rattle.sedengine.specs.Devices.{part, FillsSink, GainedWithin}
+use Rattle.sedengine.specs.Devices.{part, FillsSink, GainedWithin, LimitIsSet}
 use Rattle.sedengine.specs.Ends.{Cause, WholeOrBrokenOff, named_sink}
 use Rattle.sedengine.specs.Meters.{Frame, FullSink, InLimit, Meter, Sent, SinkView, counted}
 use Rattle.sedengine.specs.Run.{Cycles, Ending, Input, RunState, Sends, at_lines, outcome, setting}
@@ -54,6 +54,12 @@ module _ (sent sent' : List ℕ) (old new : ℕ → Option (List ℕ)) (f f' : �
   fills None (Err (OutputFull k)) same (n, is, told) h = cc
   fills (Some m) (Err (OutputFull k)) same (n, is, told) h = let counts = h.counts k in sym same ∙ is ∙ sym told ∙ ap Some counts
   fills most (Err other) same full h = tt
+
+-- a sink is full only where the meter has a limit
+pub limit_set : (most limit : Option ℕ) (t : SinkView) (r : Result Unit Ended) → t.frame.most ≡ most → most ≡ limit → FullSink t r → LimitIsSet limit r
+limit_set most limit t (Ok u) frame same full = tt
+limit_set most limit t (Err (OutputFull k)) frame same (n, is, told) = λ none. let never : Some n ≡ None = sym is ∙ frame ∙ same ∙ none in cc
+limit_set most limit t (Err other) frame same full = tt
 
 -- what the machine's sinks have gained by the meter is what the engine's have
 pub sends : (e e' : RunState) (m m' : Meter) (old new : ℕ → Option (List ℕ)) (f f' : ℕ → ℕ) (a a' : Frame) (r : Result Unit Ended) (out : List (ℕ × ℕ)) → m.most ≡ e.limits.output → m'.most ≡ m.most → a'.most ≡ m'.most →

@@ -1,6 +1,6 @@
 -- What a run does to its devices: the bytes that sinks gain, and the failures, whether devices tell their bytes or not
 -- (this project's own).
-use Rattle.std.specs.Prelude.{◌≡◌, ◌≢◌, ℕ, ◌+◌, ◌≤◌, Option, Some, Result, Ok, Err, IfSome, List, [], ◌∷◌, length, nat_eq, if◌then◌else◌}
+use Rattle.std.specs.Prelude.{◌≡◌, ◌≢◌, ℕ, ◌+◌, ◌≤◌, Option, Some, None, Result, Ok, Err, IfSome, List, [], ◌∷◌, length, nat_eq, if◌then◌else◌}
 use Rattle.std.specs.Borrow.{GName}
 use Rattle.std.specs.Io.KnownBytes.{Appends}
 use Rattle.sedspace.specs.Failures.{Rose}
@@ -31,10 +31,20 @@ pub record GainedWithin (most : Option ℕ) (before : ℕ → ℕ) (old new : �
   pub within : IfSome most (λ n. (k : ℕ) → before k + length (part k out) ≤ n)
   pub full : FillsSink most before out r
 
+-- there is a limit on what each sink gains, where an end names one as full
+abbrev pub LimitIsSet : Option ℕ → Result Unit Ended → Type 0
+LimitIsSet most (Err (OutputFull k)) = most ≢ None
+LimitIsSet most other = Unit {0}
+
 -- A sink that an end names as broken has failed, and no other; where the run goes on, and at any other end, none has.
 abbrev pub FailedSink : (ℕ → ℕ) → (ℕ → ℕ) → Result Unit Ended → Type 0
 FailedSink old new (Err (OutputBroken k)) = Rose (old k) (new k) × ((j : ℕ) → j ≢ k → new j ≡ old j)
 FailedSink old new other = (k : ℕ) → new k ≡ old k
+
+-- What an end says of the sinks, whether they tell their bytes or not: the one that it names as broken has failed, and no
+-- other; and one is named as full only where there is a limit.
+abbrev pub SinksAtEnd : Option ℕ → (ℕ → ℕ) → (ℕ → ℕ) → Result Unit Ended → Type 0
+SinksAtEnd most old new r = FailedSink old new r × LimitIsSet most r
 
 -- The source hasn't failed where the run goes on, and has where an end says so.
 abbrev pub FailedSource : {T : Type 0} → ℕ → ℕ → Result T Ended → Type 0

@@ -1,6 +1,6 @@
 use Rattle.std.proofs.Common.{Ok, ap, inl, inr, refl, rules}
 use Rattle.sedengine.proofs.Metering.{Cause-as}
-use Rattle.sededit.proofs.RunLemmas.{WholeOrBrokenOff-same, WritesAll-same, WritesBeginning-same, has_failed, none_failed, none_refused, sink_failed, some_refused}
+use Rattle.sededit.proofs.RunLemmas.{GainsBy-same, WritesAll-same, WritesBeginning-same, has_failed, none_failed, none_refused, sink_failed, some_refused}
 use Rattle.sededit.proofs.running.run_joined.Goals as goal
 
 pub returns-clause-whole : goal.returns-clause-whole
@@ -30,10 +30,10 @@ returns-clause-cause g c is =
       | inl early ↦ inl (
         c.in-Ok.end,
         early,
-        has_failed _ _ _ _ _ _ c.in-Ok.end refl e.input e.failed c.finish.ensures.failures,
-        λ bytes known files told. let h = e.ending bytes known files told in (h.t, WholeOrBrokenOff-same _ _ _ _ _ _ _ _ _ same (Cause-as _ _ _ _ _ c.in-Ok.end h.t (λ out sent. sent.gained) h.cause)),
+        has_failed _ _ _ _ _ _ _ c.in-Ok.end refl e.input e.failed c.finish.ensures.failures,
+        λ bytes known files told. let h = e.ending bytes known files told in (h.t, Cause-as _ _ _ _ _ c.in-Ok.end h.t (λ out sent. GainsBy-same _ _ _ _ c.in-Ok.end out same sent) h.cause),
       )
-      | inr flushed ↦ inr (WritesAll-same c.args.script _ _ _ _ _ same (e.whole (ap Ok flushed.0)), sink_failed _ _ _ (none_failed _ _ _ flushed.0 e.failed) flushed.1)
+      | inr flushed ↦ inr (WritesAll-same c.args.script _ _ _ _ _ same (e.whole (ap Ok flushed.0)), sink_failed _ _ _ (none_failed _ _ _ flushed.0 e.failed.0) flushed.1)
     ]
 
 pub returns-in-Err-clause-stopped : goal.returns-in-Err-clause-stopped

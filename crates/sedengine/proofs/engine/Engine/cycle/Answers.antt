@@ -1,8 +1,8 @@
-use Rattle.std.proofs.Common.{refl, subst, sym, ap, rules}
+use Rattle.std.proofs.Common.{refl, subst, sym, ap, ◌∙◌, rules}
 use Rattle.std.specs.Prelude.{IsNone}
 use Rattle.sedengine.specs.Meters.{Frame}
 use Rattle.sedengine.specs.Run.{RunState}
-use Rattle.sedengine.proofs.Metering.{cycles_metered}
+use Rattle.sedengine.proofs.Metering.{cycles_metered, limit_set}
 use Rattle.sedengine.proofs.engine.Engine.cycle.Goals as goal
 
 pub returns-clause-cycles : goal.returns-clause-cycles
@@ -14,3 +14,11 @@ returns-clause-cycles g c = λ fresh sound ls known files told.
     cycles_metered g.O.Outputs.contents machine c.cycle-progress.new.self c.self.inside.meter c.cycle-progress.new.outputs.meter.now c.args.self.now c.args.outputs.now c.cycle-progress.new.outputs.outputs.now _ _ _ _ _ files ls _ _
     c.self.view_is c.self.invariant.0 (search rules) (ap (λ (f : Frame). f.most) w.same_devices.1) refl c.limit.ensures.within _ _ (w.output unended).full
     (w.cycles unended sound ls known files told)
+
+pub returns-clause-output : goal.returns-clause-output
+returns-clause-output g c = λ fresh.
+    let w = c.cycle-progress.ensures in
+    let N : RunState → Type 0 = λ e. IsNone e.ended in
+    let out = w.output (subst N (sym c.self.view_is) fresh) in
+    let limit = ap (λ (e : RunState). e.limits.output) c.self.view_is in
+    (out.failed, limit_set _ _ _ _ (ap (λ (f : Frame). f.most) w.same_devices.1) (c.self.invariant.0 ∙ limit) out.full)

@@ -1,8 +1,8 @@
-use Rattle.std.proofs.Common.{refl, subst, sym, ap, rules}
+use Rattle.std.proofs.Common.{refl, subst, sym, ap, ◌∙◌, rules}
 use Rattle.std.specs.Prelude.{IsNone}
 use Rattle.sedengine.specs.Meters.{Frame}
 use Rattle.sedengine.specs.Run.{RunState}
-use Rattle.sedengine.proofs.Metering.{ending_metered}
+use Rattle.sedengine.proofs.Metering.{ending_metered, limit_set}
 use Rattle.sedengine.proofs.engine.Engine.run.Goals as goal
 
 pub returns-clause-ends : goal.returns-clause-ends
@@ -14,3 +14,11 @@ returns-clause-ends g c = λ fresh sound ls known files told.
     ending_metered g.O.Outputs.contents machine c.run-end.new.self c.self.inside.meter c.run-end.new.outputs.meter.now c.args.self.now c.args.outputs.now c.run-end.new.outputs.outputs.now _ _ _ _ _ files ls _ _
     c.self.view_is c.self.invariant.0 (search rules) (ap (λ (f : Frame). f.most) w.same_devices.1) refl c.limit.ensures.within _ (w.output unended).full
     (w.ends unended sound ls known files told)
+
+pub returns-clause-output : goal.returns-clause-output
+returns-clause-output g c = λ fresh.
+    let w = c.run-end.ensures in
+    let N : RunState → Type 0 = λ e. IsNone e.ended in
+    let out = w.output (subst N (sym c.self.view_is) fresh) in
+    let limit = ap (λ (e : RunState). e.limits.output) c.self.view_is in
+    (out.failed, limit_set _ _ _ _ (ap (λ (f : Frame). f.most) w.same_devices.1) (c.self.invariant.0 ∙ limit) out.full)
