@@ -1,6 +1,6 @@
 -- What a metered call of the machine tells of the engine.
 use Rattle.std.proofs.Common.{◌≡◌, ℕ, suc, zero, ◌+◌, ◌≤◌, List, [], ◌∷◌, length, get_or, Option, Some, None, Result, Ok, Err, refl, subst, sym, ap, ◌∙◌, arith}
-use Rattle.std.specs.Prelude.{IfSome, ◌≢◌}
+use Rattle.std.specs.Prelude.{IfSome}
 use Rattle.std.specs.List.{All}
 use Rattle.sedengine.specs.Limits.{Limits}
 use Rattle.sedengine.specs.State.{State, Setting}

@@ -13,7 +13,6 @@ use Rattle.sedengine.specs.Ends.{WithinLimits, HasTurn, Within, Cause, named_sin
 use Rattle.sedengine.specs.Held.{HoldsAt, SameLengths}
 use Rattle.sedengine.specs.Run.{RunState, InOneCycle, at_lines, lost, setting, size_of}
 use Rattle.sedengine.specs.declared.ends.Ended.{Ended}
-use Rattle.sedengine.specs.declared.ends.Ended.TheVariants.{PatternFull, InputBroken}
 
 -- Moves were made, which led to this state. Only the last of them may have led to the start of a cycle.
 pub record Ran (l : Limits) (g : Setting) (s now : State) (gained : List (ℕ × ℕ) → Type 0) : Type 0 where

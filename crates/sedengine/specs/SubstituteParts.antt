@@ -10,7 +10,7 @@ use Rattle.sedmatch.specs.Parts.{SpanIn, span_of}
 use Rattle.sedmatch.specs.SearchRoom.{SearchRoom}
 use Rattle.sedmatch.specs.declared.occurrences.Occurrences.{Occurrences}
 use Rattle.sedscript.specs.declared.substitution.Piece.{Piece}
-use Rattle.sedscript.specs.declared.substitution.Piece.TheVariants.{Literal as literal, Whole as whole, Group as group}
+use Rattle.sedscript.specs.declared.substitution.Piece.TheVariants.{Group as group}
 use Rattle.sedspace.specs.Spaces.{Contents}
 use Rattle.sedspace.specs.declared.errors.Full.{Full}
 use Rattle.sedengine.specs.Substitute.{Occurrence, next_occurrence, occurrences_from, occurrences, replaced_from}

@@ -59,15 +59,8 @@ pub(crate) fn build_text(
 {
     seeking.begin(matcher, &Text::new(text), scratch);
     let skipped = substitution.number - 1;
-    let Some(last) = end_of_skipped(
-        matcher,
-        text,
-        skipped,
-        seeking,
-        scratch,
-        steps,
-        group_steps,
-    ) else {
+    let Some(last) = end_of_skipped(matcher, text, skipped, seeking, scratch, steps, group_steps)
+    else {
         return Ok(false);
     };
     let wanted = needs_groups(substitution.replacement.parts());

@@ -1,6 +1,6 @@
 -- Private to the proofs: no contract of a public item cites what stands here.
 -- What is known on the way of a pass from one start, which notes the longest match so far.
-use Rattle.std.specs.Prelude.{ℕ, ◌+◌, ◌<◌, ◌≤◌, List, length, Option, IfSome, IsTrue}
+use Rattle.std.specs.Prelude.{ℕ, ◌+◌, ◌<◌, ◌≤◌, List, length, IfSome, IsTrue}
 use Rattle.sedre.specs.Arena.{Written, tree}
 use Rattle.sedmatch.specs.declared.table_matcher.Passed.{Passed}
 use Rattle.sedmatch.specs.declared.tables.Table.{Table}

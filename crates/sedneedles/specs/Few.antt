@@ -1,6 +1,6 @@
 -- Private to the proofs: no contract of a public item cites what stands here.
 -- Up to three bytes, one of which is sought.
-use Rattle.std.specs.Prelude.{Bool, ◌≡◌, ◌⊎◌, ℕ, ◌<◌, ◌≤◌, ◌↔◌, List, length, slice_get, slice_index, Option, Some, None}
+use Rattle.std.specs.Prelude.{Bool, ◌≡◌, ◌⊎◌, ℕ, ◌<◌, ◌↔◌, List, length, slice_get, slice_index, Option, Some, None}
 use Rattle.sedmarks.specs.Bytes.{AreBytes, FirstFrom}
 use Rattle.sedmarks.specs.Spans.{IsIn}
 use Rattle.sedmarks.specs.Beginnings.{CanBegin}

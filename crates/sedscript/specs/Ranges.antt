@@ -2,7 +2,7 @@
 use Rattle.std.specs.Prelude.{◌≡◌, ◌<◌, ◌≤◌, ℕ, List, length, Option, Some, None, slice_get}
 use Rattle.sedre.specs.Arena.{Written}
 use Rattle.sedscript.specs.declared.types.Address.{Address}
-use Rattle.sedscript.specs.declared.types.Address.TheVariants.{Line, Last, Match}
+use Rattle.sedscript.specs.declared.types.Address.TheVariants.{Line, Match}
 use Rattle.sedscript.specs.declared.types.Action.{Action}
 use Rattle.sedscript.specs.declared.types.Action.TheVariants.{Block, Branch, Test, Append, Change, Insert, Substitute}
 use Rattle.sedscript.specs.declared.types.Action.TheVariants.{Transliterate, ReadFile, WriteFile}
