@@ -4,7 +4,8 @@ use Rattle.std.specs.Prelude.{IfSome}
 use Rattle.std.specs.List.{All}
 use Rattle.sedengine.specs.Limits.{Limits}
 use Rattle.sedengine.specs.State.{State, Setting}
-use Rattle.sedengine.specs.Devices.{part, FillsSink, GainedWithin, LimitIsSet}
+use Rattle.sedengine.specs.Devices.{part, FailedSink, FillsSink, GainedWithin, LimitIsSet, SinksAtEnd}
+use Rattle.sedengine.specs.Calls.{Delivers}
 use Rattle.sedengine.specs.Ends.{Cause, WholeOrBrokenOff, named_sink}
 use Rattle.sedengine.specs.Meters.{Frame, FullSink, InLimit, Meter, Sent, SinkView, counted}
 use Rattle.sedengine.specs.Run.{Cycles, Ending, Input, RunState, Sends, at_lines, outcome, setting}
@@ -56,10 +57,16 @@ module _ (sent sent' : List ℕ) (old new : ℕ → Option (List ℕ)) (f f' : �
   fills most (Err other) same full h = tt
 
 -- a sink is full only where the meter has a limit
-pub limit_set : (most limit : Option ℕ) (t : SinkView) (r : Result Unit Ended) → t.frame.most ≡ most → most ≡ limit → FullSink t r → LimitIsSet limit r
+limit_set : (most limit : Option ℕ) (t : SinkView) (r : Result Unit Ended) → t.frame.most ≡ most → most ≡ limit → FullSink t r → LimitIsSet limit r
 limit_set most limit t (Ok u) frame same full = tt
 limit_set most limit t (Err (OutputFull k)) frame same (n, is, told) = λ none. let never : Some n ≡ None = sym is ∙ frame ∙ same ∙ none in cc
 limit_set most limit t (Err other) frame same full = tt
+
+-- what a metered call says of the machine's sinks at its end it says of the engine's
+pub sinks_at_end : {S O : Type 0} (tally : S → SinkView) (count : S → ℕ) (s s' : S) (failures : O → ℕ → ℕ) (before after now : O) (most limit : Option ℕ) (r : Result Unit Ended) →
+    now ≡ after → Delivers tally count s s' r → FailedSink (failures before) (failures after) r → (tally s').frame.most ≡ most → most ≡ limit → SinksAtEnd limit (failures before) (failures now) r
+sinks_at_end tally count s s' failures before after now most limit r is out failed frame same =
+    (rw (← is) at failed, limit_set most limit (tally s') r frame same out.full)
 
 -- what the machine's sinks have gained by the meter is what the engine's have
 pub sends : (e e' : RunState) (m m' : Meter) (old new : ℕ → Option (List ℕ)) (f f' : ℕ → ℕ) (a a' : Frame) (r : Result Unit Ended) (out : List (ℕ × ℕ)) → m.most ≡ e.limits.output → m'.most ≡ m.most → a'.most ≡ m'.most →

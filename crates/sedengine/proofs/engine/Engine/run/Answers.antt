@@ -2,7 +2,7 @@ use Rattle.std.proofs.Common.{refl, subst, sym, ap, ◌∙◌, rules}
 use Rattle.std.specs.Prelude.{IsNone}
 use Rattle.sedengine.specs.Meters.{Frame}
 use Rattle.sedengine.specs.Run.{RunState}
-use Rattle.sedengine.proofs.Metering.{ending_metered, limit_set}
+use Rattle.sedengine.proofs.Metering.{ending_metered, sinks_at_end}
 use Rattle.sedengine.proofs.engine.Engine.run.Goals as goal
 
 pub returns-clause-ends : goal.returns-clause-ends
@@ -21,4 +21,5 @@ returns-clause-output g c = λ fresh.
     let N : RunState → Type 0 = λ e. IsNone e.ended in
     let out = w.output (subst N (sym c.self.view_is) fresh) in
     let limit = ap (λ (e : RunState). e.limits.output) c.self.view_is in
-    (out.failed, limit_set _ _ _ _ (ap (λ (f : Frame). f.most) w.same_devices.1) (c.self.invariant.0 ∙ limit) out.full)
+    sinks_at_end _ _ _ _ g.O.Outputs.failures c.args.outputs.now c.run-end.new.outputs.outputs.now c.outputs-1.given.0 _ _ _ (search rules) out out.failed refl
+    (ap (λ (f : Frame). f.most) w.same_devices.1 ∙ c.self.invariant.0 ∙ limit)
