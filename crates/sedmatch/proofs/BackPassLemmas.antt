@@ -9,11 +9,11 @@ use Rattle.sedre.specs.declared.types.Node.{Node}
 use Rattle.sedre.specs.declared.types.Node.TheVariants.{Empty, Set, Begin, End, Seq, Alt, Group, Star, Opt}
 use Rattle.sedre.specs.Tree.{Tree}
 use Rattle.sedmarks.specs.PartEnds.{LeastFrom}
-use Rattle.sedmarks.specs.Spans.{Found, NotFound, Copies, no_copy, one_more}
+use Rattle.sedmarks.specs.Spans.{Found, NotFound, Spans, Copies, no_copy, one_more}
 use Rattle.sedmarks.specs.declared.passes.Starts.{Starts}
 use Rattle.sedmarks.specs.Matching.{takes}
 use Rattle.sedmarks.specs.Reach.{At, BeginsWith, IsStart, one_start, Enters, at_root, with_whole, after_left, again, OpenAt, SomeSpan, TellBegun, Longest, LongestBelow}
-use Rattle.sedmatch.specs.BackPass.{MeetsBelow, EndsLater, EndsLaterFrom, BeginsAt, KeptStarts, MarkTells, end_to}
+use Rattle.sedmatch.specs.BackPass.{MeetsBelow, EndsLaterFrom, MarkTells, end_to}
 use Rattle.sedmarks.specs.Search.{starts_to}
 use Rattle.std.proofs.lemmas.List.{length-reverse}
 use Rattle.sedmarks.proofs.SpanLemmas.{Copies-append, Copies-forward, Spans-forward, Spans-within}
@@ -22,6 +22,18 @@ use Rattle.sedmarks.proofs.MirrorLemmas.{At-mirror}
 use Rattle.sedmarks.proofs.OpenLemmas.{node_at}
 use Rattle.sedmarks.proofs.SearchLemmas.{LongestBelow-yes, LongestBelow-no}
 use Rattle.sedmarks.proofs.RegionLemmas.{to_tree, from_tree}
+
+-- a match of the node r from one of the starts up to the place ends after the place
+abbrev pub EndsLater : List Node → List ℕ → ℕ → Starts → ℕ → Type 0
+EndsLater nodes w r s place = (i : ℕ) × (k : ℕ) × IsStart s i × (i ≤ place) × (place < k) × At nodes w r i k
+
+-- a match of the node r begins at the place
+abbrev pub BeginsAt : List Node → List ℕ → ℕ → ℕ → Type 0
+BeginsAt nodes w r i = (k : ℕ) × At nodes w r i k
+
+-- the marks tell of each place, counted from the text's end, whether a match begins there
+abbrev pub KeptStarts : Tree → List ℕ → List Bool → Type 0
+KeptStarts e w marks = (i : ℕ) → i ≤ length w → IsTrue (slice_index_or marks (length w - i) false) ↔ ((k : ℕ) × Spans e w i k)
 
 -- copies that pass j have one that passes it, and copies lead from its end to theirs
 Copies-cross : (R : ℕ → ℕ → Type 0) (P : ℕ → Type 0) (G : Type 0) (j k : ℕ) →

@@ -1,35 +1,24 @@
 -- Where a pass forwards and a pass from the text's end meet, and what is kept of the latter. What `RoomFor` and `Serves` say
 -- stands here: `Occurrences::begin` gives it, and callers hand it on from call to call, so that nobody has to read it.
 use Rattle.std.specs.Prelude.{◌≡◌, ◌↔◌, ℕ, ◌+◌, ◌-◌, ◌*◌, ◌<◌, ◌≤◌, Bool, true, false, List, length, reverse, slice_get, slice_index_or, Option, Some, None, IfSome, IsTrue}
-use Rattle.sedre.specs.Tree.{Tree}
 use Rattle.sedre.specs.Arena.{Written}
 use Rattle.sedre.specs.Mirror.{seen}
 use Rattle.sedre.specs.declared.types.Node.{Node}
 use Rattle.sedre.specs.declared.types.Node.TheVariants.{Set}
-use Rattle.sedmarks.specs.declared.passes.Starts.{Starts}
 use Rattle.sedmatch.specs.declared.back_pass.BackPass.{BackPass}
 use Rattle.sedmarks.specs.Matching.{takes}
 use Rattle.sedmarks.specs.Words.{row_of}
-use Rattle.sedmarks.specs.Reach.{At, IsStart, TellBegun, TellEntered, SomeSpan}
+use Rattle.sedmarks.specs.Reach.{At, TellBegun, TellEntered, SomeSpan}
 use Rattle.sedmarks.specs.Search.{starts_to}
-use Rattle.sedmarks.specs.Spans.{Spans}
 
 -- a node below n that takes the byte that comes is marked in both lists
 abbrev pub MeetsBelow : List Node → ℕ → List Bool → List Bool → Option ℕ → Type 0
 MeetsBelow nodes n front back_pass next =
     (c : ℕ) × (set : List Bool) × (c < n) × (slice_get nodes c ≡ Some (Set set)) × IsTrue (slice_index_or front c false) × IsTrue (slice_index_or back_pass c false) × IsTrue (takes next set)
 
--- a match of the node r from one of the starts up to the place ends after the place
-abbrev pub EndsLater : List Node → List ℕ → ℕ → Starts → ℕ → Type 0
-EndsLater nodes w r s place = (i : ℕ) × (k : ℕ) × IsStart s i × (i ≤ place) × (place < k) × At nodes w r i k
-
 -- a match of the node r from the start ends after the place
 abbrev pub EndsLaterFrom : List Node → List ℕ → ℕ → ℕ → ℕ → Type 0
 EndsLaterFrom nodes w r start place = (k : ℕ) × (place < k) × At nodes w r start k
-
--- a match of the node r begins at the place
-abbrev pub BeginsAt : List Node → List ℕ → ℕ → ℕ → Type 0
-BeginsAt nodes w r i = (k : ℕ) × At nodes w r i k
 
 -- the row tells which nodes up to r can begin at the place, in a match from any start
 abbrev pub RowTells : List Node → List ℕ → ℕ → ℕ → List Bool → Type 0
@@ -120,10 +109,6 @@ FitsRows n r from to rows begins = (to ≤ from + length rows) × ((q : ℕ) →
 -- there are as many rows as before, each of as many marks, and as many marks besides
 abbrev pub SameShape : List (List Bool) → List (List Bool) → List Bool → List Bool → Type 0
 SameShape old_rows new_rows old new = (length new_rows ≡ length old_rows) × ((q : ℕ) → q < length old_rows → length (row_of new_rows q) ≡ length (row_of old_rows q)) × (length new ≡ length old)
-
--- the marks tell of each place, counted from the text's end, whether a match begins there
-abbrev pub KeptStarts : Tree → List ℕ → List Bool → Type 0
-KeptStarts e w marks = (i : ℕ) → i ≤ length w → IsTrue (slice_index_or marks (length w - i) false) ↔ ((k : ℕ) × Spans e w i k)
 
 -- the end of the match found, or the text's end
 abbrev pub end_to : ℕ → Option (ℕ × ℕ) → ℕ

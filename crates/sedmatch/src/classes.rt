@@ -78,7 +78,7 @@ pub fn find_classes(alloc: Global, expr: &Nodes, steps: &mut Steps) -> Result<Cl
 }
 
 /// Whether the set has of each class all bytes or none.
-fn are_alike(set: &ByteSet, classes: &Classes) -> bool
+fn set_is_even(set: &ByteSet, classes: &Classes) -> bool
     requires classes { IsCut classes.now }
     ensures { IsTrue result → AlikeIn set.now classes.now }
 {
@@ -101,7 +101,7 @@ pub fn are_classes(expr: &Nodes, classes: &Classes, steps: &mut Steps) -> bool
 {
     for x in 0..expr.nodes() {
         let node = expr.look(expr.id(x), steps);
-        if !is_alike(&node, classes) {
+        if !node_is_even(&node, classes) {
             return false;
         }
     }
@@ -109,12 +109,12 @@ pub fn are_classes(expr: &Nodes, classes: &Classes, steps: &mut Steps) -> bool
 }
 
 /// Whether the node's set, if it has one, has of each class all bytes or none.
-fn is_alike(node: &Node, classes: &Classes) -> bool
+fn node_is_even(node: &Node, classes: &Classes) -> bool
     requires classes { IsCut classes.now }
     ensures { (set : List Bool) → node.now ≡ ASet set → IsTrue result → AlikeIn set classes.now }
 {
     match node {
-        Node::Set(set) => are_alike(set, classes),
+        Node::Set(set) => set_is_even(set, classes),
         _ => true,
     }
 }

@@ -398,7 +398,7 @@ pub fn go(
 
 /// Finds out in which state a search begins, and notes it.
 #[inline(never)]
-fn find_first(
+fn find_first_state(
     expr: &Nodes,
     root: usize,
     table: &mut Table,
@@ -451,7 +451,7 @@ pub fn first_state(
     } else if table.later > 0 {
         return Next::To(table.later - 1);
     }
-    find_first(expr, root, table, begin, sets, steps)
+    find_first_state(expr, root, table, begin, sets, steps)
 }
 
 /// A state and a place.

@@ -11,9 +11,9 @@ use Rattle.std.proofs.lemmas.Option.{slice_get_within, get_or_from_slice_get, sl
 use Rattle.std.proofs.lemmas.List.{length-map}
 use Rattle.std.proofs.lemmas.Simd.{length-zip2, mask_l-lt}
 use Rattle.memchr.specs.Find.{OccursAt}
-use Rattle.sedneedles.specs.Few.{HasZeros}
+use Rattle.sedneedles.specs.Few.{HasZeros, ZerosWhere}
 use Rattle.sedneedles.specs.Choice.{ChoiceAt, LongestAt, FirstChoice}
-use Rattle.sedneedles.specs.Openings.{PairAt, OpensAt, OpenLiterals, ZerosWhere, PairIn, OpensIn, NextBit, FirstWithin}
+use Rattle.sedneedles.specs.Openings.{PairAt, OpensAt, OpenLiterals, PairIn, OpensIn, NextBit, FirstWithin}
 use Rattle.sedneedles.specs.declared.openings.Opening.{Opening}
 use Rattle.sedneedles.proofs.ChoiceLemmas.{get_old, get_new}
 use Rattle.sedneedles.proofs.LaneLemmas.{combined, least_long, least_zero}

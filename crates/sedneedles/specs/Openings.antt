@@ -17,10 +17,6 @@ OpensAt openings w i = (m : ℕ) × (opening : Opening) × PairAt opening w i ×
 abbrev pub OpenLiterals : List Opening → List (List ℕ) → ℕ → Type 0
 OpenLiterals openings words n = (k : ℕ) (literal : List ℕ) → k < n → slice_get words k ≡ Some literal → OpensAt openings literal 0
 
--- of 32 lanes those are 0 that have the property
-abbrev pub ZerosWhere : (ℕ → Type 0) → List ℕ → Type 0
-ZerosWhere P zeros = (length zeros ≡ 32) × ((k : ℕ) → k < 32 → P k → slice_index zeros k ≡ 0)
-
 -- the two bytes stand in a lane of two vectors
 abbrev pub PairIn : Opening → List ℕ → List ℕ → ℕ → Type 0
 PairIn opening ahead next k = (slice_index ahead k ≡ opening.first) × (slice_index next k ≡ opening.second)

@@ -6,7 +6,7 @@ use crate::rare::Fixed;
 use std::simd::prelude::*;
 
 /// How many lanes a vector has.
-const LANES: usize = 32;
+pub(crate) const LANES: usize = 32;
 
 /// The 32 bytes from the place `at` on.
 #[inline(always)]

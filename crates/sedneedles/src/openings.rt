@@ -3,16 +3,14 @@
 ghost use Rattle.std.specs.Prelude.{◌≡◌, ℕ, ◌+◌, ◌^◌, ◌<◌, ◌≤◌, length, slice_get, IfOk, IfSome, Some};
 ghost use Rattle.std.specs.Int.{bit_at};
 ghost use Rattle.sedneedles.specs.Choice.{AreHeads, ChoiceAt, FirstChoice};
-ghost use Rattle.sedneedles.specs.Openings.{FirstWithin, NextBit, OpenLiterals, OpensAt, OpensIn, PairIn, ZerosWhere};
+ghost use Rattle.sedneedles.specs.Few.{ZerosWhere};
+ghost use Rattle.sedneedles.specs.Openings.{FirstWithin, NextBit, OpenLiterals, OpensAt, OpensIn, PairIn};
 
-use crate::apart::lanes_at;
+use crate::apart::{LANES, lanes_at};
 use crate::choice::{Alternative, first_choice, longest_at};
 use crate::few::byte_zeros;
 use std::alloc::{AllocError, Global};
 use std::simd::prelude::*;
-
-/// How many lanes a vector has.
-const LANES: usize = 32;
 
 /// The first two bytes of a literal.
 #[derive(Clone, Copy)]

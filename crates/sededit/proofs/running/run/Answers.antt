@@ -1,7 +1,12 @@
 use Rattle.std.proofs.Common.{rules}
+use Rattle.sedengine.specs.Devices.{Gained}
+use Rattle.sededit.specs.Program.{GainsBy}
 use Rattle.sededit.proofs.RunLemmas.{cause_moved}
 use Rattle.sededit.proofs.running.run.Goals as goal
 
 pub returns-clause-cause : goal.returns-clause-cause
 returns-clause-cause g c is =
-    cause_moved c.args.limits c.args.script _ _ _ _ _ _ _ _ _ _ _ _ (search rules) (search rules) (search rules) (c.run_joined-status.ensures.cause is)
+    let old = g.O.Outputs.contents c.args.sinks.now in
+    let new = g.O.Outputs.contents c.run_joined-status.new.sinks in
+    cause_moved c.args.limits c.args.script _ (GainsBy c.args.limits old new) (Gained old new) _ _ _ _ _ _ _ _ _
+    (search rules) (search rules) (search rules) (c.run_joined-status.ensures.cause is)

@@ -31,7 +31,7 @@ returns-clause-cause g c is =
         c.in-Ok.end,
         early,
         has_failed _ _ _ _ _ _ _ c.in-Ok.end refl e.input e.failed c.finish.ensures.failures,
-        λ bytes known files told. let h = e.ending bytes known files told in (h.t, Cause-as _ _ _ _ _ c.in-Ok.end h.t (λ out sent. GainsBy-same _ _ _ _ c.in-Ok.end out same sent) h.cause),
+        λ bytes known files told. let h = e.ending bytes known files told in (h.t, Cause-as _ _ _ _ _ c.in-Ok.end h.t (λ out sent. GainsBy-same c.args.limits _ _ _ c.in-Ok.end out same sent) h.cause),
       )
       | inr flushed ↦ inr (WritesAll-same c.args.script _ _ _ _ _ same (e.whole (ap Ok flushed.0)), sink_failed _ _ _ (none_failed _ _ _ flushed.0 e.failed.0) flushed.1)
     ]

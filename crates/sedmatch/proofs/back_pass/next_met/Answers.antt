@@ -1,8 +1,8 @@
 use Rattle.std.proofs.Common.{◌≡◌, ◌∙◌, None, length, sym, arith}
 use Rattle.sedre.specs.Arena.{tree}
-use Rattle.sedmatch.specs.BackPass.{KeptStarts, blocks_cost}
+use Rattle.sedmatch.specs.BackPass.{blocks_cost}
 use Rattle.sedmarks.proofs.MatchingLemmas.{found-iff, not_found-iff}
-use Rattle.sedmatch.proofs.BackPassLemmas.{starts_kept, none_begins, first_begins, next_cost}
+use Rattle.sedmatch.proofs.BackPassLemmas.{KeptStarts, starts_kept, none_begins, first_begins, next_cost}
 use Rattle.sedmatch.proofs.back_pass.next_met.Goals as goal
 
 pub returns-in_err-start-clause-next : goal.returns-in_err-start-clause-next

@@ -17,7 +17,7 @@ loop-x-preserved c = record {
       (λ here.
       let same : x ≡ c.loop-x.x = omega arith in
       let there : slice_get c.args.expr.now.nodes c.loop-x.x ≡ Some (Set set) = rw (← same) is in
-      c.is_alike.ensures set (cc) (cc))
+      c.node_is_even.ensures set (cc) (cc))
       (cases_lt x c.loop-x.x);
 }
 

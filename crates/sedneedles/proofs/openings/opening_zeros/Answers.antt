@@ -1,7 +1,8 @@
 use Rattle.std.proofs.Common.{◌+◌, ltb, sym, subst, w8}
 use Rattle.std.specs.Simd.Lanes.{sel_l}
 use Rattle.std.proofs.lemmas.Simd.{tops_compared}
-use Rattle.sedneedles.specs.Openings.{OpensIn, ZerosWhere}
+use Rattle.sedneedles.specs.Few.{ZerosWhere}
+use Rattle.sedneedles.specs.Openings.{OpensIn}
 use Rattle.sedneedles.proofs.OpeningLemmas.{more_zeros}
 use Rattle.sedneedles.proofs.openings.opening_zeros.Goals as goal
 

@@ -1,4 +1,5 @@
-use Rattle.sedneedles.specs.Openings.{OpensIn, ZerosWhere}
+use Rattle.sedneedles.specs.Few.{ZerosWhere}
+use Rattle.sedneedles.specs.Openings.{OpensIn}
 use Rattle.sedneedles.proofs.openings.opening_zeros.Given as goal
 
 abbrev pub invariant-loop-x : goal.invariant-loop-x

@@ -2,7 +2,7 @@ use Rattle.std.proofs.Common.{sym, subst, arith}
 use Rattle.sedmarks.specs.Words.{row_of}
 use Rattle.sedmatch.specs.Tables.{ends_of, CanStart}
 use Rattle.sedmatch.proofs.TableLemmas.{step_first, first_agree, note_begin, note_later}
-use Rattle.sedmatch.proofs.tables.find_first.Goals as goal
+use Rattle.sedmatch.proofs.tables.find_first_state.Goals as goal
 
 pub returns-in-None-clause-next : goal.returns-in-None-clause-next
 returns-in-None-clause-next c =
