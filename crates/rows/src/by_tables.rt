@@ -2,8 +2,9 @@
 
 ghost use Rattle.std.specs.Prelude.{◌≡◌, ◌≤◌, length};
 
-use crate::matches::{compare_spans, is_same};
+use crate::matches::{compare_spans, compare_steps, is_same};
 use crate::report::{NO_MEMORY, Report};
+use crate::sheet::Sheet;
 use crate::table::Row;
 use sedmatch::{Found, Scratch, StateLimit, TableMatcher, Text};
 use sedre::{Expr, Steps};
@@ -29,8 +30,41 @@ pub(crate) fn compare_tables(
     compare_table(alloc, expr, 0, text, from, scratch, row, report);
 }
 
-/// Whether a matcher with tables of at most `states` states, or 64 where that is more, tells what the row says.
+/// Whether a matcher with tables of at most `states` states tells what the row says, where nothing was told before.
 fn compare_table(
+    alloc: Global,
+    expr: &Expr,
+    states: usize,
+    text: &[u8],
+    from: usize,
+    scratch: &mut Scratch,
+    row: &Row,
+    report: &mut Report,
+)
+    requires from { from ≤ length text.now }
+    requires text { length text.now ≤ scratch.old.text }
+    requires nodes { length expr.now.nodes ≤ scratch.old.nodes }
+    requires few { length expr.now.nodes ≤ 65536 }
+    ensures { scratch.new ≡ scratch.old }
+{
+    if !report.is_empty() {
+        return;
+    }
+    compare_matcher(alloc, expr, states, text, from, scratch, row, report);
+    if !report.is_empty() {
+        put_states(report.sheet(), states);
+    }
+}
+
+/// The matcher that came to a difference.
+fn put_states(sheet: &mut Sheet, states: usize) {
+    sheet.put(b" (the matcher with tables of ");
+    sheet.put_number(states as u128);
+    sheet.put(b" states)");
+}
+
+/// Whether a matcher with tables of at most `states` states, or 64 where that is more, tells what the row says.
+fn compare_matcher(
     alloc: Global,
     expr: &Expr,
     states: usize,
@@ -54,33 +88,33 @@ fn compare_table(
     let span = span_by(&mut matcher, text, from, scratch);
     let is_one = is_by(&mut matcher, text, from, scratch);
     // with the states that the calls before left
-    let found = found_by(&mut matcher, text, from, scratch);
+    let (found, steps) = found_by(&mut matcher, text, from, scratch);
     // by a call, since letting it go at the end would be proved here field by field
     drop(matcher);
     if !is_same(&found, span, is_one) {
-        report.tell_number(
-            "find, find_span and is_match don't agree, states",
-            states as u128,
-        );
+        report.tell("find, find_span and is_match don't agree");
     }
+    compare_steps(steps, row.options(5), report);
     compare_spans(alloc, &found, expr.groups(), row.field(4), report);
 }
 
-/// What the matcher's `find` answers.
+/// What the matcher's `find` answers, and the steps that it takes.
 fn found_by(
     matcher: &mut TableMatcher,
     text: &[u8],
     from: usize,
     scratch: &mut Scratch,
-) -> Option<Found>
+) -> (Option<Found>, u128)
     requires from { from ≤ length text.now }
     requires text { length text.now ≤ scratch.old.text }
     requires nodes { length matcher.old.nodes ≤ scratch.old.nodes }
     ensures same { matcher.new ≡ matcher.old }
     ensures scratch { scratch.new ≡ scratch.old }
 {
+    let text = Text::new(text);
     let mut steps = Steps::new();
-    matcher.find(&Text::new(text), from, scratch, &mut steps)
+    let found = matcher.find(&text, from, scratch, &mut steps);
+    (found, steps.count())
 }
 
 /// What its `find_span` answers.

@@ -60,18 +60,7 @@ const LOOKS: [usize; 2] = [1, 65536];
 /// Runs a row, to the first difference.
 pub(crate) fn run(alloc: Global, row: &Row, report: &mut Report) {
     for read in READS {
-        for look in LOOKS {
-            run_pieces(
-                alloc,
-                row,
-                Pieces {
-                    read,
-                    write: 1,
-                    look,
-                },
-                report,
-            );
-        }
+        run_reads(alloc, row, read, report);
     }
     let pieces = Pieces {
         read: usize::MAX,
@@ -79,6 +68,18 @@ pub(crate) fn run(alloc: Global, row: &Row, report: &mut Report) {
         look: 65536,
     };
     run_call(alloc, row, pieces, report);
+}
+
+/// Runs it in reads of at most so many bytes, and in writes of one byte.
+fn run_reads(alloc: Global, row: &Row, read: usize, report: &mut Report) {
+    for look in LOOKS {
+        let pieces = Pieces {
+            read,
+            write: 1,
+            look,
+        };
+        run_pieces(alloc, row, pieces, report);
+    }
 }
 
 /// Runs it in such pieces, where no device is told to fail.

@@ -35,10 +35,7 @@ impl<T: Texts> Texts for PiecedTexts<T> {
 /// The name in an option `r:NAME=TEXT` or `w:NAME=TEXT`, and the text: `kind` is the letter and the colon.
 fn file_of<'a>(option: &'a [u8], kind: &[u8]) -> Option<(&'a [u8], &'a [u8])> {
     let (name, text) = name_and_value(option);
-    match name.strip_prefix(kind) {
-        Some(name) => Some((name, text)),
-        None => None,
-    }
+    Some((name.strip_prefix(kind)?, text))
 }
 
 /// The texts of the files of these names, one that no option gives is empty. None for want of memory.

@@ -2,8 +2,8 @@
 //!
 //! A row: the kind, `basic` or `extended`; the expression; the text; where the search begins; the spans of the whole
 //! match and of each group, as `(0,2)(1,2)`, `(?,?)` of a group without a match; or `none`. Options: `most=9` and
-//! `least=9` steps. `find_span` and `is_match` have to tell the same as `find`, and all three by tables as well: of 64
-//! states, of two, which are emptied again and again, and of none.
+//! `least=9` steps of `find`. `find_span` and `is_match` have to tell the same as `find`. All this has to hold by tables
+//! as well: of 64 states, of two, which are emptied again and again, and of none.
 
 ghost use Rattle.std.specs.Prelude.{◌≡◌, ◌≤◌, length};
 
@@ -82,7 +82,7 @@ pub(crate) fn is_same(found: &Option<Found>, span: Option<(usize, usize)>, is_on
 }
 
 /// Whether there are as many steps as the options say.
-fn compare_steps(steps: u128, options: Options<'_>, report: &mut Report) {
+pub(crate) fn compare_steps(steps: u128, options: Options<'_>, report: &mut Report) {
     let least = options.number_or(b"least", 0);
     let most = options.number_or(b"most", usize::MAX);
     if steps < least as u128 || (most as u128) < steps {

@@ -31,18 +31,12 @@ impl<'a> Options<'a> {
 
     /// The number that a name is set to.
     pub(crate) fn number(self, name: &[u8]) -> Option<usize> {
-        match self.value(name) {
-            Some(value) => number_in(value),
-            None => None,
-        }
+        number_in(self.value(name)?)
     }
 
     /// The number that a name is set to, or this one.
     pub(crate) fn number_or(self, name: &[u8], other: usize) -> usize {
-        match self.number(name) {
-            Some(number) => number,
-            None => other,
-        }
+        self.number(name).unwrap_or(other)
     }
 
     /// `-E`: the kind of expressions.

@@ -70,9 +70,14 @@ pub(crate) fn run(alloc: Global, row: &Row, report: &mut Report) {
 /// Runs it in reads of at most so many bytes.
 fn run_reads(alloc: Global, row: &Row, read: usize, report: &mut Report) {
     for look in LOOKS {
-        for write in [usize::MAX, 1] {
-            run_pieces(alloc, row, Pieces { read, write, look }, report);
-        }
+        run_looks(alloc, row, read, look, report);
+    }
+}
+
+/// Runs it in reads of at most so many bytes, with so many read ahead.
+fn run_looks(alloc: Global, row: &Row, read: usize, look: usize, report: &mut Report) {
+    for write in [usize::MAX, 1] {
+        run_pieces(alloc, row, Pieces { read, write, look }, report);
     }
 }
 

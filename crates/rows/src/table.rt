@@ -49,10 +49,7 @@ impl Row {
 
     /// The field of a number as a number.
     pub(crate) fn number(&self, k: usize) -> usize {
-        match number_in(self.field(k)) {
-            Some(number) => number,
-            None => 0,
-        }
+        number_in(self.field(k)).unwrap_or(0)
     }
 
     /// The fields from a number on.
