@@ -1,5 +1,5 @@
 -- Which numbers are limits, and what may be held by them.
-use Rattle.std.proofs.Common.{◌≡◌, ⊥, arith, refl}
+use Rattle.std.proofs.Common.{◌≡◌, arith, refl}
 use Rattle.sedengine.specs.Limits.{AreLimits, limits_of}
 use Rattle.sedengine.specs.Held.{bound_of, total_of}
 

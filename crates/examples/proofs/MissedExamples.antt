@@ -1,5 +1,5 @@
 -- Which input files count as missed.
-use Rattle.std.proofs.Common.{◌≡◌, ⊥, true, false, [], ◌∷◌, Some, None, length, ap, arith, length-append, refl}
+use Rattle.std.proofs.Common.{◌≡◌, true, false, [], ◌∷◌, Some, None, length, ap, arith, length-append, refl}
 use Rattle.sededit.specs.FilesInTurn.{NotesMissed}
 
 -- The next of the files can't be opened: it is noted, and no byte comes of it.

@@ -78,8 +78,7 @@ pub fn command<S: AsStr, I: Inputs, O: Sinks, N: Names, E: Write>(
         (λ p input texts. WritesBeginning p input texts (Gained (O.contents sinks.old) (O.contents sinks.new)))
         ⊎ (AsksHelp (map S.text words.now) × WritesHelp (Gained (O.contents sinks.old) (O.contents sinks.new))) }
     // It stopped for a cause, within the limits, and a device that this cause names has failed in this call; or all was
-    // written, and some
-    // sink failed when it was flushed; or a sink failed as help was written.
+    // written, and some sink failed when it was flushed; or a sink failed as help was written.
     ensures cause { result ≡ STOPPED →
         Runs (I.text inputs.old) (I.ahead inputs.old) (N.file names.old) (N.text names.old) limits.nodes
         (map S.text words.now) (Creates (O.names sinks.old) (O.names sinks.new))

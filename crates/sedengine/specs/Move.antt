@@ -64,8 +64,8 @@ abbrev pub copies : State → List Task → ℕ → ℕ → Option ℕ → Optio
 copies s rest k o None = quietly (then_do rest s)
 copies s rest k o (Some b) = writing ((0, b) ∷ []) (record s { tasks = copy k (o + 1) ∷ rest; turns = s.turns + 1 })
 
--- the next line replaces the pattern space, or is appended to it; where there is none the run ends, which for the first no
--- run comes to (this project's own)
+-- the next line replaces the pattern space, or is appended to it; where there is none the run ends. No run fetches a line
+-- where none is left; that it would end there is this project's own
 abbrev pub fetches : State → List Task → List (List ℕ) → Option Move
 fetches s rest [] = quietly (then_do [] s)
 fetches s rest (line ∷ lines) = quietly (then_do rest (with_line line lines s))
