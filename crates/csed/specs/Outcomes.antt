@@ -29,9 +29,8 @@ abbrev pub report_of : Outcome → SedReport
 report_of (Done n) = of_bytes n
 report_of (HasFault f) = of_fault f
 report_of HasFiles = of_files
-report_of BadLimits = blank
-report_of NoMemory = blank
 report_of (Stopped n end) = of_end n end
+report_of other = blank
 
 -- how many bytes were written
 abbrev pub written_of : Outcome → ℕ

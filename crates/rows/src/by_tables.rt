@@ -30,7 +30,7 @@ pub(crate) fn compare_tables(
     compare_table(alloc, expr, 0, text, from, scratch, row, report);
 }
 
-/// Whether a matcher with tables of at most `states` states tells what the row says, where nothing was told before.
+/// Whether a matcher with tables of at most `states` states tells what the row says, unless a difference was told before.
 fn compare_table(
     alloc: Global,
     expr: &Expr,
@@ -56,7 +56,7 @@ fn compare_table(
     }
 }
 
-/// The matcher that came to a difference.
+/// Names the matcher that differed.
 fn put_states(sheet: &mut Sheet, states: usize) {
     sheet.put(b" (the matcher with tables of ");
     sheet.put_number(states as u128);

@@ -3,7 +3,7 @@
 ghost use Rattle.std.specs.Prelude.{◌<◌, length, IfOk};
 ghost use Rattle.std.specs.Io.{WritesAtMost};
 
-use crate::device::{Device, Gathered};
+use crate::output::{Device, Gathered};
 use sedspace::Broken;
 use std::alloc::Global;
 use std::cell::RefCell;

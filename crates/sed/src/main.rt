@@ -5,7 +5,7 @@
 #![tactic(auto)]
 
 mod closed;
-mod device;
+mod output;
 mod devices;
 mod inputs;
 mod names;

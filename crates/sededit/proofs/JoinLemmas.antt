@@ -10,7 +10,7 @@ use Rattle.std.specs.Fmt.{option_append}
 use Rattle.std.specs.Io.KnownBytes.{Consumes, IsAtEnd}
 use Rattle.sededit.specs.Joined.{due_after, with_newline, joined}
 use Rattle.sededit.specs.Opening.{Opens, KeepsFiles, contents}
-use Rattle.sededit.specs.FilesInTurn.{Joining, left, left_of_file, NotesMissed, OnlyLastGives, Opened, OpensNext}
+use Rattle.sededit.specs.FilesInTurn.{Joining, left, left_of_current, NotesMissed, OnlyLastGives, Opened, OpensNext}
 
 due_after-append : (due : Bool) (a b : List ℕ) → due_after due (a ++ b) ≡ due_after (due_after due a) b
 due_after-append due [] b = refl
@@ -39,7 +39,7 @@ with_newline-read due after (Some x) (Some y) bytes e p = ap (with_newline due) 
 -- a read of the file gave some of its bytes
 pub file_read : {I : Type 0} (current : I → Option (List ℕ)) (old before : Joining I) (after : Option (List ℕ)) (buf : List ℕ) (n : ℕ) →
     before ≡ old → before.reading ≡ true → 0 < n → n ≤ length buf → Consumes (current before.inputs) after (take n buf) →
-    Consumes (left_of_file current old) (if before.reading then option_map (with_newline (not (eqb (get_or buf (n - 1) 0) 10))) after else Some []) (take n buf)
+    Consumes (left_of_current current old) (if before.reading then option_map (with_newline (not (eqb (get_or buf (n - 1) 0) 10))) after else Some []) (take n buf)
 file_read current old before after buf n is reading some within p =
     let e : not (eqb (get_or buf (n - 1) 0) 10) ≡ due_after before.due (take n buf) = sym (due_after-take before.due buf n some within) in
     rw (← is, reading) (with_newline-read before.due _ (current before.inputs) after (take n buf) e p)
@@ -53,7 +53,7 @@ newline_given (Some x) (Some y) (c ∷ buf) some p end = ap (with_newline true) 
 -- a read of the file found its end, and the newline was due
 pub file_closed : {I : Type 0} (current : I → Option (List ℕ)) (old before : Joining I) (after : Option (List ℕ)) (buf : List ℕ) (n : ℕ) →
     before ≡ old → before.reading ≡ true → before.due ≡ true → 0 < length buf → n ≡ 0 → Consumes (current before.inputs) after (take n buf) → IsAtEnd after →
-    Consumes (left_of_file current old) (Some []) (take 1 (slice_set buf 0 10))
+    Consumes (left_of_current current old) (Some []) (take 1 (slice_set buf 0 10))
 file_closed current old before after buf n is reading due some none p end =
     let p' = rw none at p in
     rw (← is, reading, due) (newline_given (current before.inputs) after buf some p' end)
@@ -175,20 +175,20 @@ module _ {I : Type 0} (current : I → Option (List ℕ)) (ahead : I → List (L
   pub record Passed (old new : Joining I) : Type 0 where
     pub none : Consumes (left current ahead old) (left current ahead new) []
     pub opened : Opened ahead old new
-    pub notes : Notes (ahead old.inputs old.names) (ahead new.inputs new.names) (left_of_file current new) old.missed new.missed
-    pub waits : (new ≡ old) ⊎ IsAtEnd (left_of_file current old)
+    pub notes : Notes (ahead old.inputs old.names) (ahead new.inputs new.names) (left_of_current current new) old.missed new.missed
+    pub waits : (new ≡ old) ⊎ IsAtEnd (left_of_current current old)
 
   -- a read of the file changes nothing of those after it
   pub record Reads (now new : Joining I) : Type 0 where
     pub rest : new ≡ record now { inputs = new.inputs; reading = new.reading; due = new.due }
     pub kept : (names : List (List ℕ)) → KeepsFiles (ahead now.inputs names) (ahead new.inputs names)
 
-  waits_on : (old now mid : Joining I) → (now ≡ old) ⊎ IsAtEnd (left_of_file current old) → Consumes (left_of_file current now) (left_of_file current mid) [] → mid.reading ≡ false → IsAtEnd (left_of_file current old)
+  waits_on : (old now mid : Joining I) → (now ≡ old) ⊎ IsAtEnd (left_of_current current old) → Consumes (left_of_current current now) (left_of_current current mid) [] → mid.reading ≡ false → IsAtEnd (left_of_current current old)
   waits_on old now mid (inl same) p idle = let p' = rw same at p in at_end _ _ p' (rw idle refl)
   waits_on old now mid (inr end) p idle = end
 
   -- the file being read had no byte left, and the next one was opened
-  pub passed_next : (old now mid new : Joining I) → Passed old now → Reads now mid → Consumes (left_of_file current now) (left_of_file current mid) [] → mid.reading ≡ false →
+  pub passed_next : (old now mid new : Joining I) → Passed old now → Reads now mid → Consumes (left_of_current current now) (left_of_current current mid) [] → mid.reading ≡ false →
       OpensNext current ahead mid new → Passed old new
   passed_next old now mid new p r c idle o =
       let first = p.opened.0.0 in
@@ -203,9 +203,9 @@ module _ {I : Type 0} (current : I → Option (List ℕ)) (ahead : I → List (L
       let kept : KeepsFiles (ahead now.inputs now.names) (ahead mid.inputs mid.names) = rw names (r.kept now.names) in
       let read : Consumes (left current ahead now) (left current ahead mid) [] = left_read _ _ _ _ [] c kept in
       let opening : Consumes (left current ahead mid) (left current ahead new) [] = rw (idle, o.reading, o.due) (left_opened _ o.answer _ _ o.opens) in
-      let nothing : left_of_file current mid ≡ Some [] = rw idle refl in
-      let spent : Consumes (left_of_file current now) (Some []) [] = rw nothing at c in
-      let notes : Notes (ahead old.inputs old.names) (ahead new.inputs new.names) (left_of_file current new) old.missed new.missed =
+      let nothing : left_of_current current mid ≡ Some [] = rw idle refl in
+      let spent : Consumes (left_of_current current now) (Some []) [] = rw nothing at c in
+      let notes : Notes (ahead old.inputs old.names) (ahead new.inputs new.names) (left_of_current current new) old.missed new.missed =
       rw (added, o.reading, o.due) (notes_opened _ _ _ _ _ old.missed now.missed o.answer _ p.notes kept spent o.opens) in
       record {
         none = Consumes-trans _ _ _ [] [] p.none (Consumes-trans _ _ _ [] [] read opening);

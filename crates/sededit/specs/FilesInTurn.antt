@@ -17,26 +17,25 @@ pub record Joining (I : Type 0) : Type 0 where
   pub start : ℕ
 
 -- what is left of the file being read, and its newline where one is due
-abbrev pub left_of_file : {I : Type 0} → (I → Option (List ℕ)) → Joining I → Option (List ℕ)
-left_of_file current j = if j.reading then option_map (with_newline j.due) (current j.inputs) else Some []
+abbrev pub left_of_current : {I : Type 0} → (I → Option (List ℕ)) → Joining I → Option (List ℕ)
+left_of_current current j = if j.reading then option_map (with_newline j.due) (current j.inputs) else Some []
 
 -- what the files of these names give, joined, where they are told
 abbrev pub joined_files : {I : Type 0} → (I → List (List ℕ) → Option (List (Option (List ℕ)))) → I → List (List ℕ) → Option (List ℕ)
 joined_files ahead inputs names = option_map (λ files. joined (contents files)) (ahead inputs names)
 
 -- what the files still to open give, joined
-abbrev pub left_of_files : {I : Type 0} → (I → List (List ℕ) → Option (List (Option (List ℕ)))) → Joining I → Option (List ℕ)
-left_of_files ahead j = joined_files ahead j.inputs j.names
+abbrev pub left_ahead : {I : Type 0} → (I → List (List ℕ) → Option (List (Option (List ℕ)))) → Joining I → Option (List ℕ)
+left_ahead ahead j = joined_files ahead j.inputs j.names
 
 -- the bytes still to come
 abbrev pub left : {I : Type 0} → (I → Option (List ℕ)) → (I → List (List ℕ) → Option (List (Option (List ℕ)))) → Joining I → Option (List ℕ)
-left current ahead j = option_append (left_of_file current j) (left_of_files ahead j)
+left current ahead j = option_append (left_of_current current j) (left_ahead ahead j)
 
 -- only the last of the files gives bytes, if any
 abbrev pub OnlyLastGives : List (Option (List ℕ)) → Type 0
-OnlyLastGives [] = ⊤
-OnlyLastGives (file ∷ []) = ⊤
 OnlyLastGives (file ∷ next ∷ files) = (unwrap_or file [] ≡ []) × OnlyLastGives (next ∷ files)
+OnlyLastGives files = ⊤
 
 -- Where the files ahead are told, the first ones were opened, each but the last of these at its end: it is noted of each
 -- whether it was missed. A file that the run doesn't reach isn't opened, and doesn't count as missed (this

@@ -29,8 +29,8 @@ kind_with true = Extended
 kind_with false = Basic
 
 -- The text that the parts of a script make, after those before: the texts of -e and what the files of -f hold, a newline
--- after each that doesn't end with one (XCU sed, "Options"). A file that isn't told may hold any bytes; `-` is a file's name
--- like others there (this project's own).
+-- after each that doesn't end with one (XCU sed, "Options"). A file that isn't told may hold any bytes; `-` names a file
+-- there like any other word (this project's own).
 abbrev pub MakesText : (List ℕ → Option (Option (List ℕ))) → List ℕ → List Given → List ℕ → Type 0
 MakesText files before [] whole = whole ≡ before
 MakesText files before (text part ∷ parts) whole = MakesText files (with_part before part) parts whole

@@ -48,7 +48,7 @@ impl<'a, I: Inputs> Model for Joined<'a, I> {
 }
 
 impl<'a, I: Inputs> Joined<'a, I> {
-    ghost use Rattle.sededit.specs.FilesInTurn.{Joining, joined_files, left, left_of_file, OpensNext};
+    ghost use Rattle.sededit.specs.FilesInTurn.{Joining, joined_files, left, left_of_current, OpensNext};
 
     /// Makes a source of the files of these names, of which none is opened yet. Where a request for memory is refused,
     /// the inputs are dropped: lend them to keep them.
@@ -116,7 +116,7 @@ impl<'a, I: Inputs> Joined<'a, I> {
     fn read_file(&mut self, buf: &mut [u8]) -> Result<usize, Broken>
         requires { 0 < length buf.old }
         ensures bound { ReadsAtMost result buf.new }
-        ensures bytes { ReadConsumes (left_of_file I.current self.old) (left_of_file I.current self.new) result buf.new }
+        ensures bytes { ReadConsumes (left_of_current I.current self.old) (left_of_current I.current self.new) result buf.new }
         ensures ended { result ≡ Ok 0 → self.new.reading ≡ false }
         ensures ahead { (names : List (List ℕ)) →
             KeepsFiles (I.ahead self.old.inputs names) (I.ahead self.new.inputs names) }
@@ -165,7 +165,7 @@ impl<'a, I: Inputs> Joined<'a, I> {
 }
 
 impl<'a, I: Inputs> ByteSource for Joined<'a, I> {
-    ghost use Rattle.sededit.specs.FilesInTurn.{Joining, left, left_of_file, Opened};
+    ghost use Rattle.sededit.specs.FilesInTurn.{Joining, left, left_of_current, Opened};
 
     ghost remaining = { λ j. left I.current I.ahead j };
 
@@ -181,7 +181,7 @@ impl<'a, I: Inputs> ByteSource for Joined<'a, I> {
             ≡ self.old.start ∷ I.reference self.old.inputs }
         // A file is opened where those before it have no byte left to give, and no sooner.
         ensures opened { Opened I.ahead self.old self.new }
-        ensures waits { (self.new.names ≡ self.old.names) ⊎ IsAtEnd (left_of_file I.current self.old) }
+        ensures waits { (self.new.names ≡ self.old.names) ⊎ IsAtEnd (left_of_current I.current self.old) }
     {
         if buf.is_empty() {
             return Ok(0);

@@ -35,7 +35,6 @@ pub record Reads {R T : Type 0} (remaining : R → Option (List ℕ)) (failures 
 
 -- an answer that names no sink
 abbrev pub NoSinkFailed : {T : Type 0} → Result T Ended → Type 0
-NoSinkFailed (Ok x) = Unit {0}
 NoSinkFailed (Err (OutputBroken k)) = ⊥
 NoSinkFailed (Err (OutputFull k)) = ⊥
-NoSinkFailed (Err _) = Unit {0}
+NoSinkFailed other = Unit {0}

@@ -32,17 +32,15 @@ abbrev pub chosen_active : Address → ℕ → Bool → Chosen
 chosen_active (Line n) number matched =
     if nat_lt number n then record { yes = true; end = false; active = true }
     else (if nat_eq number n then record { yes = true; end = true; active = false } else chosen_idle (Line n) number matched)
-chosen_active Last number matched = record { yes = true; end = matched; active = not matched }
-chosen_active (Match e) number matched = record { yes = true; end = matched; active = not matched }
+chosen_active second number matched = record { yes = true; end = matched; active = not matched }
 
 abbrev pub choice_in_range : Address → Bool → ℕ → Bool → Chosen
 choice_in_range second active number matched = if active then chosen_active second number matched else chosen_idle second number matched
 
 -- the choice, by whether the deciding address matches
 abbrev pub choice_by_match : Option Address → Option Address → Bool → ℕ → Bool → Chosen
-choice_by_match None second active number matched = record { yes = matched; end = false; active = active }
-choice_by_match (Some first) None active number matched = record { yes = matched; end = false; active = active }
 choice_by_match (Some first) (Some second) active number matched = choice_in_range second active number matched
+choice_by_match first second active number matched = record { yes = matched; end = false; active = active }
 
 -- `!` turns the yes alone
 abbrev pub turned : Bool → Chosen → Chosen

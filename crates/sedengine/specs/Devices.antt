@@ -19,9 +19,8 @@ pub record Gained (old new : ℕ → Option (List ℕ)) (out : List (ℕ × ℕ)
 
 -- a sink that an end names as full has gained exactly the limit; `before` tells what each had gained already
 abbrev pub FillsSink : Option ℕ → (ℕ → ℕ) → List (ℕ × ℕ) → Result Unit Ended → Type 0
-FillsSink most before out (Ok u) = Unit {0}
 FillsSink most before out (Err (OutputFull k)) = most ≡ Some (before k + length (part k out))
-FillsSink most before out (Err other) = Unit {0}
+FillsSink most before out other = Unit {0}
 
 -- The sinks have gained these bytes, and with what each had gained already since the engine was opened, as `before`
 -- tells, that is no more than the limit, where one is set.

@@ -62,6 +62,5 @@ pub record Sent (old new : SinkView) (out : List (ℕ × ℕ)) : Type 0 where
 
 -- a sink that an end names as full is
 abbrev pub FullSink : SinkView → Result Unit Ended → Type 0
-FullSink t (Ok u) = Unit {0}
 FullSink t (Err (OutputFull k)) = (n : ℕ) × (t.frame.most ≡ Some n) × (t.sent k ≡ Some n)
-FullSink t (Err other) = Unit {0}
+FullSink t other = Unit {0}

@@ -119,7 +119,7 @@ none_left (line ∷ lines) = false
 abbrev pub queueing : Entry → State → State
 queueing entry s = record s { queue = s.queue ++ entry ∷ [] }
 
--- What a command does that applies (XCU sed, "Editing Commands in sed"). The state has taken the turn, and goes on
+-- What a command that applies does (XCU sed, "Editing Commands in sed"). The state has taken the turn, and goes on
 -- after the command unless a case says otherwise. `tells` says whether `c` writes its text here.
 abbrev pub acts : Setting → State → Bool → Action → Option Move
 -- `{`: "Execute a list of sed editing commands only when the pattern space is selected", so they come next
@@ -187,7 +187,7 @@ acts g s tells (WriteFile k) = writing (line_to k s.pattern) s
 -- `y`: "Replace all occurrences of characters in string1 with the corresponding characters in string2."
 acts g s tells (Transliterate k) = quietly (record s { pattern = map (in_table (slice_get g.tables k)) s.pattern })
 
--- What a command does that doesn't apply: `{` passes over its block.
+-- What a command that doesn't apply does: `{` passes over its block.
 abbrev pub passes : State → Action → Option Move
 passes s (Block next) = quietly (then_do (do_at next ∷ []) s)
 passes s other = quietly s
@@ -220,7 +220,7 @@ reached s k choice = record s {
 abbrev pub tells_at : Command → Bool → Bool
 tells_at c end = is_none c.second || end || c.negate
 
--- a command with its choice
+-- what a command does, given what its addresses select
 abbrev pub performs : Setting → State → ℕ → Command → Selection → Option Move
 performs g s k c choice =
     if choice.yes then acts g (reached s k choice) (tells_at c choice.end) c.action else passes (reached s k choice) c.action

@@ -114,8 +114,8 @@ pub record Input : Type 0 where
 abbrev pub input_of : {R : Type 0} → (R → Option (List ℕ)) → Stream R → Input
 input_of remaining lines = record { source = remaining lines.source; all = left remaining lines }
 
--- The first t moves took lines: of all that was still to come, the bytes of these and at most `lost` more are gone. So calls
--- one after another take from the source at most their lines, what is lost, and what is ahead in the end.
+-- The first t moves took lines: of all that was still to come, the bytes of these and at most `lost` more are gone. So a
+-- series of calls takes from the source at most its lines, what is lost, and what is ahead at its end.
 pub record TakesLeft (g : Setting) (s : State) (old new : Input) (lost more : ℕ) (t : ℕ) : Type 0 where
   pub input : TakesInput g s old.source new.source more t
   pub all : TakesAtMost old.all new.all (size_of input.lines + lost)

@@ -85,7 +85,7 @@ of_addresses c active (Some first) (Some second) = if active then on_active c fi
 abbrev pub negated : Bool → Selection → Selection
 negated n choice = record choice { yes = if n then not choice.yes else choice.yes }
 
--- what the addresses of a command choose, whose range is active or not. One address is judged at most; one that isn't judged
+-- what the addresses of a command choose, given whether its range is active. One address is judged at most; one that isn't judged
 -- asks nothing, and isn't the expression last used (this project's own)
 unfoldable pub selects : Current → Bool → Command → Option Selection
 selects c active command = do

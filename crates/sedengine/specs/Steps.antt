@@ -45,8 +45,8 @@ pub record Reaches (l : Limits) (g : Setting) (s there : State) : Type 0 where
   pub number : s.number ≡ there.number
   pub same : SameLengths s there
 
--- What a call answers that makes the move o, and perhaps moves after it, from any state that has that move and in which the
--- command is reached that acts in the state `there`.
+-- What a call answers that makes the move o, and perhaps moves after it, from any state that has that move and reaches the
+-- command that acts in the state `there`.
 abbrev pub Performs : Limits → Setting → Option Move → State → State → (List (ℕ × ℕ) → Type 0) →
     Result Unit Ended → Type 0
 Performs l g o there now gained r = (s : State) → Reaches l g s there → move g s ≡ o → Moves l g s now gained r
@@ -119,7 +119,7 @@ abbrev pub Steps : {R : Type 0} → (R → Option (List ℕ)) → Stream R → S
 Steps remaining old new ls l g e e' gained r = StepsFrom remaining old new ls l g (at_lines e ls) e' gained r
 
 -- What a call answers that makes the move o, perhaps moves after it, and may take lines, from any state that has that move and
--- in which the command is reached that acts in the state `there`; `asks` says whether that command asks if a line is left.
+-- reaches the command that acts in the state `there`; `asks` says whether that command asks if a line is left.
 abbrev pub PerformsSteps : {R : Type 0} → (R → Option (List ℕ)) → Stream R → Stream R → List (List ℕ) → Limits →
     Setting → Option Move → Bool → State → RunState → (List (ℕ × ℕ) → Type 0) → Result Unit Ended → Type 0
 PerformsSteps remaining old new ls l g o asks there e' gained r =

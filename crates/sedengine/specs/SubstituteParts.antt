@@ -87,12 +87,12 @@ abbrev pub owed_skipped : ℕ → ℕ → Option (Option ℕ) → Occurrences �
 owed_skipped m n None o = 0
 owed_skipped m n (Some last) o = owed m n last o
 
--- what telling the groups of what was found takes at most, where they are wanted, if those of one occurrence take k
+-- the most that telling the groups of the occurrence found takes, if they are wanted, where those of one take k
 abbrev pub told_cost : Option (ℕ × ℕ) → Bool → ℕ → ℕ
 told_cost None wanted k = 0
 told_cost (Some span) wanted k = if wanted then k else 0
 
--- what telling the groups of all occurrences but the first takes at most, if those of one take k
+-- the most that telling the groups of all occurrences but the first takes, where those of one take k
 abbrev pub later_cost : ℕ → List Occurrence → ℕ
 later_cost k [] = 0
 later_cost k (m ∷ ms) = k * length ms

@@ -27,8 +27,8 @@ type Groups = [Option<(usize, usize)>; 10];
 /// Writes into `build` the text with the occurrences that the substitution chooses replaced, and answers whether there are
 /// any.
 ///
-/// All its searches together take `steps` in proportion to the text. Groups are told within each occurrence that is
-/// replaced, and counted apart in `group_steps`.
+/// Its searches together take steps in proportion to the text, counted in `steps`. Groups are told within each occurrence
+/// that is replaced; their steps are counted in `group_steps`.
 pub(crate) fn build_text(
     substitution: &Substitution,
     matcher: &mut TableMatcher,

@@ -16,7 +16,7 @@ use Rattle.sedmarks.proofs.SpanLemmas.{Spans-forward}
 use Rattle.sedmarks.specs.Caps.{Groups, forget, Caps, LastCut, LastCopy, only, then}
 use Rattle.sedmarks.specs.declared.scratch.Task.{Task}
 use Rattle.sedmarks.specs.declared.scratch.Task.TheVariants.{Enter, Close}
-use Rattle.sedmarks.specs.Work.{inner, inners, wholes, node_cost, IsStep, AreMatched, weights, DoesAll, forget_all, sizes, AllBelow, parts_of, forget_node, is_group, AllWithout, NoGroups}
+use Rattle.sedmarks.specs.Work.{inner, inner_due, wholes, node_cost, IsStep, AreMatched, weights, DoesAll, forget_all, sizes, AllBelow, parts_of, forget_node, is_group, AllWithout, NoGroups}
 
 module _ (nodes : List Node) (w : List ℕ) (arena : IsArena nodes) (x : ℕ) where
   close_caps : (node : Node) → slice_get nodes x ≡ Some node → (i j : ℕ) (old new : Groups) → Caps (tree_of (tree_at nodes) node) w i j old new → Caps (tree_at nodes x) w i j old new
@@ -342,10 +342,10 @@ length-weights nodes [] = omega arith
 length-weights nodes (Enter x i j ∷ xs) = omega (arith, length-weights nodes xs, size-pos (tree_at nodes x))
 length-weights nodes (Close k i j ∷ xs) = omega (arith, length-weights nodes xs)
 
-pub inners-append : (nodes : List Node) (xs ys : List Task) → inners nodes (xs ++ ys) ≡ inners nodes xs + inners nodes ys
-inners-append nodes [] ys = omega arith
-inners-append nodes (Enter x i j ∷ xs) ys = omega (arith, inners-append nodes xs ys)
-inners-append nodes (Close k i j ∷ xs) ys = inners-append nodes xs ys
+pub inner_due-append : (nodes : List Node) (xs ys : List Task) → inner_due nodes (xs ++ ys) ≡ inner_due nodes xs + inner_due nodes ys
+inner_due-append nodes [] ys = omega arith
+inner_due-append nodes (Enter x i j ∷ xs) ys = omega (arith, inner_due-append nodes xs ys)
+inner_due-append nodes (Close k i j ∷ xs) ys = inner_due-append nodes xs ys
 
 pub wholes-append : (nodes : List Node) (xs ys : List Task) → wholes nodes (xs ++ ys) ≡ wholes nodes xs + wholes nodes ys
 wholes-append nodes [] ys = omega arith
@@ -400,33 +400,33 @@ enter_numbers k m s s1 s2 s3 cost size_x inner_x inner_new whole_new inner_rest 
 pub enter_cost : (nodes : List Node) (w : List ℕ) (arena : IsArena nodes) (x i j : ℕ) (node : Node) → slice_get nodes x ≡ Some node → (k m s s1 s2 s3 : ℕ) →
     (forgets : Bool) (tasks new rest : List Task) → new ≡ tasks ++ rest → IsStep nodes w x i j forgets tasks →
     s1 ≤ s + 1 → s2 ≤ s1 + node_cost k node → s3 ≤ s2 + size (tree_at nodes x) → size (tree_at nodes x) ≤ m →
-    s3 + (k + m) * inners nodes new + 3 * wholes nodes new ≤ s + (k + m) * inners nodes (Enter x i j ∷ rest) + 3 * wholes nodes (Enter x i j ∷ rest)
+    s3 + (k + m) * inner_due nodes new + 3 * wholes nodes new ≤ s + (k + m) * inner_due nodes (Enter x i j ∷ rest) + 3 * wholes nodes (Enter x i j ∷ rest)
 enter_cost nodes w arena x i j node is k m s s1 s2 s3 forgets tasks new rest pushed step look here forget small =
     let numbers = enter_numbers k m s s1 s2 s3 (node_cost k node) (size (tree_at nodes x)) (inner (tree_at nodes x))
-    (inners nodes tasks) (wholes nodes tasks) (inners nodes rest) (wholes nodes rest) look here forget small (node_kind nodes arena x node is k) step.fewer step.smaller in
-    let inner_is : inners nodes new ≡ inners nodes tasks + inners nodes rest = ap (inners nodes) pushed ∙ inners-append nodes tasks rest in
+    (inner_due nodes tasks) (wholes nodes tasks) (inner_due nodes rest) (wholes nodes rest) look here forget small (node_kind nodes arena x node is k) step.fewer step.smaller in
+    let inner_is : inner_due nodes new ≡ inner_due nodes tasks + inner_due nodes rest = ap (inner_due nodes) pushed ∙ inner_due-append nodes tasks rest in
     let whole_is : wholes nodes new ≡ wholes nodes tasks + wholes nodes rest = ap (wholes nodes) pushed ∙ wholes-append nodes tasks rest in
     rw (inner_is, whole_is) numbers
 
 -- the steps when nothing is decided yet, at most k a node with parts
 pub decide_start : (nodes : List Node) (k m s x i j : ℕ) (tasks : List Task) → tasks ≡ Enter x i j ∷ [] → size (tree_at nodes x) ≤ m →
-    s + k * inners nodes tasks + 3 * wholes nodes tasks + k ≤ s + k * m + 3 * m
+    s + k * inner_due nodes tasks + 3 * wholes nodes tasks + k ≤ s + k * m + 3 * m
 decide_start nodes k m s x i j tasks is small =
-    let inner_is : inners nodes tasks ≡ inner (tree_at nodes x) + 0 = ap (inners nodes) is in
+    let inner_is : inner_due nodes tasks ≡ inner (tree_at nodes x) + 0 = ap (inner_due nodes) is in
     let whole_is : wholes nodes tasks ≡ size (tree_at nodes x) + 0 = ap (wholes nodes) is in
-    let le : inners nodes tasks + 1 ≤ m = omega (arith, inner_is, inner-size (tree_at nodes x)) in
+    let le : inner_due nodes tasks + 1 ≤ m = omega (arith, inner_is, inner-size (tree_at nodes x)) in
     let all = mul-le-mul_left k le in
     omega (arith, all, whole_is)
 
 -- the steps after one more task
 pub decide_next : (nodes : List Node) (k m s0 s t : ℕ) (after before popped : List Task) → before ≡ popped →
-    t + k * inners nodes after + 3 * wholes nodes after ≤ s + k * inners nodes popped + 3 * wholes nodes popped →
-    s + k * inners nodes before + 3 * wholes nodes before + k ≤ s0 + k * m + 3 * m →
-    t + k * inners nodes after + 3 * wholes nodes after + k ≤ s0 + k * m + 3 * m
+    t + k * inner_due nodes after + 3 * wholes nodes after ≤ s + k * inner_due nodes popped + 3 * wholes nodes popped →
+    s + k * inner_due nodes before + 3 * wholes nodes before + k ≤ s0 + k * m + 3 * m →
+    t + k * inner_due nodes after + 3 * wholes nodes after + k ≤ s0 + k * m + 3 * m
 decide_next nodes k m s0 s t after before popped same one old =
-    let inner_is : inners nodes before ≡ inners nodes popped = ap (inners nodes) same in
+    let inner_is : inner_due nodes before ≡ inner_due nodes popped = ap (inner_due nodes) same in
     let whole_is : wholes nodes before ≡ wholes nodes popped = ap (wholes nodes) same in
-    let product : k * inners nodes before ≡ k * inners nodes popped = ap (λ v. k * v) inner_is in
+    let product : k * inner_due nodes before ≡ k * inner_due nodes popped = ap (λ v. k * v) inner_is in
     omega (arith, one, old, product, whole_is)
 
 two_le_square : (m : ℕ) → 2 * m ≤ m * m + 1

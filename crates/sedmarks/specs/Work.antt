@@ -110,10 +110,10 @@ inner (opt a first) = 1 + inner a
 inner other = 0
 
 -- how many nodes with parts the trees have that are to be entered
-abbrev pub inners : List Node → List Task → ℕ
-inners nodes [] = 0
-inners nodes (Enter x i j ∷ tasks) = inner (tree_at nodes x) + inners nodes tasks
-inners nodes (Close k i j ∷ tasks) = inners nodes tasks
+abbrev pub inner_due : List Node → List Task → ℕ
+inner_due nodes [] = 0
+inner_due nodes (Enter x i j ∷ tasks) = inner (tree_at nodes x) + inner_due nodes tasks
+inner_due nodes (Close k i j ∷ tasks) = inner_due nodes tasks
 
 -- the sizes of all trees to be entered
 abbrev pub wholes : List Node → List Task → ℕ
@@ -138,7 +138,7 @@ pub record IsStep (nodes : List Node) (w : List ℕ) (x i j : ℕ) (forgets : Bo
   pub run : (rest : List Task) (g f : Groups) → DoesAll nodes w (tasks ++ rest) (forget_if forgets (tree_at nodes x) g) f → DoesAll nodes w (Enter x i j ∷ rest) g f
   pub ready : AreMatched nodes w tasks
   pub less : weights nodes tasks + 1 ≤ 2 * size (tree_at nodes x)
-  pub fewer : inners nodes tasks ≤ inner (tree_at nodes x) - 1
+  pub fewer : inner_due nodes tasks ≤ inner (tree_at nodes x) - 1
   pub smaller : wholes nodes tasks + 1 ≤ size (tree_at nodes x)
 
 abbrev pub tasks_of : Split → List Task

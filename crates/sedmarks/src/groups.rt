@@ -12,7 +12,7 @@ ghost use Rattle.sedmarks.specs.Fits.{AllDone, FitsWork, HasStack, KeepsGroups, 
 ghost use Rattle.sedmarks.specs.Nodes.{IsNode};
 ghost use Rattle.sedmarks.specs.Places.{InOrder};
 ghost use Rattle.sedmarks.specs.Reach.{At};
-ghost use Rattle.sedmarks.specs.Work.{IsNodeOf, IsStep, AreMatched, LeavesLess, weights, inners, wholes, node_cost, forget_if};
+ghost use Rattle.sedmarks.specs.Work.{IsNodeOf, IsStep, AreMatched, LeavesLess, weights, inner_due, wholes, node_cost, forget_if};
 ghost use Rattle.sedmarks.specs.Work.{tasks_of, forgets_of, has_span, is_group, sizes, parts_of, forget_node, AreFlat, NoGroups};
 ghost use Rattle.sedmarks.specs.Costs.{Pays};
 ghost use Rattle.sedre.specs.Steps.{Takes};
@@ -398,7 +398,7 @@ fn work(
     ensures same { length places.new ≡ length places.old }
     ensures plan { KeepsPlan plan.old plan.new }
     ensures less { LeavesLess expr.now.nodes text.now (task.now ∷ reverse plan.old.tasks.items) groups.old (reverse plan.new.tasks.items) groups.new }
-    ensures cost { Pays steps.old steps.new ((46 * length expr.now.nodes * (length text.now + 1) * (length text.now + 1) + 1 + length expr.now.nodes) * inners expr.now.nodes (task.now ∷ reverse plan.old.tasks.items) + 3 * wholes expr.now.nodes (task.now ∷ reverse plan.old.tasks.items)) ((46 * length expr.now.nodes * (length text.now + 1) * (length text.now + 1) + 1 + length expr.now.nodes) * inners expr.now.nodes (reverse plan.new.tasks.items) + 3 * wholes expr.now.nodes (reverse plan.new.tasks.items)) }
+    ensures cost { Pays steps.old steps.new ((46 * length expr.now.nodes * (length text.now + 1) * (length text.now + 1) + 1 + length expr.now.nodes) * inner_due expr.now.nodes (task.now ∷ reverse plan.old.tasks.items) + 3 * wholes expr.now.nodes (task.now ∷ reverse plan.old.tasks.items)) ((46 * length expr.now.nodes * (length text.now + 1) * (length text.now + 1) + 1 + length expr.now.nodes) * inner_due expr.now.nodes (reverse plan.new.tasks.items) + 3 * wholes expr.now.nodes (reverse plan.new.tasks.items)) }
 {
     match task {
         Task::Close(k, start, stop) => close_group(groups, *k, *start, *stop),

@@ -1,6 +1,6 @@
 -- A literal, bytes that aren't few others, and another literal.
 use Rattle.std.proofs.Common.{◌≡◌, ℕ, zero, suc, ◌+◌, ◌-◌, ◌<◌, ◌≤◌, ◌↔◌, Bool, true, false, List, length, Option, Some, None, refl, sym, subst, ◌∙◌, ⊎_elim, true≢false, arith}
-use Rattle.std.specs.Prelude.{slice_get, slice_index, slice_index_or, is_some, min}
+use Rattle.std.specs.Prelude.{slice_get, slice_index, slice_index_or, is_some, min, unwrap_or}
 use Rattle.std.proofs.lemmas.Bool.{cases_lt}
 use Rattle.std.proofs.lemmas.Option.{slice_get-get_or}
 use Rattle.memchr.specs.Find.{OccursAt}
@@ -13,7 +13,9 @@ use Rattle.sedmarks.specs.Spans.{Spans, IsIn, no_copy}
 use Rattle.sedneedles.specs.declared.few.Few.{Few}
 use Rattle.sedneedles.specs.declared.needed.Literal.{Literal}
 use Rattle.sedneedles.specs.Few.{HasFew, FirstFew}
-use Rattle.sedmarks.specs.Bytes.{AreBytes}
+use Rattle.sedre.specs.Steps.{Takes}
+use Rattle.sedmarks.specs.Costs.{Pays}
+use Rattle.sedmarks.specs.Bytes.{AreBytes, looked_at}
 use Rattle.sedneedles.specs.Needed.{IsLiteral, GoesOnAs, FirstLiteral, LastLiteral}
 use Rattle.sedmarks.specs.Reach.{At}
 use Rattle.sedmarks.specs.RunsAhead.{Repeated, AllRepeat}
@@ -60,6 +62,14 @@ clear_none few w p within none = ((within, λ q low high at. none q low at), ome
 
 pub clear_some : (few : Few) (w : List ℕ) (p k : ℕ) → FirstFew few w p (Some k) → ClearTo few w p k
 clear_some few w p k first = ((first.0, λ q low high at. first.2 q low high at), (let inside = few_inside few w k first.1 in omega arith), λ lt. first.1)
+
+pub clear_told : (few : Few) (w : List ℕ) (p k n : ℕ) (r : Option ℕ) → k ≡ unwrap_or r n → n ≡ length w → p ≤ length w → FirstFew few w p r → ClearTo few w p k
+clear_told few w p k n None is end within first = subst (λ v. ClearTo few w p v) (sym (is ∙ end)) (clear_none few w p within first)
+clear_told few w p k n (Some place) is end within first = subst (λ v. ClearTo few w p v) (sym is) (clear_some few w p place first)
+
+pub clear_paid : (few : Few) (w : List ℕ) (s t p k n : ℕ) (r : Option ℕ) → k ≡ unwrap_or r n → n ≡ length w → p ≤ length w → FirstFew few w p r → Takes s t (looked_at (length w) p r) → Pays s t (k + 1) p
+clear_paid few w s t p k n None is end within first took = (took.0, (let most = took.1 in omega (arith, is, end, within, most)))
+clear_paid few w s t p k n (Some place) is end within first took = (took.0, (let most = took.1 in let low = first.0 in omega (arith, is, low, most)))
 
 -- a literal that ends by a bound stands up to a place
 pub tail_last : (literal w : List ℕ) (p q end : ℕ) (r : Option ℕ) → end ≡ min (length w) (q + length literal) → LastLiteral w literal p end r → LastTail literal w p q r

@@ -18,9 +18,8 @@ EndsWithin n (Some q) = q ≤ n
 
 -- the span, if there is one, ends after the place, if there is one, and begins there or later
 abbrev pub LiesAfter : Option ℕ → Option (ℕ × ℕ) → Type 0
-LiesAfter last None = Unit {0}
-LiesAfter None (Some f) = Unit {0}
 LiesAfter (Some q) (Some f) = (q ≤ f.0) × (q + 1 ≤ f.1)
+LiesAfter last found = Unit {0}
 
 -- the span lies in a text of n bytes, after the last occurrence
 abbrev pub LiesOn : ℕ → Option ℕ → ℕ × ℕ → Type 0

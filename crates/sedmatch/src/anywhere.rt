@@ -10,7 +10,7 @@ ghost use Rattle.sedmarks.specs.Answer.{SpanAnswer};
 ghost use Rattle.sedmarks.specs.Costs.{Pays};
 ghost use Rattle.sedre.specs.Steps.{StepsWithin, Takes};
 
-use crate::linear::{first_end_in, region_by, span_by, start_to};
+use crate::linear::{first_end_forwards, region_by, span_by, start_to};
 use crate::ready::{Known, Tables};
 use crate::table_matcher::longest_in;
 use crate::tables::Table;
@@ -129,7 +129,7 @@ fn span_from(
     ensures none_cost { let m = length expr.now.nodes in let n = length text.now in
         IfNone result (steps.new + 42 * m * start ≤ steps.old + 40 * m + 42 * m * n) }
 {
-    let Some(first) = first_end_in(expr, root, text, start, &mut tables.every, sets, steps) else {
+    let Some(first) = first_end_forwards(expr, root, text, start, &mut tables.every, sets, steps) else {
         return None;
     };
     let region = region_by(

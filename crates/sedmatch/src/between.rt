@@ -156,10 +156,7 @@ fn clear_end(few: &Few, text: &Text, from: usize, steps: &mut Steps) -> usize
     ensures clear { ClearTo few.now text.now from result }
     ensures cost { Pays steps.old steps.new (result + 1) from }
 {
-    match find_few(text, few, from, steps) {
-        None => text.len(),
-        Some(place) => place,
-    }
+    find_few(text, few, from, steps).unwrap_or(text.len())
 }
 
 /// The last place from `from` up to and with `to` at which the literal stands.
@@ -218,10 +215,7 @@ fn lacks_tail(head: &Finder, ahead: &Finder, text: &Text, from: usize, steps: &m
     if ahead.needle().len() <= head.needle().len() {
         return false;
     }
-    match find_literal(text, ahead, from, steps) {
-        None => true,
-        Some(_) => false,
-    }
+    find_literal(text, ahead, from, steps).is_none()
 }
 
 /// The first place from `from` on at which a match begins, told at once where the second literal tells that there is

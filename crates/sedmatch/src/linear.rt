@@ -1,7 +1,4 @@
 //! The search for the leftmost of the longest spans by tables, in which each byte is passed four times at most.
-//!
-//! A function whose name ends in `_by` goes on by a table, and where that is full by marks, in one whose name ends in `_on`. One
-//! that ends in `_in` goes over the text forwards by either.
 ghost use Rattle.std.specs.Prelude.{Some, true, Bool, List, ◌≡◌, ℕ, ◌+◌, ◌-◌, ◌*◌, ◌<◌, ◌≤◌, ◌↔◌, length, IsTrue};
 ghost use Rattle.sedre.specs.Arena.{tree};
 ghost use Rattle.sedre.specs.Mirror.{seen};
@@ -52,7 +49,7 @@ fn at_last(place: usize, ends: Ends) -> Option<FirstEnd>
 }
 
 /// Where the first match ends, at the place or after it, given what is told of the place.
-fn first_end_on(
+fn first_end_by_marks(
     expr: &Nodes,
     root: usize,
     text: &Bytes,
@@ -121,7 +118,7 @@ fn first_end(
     loop {
         match next {
             Next::Full(ends) => {
-                return first_end_on(expr, root, text, from, place, ends, sets, steps);
+                return first_end_by_marks(expr, root, text, from, place, ends, sets, steps);
             }
             Next::To(state) => {
                 let ends = table.ends[state];
@@ -148,7 +145,7 @@ fn first_end(
 }
 
 /// A place after which no match ends that begins from `start` to `last`, given what is told of a place.
-fn bound_on(
+fn bound_by_marks(
     expr: &Nodes,
     root: usize,
     text: &Bytes,
@@ -208,7 +205,7 @@ fn enter(
 
 /// A place after which no match ends that begins from `start` to `last`, by a table in which no place after the first is
 /// a start, given what is told of the last.
-fn bound_by(
+fn bound_by_table(
     expr: &Nodes,
     root: usize,
     text: &Bytes,
@@ -233,7 +230,7 @@ fn bound_by(
     loop {
         match next {
             Next::Full(ends) => {
-                return bound_on(expr, root, text, start, last, place, ends, sets, steps);
+                return bound_by_marks(expr, root, text, start, last, place, ends, sets, steps);
             }
             Next::To(state) => {
                 if place >= text.len() {
@@ -285,7 +282,7 @@ fn later(
 
 /// The last place up to `stop` at which a match ends that begins at `first` or after it, given what is told of a
 /// place and the last one before it.
-fn last_on(
+fn last_by_marks(
     nodes: &Nodes,
     root: usize,
     bytes: &Bytes,
@@ -323,7 +320,7 @@ fn last_on(
 
 /// The last place up to `stop` at which a match ends that begins at `first` or after it, by a table in which every
 /// place is a start.
-fn last_by(
+fn last_by_table(
     nodes: &Nodes,
     root: usize,
     bytes: &Bytes,
@@ -349,7 +346,7 @@ fn last_by(
     loop {
         match next {
             Next::Full(ends) => {
-                return last_on(
+                return last_by_marks(
                     nodes, root, bytes, first, place, stop, ends, best, sets, steps,
                 );
             }
@@ -384,7 +381,7 @@ fn last_by(
 }
 
 /// Where the first match ends, in a text read forwards, and the marks there.
-pub fn first_end_in(
+pub fn first_end_forwards(
     expr: &Expr,
     root: usize,
     text: &Text,
@@ -407,7 +404,7 @@ pub fn first_end_in(
 }
 
 /// A place after which no match of the region ends, in a text read forwards.
-fn bound_in(
+fn region_bound(
     expr: &Expr,
     root: usize,
     text: &Text,
@@ -429,7 +426,7 @@ fn bound_in(
 {
     let nodes = Nodes::of(expr);
     let bytes = text.forwards();
-    bound_by(&nodes, root, &bytes, start, last, ends, table, sets, steps)
+    bound_by_table(&nodes, root, &bytes, start, last, ends, table, sets, steps)
 }
 
 /// The region that begins at `start`, whose last place is where the first match ends.
@@ -459,7 +456,7 @@ pub fn region_by(
             bound: last,
         };
     }
-    let bound = bound_in(
+    let bound = region_bound(
         expr, root, text, start, last, first.ends, table, sets, steps,
     );
     Region { start, last, bound }
@@ -491,7 +488,7 @@ fn earliest_by(
     let bytes = text.backwards();
     let first = len - region.bound;
     let stop = len - region.start;
-    match last_by(&nodes, root, &bytes, first, stop, table, sets, steps) {
+    match last_by_table(&nodes, root, &bytes, first, stop, table, sets, steps) {
         None => region.start,
         Some(place) => len - place,
     }

@@ -106,17 +106,6 @@ fn see_met(
     occurrences.met = true;
 }
 
-/// Where the last occurrence ended, and before the first one the text's beginning.
-fn place_of(last: Option<usize>) -> usize
-    ensures none { last ≡ None → result ≡ 0 }
-    ensures some { (q : ℕ) → last ≡ Some q → result ≡ q }
-{
-    match last {
-        None => 0,
-        Some(at) => at,
-    }
-}
-
 impl TableMatcher {
     /// The next match where the null string at `at` doesn't count: the one sought one byte further on, if the text goes on.
     // It is seldom called, and so kept out of its caller.
@@ -159,7 +148,7 @@ impl TableMatcher {
         ensures lies { IfSome result (LiesOn (length text.now) last) }
         ensures cost { Takes steps.old steps.new (256 * length self.old.nodes * (length text.now + 1)) }
     {
-        let at = place_of(last);
+        let at = last.unwrap_or(0);
         let first = self.find_span(text, at, scratch, steps);
         if last.is_none() || !is_null_at(first, at) {
             return first;

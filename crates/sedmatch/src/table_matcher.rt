@@ -17,7 +17,7 @@ ghost use Rattle.sedmarks.specs.Costs.{Pays};
 ghost use Rattle.sedre.specs.Steps.{StepsWithin, Takes, TakesAtLeast};
 
 use crate::anywhere::{anchored_by, leftmost_by};
-use crate::linear::first_end_in;
+use crate::linear::first_end_forwards;
 use crate::ready::{Known, Tables, find_known, new_tables};
 use crate::sight::{Sight, sight_find, sight_matches, sight_of, sight_span};
 use crate::state_limit::StateLimit;
@@ -104,7 +104,7 @@ fn some_anywhere(
         None => false,
         Some((start, lead)) => match lead {
             Lead::To(_) => true,
-            _ => first_end_in(expr, root, text, start, table, sets, steps).is_some(),
+            _ => first_end_forwards(expr, root, text, start, table, sets, steps).is_some(),
         },
     }
 }
@@ -463,8 +463,8 @@ fn find_by(
 /// How many states a table has room for, where no other number is asked for.
 const STATES: usize = 64;
 
-/// An expression with tables of the states that its searches reach: what was found out at one place of a text serves
-/// at all others, and in later texts, so that a byte mostly costs a few looks, whatever the expression.
+/// An expression with tables of the states that its searches reach: what was found out at one place of a text is
+/// used at all others, and in later texts, so that a byte mostly costs a few looks, whatever the expression.
 ///
 /// It holds a copy of the expression and four tables: for a pass in which every place is a start, for one from a
 /// single start, and for either backwards. All their room is taken in [`TableMatcher::new`], a few kilobytes for a

@@ -53,7 +53,7 @@ fn weight(byte: u8) -> usize
     }
 }
 
-/// A few bytes of which one stands at a fixed distance after the beginning of every match.
+/// A few bytes, one of which stands at a fixed distance after the beginning of every match.
 #[derive(Clone, Copy)]
 pub struct Fixed {
     /// The distance.

@@ -63,7 +63,8 @@ item delimiter (b ∷ c ∷ rest) =
     else (Plain b, 1)
 
 -- the items with their places, and the place after the closing ], None where the text ends before. A ] that stands
--- first is an item (XBD 9.3.5, 1); `skip` bytes belong to the item before
+-- first is an item (XBD 9.3.5, 1), and any other ] without a backslash closes, also where it is the delimiter (this
+-- project's own); `skip` bytes belong to the item before
 abbrev pub items : Option ℕ → (first : Bool) → (skip place : ℕ) → List ℕ → List (ℕ × Element) × Option ℕ
 items delimiter first skip place [] = ([], None)
 items delimiter first (suc skip) place (b ∷ bs) = items delimiter first skip (place + 1) bs

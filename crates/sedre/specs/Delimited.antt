@@ -1,4 +1,4 @@
--- Where an expression ends that stands between delimiters (XCU sed, "Regular Expressions in sed").
+-- Where an expression that stands between delimiters ends (XCU sed, "Regular Expressions in sed").
 use Rattle.std.specs.Prelude.{ℕ, zero, suc, ◌+◌, ◌-◌, List, [], ◌∷◌, drop, Option, Some, None, if◌then◌else◌, ◌==◌}
 use Rattle.std.specs.Prelude.{option_and_then}
 use Rattle.sedre.specs.Brackets.{list_end}

@@ -79,16 +79,14 @@ question_item Extended may repeated at next = repeats (may && not repeated) at (
 -- ^ is an anchor where it is first in a basic expression, and everywhere in an extended one (XBD 9.3.8, 9.4.9); that it
 -- is first after an opening or an alternation symbol is this project's own
 abbrev pub caret_item : Kind → (first : Bool) → (next : ℕ) → Here
-caret_item Basic true next = Is AtBegin next
 caret_item Basic false next = Is (Byte (only 94)) next
-caret_item Extended first next = Is AtBegin next
+caret_item kind first next = Is AtBegin next
 
 -- $ is an anchor where an alternative of a basic expression ends, and everywhere in an extended one (XBD 9.3.8, 9.4.9);
 -- before a closing or an alternation symbol of a basic one this is this project's own
 abbrev pub dollar_item : Kind → (last : Bool) → (next : ℕ) → Here
-dollar_item Basic true next = Is AtEnd next
 dollar_item Basic false next = Is (Byte (only 36)) next
-dollar_item Extended last next = Is AtEnd next
+dollar_item kind last next = Is AtEnd next
 
 -- what a symbol is, after an item. Where case is folded, a literal byte stands for both cases of its letter (this
 -- project's own); those of * ^ and $ are no letters. An interval's closing that stands alone is refused

@@ -25,9 +25,8 @@ found address at count = Ok (record { address = address; at = at; count = count 
 -- the address of the line whose number has its digits between two places. Leading zeros are accepted, and the number 0 and
 -- numbers from 2 ^ 64 on are refused (this project's own)
 abbrev pub line_of : ℕ → ℕ → ℕ → Option ℕ → Result Addressed ScriptFault
-line_of count from to None = fault BadAddress from
-line_of count from to (Some zero) = fault BadAddress from
 line_of count from to (Some (suc n)) = found (Some (Line (suc n))) to count
+line_of count from to number = fault BadAddress from
 
 -- whether the flag `I` stands at a place (this project's own)
 abbrev pub folds_at : List ℕ → ℕ → Bool

@@ -23,7 +23,7 @@ abbrev pub is_file : FileUse → List ℕ → Bool
 is_file Read name = true
 is_file Write name = not (is_standard_output name)
 
--- where the name of the file begins and ends that a function reads, or writes, if it does
+-- where the name of the file that a function reads or writes begins and ends, if it does so
 abbrev pub name_in : FileUse → Function → Option (ℕ × ℕ)
 name_in Read (File Read from to) = Some (from, to)
 name_in Write (File Write from to) = Some (from, to)

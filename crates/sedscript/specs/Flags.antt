@@ -19,9 +19,8 @@ ends_flags b = is_blank b || may_end (Some b)
 -- the flags with this number, whose digits begin at a place. It is from 1 to 2 ^ 64 - 1, and leading zeros are accepted (the
 -- end and the zeros: this project's own)
 abbrev pub numbered : Flags → ℕ → Option ℕ → Result Flags ScriptFault
-numbered f at None = fault BadNumber at
-numbered f at (Some zero) = fault BadNumber at
 numbered f at (Some (suc n)) = Ok (record f { number = Some (suc n) })
+numbered f at number = fault BadNumber at
 
 -- the flags with the number that these digits write, which begin at a place. No second number may stand there (this
 -- project's own)

@@ -45,22 +45,19 @@ ended text f at =
 -- whether a text ends before this byte: a newline that isn't escaped
 abbrev pub stops : Inside → ℕ → Bool
 stops Escape b = false
-stops InLine b = b == 10
-stops Due b = b == 10
+stops how b = b == 10
 
 -- where the byte after this one stands: within a line, after a backslash that escapes it, or where a further line has
 -- to follow
 abbrev pub inside_after : Inside → ℕ → Inside
 inside_after Escape b = if b == 10 then Due else InLine
-inside_after InLine b = if b == 92 then Escape else InLine
-inside_after Due b = if b == 92 then Escape else InLine
+inside_after how b = if b == 92 then Escape else InLine
 
--- where a text ends whose rest begins at a place. None where a further line has to follow and doesn't (that this is a
+-- where a text whose rest begins at a place ends. None where a further line has to follow and doesn't (that this is a
 -- fault: this project's own)
 abbrev pub text_end : Inside → ℕ → List ℕ → Option ℕ
 text_end InLine at [] = Some at
-text_end Escape at [] = None
-text_end Due at [] = None
+text_end how at [] = None
 text_end how at (b ∷ bs) = if stops how b then Some at else text_end (inside_after how b) (suc at) bs
 
 -- whether a line ends before this byte, or at the end of the text
@@ -68,8 +65,8 @@ abbrev pub ends_line : Option ℕ → Bool
 ends_line None = true
 ends_line (Some b) = b == 10
 
--- where the text of `a`, `i` or `c` begins and ends that is expected at a place, after the blanks that follow its
--- letter. If no backslash and newline stand before it, it is a one-line form; after these it may be empty (both this
+-- where the text of `a`, `i` or `c` that is expected at a place, after the blanks that follow its letter, begins and
+-- ends. If no backslash and newline stand before it, it is a one-line form; after these it may be empty (both this
 -- project's own)
 unfoldable pub text_from : List ℕ → ℕ → Option (ℕ × ℕ)
 text_from text from =
@@ -94,7 +91,7 @@ label_of text place from =
 abbrev pub branch_of : List ℕ → BranchUse → ℕ → Result (Function × ℕ) ScriptFault
 branch_of text u from = ended text (Branch u from (past Name text from)) (past Name text from)
 
--- where the name of a file begins and ends, which is expected at a place, after its letter: blanks before it are passed
+-- where the name of a file that is expected at a place, after its letter, begins and ends: blanks before it are passed
 -- over, and it goes up to the newline. That no blank is needed, and that blanks at its end, semicolons and closing braces
 -- belong to it, is this project's own. None where it is empty
 unfoldable pub name_from : List ℕ → ℕ → Option (ℕ × ℕ)

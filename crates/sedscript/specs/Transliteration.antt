@@ -74,9 +74,8 @@ strings_fault text delimiter letter from middle to =
 
 -- the byte of string2 at the first place that a byte has in string1, or the byte itself where there is none
 abbrev pub counterpart : List ℕ → List ℕ → ℕ → ℕ
-counterpart [] string2 b = b
-counterpart (s ∷ string1) [] b = b
 counterpart (s ∷ string1) (t ∷ string2) b = if s == b then t else counterpart string1 string2 b
+counterpart string1 string2 b = b
 
 -- the table of a `y` with these strings: what stands for each byte
 unfoldable pub table_of : List ℕ → List ℕ → List ℕ

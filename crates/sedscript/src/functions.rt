@@ -86,7 +86,7 @@ pub fn text_of(text: &[u8], text_use: TextUse, at: usize) -> Result<(Function, u
     }
 }
 
-/// Where the file's name begins and ends that is expected at `at`, after its letter; None where it is missing.
+/// Where the file's name that is expected at `at`, after its letter, begins and ends; None where it is missing.
 #[tactic(auto, unfolding(crate::specs::Functions::name_from))]
 pub fn name_from(text: &[u8], at: usize) -> Option<(usize, usize)>
     requires { at ≤ length text.now }

@@ -75,7 +75,7 @@ fn text_end(text: &[u8], start: Inside, from: usize) -> Option<usize>
     }
 }
 
-/// Where the text begins and ends that is expected at `from`, after the blanks that follow its letter; None where it is
+/// Where the text that is expected at `from`, after the blanks that follow its letter, begins and ends; None where it is
 /// missing.
 #[tactic(auto, unfolding(crate::specs::Functions::text_from))]
 pub fn text_from(text: &[u8], from: usize) -> Option<(usize, usize)>

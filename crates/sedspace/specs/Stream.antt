@@ -68,9 +68,8 @@ FirstIsLonger (Some (l ∷ ls)) n = n < length l
 
 -- the failures rise at the answer that the source failed, and stay at every other
 abbrev pub FailsIfBroken : {T : Type 0} → Result T LineFault → ℕ → ℕ → Type 0
-FailsIfBroken (Ok x) old new = new ≡ old
-FailsIfBroken (Err TooLong) old new = new ≡ old
 FailsIfBroken (Err Broken) old new = Rises old new
+FailsIfBroken other old new = new ≡ old
 
 -- it reads from the same source as before, told by what no read changes, looks as far ahead, and no further
 abbrev pub ReadsOn : {R T : Type 0} → (R → T) → Stream R → Stream R → Type 0

@@ -57,7 +57,7 @@ impl Queue {
         self.held.clear();
     }
 
-    /// Appends a number, or answers `Full` and changes nothing, exactly where the queue holds as many as its limit.
+    /// Appends a number. Answers `Full`, and changes nothing, exactly where the queue holds as many as its limit.
     pub fn push(&mut self, entry: u64) -> Result<(), Full>
         ensures ok { OnOk result (self.new ≡ record self.old { items = self.old.items ++ entry ∷ [] }) }
         ensures fits { OnOk result (length self.old.items < self.old.limit) }

@@ -155,7 +155,7 @@ impl Space {
         }
     }
 
-    /// Appends the bytes, or answers `Full` and changes nothing, exactly where they would pass the limit.
+    /// Appends the bytes. Answers `Full`, and changes nothing, exactly where they would pass the limit.
     pub fn append(&mut self, bytes: &[u8]) -> Result<(), Full>
         ensures ok { OnOk result (self.new ≡ record self.old { bytes = self.old.bytes ++ bytes.now }) }
         ensures fits { OnOk result (length self.old.bytes + length bytes.now ≤ self.old.limit) }
@@ -204,7 +204,7 @@ impl Space {
         Ok(())
     }
 
-    /// Appends a newline and the bytes, as the commands `G`, `H` and `N` do; or answers `Full` and changes nothing, exactly
+    /// Appends a newline and the bytes, as the commands `G`, `H` and `N` do. Answers `Full`, and changes nothing, exactly
     /// where they would pass the limit.
     pub fn append_line(&mut self, bytes: &[u8]) -> Result<(), Full>
         ensures ok { OnOk result (self.new ≡ record self.old { bytes = self.old.bytes ++ 10 ∷ bytes.now }) }
@@ -221,7 +221,7 @@ impl Space {
         }
     }
 
-    /// Replaces the contents by the bytes, or answers `Full` and changes nothing, exactly where these are more than the
+    /// Replaces the contents by the bytes. Answers `Full`, and changes nothing, exactly where these are more than the
     /// limit.
     pub fn set(&mut self, bytes: &[u8]) -> Result<(), Full>
         ensures ok { OnOk result (self.new ≡ record self.old { bytes = bytes.now }) }

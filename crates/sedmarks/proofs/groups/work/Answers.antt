@@ -3,7 +3,7 @@ use Rattle.std.specs.Prelude.{slice_get}
 use Rattle.std.proofs.lemmas.List.{length-reverse}
 use Rattle.sedre.specs.Tree.{size}
 use Rattle.sedre.specs.Arena.{tree_at}
-use Rattle.sedmarks.specs.Work.{weights, inners, wholes, AreMatched, tasks_of, forgets_of}
+use Rattle.sedmarks.specs.Work.{weights, inner_due, wholes, AreMatched, tasks_of, forgets_of}
 use Rattle.sedmarks.specs.declared.scratch.Task.TheVariants.{Enter}
 use Rattle.sedmarks.proofs.WorkLemmas.{enter_cost, length-weights, size-pos}
 use Rattle.sedmarks.proofs.groups.work.Goals as goal
@@ -27,7 +27,7 @@ returns-in-Enter-clause-cost c =
     let new = reverse c.put_split.new.tasks.items in
     let ready : AreMatched nodes w (Enter c.in-Enter.x c.in-Enter.start c.in-Enter.stop ∷ rest) = subst (λ t. AreMatched nodes w (t ∷ rest)) c.in-Enter.is c.requires.ready in
     let is : slice_get nodes c.in-Enter.x ≡ Some c.look-node.result = cc in
-    let paid = subst (λ t. c.forget_first.new.steps + (k + m) * inners nodes new + 3 * wholes nodes new ≤ c.args.steps.now + (k + m) * inners nodes (t ∷ rest) + 3 * wholes nodes (t ∷ rest))
+    let paid = subst (λ t. c.forget_first.new.steps + (k + m) * inner_due nodes new + 3 * wholes nodes new ≤ c.args.steps.now + (k + m) * inner_due nodes (t ∷ rest) + 3 * wholes nodes (t ∷ rest))
     (sym c.in-Enter.is)
     (enter_cost nodes w c.look-node.ensures.arena c.in-Enter.x c.in-Enter.start c.in-Enter.stop c.look-node.result is k m c.args.steps.now c.look-node.new.steps c.split_node-parts.new.steps c.forget_first.new.steps
     (forgets_of c.split_node-parts.result) (tasks_of c.split_node-parts.result) new rest c.put_split.ensures.items c.split_node-parts.ensures.step

@@ -1,12 +1,10 @@
-use Rattle.std.proofs.Common.{sym, subst}
-use Rattle.sedmatch.specs.Between.{ClearTo}
-use Rattle.sedmatch.proofs.BetweenLemmas.{clear_none, clear_some}
+use Rattle.sedmatch.proofs.BetweenLemmas.{clear_paid, clear_told}
 use Rattle.sedmatch.proofs.between.clear_end.Goals as goal
 
-pub returns-in-None-clause-clear : goal.returns-in-None-clause-clear
-returns-in-None-clause-clear c =
-    subst (λ v. ClearTo c.args.few.now c.args.text.now c.args.from v) (sym c.len.ensures.is)
-    (clear_none c.args.few.now c.args.text.now c.args.from c.requires.from c.in-None.ensures.first)
+pub returns-clause-clear : goal.returns-clause-clear
+returns-clause-clear c =
+    clear_told c.args.few.now c.args.text.now c.args.from _ _ c.find_few.result c.unwrap_or.ensures c.len.ensures.is c.requires.from c.find_few.ensures.first
 
-pub returns-in-Some-clause-clear : goal.returns-in-Some-clause-clear
-returns-in-Some-clause-clear c = clear_some c.args.few.now c.args.text.now c.args.from c.in-Some.place c.in-Some.ensures.first
+pub returns-clause-cost : goal.returns-clause-cost
+returns-clause-cost c =
+    clear_paid c.args.few.now c.args.text.now _ _ c.args.from _ _ c.find_few.result c.unwrap_or.ensures c.len.ensures.is c.requires.from c.find_few.ensures.first c.find_few.ensures.cost

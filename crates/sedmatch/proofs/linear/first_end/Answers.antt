@@ -32,8 +32,8 @@ loop-next-init c =
 
 pub returns-in-Full-clause-cost : goal.returns-in-Full-clause-cost
 returns-in-Full-clause-cost c =
-    let paid = line_rest (length c.args.expr.now.nodes) (38 * length c.args.expr.now.nodes) (40 * length c.args.expr.now.nodes) (ended_to (length c.args.text.now) c.first_end_on.result) c.args.from c.loop-next.place c.args.steps.now c.loop-next.steps c.first_end_on.new.steps (omega arith)
-    c.first_end_on.ensures.after c.loop-next.invariant.cost c.first_end_on.ensures.cost.1 in
+    let paid = line_rest (length c.args.expr.now.nodes) (38 * length c.args.expr.now.nodes) (40 * length c.args.expr.now.nodes) (ended_to (length c.args.text.now) c.first_end_by_marks.result) c.args.from c.loop-next.place c.args.steps.now c.loop-next.steps c.first_end_by_marks.new.steps (omega arith)
+    c.first_end_by_marks.ensures.after c.loop-next.invariant.cost c.first_end_by_marks.ensures.cost.1 in
     (omega arith, omega (arith, paid))
 
 pub returns-then-place-len-clause-first : goal.returns-then-place-len-clause-first

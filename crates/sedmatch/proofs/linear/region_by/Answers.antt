@@ -14,15 +14,15 @@ returns-then-last-len-clause-region c =
           (λ i k is_whole lo hi at. closed_end nodes w c.args.root c.requires.root.0 last last i k (omega arith) (omega arith) hi at),
     )
 
-pub bound_in-bound-requires-clause-at : goal.bound_in-bound-requires-clause-at
-bound_in-bound-requires-clause-at c =
+pub region_bound-bound-requires-clause-at : goal.region_bound-bound-requires-clause-at
+region_bound-bound-requires-clause-at c =
     restart_at c.args.expr.now.nodes c.args.text.now c.args.root c.args.start c.args.first.place c.args.sets.now.entered c.args.first.ends (omega arith) (c.requires.first.3 (omega arith))
 
 pub returns-clause-region : goal.returns-clause-region
 returns-clause-region c =
-    let b = c.bound_in-bound.ensures.bound in (
+    let b = c.region_bound-bound.ensures.bound in (
       refl,
       refl,
-      region_closed c.args.expr.now.nodes c.args.text.now c.args.root c.requires.root.0 true c.args.start c.args.first.place (length c.args.text.now) c.bound_in-bound.result refl b.0 b.1 c.requires.first.2
+      region_closed c.args.expr.now.nodes c.args.text.now c.args.root c.requires.root.0 true c.args.start c.args.first.place (length c.args.text.now) c.region_bound-bound.result refl b.0 b.1 c.requires.first.2
           (λ i k is_whole lo hi at. b.2 i k lo hi at),
     )

@@ -2,7 +2,7 @@ use Rattle.std.proofs.Common.{◌+◌, ◌*◌, ◌≤◌, length}
 use Rattle.sedre.specs.Arena.{tree}
 use Rattle.sedmarks.specs.Reach.{TellEntered}
 use Rattle.sedmarks.specs.Search.{LastEnd}
-use Rattle.sedmatch.proofs.linear.last_on.Given as goal
+use Rattle.sedmatch.proofs.linear.last_by_marks.Given as goal
 
 abbrev pub invariant-loop-at : goal.invariant-loop-at
 invariant-loop-at l = record {

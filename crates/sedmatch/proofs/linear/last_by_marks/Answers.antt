@@ -5,7 +5,7 @@ use Rattle.sedmarks.specs.Reach.{TellBegun, SomeSpan}
 use Rattle.sedmarks.specs.Search.{LastEnd}
 use Rattle.sedmatch.specs.Tables.{starts_from}
 use Rattle.sedmarks.proofs.SearchLemmas.{next_entered}
-use Rattle.sedmatch.proofs.linear.last_on.Goals as goal
+use Rattle.sedmatch.proofs.linear.last_by_marks.Goals as goal
 
 pub later-best-requires-clause-tells : goal.later-best-requires-clause-tells
 later-best-requires-clause-tells c =

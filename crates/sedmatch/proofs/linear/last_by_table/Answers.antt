@@ -11,7 +11,7 @@ use Rattle.sedmarks.proofs.MarkLemmas.{default_same}
 use Rattle.sedmatch.proofs.FollowLemmas.{next_map, starts_are, look_most}
 use Rattle.sedmarks.proofs.RegionLemmas.{LastEnd-none, LastEnd-hit}
 use Rattle.sedmatch.proofs.LinearLemmas.{line_step, line_end, line_rest, last_passed}
-use Rattle.sedmatch.proofs.linear.last_by.Goals as goal
+use Rattle.sedmatch.proofs.linear.last_by_table.Goals as goal
 
 pub loop-next-init : goal.loop-next-init
 loop-next-init c =
@@ -32,8 +32,8 @@ loop-next-init c =
 
 pub returns-in-Full-clause-cost : goal.returns-in-Full-clause-cost
 returns-in-Full-clause-cost c =
-    let paid = line_rest (length c.args.nodes.now.nodes) (38 * length c.args.nodes.now.nodes) (38 * length c.args.nodes.now.nodes) c.args.stop c.args.first c.loop-next.place c.args.steps.now c.loop-next.steps c.last_on.new.steps (omega arith)
-    c.loop-next.invariant.within c.loop-next.invariant.cost c.last_on.ensures.cost.1 in
+    let paid = line_rest (length c.args.nodes.now.nodes) (38 * length c.args.nodes.now.nodes) (38 * length c.args.nodes.now.nodes) c.args.stop c.args.first c.loop-next.place c.args.steps.now c.loop-next.steps c.last_by_marks.new.steps (omega arith)
+    c.loop-next.invariant.within c.loop-next.invariant.cost c.last_by_marks.ensures.cost.1 in
     (omega arith, omega (arith, paid))
 
 pub later-best-requires-clause-tells : goal.later-best-requires-clause-tells

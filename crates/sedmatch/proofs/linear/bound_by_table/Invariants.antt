@@ -2,7 +2,7 @@ use Rattle.std.proofs.Common.{◌≡◌, ◌+◌, ◌-◌, ◌*◌, ◌≤◌, f
 use Rattle.sedmarks.specs.States.{IsAt}
 use Rattle.sedmarks.specs.Search.{starts_to}
 use Rattle.sedmatch.specs.Tables.{IsTable, NextIs}
-use Rattle.sedmatch.proofs.linear.bound_by.Given as goal
+use Rattle.sedmatch.proofs.linear.bound_by_table.Given as goal
 
 abbrev pub invariant-loop-next : goal.invariant-loop-next
 invariant-loop-next l = record {

@@ -5,7 +5,7 @@ use Rattle.sedmatch.specs.Tables.{starts_from}
 use Rattle.sedmarks.proofs.SearchLemmas.{next_entered}
 use Rattle.sedmatch.proofs.FollowLemmas.{pass_one}
 use Rattle.sedmatch.proofs.LinearLemmas.{told_at}
-use Rattle.sedmatch.proofs.linear.first_end_on.Goals as goal
+use Rattle.sedmatch.proofs.linear.first_end_by_marks.Goals as goal
 
 pub returns-then-place-len-clause-first : goal.returns-then-place-len-clause-first
 returns-then-place-len-clause-first c =

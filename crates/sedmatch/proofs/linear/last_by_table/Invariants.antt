@@ -3,7 +3,7 @@ use Rattle.sedre.specs.Arena.{tree}
 use Rattle.sedmarks.specs.States.{IsAt}
 use Rattle.sedmarks.specs.Search.{LastEnd}
 use Rattle.sedmatch.specs.Tables.{IsTable, NextIs, starts_from}
-use Rattle.sedmatch.proofs.linear.last_by.Given as goal
+use Rattle.sedmatch.proofs.linear.last_by_table.Given as goal
 
 abbrev pub invariant-loop-next : goal.invariant-loop-next
 invariant-loop-next l = record {

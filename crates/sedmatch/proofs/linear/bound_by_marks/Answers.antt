@@ -3,7 +3,7 @@ use Rattle.std.proofs.lemmas.Bool.{not-true}
 use Rattle.sedmarks.specs.Search.{starts_to}
 use Rattle.sedmarks.proofs.SearchLemmas.{next_entered}
 use Rattle.sedmatch.proofs.LinearLemmas.{bound_closed, bound_end}
-use Rattle.sedmatch.proofs.linear.bound_on.Goals as goal
+use Rattle.sedmatch.proofs.linear.bound_by_marks.Goals as goal
 
 pub returns-then-place-len-clause-bound : goal.returns-then-place-len-clause-bound
 returns-then-place-len-clause-bound c = bound_end c.args.expr.now.nodes c.args.text.now c.args.root c.args.start c.args.last c.requires.root.0 c.args.place (omega arith) c.requires.order.1

@@ -8,7 +8,7 @@ use Rattle.sedmarks.specs.Words.{row_of}
 use Rattle.sedmarks.proofs.MarkLemmas.{default_same}
 use Rattle.sedmatch.proofs.FollowLemmas.{next_map, look_most}
 use Rattle.sedmatch.proofs.LinearLemmas.{line_step, line_end, line_rest, to_are, bound_closed, bound_end}
-use Rattle.sedmatch.proofs.linear.bound_by.Goals as goal
+use Rattle.sedmatch.proofs.linear.bound_by_table.Goals as goal
 
 pub loop-next-init : goal.loop-next-init
 loop-next-init c = record {
@@ -23,8 +23,8 @@ loop-next-init c = record {
 
 pub returns-in-Full-clause-cost : goal.returns-in-Full-clause-cost
 returns-in-Full-clause-cost c =
-    let paid = line_rest (length c.args.expr.now.nodes) (6 * length c.args.expr.now.nodes) (6 * length c.args.expr.now.nodes) c.bound_on.result c.args.last c.loop-next.place c.args.steps.now c.loop-next.steps c.bound_on.new.steps (omega arith)
-    c.bound_on.ensures.after c.loop-next.invariant.cost c.bound_on.ensures.cost.1 in
+    let paid = line_rest (length c.args.expr.now.nodes) (6 * length c.args.expr.now.nodes) (6 * length c.args.expr.now.nodes) c.bound_by_marks.result c.args.last c.loop-next.place c.args.steps.now c.loop-next.steps c.bound_by_marks.new.steps (omega arith)
+    c.bound_by_marks.ensures.after c.loop-next.invariant.cost c.bound_by_marks.ensures.cost.1 in
     (omega arith, omega (arith, paid))
 
 pub returns-then-place-len-clause-bound : goal.returns-then-place-len-clause-bound
