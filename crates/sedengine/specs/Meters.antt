@@ -1,6 +1,6 @@
 -- Private to the proofs: no contract of a public item cites what stands here.
 -- The sinks as its calls write to them, each counted where a limit is set.
-use Rattle.std.specs.Prelude.{◌≡◌, ℕ, ◌+◌, ◌≤◌, Option, Some, None, Result, Ok, Err, List, length, get_or}
+use Rattle.std.specs.Prelude.{◌≡◌, ℕ, ◌+◌, ◌≤◌, Option, Some, None, Result, Err, List, length, get_or}
 use Rattle.std.specs.List.{All}
 use Rattle.std.specs.Borrow.{GName}
 use Rattle.sedengine.specs.Devices.{part, Gained}

@@ -1,10 +1,10 @@
 -- What contracts see of a reader of lines.
-use Rattle.std.specs.Prelude.{◌≡◌, ℕ, ◌<◌, ◌≤◌, ◌⊎◌, ◌↔◌, IsTrue, Bool, List, [], ◌∷◌, ◌++◌, length, Option, None, Some, IfSome, Result, Ok, Err, ⊤}
+use Rattle.std.specs.Prelude.{◌≡◌, ℕ, ◌<◌, ◌≤◌, ◌⊎◌, ◌↔◌, IsTrue, Bool, List, [], ◌∷◌, ◌++◌, length, Option, None, Some, IfSome, Result, Err, ⊤}
 use Rattle.std.specs.Option.{option_map}
 use Rattle.std.specs.Result.{result_err}
 use Rattle.std.specs.Io.KnownBytes.{prepend_known}
 use Rattle.sedspace.specs.declared.errors.LineFault.{LineFault}
-use Rattle.sedspace.specs.declared.errors.LineFault.TheVariants.{Broken, TooLong}
+use Rattle.sedspace.specs.declared.errors.LineFault.TheVariants.{Broken}
 use Rattle.sedspace.specs.Failures.{Rises}
 use Rattle.sedspace.specs.Lines.{lines, HasNoNewline}
 
