@@ -1,6 +1,6 @@
 -- A literal, bytes that aren't few others, and another literal.
 use Rattle.std.proofs.Common.{◌≡◌, ℕ, zero, suc, ◌+◌, ◌-◌, ◌<◌, ◌≤◌, ◌↔◌, Bool, true, false, List, length, Option, Some, None, refl, sym, subst, ◌∙◌, ⊎_elim, true≢false, arith}
-use Rattle.std.specs.Prelude.{slice_get, slice_index, slice_index_or, is_some, min, unwrap_or}
+use Rattle.std.specs.Prelude.{slice_get, slice_index, slice_index_or, is_some, min, not, unwrap_or, IsTrue}
 use Rattle.std.proofs.lemmas.Bool.{cases_lt}
 use Rattle.std.proofs.lemmas.Option.{slice_get-get_or}
 use Rattle.memchr.specs.Find.{OccursAt}
@@ -70,6 +70,11 @@ clear_told few w p k n (Some place) is end within first = subst (λ v. ClearTo f
 pub clear_paid : (few : Few) (w : List ℕ) (s t p k n : ℕ) (r : Option ℕ) → k ≡ unwrap_or r n → n ≡ length w → p ≤ length w → FirstFew few w p r → Takes s t (looked_at (length w) p r) → Pays s t (k + 1) p
 clear_paid few w s t p k n None is end within first took = (took.0, (let most = took.1 in omega (arith, is, end, within, most)))
 clear_paid few w s t p k n (Some place) is end within first took = (took.0, (let most = took.1 in let low = first.0 in omega (arith, is, low, most)))
+
+pub lacks_told : (literal w : List ℕ) (p : ℕ) (r : Option ℕ) (none : Bool) → is_some r ≡ not none → FirstLiteral w literal p r → IsTrue none → FirstLiteral w literal p None
+lacks_told literal w p None none is first told = first
+lacks_told literal w p (Some k) true is first told = absurd (true≢false is)
+lacks_told literal w p (Some k) false is first told = absurd cc
 
 -- a literal that ends by a bound stands up to a place
 pub tail_last : (literal w : List ℕ) (p q end : ℕ) (r : Option ℕ) → end ≡ min (length w) (q + length literal) → LastLiteral w literal p end r → LastTail literal w p q r

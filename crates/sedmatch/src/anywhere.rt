@@ -129,9 +129,7 @@ fn span_from(
     ensures none_cost { let m = length expr.now.nodes in let n = length text.now in
         IfNone result (steps.new + 42 * m * start ≤ steps.old + 40 * m + 42 * m * n) }
 {
-    let Some(first) = first_end_forwards(expr, root, text, start, &mut tables.every, sets, steps) else {
-        return None;
-    };
+    let first = first_end_forwards(expr, root, text, start, &mut tables.every, sets, steps)?;
     let region = region_by(
         expr,
         root,
