@@ -5,10 +5,10 @@
 #![tactic(auto)]
 
 mod closed;
-mod output;
 mod devices;
 mod inputs;
 mod names;
+mod output;
 mod sinks;
 mod standard;
 
