@@ -1,4 +1,4 @@
--- The items of a list, and how the reader meets them.
+-- The elements of a list, and how the reader meets them.
 use Rattle.std.proofs.Common.{◌≡◌, ℕ, ◌+◌, ◌-◌, ◌<◌, ◌≤◌, List, [], ◌∷◌, length, take, drop, refl, sym, ap, ◌∙◌, arith, Some, None, option_map, add-one, length-drop, length-take-le}
 use Rattle.std.proofs.lemmas.List.{take_all}
 use Rattle.sedre.specs.declared.elements.Element.{Element}

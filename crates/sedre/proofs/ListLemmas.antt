@@ -1,4 +1,4 @@
--- The items of a list, as the reader meets them: an item or a range, and the rest.
+-- The elements of a list, as the reader meets them: an element or a range, and the rest.
 use Rattle.std.proofs.Common.{◌≡◌, ℕ, zero, suc, ◌+◌, ◌-◌, ◌<◌, ◌≤◌, ◌==◌, eq-eqb, Bool, true, false, not, ◌||◌, ◌&&◌, List, [], ◌∷◌, length, drop, get_or, refl, sym, ap, subst, ◌∙◌, arith, Option, Some, None, Result, Ok, Err, if◌then◌else◌, length-drop, ⊎_elim, inl, inr, ◌⊎◌}
 use Rattle.std.proofs.lemmas.Bool.{eqb-true}
 use Rattle.std.proofs.lemmas.List.{drop-drop, get_or-drop}
@@ -12,19 +12,19 @@ use Rattle.sedre.specs.declared.elements.Element.TheVariants.{Plain, Delimiter, 
 use Rattle.sedre.specs.declared.types.ExprFault.{ExprFault}
 use Rattle.sedre.specs.declared.byte_set.ByteSet.{ByteSet}
 use Rattle.sedre.specs.Sets.{has, union, no_byte}
-use Rattle.sedre.specs.Brackets.{content, form, form_of, of_class, of_one, item, items, items_from, is_dash, goes_on, single, range, both, listed, judged, is_negated, is_delimiter, ListedBytes, list_at, list_end}
-use Rattle.sedre.specs.ListReading.{is_range, located, members_at, items_start, is_closing}
+use Rattle.sedre.specs.Brackets.{content, form, form_of, of_class, of_one, element, elements, elements_from, is_dash, goes_on, single, range, both, listed, judged, is_negated, is_delimiter, ListedBytes, list_at, list_end}
+use Rattle.sedre.specs.ListReading.{is_range, located, members_at, elements_start, is_closing}
 
--- the items from a place on, and where the list ends
-abbrev pub Items : Type 0
-Items = List (ℕ × Element) × Option ℕ
+-- the elements from a place on, and where the list ends
+abbrev pub Elements : Type 0
+Elements = List (ℕ × Element) × Option ℕ
 
--- ---- bytes that belong to the item before
+-- ---- bytes that belong to the element before
 
-skipped : (d : Option ℕ) (first : Bool) (k place : ℕ) (bs : List ℕ) → items d first k place bs ≡ items d first 0 (place + k) (drop k bs)
-skipped d first zero place bs = ap (λ p. items d first 0 p bs) (let e : place ≡ place + 0 = omega arith in e)
+skipped : (d : Option ℕ) (first : Bool) (k place : ℕ) (bs : List ℕ) → elements d first k place bs ≡ elements d first 0 (place + k) (drop k bs)
+skipped d first zero place bs = ap (λ p. elements d first 0 p bs) (let e : place ≡ place + 0 = omega arith in e)
 skipped d first (suc k) place [] = refl
-skipped d first (suc k) place (b ∷ bs) = skipped d first k (place + 1) bs ∙ ap (λ p. items d first 0 p (drop k bs)) (let e : place + 1 + k ≡ place + suc k = omega arith in e)
+skipped d first (suc k) place (b ∷ bs) = skipped d first k (place + 1) bs ∙ ap (λ p. elements d first 0 p (drop k bs)) (let e : place + 1 + k ≡ place + suc k = omega arith in e)
 
 -- what holds of both values of a choice holds of the one chosen
 width_of_choice : (t : Bool) (x y : Element × ℕ) → 0 < x.1 → 0 < y.1 → 0 < (if t then x else y).1
@@ -35,37 +35,37 @@ form_width : (c left : ℕ) (held : Option (List ℕ)) → 0 < left → 0 < (for
 form_width c left None some = some
 form_width c left (Some held) some = omega arith
 
-item_width : (d : Option ℕ) (b : ℕ) (bs : List ℕ) → 0 < (item d (b ∷ bs)).1
-item_width d b [] = omega arith
-item_width d b (c ∷ rest) =
+element_width : (d : Option ℕ) (b : ℕ) (bs : List ℕ) → 0 < (element d (b ∷ bs)).1
+element_width d b [] = omega arith
+element_width d b (c ∷ rest) =
     width_of_choice (b == 92 && is_delimiter d c) (Delimiter c, 2)
     (if b == 91 && (c == 58 || c == 61 || c == 46) then form c (length rest + 2) (content c rest) else (Plain b, 1)) (omega arith)
     (width_of_choice (b == 91 && (c == 58 || c == 61 || c == 46)) (form c (length rest + 2) (content c rest)) (Plain b, 1) (form_width c (length rest + 2) (content c rest) (omega arith)) (omega arith))
 
-skipped_item : (d : Option ℕ) (place width b : ℕ) (bs : List ℕ) → 0 < width → items d false (width - 1) (place + 1) bs ≡ items d false 0 (place + width) (drop width (b ∷ bs))
-skipped_item d place zero b bs some = absurd (omega arith)
-skipped_item d place (suc k) b bs some =
-    ap (λ n. items d false n (place + 1) bs) (let e : suc k - 1 ≡ k = omega arith in e)
+skipped_element : (d : Option ℕ) (place width b : ℕ) (bs : List ℕ) → 0 < width → elements d false (width - 1) (place + 1) bs ≡ elements d false 0 (place + width) (drop width (b ∷ bs))
+skipped_element d place zero b bs some = absurd (omega arith)
+skipped_element d place (suc k) b bs some =
+    ap (λ n. elements d false n (place + 1) bs) (let e : suc k - 1 ≡ k = omega arith in e)
     ∙ skipped d false k (place + 1) bs
-    ∙ ap (λ p. items d false 0 p (drop k bs)) (let e : place + 1 + k ≡ place + suc k = omega arith in e)
+    ∙ ap (λ p. elements d false 0 p (drop k bs)) (let e : place + 1 + k ≡ place + suc k = omega arith in e)
 
--- an item before others
-abbrev pub OneMore : ℕ → Element → Items → Items
+-- an element before others
+abbrev pub OneMore : ℕ → Element → Elements → Elements
 OneMore place e rest = ((place, e) ∷ rest.0, rest.1)
 
 opened : (d : Option ℕ) (first : Bool) (place b : ℕ) (bs : List ℕ) → (b == 93 && not first) ≡ false →
-    items d first 0 place (b ∷ bs) ≡ OneMore place (item d (b ∷ bs)).0 (items d false 0 (place + (item d (b ∷ bs)).1) (drop (item d (b ∷ bs)).1 (b ∷ bs)))
+    elements d first 0 place (b ∷ bs) ≡ OneMore place (element d (b ∷ bs)).0 (elements d false 0 (place + (element d (b ∷ bs)).1) (drop (element d (b ∷ bs)).1 (b ∷ bs)))
 opened d first place b bs isnt =
-    let found : Element × ℕ = item d (b ∷ bs) in
-    ap (λ (t : Bool). if t then ([], Some (place + 1)) else OneMore place found.0 (items d false (found.1 - 1) (place + 1) bs)) isnt
-    ∙ ap (OneMore place found.0) (skipped_item d place found.1 b bs (item_width d b bs))
+    let found : Element × ℕ = element d (b ∷ bs) in
+    ap (λ (t : Bool). if t then ([], Some (place + 1)) else OneMore place found.0 (elements d false (found.1 - 1) (place + 1) bs)) isnt
+    ∙ ap (OneMore place found.0) (skipped_element d place found.1 b bs (element_width d b bs))
 
-closed : (d : Option ℕ) (first : Bool) (place b : ℕ) (bs : List ℕ) → (b == 93 && not first) ≡ true → items d first 0 place (b ∷ bs) ≡ ([], Some (place + 1))
+closed : (d : Option ℕ) (first : Bool) (place b : ℕ) (bs : List ℕ) → (b == 93 && not first) ≡ true → elements d first 0 place (b ∷ bs) ≡ ([], Some (place + 1))
 closed d first place b bs is =
-    let found : Element × ℕ = item d (b ∷ bs) in
-    ap (λ (t : Bool). if t then ([], Some (place + 1)) else OneMore place found.0 (items d false (found.1 - 1) (place + 1) bs)) is
+    let found : Element × ℕ = element d (b ∷ bs) in
+    ap (λ (t : Bool). if t then ([], Some (place + 1)) else OneMore place found.0 (elements d false (found.1 - 1) (place + 1) bs)) is
 
--- ---- a - with another item after it
+-- ---- a - with another element after it
 
 dash_of_choice : (t : Bool) (x y : Element × ℕ) → is_dash x.0 ≡ false → is_dash y.0 ≡ false → is_dash (if t then x else y).0 ≡ false
 dash_of_choice true x y hx hy = hx
@@ -93,10 +93,10 @@ form_dash : (c left : ℕ) (held : Option (List ℕ)) → is_dash (form c left h
 form_dash c left None = refl
 form_dash c left (Some held) = form_of_dash c held
 
--- no item but a - by itself is one
-item_dash : (d : Option ℕ) (b : ℕ) (bs : List ℕ) → (b == 45) ≡ false → is_dash (item d (b ∷ bs)).0 ≡ false
-item_dash d b [] isnt = isnt
-item_dash d b (c ∷ rest) isnt =
+-- no element but a - by itself is one
+element_dash : (d : Option ℕ) (b : ℕ) (bs : List ℕ) → (b == 45) ≡ false → is_dash (element d (b ∷ bs)).0 ≡ false
+element_dash d b [] isnt = isnt
+element_dash d b (c ∷ rest) isnt =
     dash_of_choice (b == 92 && is_delimiter d c) (Delimiter c, 2)
     (if b == 91 && (c == 58 || c == 61 || c == 46) then form c (length rest + 2) (content c rest) else (Plain b, 1)) refl
     (dash_of_choice (b == 91 && (c == 58 || c == 61 || c == 46)) (form c (length rest + 2) (content c rest)) (Plain b, 1) (form_dash c (length rest + 2) (content c rest)) isnt)
@@ -109,33 +109,33 @@ decided : (t : Bool) → (t ≡ true) ⊎ (t ≡ false)
 decided true = inl refl
 decided false = inr refl
 
-goes_on-dash : (d : Option ℕ) (place c : ℕ) (rest : List ℕ) (t : Bool) → (c == 93) ≡ t → goes_on (items d false 0 place (45 ∷ c ∷ rest)).0 ≡ not t
+goes_on-dash : (d : Option ℕ) (place c : ℕ) (rest : List ℕ) (t : Bool) → (c == 93) ≡ t → goes_on (elements d false 0 place (45 ∷ c ∷ rest)).0 ≡ not t
 goes_on-dash d place c rest true is =
-    ap (λ (all : Items). goes_on all.0) (opened d false place 45 (c ∷ rest) refl)
-    ∙ ap (λ (all : Items). goes_on ((place, Plain 45) ∷ all.0)) (closed d false (place + 1) c rest (ap (λ t. t && true) is))
+    ap (λ (all : Elements). goes_on all.0) (opened d false place 45 (c ∷ rest) refl)
+    ∙ ap (λ (all : Elements). goes_on ((place, Plain 45) ∷ all.0)) (closed d false (place + 1) c rest (ap (λ t. t && true) is))
 goes_on-dash d place c rest false is =
-    ap (λ (all : Items). goes_on all.0) (opened d false place 45 (c ∷ rest) refl)
-    ∙ ap (λ (all : Items). goes_on ((place, Plain 45) ∷ all.0)) (opened d false (place + 1) c rest (ap (λ t. t && true) is))
+    ap (λ (all : Elements). goes_on all.0) (opened d false place 45 (c ∷ rest) refl)
+    ∙ ap (λ (all : Elements). goes_on ((place, Plain 45) ∷ all.0)) (opened d false (place + 1) c rest (ap (λ t. t && true) is))
 
-goes_on-other : (d : Option ℕ) (place b : ℕ) (bs : List ℕ) (t : Bool) → (b == 93) ≡ t → (b == 45) ≡ false → goes_on (items d false 0 place (b ∷ bs)).0 ≡ false
-goes_on-other d place b bs true is isnt = ap (λ (all : Items). goes_on all.0) (closed d false place b bs (ap (λ t. t && true) is))
+goes_on-other : (d : Option ℕ) (place b : ℕ) (bs : List ℕ) (t : Bool) → (b == 93) ≡ t → (b == 45) ≡ false → goes_on (elements d false 0 place (b ∷ bs)).0 ≡ false
+goes_on-other d place b bs true is isnt = ap (λ (all : Elements). goes_on all.0) (closed d false place b bs (ap (λ t. t && true) is))
 goes_on-other d place b bs false is isnt =
-    ap (λ (all : Items). goes_on all.0) (opened d false place b bs (ap (λ t. t && true) is))
-    ∙ no_dash (place, (item d (b ∷ bs)).0) (items d false 0 (place + (item d (b ∷ bs)).1) (drop (item d (b ∷ bs)).1 (b ∷ bs))).0 (item_dash d b bs isnt)
+    ap (λ (all : Elements). goes_on all.0) (opened d false place b bs (ap (λ t. t && true) is))
+    ∙ no_dash (place, (element d (b ∷ bs)).0) (elements d false 0 (place + (element d (b ∷ bs)).1) (drop (element d (b ∷ bs)).1 (b ∷ bs))).0 (element_dash d b bs isnt)
 
-goes_on-last : (d : Option ℕ) (place b : ℕ) (t : Bool) → (b == 93) ≡ t → goes_on (items d false 0 place (b ∷ [])).0 ≡ false
-goes_on-last d place b true is = ap (λ (all : Items). goes_on all.0) (closed d false place b [] (ap (λ t. t && true) is))
-goes_on-last d place b false is = ap (λ (all : Items). goes_on all.0) (opened d false place b [] (ap (λ t. t && true) is))
+goes_on-last : (d : Option ℕ) (place b : ℕ) (t : Bool) → (b == 93) ≡ t → goes_on (elements d false 0 place (b ∷ [])).0 ≡ false
+goes_on-last d place b true is = ap (λ (all : Elements). goes_on all.0) (closed d false place b [] (ap (λ t. t && true) is))
+goes_on-last d place b false is = ap (λ (all : Elements). goes_on all.0) (opened d false place b [] (ap (λ t. t && true) is))
 
-pub goes_on-items : (d : Option ℕ) (place : ℕ) (bs : List ℕ) → goes_on (items d false 0 place bs).0 ≡ is_range bs
-goes_on-items d place [] = refl
-goes_on-items d place (b ∷ []) = goes_on-last d place b (b == 93) refl
-goes_on-items d place (b ∷ c ∷ rest) = elim (eqb_tells b 45) [
-  | inl w ↦ subst (λ x. goes_on (items d false 0 place (x ∷ c ∷ rest)).0 ≡ is_range (x ∷ c ∷ rest)) (sym w.1) (goes_on-dash d place c rest (c == 93) refl)
+pub goes_on-elements : (d : Option ℕ) (place : ℕ) (bs : List ℕ) → goes_on (elements d false 0 place bs).0 ≡ is_range bs
+goes_on-elements d place [] = refl
+goes_on-elements d place (b ∷ []) = goes_on-last d place b (b == 93) refl
+goes_on-elements d place (b ∷ c ∷ rest) = elim (eqb_tells b 45) [
+  | inl w ↦ subst (λ x. goes_on (elements d false 0 place (x ∷ c ∷ rest)).0 ≡ is_range (x ∷ c ∷ rest)) (sym w.1) (goes_on-dash d place c rest (c == 93) refl)
   | inr w ↦ goes_on-other d place b (c ∷ rest) (b == 93) refl w.0 ∙ sym (ap (λ t. t && not (c == 93)) w.0)
 ]
 
--- ---- one item, or one range, and the rest
+-- ---- one element, or one range, and the rest
 
 listed_single : (x : ℕ × Element) (rest : List (ℕ × Element)) → goes_on rest ≡ false → listed (x ∷ rest) ≡ both (single x) (listed rest)
 listed_single x [] isnt = refl
@@ -144,7 +144,7 @@ listed_single x (y ∷ z ∷ rest) isnt =
     ap (λ (t : Bool). if t then both (range x z (goes_on rest)) (listed rest) else both (single x) (listed (y ∷ z ∷ rest))) isnt
 
 -- the bytes read so far, with what is listed from a place on
-abbrev pub go_on : Bool → Bool → ℕ → List Bool → Items → Result (ByteSet × ℕ) ExprFault
+abbrev pub go_on : Bool → Bool → ℕ → List Bool → Elements → Result (ByteSet × ℕ) ExprFault
 go_on folded negated at set all = judged folded negated at (both (Ok set) (listed all.0)) all.1
 
 or_assoc : (a b c : Bool) → (a || (b || c)) ≡ ((a || b) || c)
@@ -160,37 +160,37 @@ union_assoc a b c =
     set_of-same (λ k. has a k || has (union b c) k) (λ k. has (union a b) k || has c k)
     (λ k lt. ap (λ x. has a k || x) (has-set_of (λ m. has b m || has c m) k lt) ∙ or_assoc (has a k) (has b k) (has c k) ∙ sym (ap (λ x. x || has c k) (has-set_of (λ m. has a m || has b m) k lt)))
 
--- what the next item or range makes of them
+-- what the next element or range makes of them
 abbrev pub after : Option ℕ → List ℕ → Bool → Bool → ℕ → List Bool → Result (ByteSet × ℕ) ExprFault → Result (ByteSet × ℕ) ExprFault
 after d text folded negated at set (Err f) = Err f
-after d text folded negated at set (Ok found) = go_on folded negated at (union set found.0) (items d false 0 found.1 (drop found.1 text))
+after d text folded negated at set (Ok found) = go_on folded negated at (union set found.0) (elements d false 0 found.1 (drop found.1 text))
 
 joined_ok : (folded negated : Bool) (at : ℕ) (set h : List Bool) (rest : ListedBytes) (end : Option ℕ) → judged folded negated at (both (Ok set) (both (Ok h) rest)) end ≡ judged folded negated at (both (Ok (union set h)) rest) end
 joined_ok folded negated at set h (Err f) end = refl
 joined_ok folded negated at set h (Ok l) end = ap (λ s. judged folded negated at (Ok s) end) (union_assoc set h l)
 
 joined : (d : Option ℕ) (text : List ℕ) (folded negated : Bool) (at next : ℕ) (set : List Bool) (here : ListedBytes) (rest : ListedBytes) (end : Option ℕ) →
-    rest ≡ listed (items d false 0 next (drop next text)).0 → end ≡ (items d false 0 next (drop next text)).1 →
+    rest ≡ listed (elements d false 0 next (drop next text)).0 → end ≡ (elements d false 0 next (drop next text)).1 →
     judged folded negated at (both (Ok set) (both here rest)) end ≡ after d text folded negated at set (located next here)
 joined d text folded negated at next set (Err f) rest end is_rest is_end = refl
 joined d text folded negated at next set (Ok h) rest end is_rest is_end =
     joined_ok folded negated at set h rest end
     ∙ ap (λ l. judged folded negated at (both (Ok (union set h)) l) end) is_rest
-    ∙ ap (judged folded negated at (both (Ok (union set h)) (listed (items d false 0 next (drop next text)).0))) is_end
+    ∙ ap (judged folded negated at (both (Ok (union set h)) (listed (elements d false 0 next (drop next text)).0))) is_end
 
 opened_front : (d : Option ℕ) (first : Bool) (place : ℕ) (bs : List ℕ) → 0 < length bs → (get_or bs 0 0 == 93 && not first) ≡ false →
-    items d first 0 place bs ≡ OneMore place (item d bs).0 (items d false 0 (place + (item d bs).1) (drop (item d bs).1 bs))
+    elements d first 0 place bs ≡ OneMore place (element d bs).0 (elements d false 0 (place + (element d bs).1) (drop (element d bs).1 bs))
 opened_front d first place [] some isnt = absurd (omega arith)
 opened_front d first place (b ∷ bs) some isnt = opened d first place b bs isnt
 
 opened_at : (d : Option ℕ) (first : Bool) (place : ℕ) (text : List ℕ) → place < length text → (get_or text place 0 == 93 && not first) ≡ false →
-    let found = item d (drop place text) in
-    items d first 0 place (drop place text) ≡ OneMore place found.0 (items d false 0 (place + found.1) (drop (place + found.1) text))
+    let found = element d (drop place text) in
+    elements d first 0 place (drop place text) ≡ OneMore place found.0 (elements d false 0 (place + found.1) (drop (place + found.1) text))
 opened_at d first place text inside isnt =
-    let found : Element × ℕ = item d (drop place text) in
+    let found : Element × ℕ = element d (drop place text) in
     let front : get_or (drop place text) 0 0 ≡ get_or text place 0 = get_or-drop place text 0 0 ∙ ap (λ k. get_or text k 0) (let e : place + 0 ≡ place = omega arith in e) in
     opened_front d first place (drop place text) (omega (arith, length-drop place text)) (ap (λ b. b == 93 && not first) front ∙ isnt)
-    ∙ ap (λ l. OneMore place found.0 (items d false 0 (place + found.1) l)) (drop-drop found.1 place text)
+    ∙ ap (λ l. OneMore place found.0 (elements d false 0 (place + found.1) l)) (drop-drop found.1 place text)
 
 and_first : (a b : Bool) → (a && b) ≡ true → a ≡ true
 and_first true b is = refl
@@ -204,62 +204,62 @@ not_true : (a : Bool) → not a ≡ true → a ≡ false
 not_true true is = cc
 not_true false is = refl
 
--- a - and a further item
+-- a - and a further element
 ranged_front : (d : Option ℕ) (place : ℕ) (bs : List ℕ) → is_range bs ≡ true →
-    let last = item d (drop 1 bs) in
-    items d false 0 place bs ≡ OneMore place (Plain 45) (OneMore (place + 1) last.0 (items d false 0 (place + 1 + last.1) (drop last.1 (drop 1 bs))))
+    let last = element d (drop 1 bs) in
+    elements d false 0 place bs ≡ OneMore place (Plain 45) (OneMore (place + 1) last.0 (elements d false 0 (place + 1 + last.1) (drop last.1 (drop 1 bs))))
 ranged_front d place [] is = cc
 ranged_front d place (b ∷ []) is = cc
 ranged_front d place (b ∷ c ∷ rest) is =
-    let last : Element × ℕ = item d (c ∷ rest) in
+    let last : Element × ℕ = element d (c ∷ rest) in
     let dash : b ≡ 45 = eqb-true b 45 (and_first (b == 45) (not (c == 93)) is) in
     let goes : (c == 93) ≡ false = not_true (c == 93) (and_second (b == 45) (not (c == 93)) is) in
-    ap (λ x. items d false 0 place (x ∷ c ∷ rest)) dash
+    ap (λ x. elements d false 0 place (x ∷ c ∷ rest)) dash
     ∙ opened d false place 45 (c ∷ rest) refl
     ∙ ap (OneMore place (Plain 45)) (opened d false (place + 1) c rest (ap (λ t. t && true) goes))
 
 ranged_at : (d : Option ℕ) (place : ℕ) (text : List ℕ) → is_range (drop place text) ≡ true →
-    let last = item d (drop (place + 1) text) in
-    items d false 0 place (drop place text) ≡ OneMore place (Plain 45) (OneMore (place + 1) last.0 (items d false 0 (place + 1 + last.1) (drop (place + 1 + last.1) text)))
+    let last = element d (drop (place + 1) text) in
+    elements d false 0 place (drop place text) ≡ OneMore place (Plain 45) (OneMore (place + 1) last.0 (elements d false 0 (place + 1 + last.1) (drop (place + 1 + last.1) text)))
 ranged_at d place text is =
     let tail : drop 1 (drop place text) ≡ drop (place + 1) text = drop-drop 1 place text in
-    let last : Element × ℕ = item d (drop (place + 1) text) in
+    let last : Element × ℕ = element d (drop (place + 1) text) in
     ranged_front d place (drop place text) is
-    ∙ ap (λ l. OneMore place (Plain 45) (OneMore (place + 1) (item d l).0 (items d false 0 (place + 1 + (item d l).1) (drop (item d l).1 l)))) tail
-    ∙ ap (λ l. OneMore place (Plain 45) (OneMore (place + 1) last.0 (items d false 0 (place + 1 + last.1) l))) (drop-drop last.1 (place + 1) text)
+    ∙ ap (λ l. OneMore place (Plain 45) (OneMore (place + 1) (element d l).0 (elements d false 0 (place + 1 + (element d l).1) (drop (element d l).1 l)))) tail
+    ∙ ap (λ l. OneMore place (Plain 45) (OneMore (place + 1) last.0 (elements d false 0 (place + 1 + last.1) l))) (drop-drop last.1 (place + 1) text)
 
 pub one_step : (d : Option ℕ) (text : List ℕ) (first folded negated : Bool) (at place : ℕ) (set : List Bool) → place < length text → (get_or text place 0 == 93 && not first) ≡ false →
-    go_on folded negated at set (items d first 0 place (drop place text)) ≡ after d text folded negated at set (members_at d text place)
+    go_on folded negated at set (elements d first 0 place (drop place text)) ≡ after d text folded negated at set (members_at d text place)
 unfolding members_at
 one_step d text first folded negated at place set inside isnt =
-    let found : Element × ℕ = item d (drop place text) in
+    let found : Element × ℕ = element d (drop place text) in
     let next : ℕ = place + found.1 in
-    let last : Element × ℕ = item d (drop (next + 1) text) in
+    let last : Element × ℕ = element d (drop (next + 1) text) in
     let end : ℕ = next + 1 + last.1 in
-    let more : Items = items d false 0 next (drop next text) in
-    let rest : Items = items d false 0 end (drop end text) in
+    let more : Elements = elements d false 0 next (drop next text) in
+    let rest : Elements = elements d false 0 end (drop end text) in
     let ranges : Bool = is_range (drop next text) in
     let on : Bool = is_range (drop end text) in
     ap (go_on folded negated at set) (opened_at d first place text inside isnt)
     ∙ ⊎_elim
     (λ (is : ranges ≡ true).
-    ap (λ (all : Items). go_on folded negated at set (OneMore place found.0 all)) (ranged_at d next text is)
-    ∙ ap (λ g. judged folded negated at (both (Ok set) (both (range (place, found.0) (next + 1, last.0) g) (listed rest.0))) rest.1) (goes_on-items d end (drop end text))
+    ap (λ (all : Elements). go_on folded negated at set (OneMore place found.0 all)) (ranged_at d next text is)
+    ∙ ap (λ g. judged folded negated at (both (Ok set) (both (range (place, found.0) (next + 1, last.0) g) (listed rest.0))) rest.1) (goes_on-elements d end (drop end text))
     ∙ joined d text folded negated at end set (range (place, found.0) (next + 1, last.0) on) (listed rest.0) rest.1 refl refl
     ∙ ap (λ (t : Bool). after d text folded negated at set (if t then located end (range (place, found.0) (next + 1, last.0) on) else located next (single (place, found.0)))) (sym is))
     (λ (is : ranges ≡ false).
-    ap (λ l. judged folded negated at (both (Ok set) l) more.1) (listed_single (place, found.0) more.0 (goes_on-items d next (drop next text) ∙ is))
+    ap (λ l. judged folded negated at (both (Ok set) l) more.1) (listed_single (place, found.0) more.0 (goes_on-elements d next (drop next text) ∙ is))
     ∙ joined d text folded negated at next set (single (place, found.0)) (listed more.0) more.1 refl refl
     ∙ ap (λ (t : Bool). after d text folded negated at set (if t then located end (range (place, found.0) (next + 1, last.0) on) else located next (single (place, found.0)))) (sym is))
     (decided ranges)
 
 -- ---- the loop over a whole list
 
-begun_from : (d : Option ℕ) (place b : ℕ) (bs : List ℕ) (t : Bool) → (b == 94) ≡ t → items_from d place (b ∷ bs) ≡ items d true 0 (if t then place + 1 else place) (drop (if t then 1 else 0) (b ∷ bs))
-begun_from d place b bs true is = ap (λ (t : Bool). if t then items d true 0 (place + 1) bs else items d true 0 place (b ∷ bs)) is
-begun_from d place b bs false is = ap (λ (t : Bool). if t then items d true 0 (place + 1) bs else items d true 0 place (b ∷ bs)) is
+begun_from : (d : Option ℕ) (place b : ℕ) (bs : List ℕ) (t : Bool) → (b == 94) ≡ t → elements_from d place (b ∷ bs) ≡ elements d true 0 (if t then place + 1 else place) (drop (if t then 1 else 0) (b ∷ bs))
+begun_from d place b bs true is = ap (λ (t : Bool). if t then elements d true 0 (place + 1) bs else elements d true 0 place (b ∷ bs)) is
+begun_from d place b bs false is = ap (λ (t : Bool). if t then elements d true 0 (place + 1) bs else elements d true 0 place (b ∷ bs)) is
 
-begun_at : (d : Option ℕ) (place : ℕ) (bs : List ℕ) → items_from d place bs ≡ items d true 0 (items_start place bs) (drop (items_start 0 bs) bs)
+begun_at : (d : Option ℕ) (place : ℕ) (bs : List ℕ) → elements_from d place bs ≡ elements d true 0 (elements_start place bs) (drop (elements_start 0 bs) bs)
 begun_at d place [] = refl
 begun_at d place (b ∷ bs) = begun_from d place b bs (b == 94) refl
 
@@ -267,13 +267,13 @@ start_add : (place : ℕ) (t : Bool) → place + (if t then 0 + 1 else 0) ≡ (i
 start_add place true = omega arith
 start_add place false = omega arith
 
-pub begun : (d : Option ℕ) (place : ℕ) (text : List ℕ) → items_from d place (drop place text) ≡ items d true 0 (items_start place (drop place text)) (drop (items_start place (drop place text)) text)
+pub begun : (d : Option ℕ) (place : ℕ) (text : List ℕ) → elements_from d place (drop place text) ≡ elements d true 0 (elements_start place (drop place text)) (drop (elements_start place (drop place text)) text)
 begun d place text =
     let bytes : List ℕ = drop place text in
     begun_at d place bytes
-    ∙ ap (items d true 0 (items_start place bytes)) (drop-drop (items_start 0 bytes) place text ∙ ap (λ n. drop n text) (start_add place (is_negated bytes)))
+    ∙ ap (elements d true 0 (elements_start place bytes)) (drop-drop (elements_start 0 bytes) place text ∙ ap (λ n. drop n text) (start_add place (is_negated bytes)))
 
-closed_front : (d : Option ℕ) (first : Bool) (place : ℕ) (bs : List ℕ) → 0 < length bs → (get_or bs 0 0 == 93 && not first) ≡ true → items d first 0 place bs ≡ ([], Some (place + 1))
+closed_front : (d : Option ℕ) (first : Bool) (place : ℕ) (bs : List ℕ) → 0 < length bs → (get_or bs 0 0 == 93 && not first) ≡ true → elements d first 0 place bs ≡ ([], Some (place + 1))
 closed_front d first place [] some is = absurd (omega arith)
 closed_front d first place (b ∷ bs) some is = closed d first place b bs is
 
@@ -281,7 +281,7 @@ front_at : (text : List ℕ) (place : ℕ) → get_or (drop place text) 0 0 ≡ 
 front_at text place = get_or-drop place text 0 0 ∙ ap (λ k. get_or text k 0) (let e : place + 0 ≡ place = omega arith in e)
 
 pub closed_at : (d : Option ℕ) (text : List ℕ) (first : Bool) (place : ℕ) → place < length text → (get_or text place 0 == 93 && not first) ≡ true →
-    items d first 0 place (drop place text) ≡ ([], Some (place + 1))
+    elements d first 0 place (drop place text) ≡ ([], Some (place + 1))
 closed_at d text first place inside is =
     closed_front d first place (drop place text) (omega (arith, length-drop place text)) (ap (λ b. b == 93 && not first) (front_at text place) ∙ is)
 
@@ -314,27 +314,27 @@ none_listed (x ∷ y ∷ []) = none_both (single x) (listed (y ∷ []))
 none_listed (x ∷ y ∷ z ∷ rest) = none_choice (is_dash y.1) (range x z (goes_on rest)) (listed rest) (single x) (listed (y ∷ z ∷ rest))
 
 pub list_begun : (d : Option ℕ) (text : List ℕ) (at start : ℕ) (folded negated : Bool) (set : List Bool) → negated ≡ is_negated (drop (at + 1) text) →
-    start ≡ items_start (at + 1) (drop (at + 1) text) → set ≡ no_byte →
-    list_at folded d text at ≡ go_on folded negated at set (items d (start == start) 0 start (drop start text))
+    start ≡ elements_start (at + 1) (drop (at + 1) text) → set ≡ no_byte →
+    list_at folded d text at ≡ go_on folded negated at set (elements d (start == start) 0 start (drop start text))
 unfolding list_at
 list_begun d text at start folded negated set is_neg is_start is_set =
     let bytes : List ℕ = drop (at + 1) text in
-    ap (λ (all : Items). judged folded (is_negated bytes) at (listed all.0) all.1) (begun d (at + 1) text ∙ ap (λ n. items d true 0 n (drop n text)) (sym is_start))
-    ∙ ap (λ t. judged folded t at (listed (items d true 0 start (drop start text)).0) (items d true 0 start (drop start text)).1) (sym is_neg)
-    ∙ ap (λ l. judged folded negated at l (items d true 0 start (drop start text)).1) (sym (none_listed (items d true 0 start (drop start text)).0))
-    ∙ ap (λ s. go_on folded negated at s (items d true 0 start (drop start text))) (sym is_set)
-    ∙ ap (λ t. go_on folded negated at set (items d t 0 start (drop start text))) (sym (eq-eqb start start refl))
+    ap (λ (all : Elements). judged folded (is_negated bytes) at (listed all.0) all.1) (begun d (at + 1) text ∙ ap (λ n. elements d true 0 n (drop n text)) (sym is_start))
+    ∙ ap (λ t. judged folded t at (listed (elements d true 0 start (drop start text)).0) (elements d true 0 start (drop start text)).1) (sym is_neg)
+    ∙ ap (λ l. judged folded negated at l (elements d true 0 start (drop start text)).1) (sym (none_listed (elements d true 0 start (drop start text)).0))
+    ∙ ap (λ s. go_on folded negated at s (elements d true 0 start (drop start text))) (sym is_set)
+    ∙ ap (λ t. go_on folded negated at set (elements d t 0 start (drop start text))) (sym (eq-eqb start start refl))
 
 -- the answer for a list of which `set` was read up to a place
 abbrev pub list_from : Option ℕ → List ℕ → Bool → Bool → (at start place : ℕ) → List Bool → Result (ByteSet × ℕ) ExprFault
-list_from d text folded negated at start place set = go_on folded negated at set (items d (place == start) 0 place (drop place text))
+list_from d text folded negated at start place set = go_on folded negated at set (elements d (place == start) 0 place (drop place text))
 
 pub list_more : (d : Option ℕ) (text : List ℕ) (folded negated : Bool) (at start place next : ℕ) (set members : List Bool) (whole : Result (ByteSet × ℕ) ExprFault) →
     whole ≡ list_from d text folded negated at start place set → place < length text → is_closing text start place ≡ false → members_at d text place ≡ Ok (members, next) →
     start ≤ place → place < next → whole ≡ list_from d text folded negated at start next (union set members)
 list_more d text folded negated at start place next set members whole so_far inside isnt here low more =
     so_far ∙ one_step d text (place == start) folded negated at place set inside isnt ∙ ap (after d text folded negated at set) here
-    ∙ ap (λ t. go_on folded negated at (union set members) (items d t 0 next (drop next text))) (sym (apart_false next start (λ e. omega arith)))
+    ∙ ap (λ t. go_on folded negated at (union set members) (elements d t 0 next (drop next text))) (sym (apart_false next start (λ e. omega arith)))
 
 pub list_fault : (d : Option ℕ) (text : List ℕ) (folded negated : Bool) (at start place : ℕ) (set : List Bool) (f : ExprFault) (whole : Result (ByteSet × ℕ) ExprFault) →
     whole ≡ list_from d text folded negated at start place set → place < length text → is_closing text start place ≡ false → members_at d text place ≡ Err f → Err f ≡ whole
@@ -343,18 +343,18 @@ list_fault d text folded negated at start place set f whole so_far inside isnt h
 
 -- ---- the loop over a list of which only the end is wanted
 
-pub end_begun : (d : Option ℕ) (text : List ℕ) (place start : ℕ) → start ≡ items_start place (drop place text) →
-    list_end d place (drop place text) ≡ (items d (start == start) 0 start (drop start text)).1
+pub end_begun : (d : Option ℕ) (text : List ℕ) (place start : ℕ) → start ≡ elements_start place (drop place text) →
+    list_end d place (drop place text) ≡ (elements d (start == start) 0 start (drop start text)).1
 unfolding list_end
 end_begun d text place start is_start =
-    ap (λ (all : Items). all.1) (begun d place text)
-    ∙ ap (λ n. (items d true 0 n (drop n text)).1) (sym is_start)
-    ∙ ap (λ t. (items d t 0 start (drop start text)).1) (sym (eq-eqb start start refl))
+    ap (λ (all : Elements). all.1) (begun d place text)
+    ∙ ap (λ n. (elements d true 0 n (drop n text)).1) (sym is_start)
+    ∙ ap (λ t. (elements d t 0 start (drop start text)).1) (sym (eq-eqb start start refl))
 
-pub end_more : (d : Option ℕ) (text : List ℕ) (start place width : ℕ) (end : Option ℕ) → end ≡ (items d (place == start) 0 place (drop place text)).1 →
-    place < length text → is_closing text start place ≡ false → width ≡ (item d (drop place text)).1 → start ≤ place → 0 < width →
-    end ≡ (items d (place + width == start) 0 (place + width) (drop (place + width) text)).1
+pub end_more : (d : Option ℕ) (text : List ℕ) (start place width : ℕ) (end : Option ℕ) → end ≡ (elements d (place == start) 0 place (drop place text)).1 →
+    place < length text → is_closing text start place ≡ false → width ≡ (element d (drop place text)).1 → start ≤ place → 0 < width →
+    end ≡ (elements d (place + width == start) 0 (place + width) (drop (place + width) text)).1
 end_more d text start place width end so_far inside isnt is_width low some =
-    so_far ∙ ap (λ (all : Items). all.1) (opened_at d (place == start) place text inside isnt)
-    ∙ ap (λ w. (items d false 0 (place + w) (drop (place + w) text)).1) (sym is_width)
-    ∙ ap (λ t. (items d t 0 (place + width) (drop (place + width) text)).1) (sym (apart_false (place + width) start (λ e. omega arith)))
+    so_far ∙ ap (λ (all : Elements). all.1) (opened_at d (place == start) place text inside isnt)
+    ∙ ap (λ w. (elements d false 0 (place + w) (drop (place + w) text)).1) (sym is_width)
+    ∙ ap (λ t. (elements d t 0 (place + width) (drop (place + width) text)).1) (sym (apart_false (place + width) start (λ e. omega arith)))

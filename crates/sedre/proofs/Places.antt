@@ -14,13 +14,13 @@ use Rattle.sedre.specs.declared.syntax.Symbol.TheVariants.{Literal, AnyByte, Ope
 use Rattle.sedre.specs.declared.syntax.Item.{Item}
 use Rattle.sedre.specs.declared.syntax.Here.{Here}
 use Rattle.sedre.specs.declared.syntax.Here.TheVariants.{Is, Ends, Bad}
-use Rattle.sedre.specs.Brackets.{items, item, items_from, is_negated, is_dash, goes_on, ListedBytes, single, between_ends, range_to, range, both, listed, judged, list_at}
+use Rattle.sedre.specs.Brackets.{elements, element, elements_from, is_negated, is_dash, goes_on, ListedBytes, single, between_ends, range_to, range, both, listed, judged, list_at}
 use Rattle.sedre.specs.Intervals.{interval}
 use Rattle.sedre.specs.Symbols.{symbol}
 use Rattle.sedre.specs.Items.{is_first, is_repeatable, is_repeat, ends_alternative, repeats, interval_item, list_item, star_item, question_item, caret_item, dollar_item, item_for, item_at}
 use Rattle.sedre.specs.Grammar.{Row, bad, stray, unclosed, deep, large, FaultyWith}
 
--- the items of a list stand up to a place
+-- the elements of a list stand up to a place
 abbrev StandUpTo : ℕ → List (ℕ × Element) → Type 0
 StandUpTo n [] = Unit {0}
 StandUpTo n (x ∷ xs) = (x.0 ≤ n) × StandUpTo n xs
@@ -29,17 +29,17 @@ up_to_if : (n : ℕ) (t : Bool) (x y : List (ℕ × Element) × Option ℕ) → 
 up_to_if n true x y h g = h
 up_to_if n false x y h g = g
 
-items_up_to : (delimiter : Option ℕ) (n : ℕ) (first : Bool) (skip place : ℕ) (bs : List ℕ) → place + length bs ≤ n → StandUpTo n (items delimiter first skip place bs).0
-items_up_to delimiter n first skip place [] le = tt
-items_up_to delimiter n first (suc skip) place (b ∷ bs) le = items_up_to delimiter n first skip (place + 1) bs (omega (arith, le))
-items_up_to delimiter n first zero place (b ∷ bs) le =
+elements_up_to : (delimiter : Option ℕ) (n : ℕ) (first : Bool) (skip place : ℕ) (bs : List ℕ) → place + length bs ≤ n → StandUpTo n (elements delimiter first skip place bs).0
+elements_up_to delimiter n first skip place [] le = tt
+elements_up_to delimiter n first (suc skip) place (b ∷ bs) le = elements_up_to delimiter n first skip (place + 1) bs (omega (arith, le))
+elements_up_to delimiter n first zero place (b ∷ bs) le =
     up_to_if n (b == 93 && not first) _ _ tt
-    (omega (arith, le), items_up_to delimiter n false ((item delimiter (b ∷ bs)).1 - 1) (place + 1) bs (omega (arith, le)))
+    (omega (arith, le), elements_up_to delimiter n false ((element delimiter (b ∷ bs)).1 - 1) (place + 1) bs (omega (arith, le)))
 
-from_up_to : (delimiter : Option ℕ) (n place : ℕ) (bs : List ℕ) → place + length bs ≤ n → StandUpTo n (items_from delimiter place bs).0
+from_up_to : (delimiter : Option ℕ) (n place : ℕ) (bs : List ℕ) → place + length bs ≤ n → StandUpTo n (elements_from delimiter place bs).0
 from_up_to delimiter n place [] le = tt
 from_up_to delimiter n place (b ∷ bs) le =
-    up_to_if n (b == 94) _ _ (items_up_to delimiter n true 0 (place + 1) bs (omega (arith, le))) (items_up_to delimiter n true 0 place (b ∷ bs) le)
+    up_to_if n (b == 94) _ _ (elements_up_to delimiter n true 0 (place + 1) bs (omega (arith, le))) (elements_up_to delimiter n true 0 place (b ∷ bs) le)
 
 -- a fault is told up to a place
 abbrev ToldUpTo : {A : Type 0} → ℕ → Result A ExprFault → Type 0
@@ -106,7 +106,7 @@ list_told : (folded : Bool) (delimiter : Option ℕ) (text : List ℕ) (at : ℕ
 unfolding list_at
 list_told folded delimiter text at inside =
     let bytes = drop (at + 1) text in
-    let found = items_from delimiter (at + 1) bytes in
+    let found = elements_from delimiter (at + 1) bytes in
     judged_told (length text) folded (is_negated bytes) at (listed found.0) found.1 (omega (arith, inside))
     (listed_told (length text) found.0 (from_up_to delimiter (length text) (at + 1) bytes (omega (arith, inside, length-drop (at + 1) text))))
 

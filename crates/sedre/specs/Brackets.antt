@@ -1,4 +1,4 @@
--- Bracket expressions (XBD 9.3.5): the items of a list, and the set that they list or the first fault.
+-- Bracket expressions (XBD 9.3.5): the elements of a list, and the set that they list or the first fault.
 -- Which fault a list has, and where, is this project's own.
 use Rattle.std.specs.Prelude.{ℕ, zero, suc, ◌+◌, ◌-◌, List, [], ◌∷◌, length, take, drop, Bool, true, false, not, ◌&&◌}
 use Rattle.std.specs.Prelude.{◌||◌, Option, Some, None, Result, Ok, Err, if◌then◌else◌, nat_le, ◌==◌, option_map}
@@ -18,7 +18,7 @@ abbrev pub is_delimiter : Option ℕ → ℕ → Bool
 is_delimiter None b = false
 is_delimiter (Some d) b = d == b
 
--- ---- the items of a list
+-- ---- the elements of a list
 
 -- how many bytes stand before the first c with a ] after it
 abbrev pub before_closing : ℕ → List ℕ → Option ℕ
@@ -52,49 +52,49 @@ abbrev pub form : ℕ → (left : ℕ) → Option (List ℕ) → Element × ℕ
 form c left None = (Unclosed, left)
 form c left (Some held) = (form_of c held, length held + 4)
 
--- the item at the front of what is left of a list, and how many bytes it has. A backslash and the delimiter are one
--- item, the delimiter as a literal (this project's own); any other byte loses its special meaning (XBD 9.3.5, 1)
-abbrev pub item : Option ℕ → List ℕ → Element × ℕ
-item delimiter [] = (Unclosed, 0)
-item delimiter (b ∷ []) = (Plain b, 1)
-item delimiter (b ∷ c ∷ rest) =
+-- the element at the front of what is left of a list, and how many bytes it has. A backslash and the delimiter are one
+-- element, the delimiter as a literal (this project's own); any other byte loses its special meaning (XBD 9.3.5, 1)
+abbrev pub element : Option ℕ → List ℕ → Element × ℕ
+element delimiter [] = (Unclosed, 0)
+element delimiter (b ∷ []) = (Plain b, 1)
+element delimiter (b ∷ c ∷ rest) =
     if b == 92 && is_delimiter delimiter c then (Delimiter c, 2)
     else if b == 91 && (c == 58 || c == 61 || c == 46) then form c (length rest + 2) (content c rest)
     else (Plain b, 1)
 
--- the items with their places, and the place after the closing ], None where the text ends before. A ] that stands
--- first is an item (XBD 9.3.5, 1), and any other ] without a backslash closes, also where it is the delimiter (this
--- project's own); `skip` bytes belong to the item before
-abbrev pub items : Option ℕ → (first : Bool) → (skip place : ℕ) → List ℕ → List (ℕ × Element) × Option ℕ
-items delimiter first skip place [] = ([], None)
-items delimiter first (suc skip) place (b ∷ bs) = items delimiter first skip (place + 1) bs
-items delimiter first zero place (b ∷ bs) =
+-- the elements with their places, and the place after the closing ], None where the text ends before. A ] that stands
+-- first is an element (XBD 9.3.5, 1), and any other ] without a backslash closes, also where it is the delimiter (this
+-- project's own); `skip` bytes belong to the element before
+abbrev pub elements : Option ℕ → (first : Bool) → (skip place : ℕ) → List ℕ → List (ℕ × Element) × Option ℕ
+elements delimiter first skip place [] = ([], None)
+elements delimiter first (suc skip) place (b ∷ bs) = elements delimiter first skip (place + 1) bs
+elements delimiter first zero place (b ∷ bs) =
     if b == 93 && not first then ([], Some (place + 1))
     else
-    let found = item delimiter (b ∷ bs) in
-    let rest = items delimiter false (found.1 - 1) (place + 1) bs in
+    let found = element delimiter (b ∷ bs) in
+    let rest = elements delimiter false (found.1 - 1) (place + 1) bs in
     ((place, found.0) ∷ rest.0, rest.1)
 
--- ---- what the items list
+-- ---- what the elements list
 
--- whether an item makes a range where another one stands before and after it (XBD 9.3.5, 7)
+-- whether an element makes a range where another one stands before and after it (XBD 9.3.5, 7)
 abbrev pub is_dash : Element → Bool
 is_dash (Plain b) = b == 45
-is_dash element = false
+is_dash other = false
 
 -- whether what stands after a range goes on as another one, as in a-c-e
 abbrev pub goes_on : List (ℕ × Element) → Bool
 goes_on (x ∷ y ∷ rest) = is_dash x.1
 goes_on left = false
 
--- the bytes that some items list, or their first fault
+-- the bytes that some elements list, or their first fault
 abbrev pub ListedBytes : Type 0
 ListedBytes = Result (List Bool) ExprFault
 
 abbrev pub fault : ℕ → Reason → ListedBytes
 fault place reason = Err (record { place = place; reason = reason })
 
--- an item by itself. One that isn't closed lists nothing: that the list is open tells of it
+-- an element by itself. One that isn't closed lists nothing: that the list is open tells of it
 abbrev pub single : ℕ × Element → ListedBytes
 single (place, Plain b) = Ok (only b)
 single (place, Delimiter b) = Ok (only b)
@@ -104,12 +104,12 @@ single (place, Collating b) = Ok (only b)
 single (place, Wrong reason) = fault place reason
 single (place, Unclosed) = Ok no_byte
 
--- the byte with which an item is an end of a range; a class and an equivalence class are none: this project's own
+-- the byte with which an element is an end of a range; a class and an equivalence class are none: this project's own
 abbrev pub end_of : Element → Option ℕ
 end_of (Plain b) = Some b
 end_of (Delimiter b) = Some b
 end_of (Collating b) = Some b
-end_of element = None
+end_of other = None
 
 -- a range between two ends, by byte value (XBD 9.3.5, 7); `on`: it goes on as another one, which is refused: this
 -- project's own
@@ -118,13 +118,13 @@ between_ends place (Some a) (Some b) on =
     if nat_le a b && not on then Ok (set_of (between a b)) else fault place BadRange
 between_ends place first last on = fault place BadRange
 
--- a range from an end at a place to its last item, whose own fault comes before that of the range
+-- a range from an end at a place to its last element, whose own fault comes before that of the range
 abbrev pub range_to : (place : ℕ) → Option ℕ → ℕ × Element → (on : Bool) → ListedBytes
 range_to place first (at, Wrong reason) on = fault at reason
 range_to place first (at, Unclosed) on = Ok no_byte
 range_to place first (at, other) on = between_ends place first (end_of other) on
 
--- a range from its first item to its last, where the first one's own fault comes first
+-- a range from its first element to its last, where the first one's own fault comes first
 abbrev pub range : (first last : ℕ × Element) → (on : Bool) → ListedBytes
 range (place, Wrong reason) last on = fault place reason
 range (place, Unclosed) last on = Ok no_byte
@@ -136,7 +136,7 @@ both (Err f) those = Err f
 both (Ok these) (Err f) = Err f
 both (Ok these) (Ok those) = Ok (union these those)
 
--- all items from the left: an item, a - and a further item are a range (XBD 9.3.5, 7)
+-- all elements from the left: an element, a - and a further element are a range (XBD 9.3.5, 7)
 abbrev pub listed : List (ℕ × Element) → ListedBytes
 listed [] = Ok no_byte
 listed (x ∷ []) = both (single x) (listed [])
@@ -147,11 +147,11 @@ listed (x ∷ y ∷ z ∷ rest) =
 
 -- ---- a whole list
 
--- the items from the place after the opening [ on, where a ^ makes a non-matching list (XBD 9.3.5, 3)
-abbrev pub items_from : Option ℕ → (place : ℕ) → List ℕ → List (ℕ × Element) × Option ℕ
-items_from delimiter place [] = ([], None)
-items_from delimiter place (b ∷ bs) =
-    if b == 94 then items delimiter true 0 (place + 1) bs else items delimiter true 0 place (b ∷ bs)
+-- the elements from the place after the opening [ on, where a ^ makes a non-matching list (XBD 9.3.5, 3)
+abbrev pub elements_from : Option ℕ → (place : ℕ) → List ℕ → List (ℕ × Element) × Option ℕ
+elements_from delimiter place [] = ([], None)
+elements_from delimiter place (b ∷ bs) =
+    if b == 94 then elements delimiter true 0 (place + 1) bs else elements delimiter true 0 place (b ∷ bs)
 
 abbrev pub is_negated : List ℕ → Bool
 is_negated [] = false
@@ -172,9 +172,9 @@ judged folded negated at (Ok set) (Some next) = Ok (matched folded negated set, 
 unfoldable pub list_at : (folded : Bool) → Option ℕ → (text : List ℕ) → (at : ℕ) → Result (ByteSet × ℕ) ExprFault
 list_at folded delimiter text at =
     let bytes = drop (at + 1) text in
-    let found = items_from delimiter (at + 1) bytes in
+    let found = elements_from delimiter (at + 1) bytes in
     judged folded (is_negated bytes) at (listed found.0) found.1
 
 -- the place after a list, whatever it lists, from the place after its [ on
 unfoldable pub list_end : Option ℕ → (place : ℕ) → List ℕ → Option ℕ
-list_end delimiter place bytes = (items_from delimiter place bytes).1
+list_end delimiter place bytes = (elements_from delimiter place bytes).1

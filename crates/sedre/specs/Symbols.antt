@@ -13,28 +13,27 @@ use Rattle.sedre.specs.declared.syntax.Symbol.TheVariants.{Dollar, Unknown}
 abbrev pub is_letter : ℕ → Bool
 is_letter c = between 65 90 c || between 97 122 c
 
--- a byte that no backslash stands before
-abbrev pub alone : Kind → ℕ → Symbol
-alone Basic b =
+-- what a byte is in expressions of both kinds, where no backslash stands before it
+abbrev pub alone_in_both : ℕ → Symbol
+alone_in_both b =
     if b == 42 then Star  -- *
     else if b == 46 then AnyByte  -- .
     else if b == 91 then BracketOpening  -- [
     else if b == 94 then Caret  -- ^
     else if b == 36 then Dollar  -- $
     else Literal b
+
+-- a byte that no backslash stands before
+abbrev pub alone : Kind → ℕ → Symbol
+alone Basic b = alone_in_both b
 alone Extended b =
     if b == 40 then Opening  -- (
     else if b == 41 then Closing  -- )
     else if b == 124 then Parting  -- |
-    else if b == 42 then Star  -- *
     else if b == 43 then Plus  -- +
     else if b == 63 then Question  -- a question mark
     else if b == 123 then Interval  -- {
-    else if b == 46 then AnyByte  -- .
-    else if b == 91 then BracketOpening  -- [
-    else if b == 94 then Caret  -- ^
-    else if b == 36 then Dollar  -- $
-    else Literal b
+    else alone_in_both b
 
 -- a byte after a backslash that is no symbol there: \n is a newline (XCU sed), \t a tab (this project's own);
 -- back-references are left out by name, other letters and digits and < > ' ` are refused, and an ordinary byte is itself

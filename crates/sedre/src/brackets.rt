@@ -1,13 +1,13 @@
 //! Bracket expressions (XBD 9.3.5): the bytes that a list matches, or the first fault, in one pass.
 ghost use Rattle.std.specs.Prelude.{◌≡◌, ◌<◌, ◌≤◌, ◌+◌, length, drop, IfSome, IfOk, IfErr, IsTrue};
-ghost use Rattle.sedre.specs.ListReading.{is_range, members_at, items_start, is_closing};
+ghost use Rattle.sedre.specs.ListReading.{is_range, members_at, elements_start, is_closing};
 ghost use Rattle.sedre.specs.Brackets.{end_of, single, between_ends, range, is_negated, matched, list_at, list_end};
 
 use crate::byte_set::ByteSet;
-use crate::elements::{Element, item_at};
+use crate::elements::{Element, element_at};
 use crate::types::{ExprFault, Reason};
 
-/// The bytes of an item that is no end of a range, or its fault.
+/// The bytes of an element that is no end of a range, or its fault.
 fn single(place: usize, element: Element) -> Result<ByteSet, ExprFault>
     ensures is { result ≡ single (place, element) }
     ensures fault { IfErr result (λ f. f.place ≡ place) }
@@ -23,7 +23,7 @@ fn single(place: usize, element: Element) -> Result<ByteSet, ExprFault>
     }
 }
 
-/// The byte of an item that can be an end of a range.
+/// The byte of an element that can be an end of a range.
 fn end_of(element: Element) -> Option<u8>
     ensures { result ≡ end_of element }
 {
@@ -53,8 +53,8 @@ fn between_ends(
     }
 }
 
-/// The bytes of a range between two items, which stand at `place` and `at`, or its first fault. It `goes_on` where a
-/// further `-` and an item follow.
+/// The bytes of a range between two elements, which stand at `place` and `at`, or its first fault. It `goes_on` where a
+/// further `-` and an element follow.
 fn range(
     place: usize,
     first: Element,
@@ -75,7 +75,7 @@ fn range(
     }
 }
 
-/// Whether `-` and a further item stand at `at`.
+/// Whether `-` and a further element stand at `at`.
 fn is_range_at(text: &[u8], at: usize) -> bool
     requires { at ≤ length text.now }
     ensures is { result ≡ is_range (drop at text.now) }
@@ -84,7 +84,7 @@ fn is_range_at(text: &[u8], at: usize) -> bool
     matches!(&text[at..], [b'-', b, ..] if *b != b']')
 }
 
-/// The bytes of the item or the range at a place, and the place after it, or its first fault.
+/// The bytes of the element or the range at a place, and the place after it, or its first fault.
 #[tactic(auto, unfolding(crate::specs::ListReading::members_at))]
 fn members_at(delimiter: Option<u8>, text: &[u8], at: usize) -> Result<(ByteSet, usize), ExprFault>
     requires { at < length text.now }
@@ -92,18 +92,18 @@ fn members_at(delimiter: Option<u8>, text: &[u8], at: usize) -> Result<(ByteSet,
     ensures after { IfOk result (λ found. (at < found.1) × (found.1 ≤ length text.now)) }
     ensures fault { IfErr result (λ f. (at ≤ f.place) × (f.place < length text.now)) }
 {
-    let (first, width) = item_at(delimiter, text, at);
+    let (first, width) = element_at(delimiter, text, at);
     let next = at + width;
     if !is_range_at(text, next) {
         return Ok((single(at, first)?, next));
     }
-    let (last, width) = item_at(delimiter, text, next + 1);
+    let (last, width) = element_at(delimiter, text, next + 1);
     let end = next + 1 + width;
     let goes_on = is_range_at(text, end);
     Ok((range(at, first, next + 1, last, goes_on)?, end))
 }
 
-/// Whether the list whose items begin at a place is a non-matching one.
+/// Whether the list whose elements begin at a place is a non-matching one.
 fn is_negated(text: &[u8], at: usize) -> bool
     requires { at ≤ length text.now }
     ensures { result ≡ is_negated (drop at text.now) }
@@ -111,10 +111,10 @@ fn is_negated(text: &[u8], at: usize) -> bool
     matches!(&text[at..], [b'^', ..])
 }
 
-/// Where the items of a list begin, from the place after its `[` on.
-fn items_start(text: &[u8], at: usize) -> usize
+/// Where the elements of a list begin, from the place after its `[` on.
+fn elements_start(text: &[u8], at: usize) -> usize
     requires { at ≤ length text.now }
-    ensures is { result ≡ items_start at (drop at text.now) }
+    ensures is { result ≡ elements_start at (drop at text.now) }
     ensures within { (at ≤ result) × (result ≤ length text.now) }
 {
     match &text[at..] {
@@ -123,7 +123,7 @@ fn items_start(text: &[u8], at: usize) -> usize
     }
 }
 
-/// Whether a `]` at a place closes a list whose items begin at `start`: it does unless it is the first.
+/// Whether a `]` at a place closes a list whose elements begin at `start`: it does unless it is the first.
 fn is_closing(text: &[u8], start: usize, at: usize) -> bool
     requires { at < length text.now }
     ensures { result ≡ is_closing text.now start at }
@@ -131,7 +131,7 @@ fn is_closing(text: &[u8], start: usize, at: usize) -> bool
     text[at] == b']' && at != start
 }
 
-/// The bytes that a list matches, whose items list this set. Letters of the set match without regard to case where it
+/// The bytes that a list matches, whose elements list this set. Letters of the set match without regard to case where it
 /// is `folded`, and a `negated` list matches all other bytes.
 fn matched(folded: bool, negated: bool, set: ByteSet) -> ByteSet
     ensures { result ≡ matched folded negated set }
@@ -152,7 +152,7 @@ fn matched(folded: bool, negated: bool, set: ByteSet) -> ByteSet
 ///
 /// The first fault from the left: a list or a form that isn't closed, at the list's `[`; an unknown
 /// class or a form of more than one byte, at the form's `[`; an invalid range, at the first byte of its
-/// first item.
+/// first element.
 pub fn list_at(
     folded: bool,
     delimiter: Option<u8>,
@@ -165,7 +165,7 @@ pub fn list_at(
     ensures fault { IfErr result (λ f. (at ≤ f.place) × (f.place < length text.now)) }
 {
     let negated = is_negated(text, at + 1);
-    let start = items_start(text, at + 1);
+    let start = elements_start(text, at + 1);
     let mut set = ByteSet::none();
     let mut place = start;
     while place < text.len() {
@@ -188,13 +188,13 @@ pub fn list_end(delimiter: Option<u8>, text: &[u8], at: usize) -> Option<usize>
     ensures is { result ≡ list_end delimiter (at + 1) (drop (at + 1) text.now) }
     ensures after { IfSome result (λ end. (at < end) × (end ≤ length text.now)) }
 {
-    let start = items_start(text, at + 1);
+    let start = elements_start(text, at + 1);
     let mut place = start;
     while place < text.len() {
         if is_closing(text, start, place) {
             return Some(place + 1);
         }
-        let (_, width) = item_at(delimiter, text, place);
+        let (_, width) = element_at(delimiter, text, place);
         place += width;
     }
     None

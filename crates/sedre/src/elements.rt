@@ -1,11 +1,11 @@
-//! The items of a bracket expression (XBD 9.3.5).
+//! The elements of a bracket expression (XBD 9.3.5).
 ghost use Rattle.std.specs.Prelude.{◌≡◌, ◌<◌, ◌≤◌, ◌+◌, ◌^◌, length, drop, IfSome};
-ghost use Rattle.sedre.specs.Brackets.{before_closing, content, form, form_of, item};
+ghost use Rattle.sedre.specs.Brackets.{before_closing, content, form, form_of, element};
 
 use crate::class::Class;
 use crate::types::Reason;
 
-/// An item of a bracket expression.
+/// An element of a bracket expression.
 #[derive(Clone, Copy)]
 pub enum Element {
     /// A byte that stands for itself.
@@ -39,7 +39,7 @@ fn before_closing(closing: u8, bytes: &[u8]) -> Option<usize>
     None
 }
 
-/// The item of a form of this kind, `:`, `=` or `.`, that holds these bytes.
+/// The element of a form of this kind, `:`, `=` or `.`, that holds these bytes.
 fn form_of(kind: u8, held: &[u8]) -> Element
     ensures { result ≡ form_of kind held.now }
 {
@@ -59,7 +59,7 @@ fn form_of(kind: u8, held: &[u8]) -> Element
     }
 }
 
-/// The item of the form of this kind whose opening these bytes follow, and how many bytes the form has.
+/// The element of the form of this kind whose opening these bytes follow, and how many bytes the form has.
 fn form(kind: u8, bytes: &[u8]) -> (Element, usize)
     requires { length bytes.now + 2 < 2 ^ 64 }
     ensures is { result ≡ form kind (length bytes.now + 2) (content kind bytes.now) }
@@ -74,10 +74,10 @@ fn form(kind: u8, bytes: &[u8]) -> (Element, usize)
     }
 }
 
-/// The item of a list at `at`, and how many bytes it has.
-pub fn item_at(delimiter: Option<u8>, text: &[u8], at: usize) -> (Element, usize)
+/// The element of a list at `at`, and how many bytes it has.
+pub fn element_at(delimiter: Option<u8>, text: &[u8], at: usize) -> (Element, usize)
     requires { at < length text.now }
-    ensures is { result ≡ item delimiter (drop at text.now) }
+    ensures is { result ≡ element delimiter (drop at text.now) }
     ensures width { (0 < result.1) × (at + result.1 ≤ length text.now) }
 {
     match &text[at..] {

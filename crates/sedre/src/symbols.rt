@@ -1,36 +1,38 @@
 //! Which symbols stand in a text.
 ghost use Rattle.std.specs.Prelude.{◌≡◌, ◌<◌, ◌≤◌, ◌+◌, ℕ, List, [], ◌∷◌, None, Some, length, drop, IfSome};
-ghost use Rattle.sedre.specs.Symbols.{alone, escaped, escaped_literal, symbol};
+ghost use Rattle.sedre.specs.Symbols.{alone, alone_in_both, escaped, escaped_literal, symbol};
 
 use crate::syntax::Symbol;
 use crate::types::{Kind, Reason};
+
+/// What a byte means in expressions of both kinds, where no backslash stands before it.
+fn alone_in_both(b: u8) -> Symbol
+    ensures { result ≡ alone_in_both b }
+{
+    match b {
+        b'*' => Symbol::Star,
+        b'.' => Symbol::AnyByte,
+        b'[' => Symbol::BracketOpening,
+        b'^' => Symbol::Caret,
+        b'$' => Symbol::Dollar,
+        _ => Symbol::Literal(b),
+    }
+}
 
 /// What a byte means that no backslash stands before.
 fn alone(kind: Kind, b: u8) -> Symbol
     ensures { result ≡ alone kind b }
 {
     match kind {
-        Kind::Basic => match b {
-            b'*' => Symbol::Star,
-            b'.' => Symbol::AnyByte,
-            b'[' => Symbol::BracketOpening,
-            b'^' => Symbol::Caret,
-            b'$' => Symbol::Dollar,
-            _ => Symbol::Literal(b),
-        },
+        Kind::Basic => alone_in_both(b),
         Kind::Extended => match b {
             b'(' => Symbol::Opening,
             b')' => Symbol::Closing,
             b'|' => Symbol::Parting,
-            b'*' => Symbol::Star,
             b'+' => Symbol::Plus,
             b'?' => Symbol::Question,
             b'{' => Symbol::Interval,
-            b'.' => Symbol::AnyByte,
-            b'[' => Symbol::BracketOpening,
-            b'^' => Symbol::Caret,
-            b'$' => Symbol::Dollar,
-            _ => Symbol::Literal(b),
+            _ => alone_in_both(b),
         },
     }
 }

@@ -22,7 +22,8 @@ pub enum Reason {
     UnknownClass,
     /// E3: more than one byte stands in `[.` or `[=`
     LongCollating,
-    /// E4: a range is invalid: one of its ends can't be an end, or they stand in the wrong order
+    /// E4: a range is invalid: an end of it is no single byte, its last byte lies before its first, or it goes on as
+    /// `a-c-e` does
     BadRange,
     /// E5: a group isn't closed
     OpenGroup,
@@ -30,7 +31,7 @@ pub enum Reason {
     StrayClose,
     /// E7: an interval is malformed
     BadInterval,
-    /// E8: nothing stands before a repetition that it could repeat
+    /// E8: nothing stands before a repetition that it could repeat; with ERE also a `?` directly after a repetition
     NothingToRepeat,
     /// E9: a backslash is the last byte
     LastBackslash,

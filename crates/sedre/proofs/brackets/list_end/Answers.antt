@@ -5,19 +5,19 @@ use Rattle.sedre.proofs.brackets.list_end.Goals as goal
 
 pub loop-place-init : goal.loop-place-init
 loop-place-init c = record {
-  after = omega (arith, c.items_start-start.ensures.within);
+  after = omega (arith, c.elements_start-start.ensures.within);
   low = omega arith;
-  inside = omega (arith, c.items_start-start.ensures.within);
-  end = end_begun c.args.delimiter c.args.text.now (c.args.at + 1) c.items_start-start.result c.items_start-start.ensures.is;
+  inside = omega (arith, c.elements_start-start.ensures.within);
+  end = end_begun c.args.delimiter c.args.text.now (c.args.at + 1) c.elements_start-start.result c.elements_start-start.ensures.is;
 }
 
 pub loop-place-preserved : goal.loop-place-preserved
 loop-place-preserved c = record {
-  after = omega (arith, c.item_at-width.ensures.width);
-  low = omega (arith, c.item_at-width.ensures.width);
-  inside = omega (arith, c.item_at-width.ensures.width);
+  after = omega (arith, c.element_at-width.ensures.width);
+  low = omega (arith, c.element_at-width.ensures.width);
+  inside = omega (arith, c.element_at-width.ensures.width);
   end =
-      end_more c.args.delimiter c.args.text.now c.items_start-start.result c.loop-place.place c.item_at-width.result.1
+      end_more c.args.delimiter c.args.text.now c.elements_start-start.result c.loop-place.place c.element_at-width.result.1
       (list_end c.args.delimiter (c.args.at + 1) (drop (c.args.at + 1) c.args.text.now)) c.loop-place.invariant.end (omega arith)
-      (sym c.is_closing.ensures ∙ c.if-is_closing.false) (ap (λ p. p.1) c.item_at-width.ensures.is) c.loop-place.invariant.low c.item_at-width.ensures.width.0;
+      (sym c.is_closing.ensures ∙ c.if-is_closing.false) (ap (λ p. p.1) c.element_at-width.ensures.is) c.loop-place.invariant.low c.element_at-width.ensures.width.0;
 }
