@@ -1,5 +1,5 @@
 -- What gathered parts mean for the lines to come.
-use Rattle.std.proofs.Common.{◌≡◌, ℕ, ◌+◌, ◌-◌, ◌<◌, ◌≤◌, List, [], ◌∷◌, ◌++◌, length, Option, None, Some, option_map, Bool, true, false, not, IsTrue, ◌↔◌, Result, Ok, Err, refl, sym, ap, ◌∙◌, arith, rules, inl, inr, ⊎_elim, length-append, append_assoc, append-nil, subst, is_ok, if◌then◌else◌, take, length-take, length-drop, drop}
+use Rattle.std.proofs.Common.{◌≡◌, ℕ, ◌+◌, ◌-◌, ◌<◌, ◌≤◌, List, [], ◌∷◌, ◌++◌, length, Option, None, Some, option_map, Bool, true, false, not, IsTrue, ◌↔◌, Result, Ok, Err, refl, sym, ap, ◌∙◌, arith, rules, inl, inr, ⊎_elim, length-append, append_assoc, append-nil, subst, is_ok, if◌then◌else◌, take, length-take, length-drop, drop, slice_index_or}
 use Rattle.std.proofs.Math.Seq.{take-append_seam}
 use Rattle.std.specs.List.{before_first}
 use Rattle.std.specs.Io.KnownBytes.{prepend_known, Consumes, IsAtEnd}
@@ -9,7 +9,7 @@ use Rattle.sedspace.specs.declared.lines.Got.{Got}
 use Rattle.sedspace.specs.declared.lines.Got.TheVariants.{Line, End}
 use Rattle.sedspace.specs.declared.errors.LineFault.{LineFault}
 use Rattle.sedspace.specs.declared.errors.LineFault.TheVariants.{Broken, TooLong}
-use Rattle.sedspace.specs.Stream.{Stream, left, lines_left, TakesLine, TakesAtMost, GivesLine, NoneLeft, FirstIsLonger, TellsLast}
+use Rattle.sedspace.specs.Stream.{Stream, left, lines_left, TakesLine, TakesAtMost, GivesLine, NoneLeft, FirstIsLonger, SeesEnd, LosesPart, TellsLast}
 use Rattle.sedspace.specs.Gathering.{Gathers}
 use Rattle.sedspace.proofs.LineLemmas.{lines_at, lines_last, lines_nil, lines_none, lines_first, length-before_first-append}
 
@@ -81,6 +81,31 @@ takes_at_most None b taken n h most = tt
 takes_at_most (Some xs) None taken n h most = absurd h
 takes_at_most (Some xs) (Some ys) taken n h most = (taken, h, most)
 
+loses_part : (a b : Option (List ℕ)) (part : List ℕ) (n : ℕ) → Consumes a b part → HasNoNewline part → length part ≤ n → LosesPart a b n
+loses_part None b part n h none most = tt
+loses_part (Some xs) None part n h none most = absurd h
+loses_part (Some xs) (Some ys) part n h none most = (part, none, h, most)
+
+seen_end : (a : Option (List ℕ)) (ended : Bool) → ended ≡ true → SeesEnd a ended
+seen_end None ended e = tt
+seen_end (Some xs) ended e = λ none. e
+
+at_seam : (line ys : List ℕ) → slice_index_or (line ++ 10 ∷ ys) (length line) 0 ≡ 10
+at_seam [] ys = refl
+at_seam (b ∷ line) ys = at_seam line ys
+
+newline_there : (line ys : List ℕ) → HasNoNewline (line ++ 10 ∷ ys) → ⊥
+newline_there line ys h =
+    let no : is_newline (slice_index_or (line ++ 10 ∷ ys) (length line) 0) ≡ false = h (length line) 0 (omega (arith, length-append line (10 ∷ ys))) in
+    let never : ◌≡◌ {A = Bool} true false = rw (at_seam line ys) at no in absurd (cc)
+
+ended_unseen : (a b : Option (List ℕ)) (line : List ℕ) (ended : Bool) → Consumes a b (line ++ 10 ∷ []) → SeesEnd a ended
+ended_unseen None b line ended h = tt
+ended_unseen (Some xs) None line ended h = absurd h
+ended_unseen (Some xs) (Some ys) line ended h =
+    let e : xs ≡ line ++ 10 ∷ ys = h ∙ append_assoc line (10 ∷ []) ys in
+    λ none. absurd (newline_there line ys (rw (← e) none))
+
 module _ (before after : Contents) (part : List ℕ) (e : after ≡ record { bytes = before.bytes ++ part; limit = before.limit }) where
   size_of : length after.bytes ≡ length before.bytes + length part
   size_of = ap (λ (z : Contents). length z.bytes) e ∙ length-append before.bytes part
@@ -109,6 +134,24 @@ module _ {R : Type 0} (remaining : R → Option (List ℕ)) (failures : R → �
       let n = none_left _ _ h.2.left_is h.3 in
       (h.2.space ∙ ap (λ (z : List ℕ). record before { bytes = z }) (append-nil before.bytes), n.0, n.1, h.4)
   end_gathered (Err f) h e = cc
+
+  -- a line without a newline after it tells the end
+  pub last_gathered : (r : Result Got LineFault) → Gathers remaining failures old new before after r → r ≡ Ok Line → SeesEnd (left remaining old) new.ended
+  last_gathered (Ok Line) h e =
+      ⊎_elim
+      (λ w. ended_unseen _ _ h.1 new.ended w.left_is)
+      (λ w. seen_end (left remaining old) new.ended w.3)
+      h.3
+  last_gathered (Ok End) h e = cc
+  last_gathered (Err f) h e = cc
+
+  -- where the source fails, a part of one line was taken
+  pub broken_gathered : (r : Result Got LineFault) → Gathers remaining failures old new before after r → r ≡ Err Broken → length before.bytes ≤ before.limit →
+      (new.ahead ≡ []) × LosesPart (left remaining old) (left remaining new) (before.limit - length before.bytes)
+  broken_gathered (Ok g) h e fits = cc
+  broken_gathered (Err TooLong) h e fits = cc
+  broken_gathered (Err Broken) h e fits =
+      (h.5, loses_part _ _ h.1 _ h.3.left_is h.3.part_is (omega (arith, size_of before after h.1 h.3.space, limit_of before after h.1 h.3.space, h.4)))
 
   pub too_long_gathered : (r : Result Got LineFault) → Gathers remaining failures old new before after r → r ≡ Err TooLong → length before.bytes ≤ before.limit → FirstIsLonger (lines_left remaining old) (before.limit - length before.bytes)
   too_long_gathered (Ok g) h e fits = cc

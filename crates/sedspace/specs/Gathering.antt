@@ -44,7 +44,8 @@ abbrev pub Gathers : {R : Type 0} → (R → Option (List ℕ)) → (R → ℕ) 
 Gathers remaining failures old new before after (Ok Line) =
     (failures new.source ≡ failures old.source) × (line : List ℕ) × (taken : List ℕ)
     × (GatheredLine remaining old new before after line taken
-    ⊎ (Gathered remaining old new before after line taken × (0 < length line) × IsAtEnd (left remaining new)))
+    ⊎ (Gathered remaining old new before after line taken × (0 < length line) × IsAtEnd (left remaining new)
+    × (new.ended ≡ true)))
 Gathers remaining failures old new before after (Ok End) =
     (failures new.source ≡ failures old.source) × (taken : List ℕ) × Gathered remaining old new before after [] taken
     × IsAtEnd (left remaining new) × (new.ended ≡ true)

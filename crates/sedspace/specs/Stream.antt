@@ -1,5 +1,5 @@
 -- What contracts see of a reader of lines.
-use Rattle.std.specs.Prelude.{◌≡◌, ℕ, ◌<◌, ◌≤◌, ◌⊎◌, ◌↔◌, IsTrue, Bool, List, [], ◌∷◌, ◌++◌, length, Option, None, Some, IfSome, Result, Err, ⊤}
+use Rattle.std.specs.Prelude.{◌≡◌, ℕ, ◌<◌, ◌≤◌, ◌⊎◌, ◌↔◌, IsTrue, Bool, List, [], ◌∷◌, ◌++◌, length, Option, None, Some, IfSome, Result, Err, ⊤, true}
 use Rattle.std.specs.Option.{option_map}
 use Rattle.std.specs.Result.{result_err}
 use Rattle.std.specs.Io.KnownBytes.{prepend_known}
@@ -59,6 +59,17 @@ abbrev pub TakesAtMost : Option (List ℕ) → Option (List ℕ) → ℕ → Typ
 TakesAtMost None new n = ⊤
 TakesAtMost (Some xs) None n = ⊥
 TakesAtMost (Some xs) (Some ys) n = (taken : List ℕ) × (xs ≡ taken ++ ys) × (length taken ≤ n)
+
+-- where known bytes hold no newline, the end was seen
+abbrev pub SeesEnd : Option (List ℕ) → Bool → Type 0
+SeesEnd None ended = ⊤
+SeesEnd (Some xs) ended = HasNoNewline xs → ended ≡ true
+
+-- known bytes lose a part of a line, of at most n bytes, from the front
+abbrev pub LosesPart : Option (List ℕ) → Option (List ℕ) → ℕ → Type 0
+LosesPart None new n = ⊤
+LosesPart (Some xs) None n = ⊥
+LosesPart (Some xs) (Some ys) n = (part : List ℕ) × HasNoNewline part × (xs ≡ part ++ ys) × (length part ≤ n)
 
 -- the first line is longer than n
 abbrev pub FirstIsLonger : Option (List (List ℕ)) → ℕ → Type 0

@@ -97,7 +97,7 @@ impl<R: ByteSource> Model for Lines<R> {
 }
 
 impl<R: ByteSource> Lines<R> {
-    ghost use Rattle.sedspace.specs.Stream.{Stream, left, lines_left, GivesLine, TakesLine, TakesAtMost, FirstIsLonger, NoneLeft, FailsIfBroken, TellsLast, KeepsLines, KeepsFault, ReadsOn};
+    ghost use Rattle.sedspace.specs.Stream.{Stream, left, lines_left, GivesLine, TakesLine, TakesAtMost, FirstIsLonger, NoneLeft, SeesEnd, LosesPart, FailsIfBroken, TellsLast, KeepsLines, KeepsFault, ReadsOn};
     ghost use Rattle.sedspace.specs.Gathering.{Gathers};
 
     /// Makes the lines of the source, and reserves memory to read ahead by at most `look` bytes, from 1 to 2^30. Nothing
@@ -162,16 +162,17 @@ impl<R: ByteSource> Lines<R> {
         self.ahead().len()
     }
 
-    /// Appends the next line to the space, without its newline, and answers whether there was one. The source is read
-    /// only while no whole line has been read ahead and its end hasn't been seen.
+    /// Appends the next line to the space, without its newline, and answers whether there was one. The source isn't read
+    /// where a whole line has been read ahead, or its end was seen in an earlier call.
     ///
-    /// Answers `TooLong` where the line doesn't fit into the space, and `Broken` where the source failed. The space then
-    /// holds what it held before, and each later call answers the same fault.
+    /// Answers `TooLong` where the line doesn't fit into the space, and `Broken` where the source failed before the line's
+    /// end came. The space then holds what it held before, and each later call answers the same fault.
     pub fn next_into(&mut self, space: &mut Space) -> Result<Got, LineFault>
         ensures line { result ≡ Ok Got.Line → (line : List ℕ)
             × (space.new ≡ record space.old { bytes = space.old.bytes ++ line })
             × TakesLine (left R.remaining self.old) (left R.remaining self.new) line
             × GivesLine (lines_left R.remaining self.old) (lines_left R.remaining self.new) line }
+        ensures last { result ≡ Ok Got.Line → SeesEnd (left R.remaining self.old) self.new.ended }
         ensures fits { OnOk result (length space.new.bytes ≤ space.new.limit) }
         ensures end { result ≡ Ok Got.End → (space.new ≡ space.old)
             × NoneLeft (lines_left R.remaining self.old) × NoneLeft (lines_left R.remaining self.new)
@@ -180,6 +181,11 @@ impl<R: ByteSource> Lines<R> {
             → FirstIsLonger (lines_left R.remaining self.old) (space.old.limit - length space.old.bytes) }
         ensures failed { self.old.fault ≡ None
             → FailsIfBroken result (R.failures self.old.source) (R.failures self.new.source) }
+
+        // Where the source fails, no more than a part of one line has come of it.
+        ensures broken { result ≡ Err LineFault.Broken → self.old.fault ≡ None → (self.new.ahead ≡ [])
+            × LosesPart (left R.remaining self.old) (left R.remaining self.new)
+            (space.old.limit - length space.old.bytes) }
 
         // A fault loses at most the space's limit of the bytes still to come, is kept, and is answered again.
         ensures err { OnErr result ((space.new ≡ space.old)
@@ -206,11 +212,12 @@ impl<R: ByteSource> Lines<R> {
         got
     }
 
-    /// Whether no line is left, so that the line given last was the last of the input. Where nothing has been read ahead
-    /// and the source's end hasn't been seen, the source is read once; otherwise it isn't read. Answers `Broken` where
-    /// that read failed; no byte is lost by it.
+    /// Whether no line is left, so that the line given last was the last of the input. The source isn't read where bytes
+    /// have been read ahead, or its end was seen in an earlier call. Answers `Broken` where the source failed before a
+    /// byte of it came; no byte is lost by it.
     pub fn is_last(&mut self) -> Result<bool, LineFault>
         ensures last { IfOk result (TellsLast (lines_left R.remaining self.old)) }
+        ensures end { result ≡ Ok true → self.new.ended ≡ true }
         ensures left { Keeps (left R.remaining self.old) (left R.remaining self.new) }
         ensures lines { KeepsLines (lines_left R.remaining self.old) (lines_left R.remaining self.new) }
         ensures failed { self.old.fault ≡ None
@@ -218,6 +225,7 @@ impl<R: ByteSource> Lines<R> {
         ensures too_long { result ≡ Err LineFault.TooLong → self.old.fault ≡ Some LineFault.TooLong }
 
         // A fault is kept, and answered again.
+        ensures err { OnErr result (self.new.ahead ≡ self.old.ahead) }
         ensures fault { KeepsFault result self.old self.new }
 
         // How much is read, and when.

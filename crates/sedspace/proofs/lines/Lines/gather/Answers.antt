@@ -54,7 +54,7 @@ returns-in-Ok-false-refill-clause-gathers g c =
       r.failed ∙ (same_source g.R.ByteSource.failures c.loop-self.self c.move_ahead.new.self m.rest ∙ h.0),
       h.3 ++ c.loop-self.self.ahead,
       _,
-      inr (Gathered-refilled _ _ _ _ _ _ _ _ moved a.1 r.left r.taken r.reads.1 r.fault (λ e. (r.unread e).1), some, e.1),
+      inr (Gathered-refilled _ _ _ _ _ _ _ _ moved a.1 r.left r.taken r.reads.1 r.fault (λ e. (r.unread e).1), some, e.1, e.0),
     )
 
 pub returns-in-Err-refill-clause-gathers : goal.returns-in-Err-refill-clause-gathers
