@@ -1,4 +1,4 @@
--- Private to the proofs: no contract of a public item cites what stands here.
+-- Private to the proofs: no contract that `sedmatch` passes on cites what stands here.
 -- At which places of a text the nodes of an expression can begin and end, in matches that begin at one of some starts.
 use Rattle.std.specs.Prelude.{◌≡◌, ℕ, ◌+◌, ◌<◌, ◌≤◌, Bool, false, ◌⊎◌, ◌↔◌, List, slice_get, slice_index_or, Option, Some, None, IsTrue}
 use Rattle.sedre.specs.Tree.{Tree}
@@ -74,7 +74,7 @@ PartFrom nodes r y c = (c ≡ r) ⊎ ((z : ℕ) × (node : Node) × (y ≤ z) ×
 abbrev pub IsLoose : List Node → ℕ → ℕ → Type 0
 IsLoose nodes r c = (z : ℕ) × (node : Node) × (r < z) × (slice_get nodes z ≡ Some node) × IsPart node c
 
--- the longest span from i that ends below n, if there is one
+-- a span from i no shorter than any that ends below n; None: none ends there
 abbrev pub LongestBelow : Tree → List ℕ → ℕ → ℕ → Option ℕ → Type 0
 LongestBelow e w i n None = (k : ℕ) → k < n → Spans e w i k → ⊥
 LongestBelow e w i n (Some j) = Spans e w i j × ((k : ℕ) → k < n → Spans e w i k → k ≤ j)

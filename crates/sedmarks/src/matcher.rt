@@ -28,6 +28,7 @@ pub struct Found {
 
 impl Found {
     /// The bytes of group `k` in the text, and of the whole match for 0; empty where the group has no match.
+    /// Conditions: `k` is at most 9, and the text is the one in which the match was found.
     pub fn part<'a>(&self, text: &'a [u8], k: usize) -> &'a [u8]
         requires group { k ≤ 9 }
         requires lies { SpanIn (length text.now) (span_of self.now.groups k) }
@@ -43,7 +44,8 @@ impl Found {
 /// The leftmost-longest match that begins at `from` or later, with its groups. `None` exactly where there is no match.
 ///
 /// It takes no memory, and its steps are bounded whatever the expression; where there is no match they are in
-/// proportion to the text.
+/// proportion to the text. Conditions: `from` is at most the text's length, and the scratch has room for the text and the
+/// expression.
 pub fn find(
     expr: &Expr,
     text: &Text,
@@ -79,7 +81,7 @@ pub fn find(
 }
 
 /// Where the leftmost-longest match that begins at `from` or later begins and ends. `None` exactly where there is no
-/// match.
+/// match. Conditions: those of [`find`].
 pub fn find_span(
     expr: &Expr,
     text: &Text,
@@ -103,6 +105,7 @@ pub fn find_span(
 }
 
 /// Whether any match begins at `from` or later. Its steps are in proportion to the text, whatever the expression.
+/// Conditions: those of [`find`].
 pub fn is_match(
     expr: &Expr,
     text: &Text,

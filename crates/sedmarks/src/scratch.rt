@@ -62,8 +62,8 @@ impl Model for Scratch {
 }
 
 impl Scratch {
-    /// Room for texts of at most `max_text` bytes and expressions of at most `max_nodes` nodes.
-    /// Fails only where a request for memory was refused.
+    /// Room for texts of at most `max_text` bytes, which is 2^30 or less, and expressions of at most `max_nodes` nodes,
+    /// from 1 to 65,536. Fails only where a request for memory was refused.
     pub fn new(alloc: Global, max_text: usize, max_nodes: usize) -> Result<Scratch, AllocError>
         requires text { max_text ≤ 2 ^ 30 }
         requires some_node { 1 ≤ max_nodes }
@@ -91,7 +91,7 @@ impl Scratch {
     }
 }
 
-/// Marks for the nodes of an expression, none of them set.
+/// Marks for the nodes of an expression.
 pub fn new_sets(alloc: Global) -> Result<Sets, AllocError> {
     Ok(Sets {
         null: NodeMarks::new(alloc)?,

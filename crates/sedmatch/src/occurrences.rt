@@ -51,11 +51,10 @@ fn allowance(nodes: usize, len: usize) -> usize
 }
 
 impl Occurrences {
-    /// Room for texts of at most `max_text` bytes and expressions of at most `max_nodes` nodes.
-    /// Fails only where a request for memory was refused.
+    /// Room for texts of at most `max_text` bytes, which is 2^30 or less, and expressions of at most `max_nodes` nodes,
+    /// 65,536 or less. Fails only where a request for memory was refused.
     pub fn new(alloc: Global, max_text: usize, max_nodes: usize) -> Result<Occurrences, AllocError>
         requires text { max_text ≤ 2 ^ 30 }
-        requires some_node { 1 ≤ max_nodes }
         requires nodes { max_nodes ≤ 65536 }
         ensures { IfOk result (λ o. RoomFor max_text max_nodes o) }
     {
@@ -224,6 +223,8 @@ impl TableMatcher {
     /// match from there on, or one byte further where that is the null string at `last`.
     ///
     /// All calls for one text, from [`Occurrences::begin`] on, take at most 416 steps for each node and place together.
+    /// Conditions: `begin` was called for this matcher and text, `last` is what the call before answered, `None` in the first
+    /// one, and after that the occurrences have room for the text and the expression. After `None` begin anew.
     #[inline(always)]
     pub fn next_occurrence(
         &mut self,

@@ -21,7 +21,9 @@ use crate::linear::first_end_forwards;
 use crate::ready::{Known, Tables, find_known, new_tables};
 use crate::sight::{Sight, sight_find, sight_matches, sight_of, sight_span};
 use crate::state_limit::StateLimit;
-use crate::tables::{Next, PLAIN, Table, add_looks, first_state, follow_to, go, state_at, stay_on};
+use crate::tables::{
+    NO_ENDS, Next, PLAIN, Table, add_looks, first_state, follow_to, go, state_at, stay_on,
+};
 use sedmarks::ahead::Lead;
 use sedmarks::beginnings::Begins;
 use sedmarks::counted::{Bytes, Tally, Text};
@@ -108,13 +110,6 @@ fn some_anywhere(
         },
     }
 }
-
-/// What stands for the ends of a state before one is looked at.
-const NO_ENDS: Ends = Ends {
-    inner: false,
-    last: false,
-    goes: false,
-};
 
 /// Where a pass from one start has arrived by filled cells.
 #[derive(Clone, Copy)]
@@ -494,25 +489,23 @@ impl Model for TableMatcher {
 }
 
 impl TableMatcher {
-    /// The expression with empty tables; counts the looks at the expression's nodes.
-    /// Fails only where a request for memory was refused.
+    /// The expression with empty tables. Looks at the expression's nodes are counted in `steps`; no text is searched, so
+    /// no bound is told of them. Fails only where a request for memory was refused.
     pub fn new(alloc: Global, expr: &Expr, steps: &mut Steps) -> Result<TableMatcher, AllocError>
-        requires nodes { length expr.now.nodes ≤ 65536 }
         ensures { IfOk result (λ m. m ≡ expr.now) }
     {
         TableMatcher::with_states(alloc, expr, StateLimit::new(STATES), steps)
     }
 
-    /// The expression with empty tables that hold at most as many states as the limit says; counts the looks at the
-    /// expression's nodes. The answers don't depend on the limit: fewer states take less room, and more time for an
-    /// expression that reaches more of them.
+    /// The expression with empty tables, as [`TableMatcher::new`] makes it, each with room for at most as many states as
+    /// the limit says. The answers don't depend on the limit: fewer states take less room, and more time for an expression
+    /// that reaches more of them.
     pub fn with_states(
         alloc: Global,
         expr: &Expr,
         limit: StateLimit,
         steps: &mut Steps,
     ) -> Result<TableMatcher, AllocError>
-        requires nodes { length expr.now.nodes ≤ 65536 }
         ensures { IfOk result (λ m. m ≡ expr.now) }
     {
         let root = expr.root().index();

@@ -628,16 +628,18 @@ pub fn follow_past(
     follow_to(expr, root, table, text, state, from, to, steps)
 }
 
-/// What is told of `states` states before one is added: that no match ends.
+/// What is told of a state before a search has come to it: that no match ends.
+pub const NO_ENDS: Ends = Ends {
+    inner: false,
+    last: false,
+    goes: false,
+};
+
+/// What is told of `states` states before one is added.
 fn new_ends(alloc: Global, states: usize) -> Result<Vec<Ends>, AllocError>
     ensures { IfOk result (λ v. length v.items ≡ states) }
 {
-    let none = Ends {
-        inner: false,
-        last: false,
-        goes: false,
-    };
-    vec![in alloc; none; states]
+    vec![in alloc; NO_ENDS; states]
 }
 
 /// `count` cells of which nothing is known.

@@ -27,7 +27,7 @@ impl Model for NodeMarks {
 }
 
 impl NodeMarks {
-    /// None of the marks set. Fails only where a request for memory was refused.
+    /// Marks for the nodes of an expression. Fails only where a request for memory was refused.
     pub fn new(alloc: Global) -> Result<NodeMarks, AllocError> {
         Ok(NodeMarks {
             marks: Marks::new(alloc, MAX_NODES)?,
