@@ -6,19 +6,13 @@ use Rattle.sedre.specs.Arena.{Written}
 use Rattle.sedscript.specs.declared.bytes.Sort.TheVariants.{Separator}
 use Rattle.sedscript.specs.declared.types.ScriptFault.{ScriptFault}
 use Rattle.sedscript.specs.declared.types.Action.{Action}
-use Rattle.sedscript.specs.declared.types.Action.TheVariants.{Block, Branch as BranchTo, Change as ChangeText}
-use Rattle.sedscript.specs.declared.types.Action.TheVariants.{Delete as DeleteSpace, Insert as InsertText}
-use Rattle.sedscript.specs.declared.types.Action.TheVariants.{LineNumber as WriteNumber, Print as PrintSpace}
-use Rattle.sedscript.specs.declared.types.Action.TheVariants.{Quit as QuitHere, Test as TestTo}
-use Rattle.sedscript.specs.declared.types.Action.TheVariants.{Substitute as SubstituteNow}
-use Rattle.sedscript.specs.declared.types.Action.TheVariants.{Transliterate as TransliterateNow}
+use Rattle.sedscript.specs.declared.types.Action.TheVariants as action
 use Rattle.sedscript.specs.declared.types.Command.{Command}
 use Rattle.sedscript.specs.declared.substitution.Substitution.{Substitution}
 use Rattle.sedscript.specs.declared.items.Simple.{Simple}
 use Rattle.sedscript.specs.declared.items.Simple.TheVariants.{AppendHold, CopyHold, Delete, Exchange, Hold, HoldMore}
 use Rattle.sedscript.specs.declared.items.Simple.TheVariants.{LineNumber, Print, PrintFirst, Quit}
 use Rattle.sedscript.specs.declared.items.Simple.TheVariants.{AppendNext, DeleteFirst, List as ListSpace, NextLine}
-use Rattle.sedscript.specs.declared.types.Action.TheVariants as a
 use Rattle.sedscript.specs.declared.items.TextUse.{TextUse}
 use Rattle.sedscript.specs.declared.items.TextUse.TheVariants.{Append, Insert, Change}
 use Rattle.sedscript.specs.declared.items.BranchUse.{BranchUse}
@@ -135,56 +129,57 @@ counts_with n f = n
 
 -- the action of a command of one letter
 abbrev pub simple_action : Simple → Action
-simple_action Delete = DeleteSpace
-simple_action LineNumber = WriteNumber
-simple_action Print = PrintSpace
-simple_action Quit = QuitHere
-simple_action PrintFirst = a.PrintFirst
-simple_action CopyHold = a.CopyHold
-simple_action AppendHold = a.AppendHold
-simple_action Hold = a.Hold
-simple_action HoldMore = a.HoldMore
-simple_action Exchange = a.Exchange
-simple_action NextLine = a.NextLine
-simple_action AppendNext = a.AppendNext
-simple_action DeleteFirst = a.DeleteFirst
-simple_action ListSpace = a.List
+simple_action Delete = action.Delete
+simple_action LineNumber = action.LineNumber
+simple_action Print = action.Print
+simple_action Quit = action.Quit
+simple_action PrintFirst = action.PrintFirst
+simple_action CopyHold = action.CopyHold
+simple_action AppendHold = action.AppendHold
+simple_action Hold = action.Hold
+simple_action HoldMore = action.HoldMore
+simple_action Exchange = action.Exchange
+simple_action NextLine = action.NextLine
+simple_action AppendNext = action.AppendNext
+simple_action DeleteFirst = action.DeleteFirst
+simple_action ListSpace = action.List
 
 -- the action of `a`, `i` or `c` with the text of this number
 abbrev pub text_action : TextUse → ℕ → Action
-text_action Append k = a.Append k
-text_action Insert k = InsertText k
-text_action Change k = ChangeText k
+text_action Append k = action.Append k
+text_action Insert k = action.Insert k
+text_action Change k = action.Change k
 
 -- the action of `b` or `t` that goes to the command of this number
 abbrev pub branch_action : BranchUse → ℕ → Action
-branch_action Always to = BranchTo to
-branch_action IfReplaced to = TestTo to
+branch_action Always to = action.Branch to
+branch_action IfReplaced to = action.Test to
 
 -- the action of `r` or `w` with the file or the sink of this number
 abbrev pub file_action : FileUse → ℕ → Action
-file_action Read k = a.ReadFile k
-file_action Write sink = a.WriteFile sink
+file_action Read k = action.ReadFile k
+file_action Write sink = action.WriteFile sink
 
 -- the action of a function among all items, given those before it, which have so many texts, substitutions and tables,
 -- and those after it. None where it doesn't become a command
 abbrev pub action_of : List ℕ → List Item → List Item → Counts → List Item → Function → Option Action
 action_of text all before n after (Plain s) = Some (simple_action s)
-action_of text all before n after Open = Some (Block (unwrap_or (block_end before after) 0))
+action_of text all before n after Open = Some (action.Block (unwrap_or (block_end before after) 0))
 action_of text all before n after (Branch u from to) =
     Some (branch_action u
     (if from == to then commands_in all else unwrap_or (label_in text (bytes_between text from to) 0 all) 0))
 action_of text all before n after (Text t from to) = Some (text_action t n.texts)
 action_of text all before n after (File u from to) =
     Some (file_action u (number_in u text all (bytes_between text from to)))
-action_of text all before n after (Substitute s e f) = Some (SubstituteNow n.substitutions)
-action_of text all before n after (Transliterate s) = Some (TransliterateNow n.tables)
+action_of text all before n after (Substitute s e f) = Some (action.Substitute n.substitutions)
+action_of text all before n after (Transliterate s) = Some (action.Transliterate n.tables)
 action_of text all before n after f = None
 
 -- the commands with one of these addresses and this action before them, if there is an action
 abbrev pub with_action : Addresses → Option Action → List Command → List Command
-with_action a None cs = cs
-with_action a (Some action) cs = record { first = a.first; second = a.second; negate = a.negate; action = action } ∷ cs
+with_action addresses None cs = cs
+with_action addresses (Some does) cs =
+    record { first = addresses.first; second = addresses.second; negate = addresses.negate; action = does } ∷ cs
 
 -- the commands that the items become, in the order of their letters
 abbrev pub commands_of : List ℕ → List Item → List Item → Counts → List Item → List Command

@@ -55,12 +55,7 @@ fn target_fault_at<'a>(
                 item.place,
             )
         }
-        Function::Plain(_)
-        | Function::Text(..)
-        | Function::File(..)
-        | Function::Substitute(..)
-        | Function::Transliterate(_)
-        | Function::Comment => None,
+        _ => None,
     }
 }
 

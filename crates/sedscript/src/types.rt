@@ -26,11 +26,12 @@ pub enum Action {
     /// `N`: appends a newline and the next line to the pattern space.
     AppendNext,
     /// `{`: where the pattern space isn't selected, goes to the command of this number, the one after the closing
-    /// brace.
+    /// brace. The number of commands is the end of the script.
     Block(usize),
     /// `b`: goes to the command of this number. The number of commands is the end of the script.
     Branch(usize),
-    /// `c`: changes the pattern space to the script's text of this number, counted from 0.
+    /// `c`: deletes the pattern space and starts the next cycle, and writes the script's text of this number, counted from
+    /// 0; of a range, at its end alone.
     Change(usize),
     /// `g`: replaces the pattern space by the hold space.
     CopyHold,
