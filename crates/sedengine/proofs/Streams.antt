@@ -162,7 +162,7 @@ Reads-none {R} remaining failures reference a = record {
 unread : {T : Type 0} (n : ℕ) (r : Result T Ended) → (r ≡ Err InputBroken → ⊥) → FailedSource n n r
 unread {T} n (Ok x) h = refl
 unread {T} n (Err InputBroken) h = absurd (h refl)
-unread {T} n (Err other) h = tt
+unread {T} n (Err other) h = refl
 
 -- a call that reads nothing
 pub Reads-unread : {R T : Type 0} (remaining : R → Option (List ℕ)) (failures : R → ℕ) (reference : R → List GName) (a : Stream R) (r : Result T Ended) → (r ≡ Err InputBroken → ⊥) → Reads remaining failures reference a a r

@@ -45,11 +45,15 @@ FailedSink old new other = (k : ℕ) → new k ≡ old k
 abbrev pub SinksAtEnd : Option ℕ → (ℕ → ℕ) → (ℕ → ℕ) → Result Unit Ended → Type 0
 SinksAtEnd most old new r = FailedSink old new r × LimitIsSet most r
 
--- The source hasn't failed where the run goes on, and has where an end says so.
+-- The source has failed at an end that says so, and at no other.
+abbrev pub SourceAtEnd : ℕ → ℕ → Ended → Type 0
+SourceAtEnd old new InputBroken = Rose old new
+SourceAtEnd old new other = new ≡ old
+
+-- The source hasn't failed where the run goes on, and at an end only where that says so.
 abbrev pub FailedSource : {T : Type 0} → ℕ → ℕ → Result T Ended → Type 0
 FailedSource old new (Ok x) = new ≡ old
-FailedSource old new (Err InputBroken) = Rose old new
-FailedSource old new (Err _) = Unit {0}
+FailedSource old new (Err end) = SourceAtEnd old new end
 
 -- Lines are read ahead as far as before, and the source holds the same references.
 abbrev pub SameLines : {R : Type 0} → (R → List GName) → Stream R → Stream R → Type 0

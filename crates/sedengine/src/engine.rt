@@ -2,10 +2,9 @@
 ghost use Rattle.std.specs.Prelude.{◌≡◌, ◌<◌, ◌≤◌, ◌+◌, [], None, Some, Err, IfOk, IfSome, IsNone, length, replicate, ℕ, List};
 ghost use Rattle.std.specs.Option.{ForSome};
 ghost use Rattle.std.specs.Io.KnownBytes.{Keeps};
-ghost use Rattle.sedspace.specs.Failures.{Rose};
 ghost use Rattle.sedspace.specs.Stream.{lines_left, ReadsOn};
 ghost use Rattle.sedengine.specs.Move.{start};
-ghost use Rattle.sedengine.specs.Devices.{FailedSource, SameSinks, SinksAtEnd};
+ghost use Rattle.sedengine.specs.Devices.{FailedSource, SameSinks, SinksAtEnd, SourceAtEnd};
 ghost use Rattle.sedengine.specs.Held.{total_of, bound_of};
 ghost use Rattle.sedengine.specs.Run.{outcome, Cycles, Ending, SameRun, Sends, TellsFiles, at_lines, end_answered, setting, input_of};
 
@@ -90,8 +89,8 @@ impl Engine {
             (Sends self.old self.new (O.contents outputs.old) (O.contents outputs.new) (outcome result))
             (input_of R.remaining lines.old) (input_of R.remaining lines.new)
             self.new (lines_left R.remaining lines.new) result) }
-        // A device that the end names has failed in this call, and no other sink has; where a next cycle is due none has. A
-        // sink is full only where the limits have one on the output.
+        // A device that the end names has failed in this call, and no other has; where a next cycle is due none has. A sink is
+        // full only where the limits have one on the output.
         ensures input { IsNone self.old.ended → lines.old.fault ≡ None →
             FailedSource (R.failures lines.old.source) (R.failures lines.new.source) (outcome result) }
         ensures output { IsNone self.old.ended →
@@ -135,10 +134,10 @@ impl Engine {
             Ending self.old.limits (setting self.old files) (at_lines self.old ls)
             (Sends self.old self.new (O.contents outputs.old) (O.contents outputs.new) (Err result))
             (input_of R.remaining lines.old) (input_of R.remaining lines.new) self.new.state result) }
-        // The device that the end names has failed in this run, and no other sink has. A sink is full only where the limits
-        // have one on the output.
-        ensures input { result ≡ Ended.InputBroken → IsNone self.old.ended → lines.old.fault ≡ None →
-            Rose (R.failures lines.old.source) (R.failures lines.new.source) }
+        // The device that the end names has failed in this run, and no other has. A sink is full only where the limits have
+        // one on the output.
+        ensures input { IsNone self.old.ended → lines.old.fault ≡ None →
+            SourceAtEnd (R.failures lines.old.source) (R.failures lines.new.source) result }
         ensures output { IsNone self.old.ended →
             SinksAtEnd self.old.limits.output (O.failures outputs.old) (O.failures outputs.new) (Err result) }
         ensures ended { self.new.ended ≡ Some result }

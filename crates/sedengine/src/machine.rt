@@ -2,10 +2,9 @@
 ghost use Rattle.std.specs.Prelude.{◌≡◌, ◌<◌, ◌≤◌, [], None, Some, Ok, Err, IfOk, IfSome, IsNone, length, ℕ, Option, List};
 ghost use Rattle.std.specs.Option.{ForSome};
 ghost use Rattle.std.specs.Io.KnownBytes.{Keeps};
-ghost use Rattle.sedspace.specs.Failures.{Rose};
 ghost use Rattle.sedspace.specs.Stream.{lines_left};
 ghost use Rattle.sedengine.specs.Move.{start};
-ghost use Rattle.sedengine.specs.Devices.{FailedSource, SameLines};
+ghost use Rattle.sedengine.specs.Devices.{FailedSource, SameLines, SourceAtEnd};
 ghost use Rattle.sedengine.specs.Calls.{Delivers};
 ghost use Rattle.sedengine.specs.Meters.{Sent};
 ghost use Rattle.sedengine.specs.Held.{total_of, bound_of};
@@ -183,8 +182,8 @@ impl Machine {
             Ending self.old.limits (setting self.old files) (at_lines self.old ls)
             (Sent (O.tally outputs.old) (O.tally outputs.new))
             (input_of R.remaining lines.old) (input_of R.remaining lines.new) self.new.state result) }
-        ensures input { result ≡ Ended.InputBroken → IsNone self.old.ended → lines.old.fault ≡ None →
-            Rose (R.failures lines.old.source) (R.failures lines.new.source) }
+        ensures input { IsNone self.old.ended → lines.old.fault ≡ None →
+            SourceAtEnd (R.failures lines.old.source) (R.failures lines.new.source) result }
         ensures output { IsNone self.old.ended → Delivers O.tally O.count outputs.old outputs.new (Err result) }
         ensures ended { self.new.ended ≡ Some result }
         ensures again { IfSome self.old.ended (λ end. (result ≡ end) × (self.new ≡ self.old)
