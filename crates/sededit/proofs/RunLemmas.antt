@@ -1,16 +1,16 @@
 -- From the end of an edit to the status of the program.
-use Rattle.std.proofs.Common.{◌≡◌, ◌∙◌, ◌≤◌, ◌⊎◌, inl, inr, ℕ, Bool, true, false, List, Option, Some, None, Result, Ok, Err, arith}
+use Rattle.std.proofs.Common.{◌≡◌, ◌∙◌, ◌≤◌, ◌⊎◌, inl, inr, ℕ, Bool, true, false, List, Option, Some, None, Err, arith, subst}
 use Rattle.sedspace.specs.Failures.{Rose}
 use Rattle.sedscript.specs.Script.{Program}
 use Rattle.sedengine.specs.Limits.{Limits}
-use Rattle.sedengine.specs.Devices.{FailedSink, Gained, SinksAtEnd}
+use Rattle.sedengine.specs.Devices.{FailedSink, Gained, SinksAtEnd, SourceAtEnd}
 use Rattle.sedengine.specs.declared.ends.Ended.{Ended}
-use Rattle.sedengine.specs.declared.ends.Ended.TheVariants.{Done, InputBroken, OutputBroken, OutputFull}
+use Rattle.sedengine.specs.declared.ends.Ended.TheVariants.{Done, OutputBroken, OutputFull}
 use Rattle.sedengine.proofs.Metering.{Cause-as}
 use Rattle.std.specs.Option.{option_map}
 use Rattle.sededit.specs.Joined.{joined}
 use Rattle.sededit.specs.Opening.{KeepsFiles, WereRefused, contents}
-use Rattle.sededit.specs.Program.{GainsBy, HasFailed, SinkFailed, StopsEarly, WritesAll, WritesBeginning}
+use Rattle.sededit.specs.Program.{GainsBy, DevicesAtEnd, SinkAtEnd, SinkFailed, StopsEarly, WritesAll, WritesBeginning}
 
 -- what sinks gained stands where they hold the same afterwards
 pub Gained-same : (old mid new : ℕ → Option (List ℕ)) (out : List (ℕ × ℕ)) → ((k : ℕ) → new k ≡ mid k) → Gained old mid out → Gained old new out
@@ -28,14 +28,16 @@ WritesBeginning-same p input texts old mid new same h = λ bytes known files tol
 Rose-more : (a b c : ℕ) → Rose a b → b ≤ c → Rose a c
 Rose-more a b c h more = omega (arith, h, more)
 
--- the device that an answered end names has failed, also after a flush
-pub has_failed : {E : Type 0} (most : Option ℕ) (input_old input_new : ℕ) (old mid new : ℕ → ℕ) (r : Result Ended E) (end : Ended) → r ≡ Ok end →
-    (r ≡ Ok InputBroken → Rose input_old input_new) → SinksAtEnd most old mid (Err end) → ((k : ℕ) → mid k ≤ new k) →
-    HasFailed most input_old input_new old new end
-has_failed most input_old input_new old mid new r InputBroken is input failed more = input is
-has_failed most input_old input_new old mid new r (OutputBroken k) is input failed more = Rose-more _ _ _ failed.0.0 (more k)
-has_failed most input_old input_new old mid new r (OutputFull k) is input failed more = failed.1
-has_failed most input_old input_new old mid new r _ is input failed more = tt
+-- what an end says of a sink it says after a flush too
+pub sink_flushed : (most : Option ℕ) (old mid new : ℕ → ℕ) (end : Ended) → SinksAtEnd most old mid (Err end) → ((k : ℕ) → mid k ≤ new k) →
+    SinkAtEnd most old new end
+sink_flushed most old mid new (OutputBroken k) failed more = Rose-more _ _ _ failed.0.0 (more k)
+sink_flushed most old mid new (OutputFull k) failed more = failed.1
+sink_flushed most old mid new _ failed more = tt
+
+-- the source has not failed in a run that came to the ordinary end
+pub source_kept : (old new : ℕ) (end : Ended) → end ≡ Done → SourceAtEnd old new end → new ≡ old
+source_kept old new end is failed = let all : SourceAtEnd old new Done = rw is at failed in all
 
 -- a sink that failed after others had not has failed since
 pub sink_failed : (old mid new : ℕ → ℕ) → ((k : ℕ) → mid k ≡ old k) → SinkFailed mid new → SinkFailed old new
@@ -56,8 +58,8 @@ some_refused false old new is h = absurd cc
 
 -- how a run stopped, said of the same input and numbers under other names
 pub cause_moved : (l : Limits) (p : Program) (texts : ℕ → Option (List ℕ)) (by : Ended → List (ℕ × ℕ) → Type 0) (gained : List (ℕ × ℕ) → Type 0) (old new : ℕ → ℕ) (W : Type 0) (x y : Option (List ℕ)) (a b a' b' : ℕ) →
-    y ≡ x → a' ≡ a → b' ≡ b → StopsEarly l p x texts by (HasFailed l.output a b old new) ⊎ (WritesAll p x texts gained × W) →
-    StopsEarly l p y texts by (HasFailed l.output a' b' old new) ⊎ (WritesAll p y texts gained × W)
+    y ≡ x → a' ≡ a → b' ≡ b → StopsEarly l p x texts by (DevicesAtEnd l.output a b old new) ⊎ (WritesAll p x texts gained × W × (b ≡ a)) →
+    StopsEarly l p y texts by (DevicesAtEnd l.output a' b' old new) ⊎ (WritesAll p y texts gained × W × (b' ≡ a'))
 cause_moved l p texts by gained old new W x y a b a' b' input before after h = rw (input, before, after) h
 
 -- a run over what was made ready for it, said of how things stood before
@@ -91,22 +93,24 @@ WritesBeginning-from p f0 f1 t0 t1 s0 s1 new r h = λ bytes known files tells.
 GainsBy-from : (l : Limits) (a b new : ℕ → Option (List ℕ)) (end : Ended) (out : List (ℕ × ℕ)) → ((k : ℕ) → b k ≡ a k) → GainsBy l b new end out → GainsBy l a new end out
 GainsBy-from l a b new end out same h = record { gained = Gained-from a b new out same h.gained; within = h.within; full = h.full }
 
-failed-from : (most : Option ℕ) (i0 i1 i : ℕ) (n0 n1 n : ℕ → ℕ) (end : Ended) → i1 ≡ i0 → ((k : ℕ) → n1 k ≡ n0 k) → HasFailed most i1 i n1 n end → HasFailed most i0 i n0 n end
-failed-from most i0 i1 i n0 n1 n InputBroken is same h = rw (← is) h
-failed-from most i0 i1 i n0 n1 n (OutputBroken k) is same h = rw (← same k) h
-failed-from most i0 i1 i n0 n1 n (OutputFull k) is same h = h
-failed-from most i0 i1 i n0 n1 n _ is same h = tt
+sink-from : (most : Option ℕ) (n0 n1 n : ℕ → ℕ) (end : Ended) → ((k : ℕ) → n1 k ≡ n0 k) → SinkAtEnd most n1 n end → SinkAtEnd most n0 n end
+sink-from most n0 n1 n (OutputBroken k) same h = rw (← same k) h
+sink-from most n0 n1 n (OutputFull k) same h = h
+sink-from most n0 n1 n _ same h = tt
+
+devices-from : (most : Option ℕ) (i0 i1 i : ℕ) (n0 n1 n : ℕ → ℕ) (end : Ended) → i1 ≡ i0 → ((k : ℕ) → n1 k ≡ n0 k) → DevicesAtEnd most i1 i n1 n end → DevicesAtEnd most i0 i n0 n end
+devices-from most i0 i1 i n0 n1 n end is same h = (subst (λ m. SourceAtEnd m i end) is h.0, sink-from most n0 n1 n end same h.1)
 
 pub cause-from : (l : Limits) (p : Program) (f0 f1 : Option (List (Option (List ℕ)))) (t0 t1 s0 s1 new : ℕ → Option (List ℕ)) (i0 i1 i : ℕ) (n0 n1 n : ℕ → ℕ) →
     Ready f0 f1 t0 t1 s0 s1 → i1 ≡ i0 → ((k : ℕ) → n1 k ≡ n0 k) →
-    StopsEarly l p (all_joined f1) t1 (GainsBy l s1 new) (HasFailed l.output i1 i n1 n) ⊎ (WritesAll p (all_joined f1) t1 (Gained s1 new) × SinkFailed n1 n) →
-    StopsEarly l p (all_joined f0) t0 (GainsBy l s0 new) (HasFailed l.output i0 i n0 n) ⊎ (WritesAll p (all_joined f0) t0 (Gained s0 new) × SinkFailed n0 n)
+    StopsEarly l p (all_joined f1) t1 (GainsBy l s1 new) (DevicesAtEnd l.output i1 i n1 n) ⊎ (WritesAll p (all_joined f1) t1 (Gained s1 new) × SinkFailed n1 n × (i ≡ i1)) →
+    StopsEarly l p (all_joined f0) t0 (GainsBy l s0 new) (DevicesAtEnd l.output i0 i n0 n) ⊎ (WritesAll p (all_joined f0) t0 (Gained s0 new) × SinkFailed n0 n × (i ≡ i0))
 cause-from l p f0 f1 t0 t1 s0 s1 new i0 i1 i n0 n1 n r is same (inl h) = inl (
   h.0,
   h.1,
-  failed-from l.output i0 i1 i n0 n1 n h.0 is same h.2,
+  devices-from l.output i0 i1 i n0 n1 n h.0 is same h.2,
   λ bytes known files tells.
       let w = h.3 bytes (told f0 f1 bytes r.kept known) files (λ k. r.same_texts k ∙ tells k) in
       (w.0, Cause-as l _ _ _ _ h.0 w.0 (λ out sent. GainsBy-from l s0 s1 new h.0 out r.same_sinks sent) w.1),
 )
-cause-from l p f0 f1 t0 t1 s0 s1 new i0 i1 i n0 n1 n r is same (inr h) = inr (WritesAll-from p f0 f1 t0 t1 s0 s1 new r h.0, sink_failed n0 n1 n same h.1)
+cause-from l p f0 f1 t0 t1 s0 s1 new i0 i1 i n0 n1 n r is same (inr h) = inr (WritesAll-from p f0 f1 t0 t1 s0 s1 new r h.0, sink_failed n0 n1 n same h.1, h.2 ∙ is)

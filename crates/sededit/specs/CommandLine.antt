@@ -82,8 +82,8 @@ in_order (script ∷ scripts) es (name ∷ files) fs =
     else file name ∷ in_order (script ∷ scripts) es files (drop 1 fs)
 
 -- The parts of the script, and the operands that are files: the scripts of -e and the files of -f, each in their order;
--- without them, the first operand is the script (XCU sed, "Operands"). The places among the words are those that clap
--- tells.
+-- without them, the first operand is the script (XCU sed, "Operands"). The places are those that clap tells of its words;
+-- as no contract of clap says what they are, any are taken here.
 abbrev pub Asks : List Text → List Text → List Text → List Given → List Text → Type 0
 Asks [] [] [] parts names = (parts ≡ []) × (names ≡ [])
 Asks [] [] (operand ∷ operands) parts names = (parts ≡ text operand ∷ []) × (names ≡ operands)

@@ -9,13 +9,13 @@ use Rattle.sedscript.specs.Script.{Means, Program}
 use Rattle.sedscript.specs.ScriptText.{with_part}
 use Rattle.sedre.specs.declared.types.Kind.{Kind}
 use Rattle.sedre.specs.declared.types.Kind.TheVariants.{Basic, Extended}
-use Rattle.sedengine.specs.Devices.{GainedWithin}
+use Rattle.sedengine.specs.Devices.{GainedWithin, SourceAtEnd}
 use Rattle.sedengine.specs.Ends.{Cause}
 use Rattle.sedengine.specs.Limits.{Limits}
 use Rattle.sedengine.specs.Move.{to_sink}
 use Rattle.sedengine.specs.Run.{TellsFiles, setting_of}
 use Rattle.sedengine.specs.declared.ends.Ended.{Ended}
-use Rattle.sedengine.specs.declared.ends.Ended.TheVariants.{Done, InputBroken, OutputBroken, OutputFull}
+use Rattle.sedengine.specs.declared.ends.Ended.TheVariants.{Done, OutputBroken, OutputFull}
 use Rattle.sededit.specs.CommandLine.{Given, IsCommandLine, IsLine, file, given, sed_command, text}
 use Rattle.sededit.specs.Editing.{GainsAll, GainsBeginning, nothing_before, start_over}
 use Rattle.sededit.specs.Joined.{joined}
@@ -37,12 +37,13 @@ MakesText files before (text part ∷ parts) whole = MakesText files (with_part 
 MakesText files before (file name ∷ parts) whole =
     (bytes : List ℕ) × GivesWhole (files name) (Some bytes) × MakesText files (with_part before bytes) parts whole
 
--- The parts of a line make a text that means the script p, but that -n suppresses default output too, as a first line
--- `#n` does (XCU sed, "Options").
+-- A line has a part, and its parts make a text that means the script p, but that -n suppresses default output too, as a
+-- first line `#n` does (XCU sed, "Options").
 abbrev pub GivesScript : (List ℕ → Option (Option (List ℕ))) → Line → ℕ → Program → Type 0
 GivesScript files l nodes p =
-    (whole : List ℕ) × MakesText files [] (map given l.parts.items) whole
-    × ((q : Program) × Means whole (kind_with l.extended) nodes q × (p ≡ record q { quiet = l.quiet || q.quiet }))
+    (map given l.parts.items ≢ [])
+    × ((whole : List ℕ) × MakesText files [] (map given l.parts.items) whole
+    × ((q : Program) × Means whole (kind_with l.extended) nodes q × (p ≡ record q { quiet = l.quiet || q.quiet })))
 
 -- the names of the input files; without operands the standard input (XCU sed, "Operands"), under its name
 abbrev pub or_standard : List (List ℕ) → List (List ℕ)
@@ -86,24 +87,28 @@ abbrev pub WritesBeginning : Program → Option (List ℕ) → (ℕ → Option (
 WritesBeginning p input texts gained = ForSome input (λ bytes.
     (files : ℕ → List ℕ) → TellsFiles texts files → GainsBeginning (setting_of p files) (start_over p bytes) gained)
 
--- The device that an end names has failed, whether it tells its bytes or not: by the numbers of failures that the
--- input and each sink had before and have after. A sink is named as full only where there is a limit on the output.
-abbrev pub HasFailed : Option ℕ → ℕ → ℕ → (ℕ → ℕ) → (ℕ → ℕ) → Ended → Type 0
-HasFailed most input_old input_new sinks_old sinks_new InputBroken = Rose input_old input_new
-HasFailed most input_old input_new sinks_old sinks_new (OutputBroken k) = Rose (sinks_old k) (sinks_new k)
-HasFailed most input_old input_new sinks_old sinks_new (OutputFull k) = most ≢ None
-HasFailed most input_old input_new sinks_old sinks_new _ = Unit {0}
+-- A sink that an end names as broken has failed, and one is named as full only where there is a limit on the output.
+abbrev pub SinkAtEnd : Option ℕ → (ℕ → ℕ) → (ℕ → ℕ) → Ended → Type 0
+SinkAtEnd most old new (OutputBroken k) = Rose (old k) (new k)
+SinkAtEnd most old new (OutputFull k) = most ≢ None
+SinkAtEnd most old new other = Unit {0}
+
+-- What an end says of the devices, whether they tell their bytes or not, by the numbers of failures that the input and
+-- each sink had before and have after: the one that it names has failed, and the input at no other end.
+abbrev pub DevicesAtEnd : Option ℕ → ℕ → ℕ → (ℕ → ℕ) → (ℕ → ℕ) → Ended → Type 0
+DevicesAtEnd most input_old input_new sinks_old sinks_new end =
+    SourceAtEnd input_old input_new end × SinkAtEnd most sinks_old sinks_new end
 
 -- what the sinks gained in a run that came to an end, within the limit on the output, where there is one
 abbrev pub GainsBy : Limits → (old new : ℕ → Option (List ℕ)) → Ended → List (ℕ × ℕ) → Type 0
 GainsBy limits old new end = GainedWithin limits.output nothing_before old new (Err end)
 
--- The run of a script came to another end than the ordinary one; a device that this end names has failed; and where the
+-- The run of a script came to another end than the ordinary one, and what this says of the devices is so; and where the
 -- input and the texts are told, the end has its cause, after some moves. `gained` says what the sinks gained at an end.
 abbrev pub StopsEarly : Limits → Program → Option (List ℕ) → (ℕ → Option (List ℕ)) →
     (Ended → List (ℕ × ℕ) → Type 0) → (Ended → Type 0) → Type 0
-StopsEarly limits p input texts gained failed =
-    (end : Ended) × (end ≢ Done) × failed end × ForSome input (λ bytes.
+StopsEarly limits p input texts gained devices =
+    (end : Ended) × (end ≢ Done) × devices end × ForSome input (λ bytes.
     (files : ℕ → List ℕ) → TellsFiles texts files →
     ((t : ℕ) × Cause limits (setting_of p files) (start_over p bytes) (gained end) end t))
 

@@ -2,10 +2,9 @@
 ghost use Rattle.std.specs.Prelude.{◌≡◌, ◌<◌, ◌≤◌, ◌⊎◌, ℕ, List, Ok, Err, IfOk, OnOk, OnErr, IfErr, length};
 ghost use Rattle.std.specs.Option.{ForSome};
 ghost use Rattle.std.specs.Io.KnownBytes.{Keeps};
-ghost use Rattle.sedspace.specs.Failures.{Rose};
 ghost use Rattle.sedscript.specs.Script.{Faulty, Means};
 ghost use Rattle.sedscript.specs.declared.types.ScriptFault.{ScriptFault};
-ghost use Rattle.sedengine.specs.Devices.{Gained, GainedWithin, SameSinks, SinksAtEnd};
+ghost use Rattle.sedengine.specs.Devices.{Gained, GainedWithin, SameSinks, SinksAtEnd, SourceAtEnd};
 ghost use Rattle.sedengine.specs.Run.{TellsFiles, setting_of};
 ghost use Rattle.sededit.specs.Editing.{Edits, GainsAll, GainsBeginning, nothing_before, start_over};
 
@@ -43,9 +42,9 @@ pub fn script(alloc: Global, text: &[u8], kind: Kind, nodes: usize) -> Result<Sc
 /// the first of its `rfiles`. The script's expressions have at most `limits.nodes()` nodes, as where `script` read it with
 /// that number.
 ///
-/// What the engine holds stays within the limits, whatever the input, and so does what each sink gains, where the source
-/// tells contracts its bytes. What was written is never taken back, however the run ends. `own_limits.rt` of the crate
-/// `hosts` is an example.
+/// What each sink gains stays within the limits, where the source tells contracts its bytes; so does what the engine holds,
+/// as `Engine::held` says. What was written is never taken back, however the run ends. `own_limits.rt` of the crate `hosts`
+/// is an example.
 ///
 /// # Errors
 /// `AllocError` where a request for memory was refused. Nothing was read or written then.
@@ -75,9 +74,9 @@ pub fn edit<R: ByteSource, O: Outputs, T: Texts>(
         (files : ℕ → List ℕ) → TellsFiles (T.text texts.old) files →
         GainsAll (setting_of script files) (start_over script bytes)
         (Gained (O.contents outputs.old) (O.contents outputs.new))) }
-    // A device that the end names has failed, whether it tells its bytes or not, and no other sink has; and a sink is full
-    // only where the limits have one on the output.
-    ensures input { result ≡ Ok Ended.InputBroken → Rose (R.failures source.old) (R.failures source.new) }
+    // A device that the end names has failed, whether it tells its bytes or not, and no other has; and a sink is full only
+    // where the limits have one on the output.
+    ensures input { IfOk result (SourceAtEnd (R.failures source.old) (R.failures source.new)) }
     ensures failed { IfOk result (λ end.
         SinksAtEnd limits.output (O.failures outputs.old) (O.failures outputs.new) (Err end)) }
     ensures same_sinks { SameSinks O.count O.names outputs.old outputs.new }

@@ -11,7 +11,7 @@ use sedspace::Broken;
 use std::alloc::{AllocError, Global};
 
 /// Files by name, of which one at a time is current. They may let contracts see their bytes; of files that don't, clauses
-/// on bytes claim nothing. The name `-` is the standard input; opened again, it goes on where it was left.
+/// on bytes claim nothing. The name `-` is the standard input; opened again after its end, it has nothing more to give.
 pub trait Inputs {
     /// The bytes of the current file that are still to be read, where contracts may see them.
     ghost current: { Self → Option (List ℕ) };

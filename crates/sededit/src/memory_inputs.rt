@@ -1,11 +1,11 @@
 //! Input files over memory, for tests and for callers that have all bytes at hand.
-ghost use Rattle.std.specs.Prelude.{◌≡◌, ◌<◌, ◌↔◌, [], None, Some, true, length, min, string_bytes, IfOk, IsErr, MatchOption, refl, unwrap_or};
-ghost use Rattle.std.specs.Option.{is_some};
+ghost use Rattle.std.specs.Prelude.{◌≡◌, ◌<◌, ◌↔◌, ◌∷◌, ℕ, List, [], None, Some, true, length, min, string_bytes, IfOk, IsErr, MatchOption, refl, unwrap_or};
+ghost use Rattle.std.specs.Option.{is_some, option_map};
 ghost use Rattle.std.specs.Str.{bytes_eq};
 ghost use Rattle.std.specs.Io.{ReadsAtMost};
 ghost use Rattle.std.specs.Io.KnownBytes.{ReadConsumes};
 ghost use Rattle.sedspace.specs.Failures.{FailsAtErr, raised};
-ghost use Rattle.sededit.specs.Opening.{CountsRefusal};
+ghost use Rattle.sededit.specs.Opening.{CountsRefusal, GivesWhole, Opens};
 ghost use Rattle.sededit.specs.MemoryFiles.{all_of, bytes_at, file_of, files_of};
 
 use super::Inputs;
@@ -229,7 +229,17 @@ impl Inputs for MemoryInputs {
         self.refusals
     }
 
-    fn open(&mut self, name: &str) -> bool {
+    fn open(&mut self, name: &str) -> bool
+        ensures opens { (names : List (List ℕ)) →
+            Opens (Some (files_of self.old.files self.old.standard (name.now ∷ names))) result
+            (Some self.new.current) (Some (files_of self.new.files self.new.standard names)) }
+        ensures refused { CountsRefusal result self.old.refusals self.new.refusals }
+        ensures rest { self.new ≡ record self.old {
+          standard = self.new.standard;
+          current = self.new.current;
+          refusals = self.new.refusals;
+        } }
+    {
         if name == "-" {
             self.open_standard();
             return true;
@@ -264,7 +274,11 @@ impl Inputs for MemoryInputs {
         Ok(count)
     }
 
-    fn whole(&mut self, alloc: Global, name: &str) -> Result<Option<Vec<u8>>, AllocError> {
+    fn whole(&mut self, alloc: Global, name: &str) -> Result<Option<Vec<u8>>, AllocError>
+        ensures given { IfOk result (λ file.
+            GivesWhole (Some (file_of self.old.files name.now)) (option_map (λ bytes. bytes.items) file)) }
+        ensures rest { self.new ≡ self.old }
+    {
         match find(self.files.as_slice(), name.as_bytes()) {
             Some(k) => {
                 let bytes = self.files[k].bytes().to_vec(alloc)?;

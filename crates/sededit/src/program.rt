@@ -6,7 +6,7 @@ ghost use Rattle.sedengine.specs.Devices.{Gained};
 ghost use Rattle.sedengine.specs.Move.{to_sink};
 ghost use Rattle.clap.specs.Words.{kind_of};
 ghost use Rattle.sededit.specs.MemoryFiles.{dash};
-ghost use Rattle.sededit.specs.Program.{AsksHelp, GainsBy, HasFailed, Runs, RunsLine, SinkFailed, StopsEarly, WritesAll, WritesBeginning};
+ghost use Rattle.sededit.specs.Program.{AsksHelp, GainsBy, DevicesAtEnd, Runs, RunsLine, SinkFailed, StopsEarly, WritesAll, WritesBeginning};
 ghost use Rattle.sededit.specs.Program.{WritesHelp, or_standard, texts_of};
 ghost use Rattle.sededit.specs.Sinks.{Creates, CreatesFirst, CreatesUpTo};
 
@@ -57,35 +57,37 @@ pub fn command<S: AsStr, I: Inputs, O: Sinks, N: Names, E: Write>(
     requires sinks { O.count sinks.old ≡ 1 }
     requires names { N.named names.old ≡ 0 }
     ensures status { (result ≡ SUCCESS) ⊎ ((result ≡ REFUSED) ⊎ ((result ≡ MISSED) ⊎ (result ≡ STOPPED))) }
-    // Status 0 says that all was written that the script writes, and that no file was missed; or that help was asked for
-    // and written.
+    // Status 0 says that all was written that the script writes, that no file was missed and that no read failed; or that
+    // help was asked for and written, to the standard output alone.
     ensures whole { result ≡ SUCCESS →
         (Runs (I.text inputs.old) (I.ahead inputs.old) (N.file names.old) (N.text names.old) limits.nodes
         (map S.text words.now) (Creates (O.names sinks.old) (O.names sinks.new))
         (λ p input texts. WritesAll p input texts (Gained (O.contents sinks.old) (O.contents sinks.new)))
-        × (I.refusals inputs.new ≡ I.refusals inputs.old))
-        ⊎ (AsksHelp (map S.text words.now) × WritesHelp (Gained (O.contents sinks.old) (O.contents sinks.new))) }
+        × (I.refusals inputs.new ≡ I.refusals inputs.old) × (I.failures inputs.new ≡ I.failures inputs.old))
+        ⊎ (AsksHelp (map S.text words.now) × WritesHelp (Gained (O.contents sinks.old) (O.contents sinks.new))
+        × (O.names sinks.new ≡ O.names sinks.old) × (inputs.new ≡ inputs.old)) }
     // Status 2 says the same, and that a file couldn't be opened.
     ensures missed { result ≡ MISSED →
         Runs (I.text inputs.old) (I.ahead inputs.old) (N.file names.old) (N.text names.old) limits.nodes
         (map S.text words.now) (Creates (O.names sinks.old) (O.names sinks.new))
         (λ p input texts. WritesAll p input texts (Gained (O.contents sinks.old) (O.contents sinks.new)))
-        × Rose (I.refusals inputs.old) (I.refusals inputs.new) }
+        × Rose (I.refusals inputs.old) (I.refusals inputs.new) × (I.failures inputs.new ≡ I.failures inputs.old) }
     // A run that stopped has written a beginning; where help was asked for, a text.
     ensures stopped { result ≡ STOPPED →
         Runs (I.text inputs.old) (I.ahead inputs.old) (N.file names.old) (N.text names.old) limits.nodes
         (map S.text words.now) (Creates (O.names sinks.old) (O.names sinks.new))
         (λ p input texts. WritesBeginning p input texts (Gained (O.contents sinks.old) (O.contents sinks.new)))
-        ⊎ (AsksHelp (map S.text words.now) × WritesHelp (Gained (O.contents sinks.old) (O.contents sinks.new))) }
-    // It stopped for a cause, within the limits, and a device that this cause names has failed in this call; or all was
-    // written, and some sink failed when it was flushed; or a sink failed as help was written.
+        ⊎ (AsksHelp (map S.text words.now) × WritesHelp (Gained (O.contents sinks.old) (O.contents sinks.new))
+        × (O.names sinks.new ≡ O.names sinks.old) × (inputs.new ≡ inputs.old)) }
+    // It stopped for a cause, within the limits, and a device that this cause names has failed in this call, the input for no
+    // other cause; or all was written, and some sink failed when it was flushed; or a sink failed as help was written.
     ensures cause { result ≡ STOPPED →
         Runs (I.text inputs.old) (I.ahead inputs.old) (N.file names.old) (N.text names.old) limits.nodes
         (map S.text words.now) (Creates (O.names sinks.old) (O.names sinks.new))
         (λ p input texts. StopsEarly limits p input texts (GainsBy limits (O.contents sinks.old) (O.contents sinks.new))
-        (HasFailed limits.output (I.failures inputs.old) (I.failures inputs.new) (O.failures sinks.old) (O.failures sinks.new))
+        (DevicesAtEnd limits.output (I.failures inputs.old) (I.failures inputs.new) (O.failures sinks.old) (O.failures sinks.new))
         ⊎ (WritesAll p input texts (Gained (O.contents sinks.old) (O.contents sinks.new))
-        × SinkFailed (O.failures sinks.old) (O.failures sinks.new)))
+        × SinkFailed (O.failures sinks.old) (O.failures sinks.new) × (I.failures inputs.new ≡ I.failures inputs.old)))
         ⊎ (AsksHelp (map S.text words.now) × SinkFailed (O.failures sinks.old) (O.failures sinks.new)) }
     // A refusal writes nothing, and of the files that the script writes it leaves the first ones created, if any.
     ensures refused { result ≡ REFUSED → (k : ℕ) → O.contents sinks.new k ≡ O.contents sinks.old k }
@@ -117,12 +119,12 @@ fn run_line<I: Inputs, O: Sinks, N: Names, E: Write>(
         RunsLine (I.text inputs.old) (I.ahead inputs.old) (N.file names.old) (N.text names.old) limits.nodes line.now
         (Creates (O.names sinks.old) (O.names sinks.new))
         (λ p input texts. WritesAll p input texts (Gained (O.contents sinks.old) (O.contents sinks.new)))
-        × (I.refusals inputs.new ≡ I.refusals inputs.old) }
+        × (I.refusals inputs.new ≡ I.refusals inputs.old) × (I.failures inputs.new ≡ I.failures inputs.old) }
     ensures missed { result ≡ MISSED →
         RunsLine (I.text inputs.old) (I.ahead inputs.old) (N.file names.old) (N.text names.old) limits.nodes line.now
         (Creates (O.names sinks.old) (O.names sinks.new))
         (λ p input texts. WritesAll p input texts (Gained (O.contents sinks.old) (O.contents sinks.new)))
-        × Rose (I.refusals inputs.old) (I.refusals inputs.new) }
+        × Rose (I.refusals inputs.old) (I.refusals inputs.new) × (I.failures inputs.new ≡ I.failures inputs.old) }
     ensures stopped { result ≡ STOPPED →
         RunsLine (I.text inputs.old) (I.ahead inputs.old) (N.file names.old) (N.text names.old) limits.nodes line.now
         (Creates (O.names sinks.old) (O.names sinks.new))
@@ -131,9 +133,9 @@ fn run_line<I: Inputs, O: Sinks, N: Names, E: Write>(
         RunsLine (I.text inputs.old) (I.ahead inputs.old) (N.file names.old) (N.text names.old) limits.nodes line.now
         (Creates (O.names sinks.old) (O.names sinks.new))
         (λ p input texts. StopsEarly limits p input texts (GainsBy limits (O.contents sinks.old) (O.contents sinks.new))
-        (HasFailed limits.output (I.failures inputs.old) (I.failures inputs.new) (O.failures sinks.old) (O.failures sinks.new))
+        (DevicesAtEnd limits.output (I.failures inputs.old) (I.failures inputs.new) (O.failures sinks.old) (O.failures sinks.new))
         ⊎ (WritesAll p input texts (Gained (O.contents sinks.old) (O.contents sinks.new))
-        × SinkFailed (O.failures sinks.old) (O.failures sinks.new))) }
+        × SinkFailed (O.failures sinks.old) (O.failures sinks.new) × (I.failures inputs.new ≡ I.failures inputs.old))) }
     ensures refused { result ≡ REFUSED → (k : ℕ) → O.contents sinks.new k ≡ O.contents sinks.old k }
     ensures created { result ≡ REFUSED → (O.names sinks.new ≡ O.names sinks.old)
         ⊎ RunsLine (I.text inputs.old) (I.ahead inputs.old) (N.file names.old) (N.text names.old) limits.nodes line.now
@@ -192,6 +194,7 @@ fn answer_words<O: Sinks, E: Write>(
     ensures asked { result ≢ REFUSED → kind_of error.now ≡ ErrorKind.DisplayHelp }
     ensures failed { result ≡ STOPPED → SinkFailed (O.failures sinks.old) (O.failures sinks.new) }
     ensures help { result ≢ REFUSED → WritesHelp (Gained (O.contents sinks.old) (O.contents sinks.new)) }
+    ensures names { O.names sinks.new ≡ O.names sinks.old }
     ensures refused { result ≡ REFUSED → sinks.new ≡ sinks.old }
 {
     let ErrorKind::DisplayHelp = error.kind() else {
@@ -212,6 +215,7 @@ fn write_out<O: Sinks>(sinks: &mut O, bytes: &[u8]) -> Result<(), Ended>
     requires { 0 < O.count sinks.old }
     ensures whole { OnOk result (Gained (O.contents sinks.old) (O.contents sinks.new) (to_sink 0 bytes.now)) }
     ensures part { (count : ℕ) × Gained (O.contents sinks.old) (O.contents sinks.new) (to_sink 0 (take count bytes.now)) }
+    ensures names { O.names sinks.new ≡ O.names sinks.old }
     ensures failed { IfErr result (λ end. (k : ℕ)
         × (end ≡ Ended.OutputBroken k) × Rose (O.failures sinks.old k) (O.failures sinks.new k)) }
 {

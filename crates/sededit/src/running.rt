@@ -4,7 +4,7 @@ ghost use Rattle.std.specs.String.{string_bytes};
 ghost use Rattle.sedspace.specs.Failures.{Rose};
 ghost use Rattle.sedengine.specs.Devices.{Gained};
 ghost use Rattle.sededit.specs.FilesInTurn.{joined_files, left};
-ghost use Rattle.sededit.specs.Program.{GainsBy, HasFailed, SinkFailed, StopsEarly, WritesAll, WritesBeginning};
+ghost use Rattle.sededit.specs.Program.{GainsBy, DevicesAtEnd, SinkFailed, StopsEarly, WritesAll, WritesBeginning};
 
 use crate::edit;
 use crate::inputs::Inputs;
@@ -89,19 +89,22 @@ fn run_joined<I: Inputs, O: Sinks, T: Texts, E: Write>(
     ensures status { (result ≡ SUCCESS) ⊎ ((result ≡ REFUSED) ⊎ ((result ≡ MISSED) ⊎ (result ≡ STOPPED))) }
     ensures whole { result ≡ SUCCESS → WritesAll script (left I.current I.ahead joined.old)
         (T.text texts.old) (Gained (O.contents sinks.old) (O.contents sinks.new))
-        × (I.refusals joined.new.inputs ≡ joined.new.start) }
+        × (I.refusals joined.new.inputs ≡ joined.new.start)
+        × (I.failures joined.new.inputs ≡ I.failures joined.old.inputs) }
     ensures missed { result ≡ MISSED → WritesAll script (left I.current I.ahead joined.old)
         (T.text texts.old) (Gained (O.contents sinks.old) (O.contents sinks.new))
-        × Rose joined.new.start (I.refusals joined.new.inputs) }
+        × Rose joined.new.start (I.refusals joined.new.inputs)
+        × (I.failures joined.new.inputs ≡ I.failures joined.old.inputs) }
     ensures stopped { result ≡ STOPPED → WritesBeginning script (left I.current I.ahead joined.old)
         (T.text texts.old) (Gained (O.contents sinks.old) (O.contents sinks.new)) }
     ensures cause { result ≡ STOPPED → StopsEarly limits script (left I.current I.ahead joined.old)
         (T.text texts.old) (GainsBy limits (O.contents sinks.old) (O.contents sinks.new))
-        (HasFailed limits.output (I.failures joined.old.inputs) (I.failures joined.new.inputs)
+        (DevicesAtEnd limits.output (I.failures joined.old.inputs) (I.failures joined.new.inputs)
         (O.failures sinks.old) (O.failures sinks.new))
         ⊎ (WritesAll script (left I.current I.ahead joined.old)
         (T.text texts.old) (Gained (O.contents sinks.old) (O.contents sinks.new))
-        × SinkFailed (O.failures sinks.old) (O.failures sinks.new)) }
+        × SinkFailed (O.failures sinks.old) (O.failures sinks.new)
+        × (I.failures joined.new.inputs ≡ I.failures joined.old.inputs)) }
     ensures refused { result ≡ REFUSED → sinks.new ≡ sinks.old }
     ensures names { O.names sinks.new ≡ O.names sinks.old }
     ensures same_reference { joined.new.start ∷ I.reference joined.new.inputs
@@ -132,20 +135,21 @@ pub(crate) fn run<I: Inputs, O: Sinks, T: Texts, E: Write>(
     ensures status { (result ≡ SUCCESS) ⊎ ((result ≡ REFUSED) ⊎ ((result ≡ MISSED) ⊎ (result ≡ STOPPED))) }
     ensures whole { result ≡ SUCCESS → WritesAll script (joined_files I.ahead inputs.old (map string_bytes names.now))
         (T.text texts.old) (Gained (O.contents sinks.old) (O.contents sinks.new))
-        × (I.refusals inputs.new ≡ I.refusals inputs.old) }
+        × (I.refusals inputs.new ≡ I.refusals inputs.old) × (I.failures inputs.new ≡ I.failures inputs.old) }
     ensures missed { result ≡ MISSED → WritesAll script (joined_files I.ahead inputs.old (map string_bytes names.now))
         (T.text texts.old) (Gained (O.contents sinks.old) (O.contents sinks.new))
-        × Rose (I.refusals inputs.old) (I.refusals inputs.new) }
+        × Rose (I.refusals inputs.old) (I.refusals inputs.new) × (I.failures inputs.new ≡ I.failures inputs.old) }
     ensures stopped { result ≡ STOPPED → WritesBeginning script
         (joined_files I.ahead inputs.old (map string_bytes names.now))
         (T.text texts.old) (Gained (O.contents sinks.old) (O.contents sinks.new)) }
     ensures cause { result ≡ STOPPED → StopsEarly limits script
         (joined_files I.ahead inputs.old (map string_bytes names.now))
         (T.text texts.old) (GainsBy limits (O.contents sinks.old) (O.contents sinks.new))
-        (HasFailed limits.output (I.failures inputs.old) (I.failures inputs.new) (O.failures sinks.old) (O.failures sinks.new))
+        (DevicesAtEnd limits.output (I.failures inputs.old) (I.failures inputs.new) (O.failures sinks.old) (O.failures sinks.new))
         ⊎ (WritesAll script (joined_files I.ahead inputs.old (map string_bytes names.now))
         (T.text texts.old) (Gained (O.contents sinks.old) (O.contents sinks.new))
-        × SinkFailed (O.failures sinks.old) (O.failures sinks.new)) }
+        × SinkFailed (O.failures sinks.old) (O.failures sinks.new)
+        × (I.failures inputs.new ≡ I.failures inputs.old)) }
     ensures refused { result ≡ REFUSED → sinks.new ≡ sinks.old }
     ensures names { O.names sinks.new ≡ O.names sinks.old }
 {

@@ -4,12 +4,12 @@ use Rattle.sededit.proofs.program.command.Goals as goal
 pub returns-in-Ok-clause-whole : goal.returns-in-Ok-clause-whole
 returns-in-Ok-clause-whole g c is =
     let w = c.run_line.ensures.whole is in
-    inl ((c.in-Ok.ensures.sound, (c.in-Ok.line, c.in-Ok.ensures.line, w.0)), w.1)
+    inl ((c.in-Ok.ensures.sound, (c.in-Ok.line, c.in-Ok.ensures.line, w.0)), w.1, w.2)
 
 pub returns-in-Ok-clause-missed : goal.returns-in-Ok-clause-missed
 returns-in-Ok-clause-missed g c is =
     let w = c.run_line.ensures.missed is in
-    ((c.in-Ok.ensures.sound, (c.in-Ok.line, c.in-Ok.ensures.line, w.0)), w.1)
+    ((c.in-Ok.ensures.sound, (c.in-Ok.line, c.in-Ok.ensures.line, w.0)), w.1, w.2)
 
 pub returns-in-Ok-clause-stopped : goal.returns-in-Ok-clause-stopped
 returns-in-Ok-clause-stopped g c is = inl (c.in-Ok.ensures.sound, (c.in-Ok.line, c.in-Ok.ensures.line, c.run_line.ensures.stopped is))

@@ -13,7 +13,7 @@ returns-clause-whole g c is =
     (texts_of (g.N.Names.file c.args.names.now) (g.N.Texts.text c.args.names.now) c.in-Ok-read_script.script) (g.N.Texts.text c.name_files.new.names)
     (g.O.Outputs.contents c.args.sinks.now) (g.O.Outputs.contents c.create_files.new.sinks) =
     record { kept = rw c.operands_of-operands.ensures (c.in-Ok-read_script.ensures.inputs.same_ahead names); same_texts = c.in_default-name_files.ensures; same_sinks = c.create_files.ensures.contents } in
-    ((c.in-Ok-read_script.script, rw (← c.nodes.ensures.value) c.in-Ok-read_script.ensures.gives, c.run.ensures.names ∙ c.create_files.ensures.names (search rules), WritesAll-from c.in-Ok-read_script.script _ _ _ _ _ _ _ ready w.0), w.1 ∙ c.in-Ok-read_script.ensures.inputs.refused)
+    ((c.in-Ok-read_script.script, rw (← c.nodes.ensures.value) c.in-Ok-read_script.ensures.gives, c.run.ensures.names ∙ c.create_files.ensures.names (search rules), WritesAll-from c.in-Ok-read_script.script _ _ _ _ _ _ _ ready w.0), w.1 ∙ c.in-Ok-read_script.ensures.inputs.refused, w.2 ∙ c.in-Ok-read_script.ensures.inputs.failed)
 
 pub returns-clause-missed : goal.returns-clause-missed
 returns-clause-missed g c is =
@@ -23,7 +23,7 @@ returns-clause-missed g c is =
     (texts_of (g.N.Names.file c.args.names.now) (g.N.Texts.text c.args.names.now) c.in-Ok-read_script.script) (g.N.Texts.text c.name_files.new.names)
     (g.O.Outputs.contents c.args.sinks.now) (g.O.Outputs.contents c.create_files.new.sinks) =
     record { kept = rw c.operands_of-operands.ensures (c.in-Ok-read_script.ensures.inputs.same_ahead names); same_texts = c.in_default-name_files.ensures; same_sinks = c.create_files.ensures.contents } in
-    ((c.in-Ok-read_script.script, rw (← c.nodes.ensures.value) c.in-Ok-read_script.ensures.gives, c.run.ensures.names ∙ c.create_files.ensures.names (search rules), WritesAll-from c.in-Ok-read_script.script _ _ _ _ _ _ _ ready w.0), rw (← c.in-Ok-read_script.ensures.inputs.refused) w.1)
+    ((c.in-Ok-read_script.script, rw (← c.nodes.ensures.value) c.in-Ok-read_script.ensures.gives, c.run.ensures.names ∙ c.create_files.ensures.names (search rules), WritesAll-from c.in-Ok-read_script.script _ _ _ _ _ _ _ ready w.0), rw (← c.in-Ok-read_script.ensures.inputs.refused) w.1, w.2 ∙ c.in-Ok-read_script.ensures.inputs.failed)
 
 pub returns-clause-stopped : goal.returns-clause-stopped
 returns-clause-stopped g c is =
@@ -56,3 +56,8 @@ pub returns-clause-created : goal.returns-clause-created
 returns-clause-created g c is =
     let all = c.run.ensures.names ∙ c.create_files.ensures.names (search rules) in
     inr (c.in-Ok-read_script.script, rw (← c.nodes.ensures.value) c.in-Ok-read_script.ensures.gives, all_first _ _ _ all, tt)
+
+pub returns-in-Some-clause-created : goal.returns-in-Some-clause-created
+returns-in-Some-clause-created g c is =
+    let up_to = c.in-Some.ensures.refused in
+    inr (c.in-Ok-read_script.script, rw (← c.nodes.ensures.value) c.in-Ok-read_script.ensures.gives, (up_to.0, up_to.2), tt)
