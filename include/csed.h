@@ -15,8 +15,9 @@
  *
  * Memory. A call asks malloc and realloc of the C library (or of the allocator that stands for them), and gives back by
  * free. The three must be those of one allocator. A run asks for 3 * space + look + 8 * queue + room bytes, for searches
- * space / 8 bytes more where the script has an expression and about 73 * nodes, and for what the script takes. None of it
- * grows with the input.
+ * 48 KiB and about 73 * nodes bytes, space / 8 more where the script has an expression, space / 8 and some
+ * sqrt(space) * nodes / 4 more where it has an s with the flag g or a number above 1, and for what the script takes. Here
+ * nodes is what the script's largest expression has. None of it grows with the input.
  *
  * Threads. There is no state that calls share: any number of threads may call at once, each with its own output and report.
  * Don't call from a signal handler, or in the child of a fork of a process that has several threads.
@@ -54,7 +55,7 @@ struct sed_limits {
     size_t queue;   /* entries of a and r that wait for the end of a cycle, 0 to 2^24 */
     size_t look;    /* bytes of the input that are taken at once, 1 to 2^30; 4096 is plenty */
     size_t nodes;   /* nodes of one regular expression written out, 1 to 65536 */
-    uint64_t turns; /* turns of a run: starts of cycles, and commands reached */
+    uint64_t turns; /* turns of a run: starts of cycles, and commands reached; 0 to UINT64_MAX */
 };
 
 /*

@@ -80,7 +80,7 @@ pub record Stops (l : Limits) (g : Setting) (s : State) (room : ℕ) (bytes : Li
   pub cause : Cause l g s (AreWritten bytes) end t
   pub full : cause_of end ≡ 8 → length bytes ≡ room
 
--- The run of the text's script over the input stopped as `Stops` says, with no more written than there is room for.
+-- The run of the text's script over the input stopped as `Stops` says, under the limits told and with this room for the output.
 abbrev pub StopsFor : List ℕ → Asked → List ℕ → ℕ → List ℕ → Ended → Type 0
 StopsFor text a input room bytes end =
     (p : Program) × GivesScript text a p

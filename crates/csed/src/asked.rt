@@ -24,7 +24,7 @@ pub struct SedLimits {
     pub look: usize,
     /// The nodes of an expression written out, 1 to 65,536.
     pub nodes: usize,
-    /// The turns of a run: starts of cycles and commands reached.
+    /// The turns of a run: starts of cycles and commands reached, 0 to 2^64 - 1.
     pub turns: u64,
 }
 
