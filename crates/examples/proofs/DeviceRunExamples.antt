@@ -13,20 +13,16 @@ use Rattle.sedscript.specs.Functions.{name_from, text_from}
 use Rattle.sedscript.specs.Items.{function_at, item_at}
 use Rattle.sedspace.specs.Lines.{lines}
 use Rattle.sedengine.specs.Devices.{part, GainedWithin}
-use Rattle.sedengine.specs.Limits.{Limits, limits_of}
+use Rattle.sedengine.specs.Limits.{Limits}
 use Rattle.sedengine.specs.Move.{move, to_sink}
 use Rattle.sedengine.specs.Select.{selects}
 use Rattle.sedengine.specs.declared.ends.Ended.TheVariants.{Done, InputBroken, OutputBroken, OutputFull}
+use Rattle.sededit.specs.Editing.{nothing_before}
 use Rattle.examples.proofs.ComputedEnds.{both, all_fit, stops_after, stops_within, StopsBy, EndsBy}
 use Rattle.examples.proofs.ComputedRun.{course, plain, quiet, no_files}
+use Rattle.examples.proofs.LimitWords.{own}
 
--- the program's own limits, and those with one on what each sink gains
-abbrev own : Limits
-own = limits_of 1048576 4096 65536 18446744073709551615 16384
-
-abbrev nothing_before : ℕ → ℕ
-nothing_before k = 0
-
+-- the program's own limits, with one on what each sink gains
 abbrev output : ℕ → Limits
 output most = record own { output = Some most }
 

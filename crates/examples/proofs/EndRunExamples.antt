@@ -24,11 +24,9 @@ use Rattle.examples.proofs.ComputedRun.{course, course, plain, no_files}
 use Rattle.sedengine.specs.Limits.{Limits, limits_of}
 use Rattle.sedengine.specs.declared.ends.Ended.TheVariants.{Done, PatternFull, HoldFull, QueueFull, TurnsSpent, NoPrevious}
 use Rattle.examples.proofs.ComputedEnds.{all_fit, stops_after, EndsBy}
+use Rattle.examples.proofs.LimitWords.{turns}
 
 -- the program's own limits, but for the turns, the space or the queue
-abbrev turns : ℕ → Limits
-turns most = limits_of 1048576 4096 65536 most 16384
-
 abbrev space : ℕ → Limits
 space most = limits_of most 4096 65536 18446744073709551615 16384
 

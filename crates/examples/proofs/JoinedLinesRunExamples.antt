@@ -16,7 +16,6 @@ use Rattle.sedscript.specs.Script.{Program}
 use Rattle.sedspace.specs.Lines.{is_newline, lines}
 use Rattle.sedspace.proofs.LineLemmas.{lines_at}
 use Rattle.sedengine.specs.Ends.{WithinLimits}
-use Rattle.sedengine.specs.Limits.{Limits, limits_of}
 use Rattle.sedengine.specs.Move.{line_to, move, start, to_sink}
 use Rattle.sedengine.specs.Run.{setting_of}
 use Rattle.sedengine.specs.Select.{selects}
@@ -26,11 +25,9 @@ use Rattle.examples.proofs.ComputedEnds.{all_fit, IsWhole, whole_after, whole_fi
 use Rattle.examples.proofs.ComputedRun.{course, plain, no_files}
 use Rattle.examples.proofs.ComputedScript.{verdict, cutting, walked, is_script}
 use Rattle.examples.proofs.ScriptWords.{always, at, unless}
+use Rattle.examples.proofs.LimitWords.{own}
 
 -- the program's own limits
-abbrev own : Limits
-own = limits_of 1048576 4096 65536 18446744073709551615 16384
-
 abbrev program : Program
 program = record {
   commands = unless (at Last AppendNext) ∷ always PrintFirst ∷ always DeleteFirst ∷ [];

@@ -25,6 +25,7 @@ mod JoinedExamples
 mod JoinedLinesRunExamples
 mod LabelEnds
 mod LimitExamples
+mod LimitWords
 mod ListExamples
 mod ListReading
 mod ListingExamples

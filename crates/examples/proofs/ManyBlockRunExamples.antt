@@ -8,7 +8,6 @@ use Rattle.sedscript.specs.declared.types.Action.TheVariants.{Block}
 use Rattle.sedscript.specs.declared.types.Command.{Command}
 use Rattle.sedspace.specs.Lines.{lines}
 use Rattle.sedengine.specs.Ends.{WithinLimits}
-use Rattle.sedengine.specs.Limits.{Limits, limits_of}
 use Rattle.sedengine.specs.Move.{after, move, start, to_sink, written}
 use Rattle.sedengine.specs.Run.{setting_of}
 use Rattle.sedengine.specs.Select.{selects}
@@ -19,11 +18,9 @@ use Rattle.examples.proofs.ComputedEnds.{all_fit, IsWhole, whole_after, whole_fi
 use Rattle.examples.proofs.ComputedRun.{course, plain, no_files}
 use Rattle.examples.proofs.ManyBlocks.{blocks, program, means}
 use Rattle.examples.proofs.ScriptWords.{always}
+use Rattle.examples.proofs.LimitWords.{turns}
 
 -- the program's own limits, but for the turns
-abbrev turns : ℕ → Limits
-turns most = limits_of 1048576 4096 65536 most 16384
-
 abbrev input : List ℕ
 input = codes "a\n"
 

@@ -1,29 +1,21 @@
 -- The computed definitions compute.
-use Rattle.std.proofs.Common.{◌≡◌, ℕ, zero, suc, ◌+◌, Bool, List, true, [], ◌∷◌, Some, None, refl}
-use Rattle.std.specs.Prelude.{eqb}
-use Rattle.sedre.specs.Tree.{Tree, set, seq, alt, group, star}
+use Rattle.std.proofs.Common.{◌≡◌, true, [], ◌∷◌, Some, None, refl}
+use Rattle.sedre.specs.Sets.{set_of}
+use Rattle.sedre.specs.Tree.{seq, alt, group, star}
 use Rattle.sedmatch.specs.Matching.{any, greatest, copies, spans, longest, found_from, found, cut, first_copy, last_start, caps, report}
-
--- a set of n values from k on that holds b alone
-abbrev only : ℕ → ℕ → ℕ → List Bool
-only zero k b = []
-only (suc n) k b = eqb k b ∷ only n (k + 1) b
-
--- one byte
-abbrev byte : ℕ → Tree
-byte b = set (only 128 0 b)
+use Rattle.examples.proofs.ExampleWords.{byte}
 
 -- aa* at xaab
 example_found : found (seq (byte 97) (star (byte 97) true)) (120 ∷ 97 ∷ 97 ∷ 98 ∷ []) 0 ≡ Some (1, 3)
-unfolding any greatest copies spans longest found_from found
+unfolding any greatest copies spans longest found_from found set_of
 example_found = refl
 
 example_none : found (seq (byte 97) (byte 99)) (120 ∷ 97 ∷ 97 ∷ 98 ∷ []) 0 ≡ None
-unfolding any greatest copies spans longest found_from found
+unfolding any greatest copies spans longest found_from found set_of
 example_none = refl
 
 -- \(a\|ab\)\(c\|bcd\)\(d*\) on abcd
 example_groups : report (seq (group 1 (alt (byte 97) (seq (byte 97) (byte 98)))) (seq (group 2 (alt (byte 99) (seq (byte 98) (seq (byte 99) (byte 100))))) (group 3 (star (byte 100) true)))) (97 ∷ 98 ∷ 99 ∷ 100 ∷ []) 0 4
     ≡ Some (0, 4) ∷ Some (0, 2) ∷ Some (2, 3) ∷ Some (3, 4) ∷ None ∷ None ∷ None ∷ None ∷ None ∷ None ∷ []
-unfolding any greatest copies spans cut first_copy last_start caps report
+unfolding any greatest copies spans cut first_copy last_start caps report set_of
 example_groups = refl

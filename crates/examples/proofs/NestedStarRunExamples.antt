@@ -18,7 +18,6 @@ use Rattle.sedscript.specs.Bytes.{past}
 use Rattle.sedscript.specs.Functions.{name_from, text_from}
 use Rattle.sedscript.specs.Items.{substitute_at, function_at, item_at}
 use Rattle.sedspace.specs.Lines.{lines}
-use Rattle.sedengine.specs.Limits.{Limits, limits_of}
 use Rattle.sedengine.specs.Move.{move, start, to_sink}
 use Rattle.sedengine.specs.Run.{finds_in, match_with_span as occurrence_of, search_in}
 use Rattle.sedengine.specs.Select.{selects}
@@ -31,11 +30,9 @@ use Rattle.examples.proofs.ComputedRun.{course, plain, no_files}
 use Rattle.examples.proofs.ComputedScript.{verdict, cutting, walked, is_script}
 use Rattle.examples.proofs.NestedStarExamples.{twice_nested, no_b}
 use Rattle.examples.proofs.ScriptWords.{always, at, substitution}
+use Rattle.examples.proofs.LimitWords.{own}
 
 -- the program's own limits
-abbrev own : Limits
-own = limits_of 1048576 4096 65536 18446744073709551615 16384
-
 -- `/RE/d` and `s//x/`, where this tells what is found
 abbrev commands : List Command
 commands = at (Match (Some 0)) Delete ∷ always (Substitute 0) ∷ []

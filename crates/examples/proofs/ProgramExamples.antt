@@ -13,7 +13,6 @@ use Rattle.sedscript.specs.Functions.{name_from, text_from}
 use Rattle.sedscript.specs.Items.{function_at, item_at}
 use Rattle.sedspace.specs.Lines.{lines}
 use Rattle.sedengine.specs.Ends.{Cause}
-use Rattle.sedengine.specs.Limits.{Limits, limits_of}
 use Rattle.sedengine.specs.Move.{move, to_sink}
 use Rattle.sedengine.specs.Run.{setting_of}
 use Rattle.sedengine.specs.Select.{selects}
@@ -24,7 +23,8 @@ use Rattle.examples.proofs.ComputedRun.{course, ends_after, plain, quiet, no_fil
 use Rattle.sededit.specs.CommandLine.{Given, text, file}
 use Rattle.sededit.specs.Editing.{start_over}
 use Rattle.sededit.specs.MemoryFiles.{File, file_of, files_of}
-use Rattle.sededit.specs.Program.{MakesText, StopsEarly, HasFailed, input_of}
+use Rattle.sededit.specs.Program.{MakesText, StopsEarly, DevicesAtEnd, input_of}
+use Rattle.examples.proofs.LimitWords.{own}
 
 -- the files that there are: `a` with one line, `f` without a newline, and the script `s`
 abbrev pub there : List File
@@ -166,9 +166,6 @@ file_of_the_script = record {
 
 -- Runs that stop early. The numbers of failures are those of the input and of the sinks, before and after.
 
-abbrev own : Limits
-own = limits_of 1048576 4096 65536 18446744073709551615 16384
-
 -- The script of a text, over this input, stops early at this end, when its sinks have gained these bytes.
 abbrev Stopped : (whole bytes : List ℕ) → (Ended → Type 0) → List ℕ → Type 0
 Stopped whole bytes failed output =
@@ -208,21 +205,21 @@ input_broke_run : Script (codes "p\n") Basic (λ p. OverAnyFiles p (codes "a\nb\
 unfolding verdict cutting walked item_at past function_at addresses_at address_at second_at text_from name_from lines course move selects all_fit
 input_broke_run = is_script (over_any (λ files. stops_after 6 refl refl refl refl))
 
-input_broke : Stopped (codes "p\n") (codes "a\nb\n") (HasFailed None 0 1 none_failed none_failed) (codes "a\na\n")
-input_broke = stopped (codes "p\n") (codes "a\nb\n") (codes "a\na\n") (HasFailed None 0 1 none_failed none_failed) InputBroken input_broke_run (λ e. absurd cc) (omega arith)
+input_broke : Stopped (codes "p\n") (codes "a\nb\n") (DevicesAtEnd None 0 1 none_failed none_failed) (codes "a\na\n")
+input_broke = stopped (codes "p\n") (codes "a\nb\n") (codes "a\na\n") (DevicesAtEnd None 0 1 none_failed none_failed) InputBroken input_broke_run (λ e. absurd cc) (omega arith, tt)
 
 -- The standard output takes three bytes.
 output_broke_run : Script (codes "p\n") Basic (λ p. OverAnyFiles p (codes "ab\n") (codes "ab\n") (OutputBroken 0))
 unfolding verdict cutting walked item_at past function_at addresses_at address_at second_at text_from name_from lines course move selects all_fit
 output_broke_run = is_script (over_any (λ files. stops_within 3 0 97 refl refl refl refl refl))
 
-output_broke : Stopped (codes "p\n") (codes "ab\n") (HasFailed None 0 0 none_failed (λ k. 1)) (codes "ab\n")
-output_broke = stopped (codes "p\n") (codes "ab\n") (codes "ab\n") (HasFailed None 0 0 none_failed (λ k. 1)) (OutputBroken 0) output_broke_run (λ e. absurd cc) (omega arith)
+output_broke : Stopped (codes "p\n") (codes "ab\n") (DevicesAtEnd None 0 0 none_failed (λ k. 1)) (codes "ab\n")
+output_broke = stopped (codes "p\n") (codes "ab\n") (codes "ab\n") (DevicesAtEnd None 0 0 none_failed (λ k. 1)) (OutputBroken 0) output_broke_run (λ e. absurd cc) (refl, omega arith)
 
 -- `sed //p nofile a`: no device has failed.
 no_previous_expression_run : Script (codes "//p\n") Basic (λ p. OverAnyFiles p (codes "x\n") (codes "") (NoPrevious 1))
 unfolding verdict cutting walked item_at past function_at addresses_at address_at second_at text_from name_from lines course move selects all_fit match_at delimiter_at
 no_previous_expression_run = is_script (over_any (λ files. stops_after 1 refl refl refl refl))
 
-no_previous_expression : Stopped (codes "//p\n") (codes "x\n") (HasFailed None 0 0 none_failed none_failed) (codes "")
-no_previous_expression = stopped (codes "//p\n") (codes "x\n") (codes "") (HasFailed None 0 0 none_failed none_failed) (NoPrevious 1) no_previous_expression_run (λ e. absurd cc) tt
+no_previous_expression : Stopped (codes "//p\n") (codes "x\n") (DevicesAtEnd None 0 0 none_failed none_failed) (codes "")
+no_previous_expression = stopped (codes "//p\n") (codes "x\n") (codes "") (DevicesAtEnd None 0 0 none_failed none_failed) (NoPrevious 1) no_previous_expression_run (λ e. absurd cc) (refl, tt)

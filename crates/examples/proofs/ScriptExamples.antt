@@ -7,7 +7,8 @@ use Rattle.sedre.specs.Sets.{folded_set, only}
 use Rattle.sedscript.specs.declared.types.Action.TheVariants as action
 use Rattle.sedscript.specs.declared.types.Address.TheVariants as address
 use Rattle.examples.proofs.ComputedScript.{verdict, cutting, walked, Script, is_script}
-use Rattle.examples.proofs.ScriptWords.{always, at, from_to, unless, byte}
+use Rattle.examples.proofs.ScriptWords.{always, at, from_to, unless}
+use Rattle.examples.proofs.ExampleWords.{byte}
 use Rattle.sedre.specs.Items.{item_at as expression_item_at}
 use Rattle.sedre.specs.Intervals.{interval}
 use Rattle.sedre.specs.Delimited.{delimiter_at}
@@ -109,6 +110,10 @@ reversed_lines = is_script refl
 window_of_two : Script (codes "$!N;P;D") Basic (λ s. s.commands ≡ unless (at address.Last action.AppendNext) ∷ always action.PrintFirst ∷ always action.DeleteFirst ∷ [])
 unfolding verdict cutting walked item_at past function_at addresses_at address_at
 window_of_two = is_script refl
+
+numbers_of_a_range : Script (codes "1,2=") Basic (λ s. s.commands ≡ from_to (address.Line 1) (address.Line 2) action.LineNumber ∷ [])
+unfolding verdict cutting walked item_at past function_at addresses_at address_at second_at
+numbers_of_a_range = is_script refl
 
 number_of_a_line : Script (codes "2=;p") Basic (λ s. s.commands ≡ at (address.Line 2) action.LineNumber ∷ always action.Print ∷ [])
 unfolding verdict cutting walked item_at past function_at addresses_at address_at

@@ -1,8 +1,6 @@
 -- Words of the examples.
 use Rattle.std.proofs.Common.{ℕ, List, false, true, Option, Some, None}
 use Rattle.sedre.specs.declared.types.Reason.{Reason as ExprReason}
-use Rattle.sedre.specs.Sets.{only}
-use Rattle.sedre.specs.Tree.{Tree, set}
 use Rattle.sedscript.specs.declared.types.Action.{Action}
 use Rattle.sedscript.specs.declared.types.Address.{Address}
 use Rattle.sedscript.specs.declared.types.Command.{Command}
@@ -35,10 +33,6 @@ from_to one other action = record (always action) { first = Some one; second = S
 -- a command for the pattern spaces that aren't selected
 abbrev pub unless : Command → Command
 unless command = record command { negate = true }
-
--- the expression of one byte
-abbrev pub byte : ℕ → Tree
-byte n = set (only n)
 
 -- a substitution of the first occurrence, by the expression of this number
 abbrev pub substitution : Option ℕ → List Piece → Substitution

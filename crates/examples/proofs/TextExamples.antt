@@ -11,7 +11,8 @@ use Rattle.sedscript.specs.ScriptText.{with_part}
 use Rattle.sedscript.specs.declared.substitution.Piece.TheVariants.{Literal as literal, Whole as whole, Group as part}
 use Rattle.sedscript.specs.Transliteration.{table_of}
 use Rattle.examples.proofs.ComputedScript.{verdict, cutting, walked, Script, is_script}
-use Rattle.examples.proofs.ScriptWords.{always, at, from_to, byte, substitution}
+use Rattle.examples.proofs.ScriptWords.{always, at, from_to, substitution}
+use Rattle.examples.proofs.ExampleWords.{byte}
 use Rattle.sedre.specs.Items.{item_at as expression_item_at}
 use Rattle.sedre.specs.Brackets.{list_at, list_end}
 use Rattle.sedre.specs.Intervals.{interval}
@@ -81,8 +82,16 @@ numbers_of_texts : Script (codes "a X\ni Y\nc Z") Basic (λ s. s.commands ≡ al
 unfolding verdict cutting walked item_at past function_at addresses_at address_at text_from
 numbers_of_texts = is_script refl
 
--- Files that are read and written; equal names are one file, and /dev/stdout is the standard output (both this project's
--- own).
+text_of_a_range : Script (codes "1,2a X") Basic (λ s. s.commands ≡ from_to (address.Line 1) (address.Line 2) (action.Append 0) ∷ [])
+unfolding verdict cutting walked item_at past function_at addresses_at address_at second_at text_from
+text_of_a_range = is_script refl
+
+text_before_a_range : Script (codes "1,2i X") Basic (λ s. s.commands ≡ from_to (address.Line 1) (address.Line 2) (action.Insert 0) ∷ [])
+unfolding verdict cutting walked item_at past function_at addresses_at address_at second_at text_from
+text_before_a_range = is_script refl
+
+-- Files that are read and written; equal names are one file, and /dev/stdout is the standard output where it is written (both
+-- this project's own).
 
 written_file : Script (codes "p;w out") Basic (λ s. s.commands ≡ always action.Print ∷ always (action.WriteFile 1) ∷ [])
 unfolding verdict cutting walked item_at past function_at addresses_at address_at name_from
@@ -107,6 +116,22 @@ standard_output = is_script refl
 no_file_for_the_standard_output : Script (codes "w /dev/stdout") Basic (λ s. s.wfiles ≡ [])
 unfolding verdict cutting walked item_at past function_at addresses_at address_at match_at substitute_at substituted delimiter_at outcome rest_of expression_item_at name_from
 no_file_for_the_standard_output = is_script refl
+
+file_of_a_range : Script (codes "1,2r f") Basic (λ s. s.commands ≡ from_to (address.Line 1) (address.Line 2) (action.ReadFile 0) ∷ [])
+unfolding verdict cutting walked item_at past function_at addresses_at address_at second_at name_from
+file_of_a_range = is_script refl
+
+name_without_a_blank : Script (codes "rf") Basic (λ s. s.rfiles ≡ codes "f" ∷ [])
+unfolding verdict cutting walked item_at past function_at addresses_at address_at name_from
+name_without_a_blank = is_script refl
+
+name_keeps_its_last_blanks : Script (codes "w f  ") Basic (λ s. s.wfiles ≡ codes "f  " ∷ [])
+unfolding verdict cutting walked item_at past function_at addresses_at address_at name_from
+name_keeps_its_last_blanks = is_script refl
+
+standard_output_is_read_as_a_file : Script (codes "r /dev/stdout") Basic (λ s. s.rfiles ≡ codes "/dev/stdout" ∷ [])
+unfolding verdict cutting walked item_at past function_at addresses_at address_at name_from
+standard_output_is_read_as_a_file = is_script refl
 
 read_file : Script (codes "1r f") Basic (λ s. s.commands ≡ at (address.Line 1) (action.ReadFile 0) ∷ [])
 unfolding verdict cutting walked item_at past function_at addresses_at address_at name_from

@@ -5,7 +5,6 @@ use Rattle.sedscript.specs.Strings.{string_end}
 use Rattle.sedscript.specs.declared.substitution.Piece.{Piece}
 use Rattle.sedscript.specs.declared.substitution.Piece.TheVariants.{Literal as literal, Whole as whole, Group as group}
 use Rattle.examples.specs.Strings.{written}
-use Rattle.sedscript.specs.Replacement.{GroupsWithin}
 use Rattle.examples.specs.WrittenReplacements.{written_pieces}
 
 no_break : (t : Bool) → (t && false) ≡ false
@@ -63,14 +62,14 @@ past_literal false d at b ys zs other f h =
     let r = parts_false (b == d) (b == 92) q.0 in
     past_plain true d at b (ys ++ zs) p.1 r.0 r.1 ∙ (h (suc at) ∙ some_place (suc at + length ys) (at + suc (length ys)) (omega arith))
 
-pub replacement_whole : (d : ℕ) (ps : List Piece) (after : List ℕ) (at : ℕ) → (d ≡ 92 → ⊥) → (d ≡ 10 → ⊥) → (d ≡ 38 → ⊥) → GroupsWithin 9 ps →
+pub replacement_whole : (d : ℕ) (ps : List Piece) (after : List ℕ) (at : ℕ) → (d ≡ 92 → ⊥) → (d ≡ 10 → ⊥) → (d ≡ 38 → ⊥) →
     string_end true d false at (written_pieces d ps ++ d ∷ after) ≡ Some (at + length (written_pieces d ps))
-replacement_whole d [] after at other line match fit = at_end true d at after line ∙ some_place at (at + 0) (omega arith)
-replacement_whole d (literal b ∷ ps) after at other line match fit =
-    past_literal (b == d || b == 92 || b == 38 || b == 10) d at b (written_pieces d ps) (d ∷ after) other refl (λ n. replacement_whole d ps after n other line match fit)
-replacement_whole d (whole ∷ ps) after at other line match fit =
+replacement_whole d [] after at other line match = at_end true d at after line ∙ some_place at (at + 0) (omega arith)
+replacement_whole d (literal b ∷ ps) after at other line match =
+    past_literal (b == d || b == 92 || b == 38 || b == 10) d at b (written_pieces d ps) (d ∷ after) other refl (λ n. replacement_whole d ps after n other line match)
+replacement_whole d (whole ∷ ps) after at other line match =
     past_plain true d at 38 (written_pieces d ps ++ d ∷ after) refl (ne_eqb 38 d (λ e. match (sym e))) refl
-    ∙ (replacement_whole d ps after (suc at) other line match fit ∙ some_place (suc at + length (written_pieces d ps)) (at + suc (length (written_pieces d ps))) (omega arith))
-replacement_whole d (group k ∷ ps) after at other line match fit =
+    ∙ (replacement_whole d ps after (suc at) other line match ∙ some_place (suc at + length (written_pieces d ps)) (at + suc (length (written_pieces d ps))) (omega arith))
+replacement_whole d (group k ∷ ps) after at other line match =
     past_escaped true d at (48 + k) (written_pieces d ps ++ d ∷ after) other (no_break (48 + k == 10))
-    ∙ (replacement_whole d ps after (suc (suc at)) other line match fit.2 ∙ some_place (suc (suc at) + length (written_pieces d ps)) (at + suc (suc (length (written_pieces d ps)))) (omega arith))
+    ∙ (replacement_whole d ps after (suc (suc at)) other line match ∙ some_place (suc (suc at) + length (written_pieces d ps)) (at + suc (suc (length (written_pieces d ps)))) (omega arith))

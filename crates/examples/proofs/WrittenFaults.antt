@@ -51,10 +51,10 @@ string_faultless d (b ∷ bs) at = past_byte (b == 10) (b == d || b == 92) d at 
 
 -- ---- replacements
 
-past_piece : (d : ℕ) (limit : Option ℕ) (at b : ℕ) (p : Piece) (rest : List ℕ) → escaped_piece d b ≡ Some p → ((n : ℕ) → piece_fault limit n (Some p) ≡ None) →
+past_piece : (d : ℕ) (limit : Option ℕ) (at b : ℕ) (rest : List ℕ) → ((n : ℕ) → piece_fault limit n (escaped_piece d b) ≡ None) →
     ((n : ℕ) → replacement_fault d limit false n rest ≡ None) → replacement_fault d limit false at (92 ∷ b ∷ rest) ≡ None
-past_piece d limit at b p rest e f h =
-    rw e (ap (λ (x : Option ScriptFault). option_or x (replacement_fault d limit false (suc (suc at)) rest)) (f (suc at - 1)) ∙ h (suc (suc at)))
+past_piece d limit at b rest f h =
+    ap (λ (x : Option ScriptFault). option_or x (replacement_fault d limit false (suc (suc at)) rest)) (f (suc at - 1)) ∙ h (suc (suc at))
 
 past_letter : (d : ℕ) (limit : Option ℕ) (at b : ℕ) (rest : List ℕ) → (b == 92) ≡ false → ((n : ℕ) → replacement_fault d limit false n rest ≡ None) → replacement_fault d limit false at (b ∷ rest) ≡ None
 past_letter d limit at b rest e h = rw e (h (suc at))
@@ -64,19 +64,24 @@ second_false true s t u e = cc
 second_false false true t u e = cc
 second_false false false t u e = refl
 
-past_literal : (t : Bool) (d : ℕ) (limit : Option ℕ) (at b : ℕ) (rest : List ℕ) → (48 ≤ d → d ≤ 57 → ⊥) → (b == d || b == 92 || b == 38 || b == 10) ≡ t →
+past_literal : (t : Bool) (d : ℕ) (limit : Option ℕ) (at b : ℕ) (rest : List ℕ) → (b == d || b == 92 || b == 38 || b == 10) ≡ t →
     ((n : ℕ) → replacement_fault d limit false n rest ≡ None) → replacement_fault d limit false at ((if t then 92 ∷ b ∷ [] else b ∷ []) ++ rest) ≡ None
-past_literal true d limit at b rest other f h = past_piece d limit at b (literal b) rest (special d b f other) (λ n. refl) h
-past_literal false d limit at b rest other f h = past_letter d limit at b rest (second_false (b == d) (b == 92) (b == 38) (b == 10) f) h
+past_literal true d limit at b rest f h = past_piece d limit at b rest (λ n. rw (special d b f) refl) h
+past_literal false d limit at b rest f h = past_letter d limit at b rest (second_false (b == d) (b == 92) (b == 38) (b == 10) f) h
 
 group_there : (n at k : ℕ) → k ≤ n → piece_fault (Some n) at (Some (group k)) ≡ None
 group_there n at k h = rw (le-ltb n k h) refl
 
-pub replacement_faultless : (d groups : ℕ) (ps : List Piece) (at : ℕ) → (48 ≤ d → d ≤ 57 → ⊥) → GroupsWithin 9 ps → GroupsWithin groups ps → replacement_fault d (Some groups) false at (written_pieces d ps) ≡ None
-replacement_faultless d groups [] at other fit there = refl
-replacement_faultless d groups (literal b ∷ ps) at other fit there =
-    past_literal (b == d || b == 92 || b == 38 || b == 10) d (Some groups) at b (written_pieces d ps) other refl (λ n. replacement_faultless d groups ps n other fit there)
-replacement_faultless d groups (whole ∷ ps) at other fit there = replacement_faultless d groups ps (suc at) other fit there
-replacement_faultless d groups (group k ∷ ps) at other fit there =
-    past_piece d (Some groups) at (48 + k) (group k) (written_pieces d ps) (group_escape d k fit.0 fit.1 other) (λ n. group_there groups n k there.1)
-    (λ n. replacement_faultless d groups ps n other fit.2 there.2)
+-- where the delimiter is the group's digit, the escape stands for that digit
+group_faultless : (t : Bool) (d n k at : ℕ) → (48 + k == d) ≡ t → 1 ≤ k → k ≤ 9 → k ≤ n → piece_fault (Some n) at (escaped_piece d (48 + k)) ≡ None
+group_faultless true d n k at e low high there = rw e refl
+group_faultless false d n k at e low high there = rw (group_escape d k low high e) (group_there n at k there)
+
+pub replacement_faultless : (d groups : ℕ) (ps : List Piece) (at : ℕ) → GroupsWithin 9 ps → GroupsWithin groups ps → replacement_fault d (Some groups) false at (written_pieces d ps) ≡ None
+replacement_faultless d groups [] at fit there = refl
+replacement_faultless d groups (literal b ∷ ps) at fit there =
+    past_literal (b == d || b == 92 || b == 38 || b == 10) d (Some groups) at b (written_pieces d ps) refl (λ n. replacement_faultless d groups ps n fit there)
+replacement_faultless d groups (whole ∷ ps) at fit there = replacement_faultless d groups ps (suc at) fit there
+replacement_faultless d groups (group k ∷ ps) at fit there =
+    past_piece d (Some groups) at (48 + k) (written_pieces d ps) (λ n. group_faultless (48 + k == d) d groups k n refl fit.0 fit.1 there.1)
+    (λ n. replacement_faultless d groups ps n fit.2 there.2)

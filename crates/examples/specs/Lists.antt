@@ -1,7 +1,9 @@
 -- Lists of plain bytes (XBD 9.3.5).
-use Rattle.std.specs.Prelude.{◌≡◌, ℕ, List, [], ◌∷◌}
+use Rattle.std.specs.Prelude.{◌≡◌, ◌⊎◌, ℕ, List, [], ◌∷◌, Option, None}
 
--- none of the bytes is `[`, `]`, `-` or `^`
-abbrev pub ArePlain : List ℕ → Type 0
-ArePlain [] = Unit {0}
-ArePlain (b ∷ bs) = (b ≡ 91 → ⊥) × (b ≡ 93 → ⊥) × (b ≡ 45 → ⊥) × (b ≡ 94 → ⊥) × ArePlain bs
+-- none of the bytes is `[`, `]`, `-` or `^`, nor a backslash where the expression has a delimiter
+abbrev pub ArePlain : Option ℕ → List ℕ → Type 0
+ArePlain delimiter [] = Unit {0}
+ArePlain delimiter (b ∷ bs) =
+    (b ≡ 91 → ⊥) × (b ≡ 93 → ⊥) × (b ≡ 45 → ⊥) × (b ≡ 94 → ⊥) × ((delimiter ≡ None) ⊎ (b ≡ 92 → ⊥))
+    × ArePlain delimiter bs

@@ -1,7 +1,7 @@
 //! Laws of the definitions, in the subject's own words. The calls do nothing.
 
-ghost use Rattle.std.specs.Prelude.{◌≡◌, ◌≤◌, ◌<◌, ◌⊎◌, ℕ, ◌+◌, Bool, true, false, not, List, ◌∷◌, ◌++◌, Some, None, Ok, All, length, drop, slice_get};
-ghost use Rattle.sedre.specs.Sets.{set_of};
+ghost use Rattle.std.specs.Prelude.{◌≡◌, ◌≤◌, ◌<◌, ◌⊎◌, ℕ, ◌+◌, Bool, true, false, List, ◌∷◌, ◌++◌, Option, Some, None, Ok, All, length, drop, slice_get};
+ghost use Rattle.sedre.specs.Sets.{set_of, matching, complement};
 ghost use Rattle.sedre.specs.Brackets.{list_at};
 ghost use Rattle.sedscript.specs.declared.bytes.Sort.TheVariants.{Name};
 ghost use Rattle.sedscript.specs.declared.items.Flags.{Flags};
@@ -101,15 +101,15 @@ pub fn replacement_read()
 /// an `&`.
 pub fn replacement_whole()
     ensures { (delimiter : ℕ) (pieces : List Piece) (after : List ℕ) (at : ℕ) →
-        (delimiter ≡ 92 → ⊥) → (delimiter ≡ 10 → ⊥) → (delimiter ≡ 38 → ⊥) → GroupsWithin 9 pieces →
+        (delimiter ≡ 92 → ⊥) → (delimiter ≡ 10 → ⊥) → (delimiter ≡ 38 → ⊥) →
         string_end true delimiter false at (written_pieces delimiter pieces ++ delimiter ∷ after)
         ≡ Some (at + length (written_pieces delimiter pieces)) }
 {}
 
-/// A replacement that is written out has no fault where the expression has its groups, unless its delimiter is a digit.
+/// A replacement that is written out has no fault where the expression has its groups.
 pub fn replacement_faultless()
-    ensures { (delimiter groups : ℕ) (pieces : List Piece) (at : ℕ) → (48 ≤ delimiter → delimiter ≤ 57 → ⊥) →
-        GroupsWithin 9 pieces → GroupsWithin groups pieces →
+    ensures { (delimiter groups : ℕ) (pieces : List Piece) (at : ℕ) → GroupsWithin 9 pieces →
+        GroupsWithin groups pieces →
         replacement_fault delimiter (Some groups) false at (written_pieces delimiter pieces) ≡ None }
 {}
 
@@ -144,16 +144,19 @@ pub fn flags_before_file()
         × NumberAmong (bytes_between script from w) flags.number }
 {}
 
-/// A list of one or more bytes, none of them `[`, `]`, `-` or `^`, matches exactly these bytes and ends after its `]`.
+/// A list of one or more bytes, none of them `[`, `]`, `-` or `^`, nor a backslash where the expression has a delimiter,
+/// matches exactly these bytes, in either case where case is folded, and ends after its `]`.
 pub fn list_matches()
-    ensures { (before bytes after : List ℕ) → 0 < length bytes → ArePlain bytes →
-        list_at false None (before ++ 91 ∷ (bytes ++ 93 ∷ after)) (length before)
-        ≡ Ok (set_of (λ c. is_among bytes c), length before + length bytes + 2) }
+    ensures { (folded : Bool) (delimiter : Option ℕ) (before bytes after : List ℕ) → 0 < length bytes →
+        ArePlain delimiter bytes →
+        list_at folded delimiter (before ++ 91 ∷ (bytes ++ 93 ∷ after)) (length before)
+        ≡ Ok (matching folded (set_of (λ c. is_among bytes c)), length before + length bytes + 2) }
 {}
 
-/// With a `^` before these bytes, it matches exactly the others.
+/// A list of a `^` and such bytes matches exactly the bytes that the list without the `^` doesn't match.
 pub fn others_match()
-    ensures { (before bytes after : List ℕ) → 0 < length bytes → ArePlain bytes →
-        list_at false None (before ++ 91 ∷ 94 ∷ (bytes ++ 93 ∷ after)) (length before)
-        ≡ Ok (set_of (λ c. not (is_among bytes c)), length before + length bytes + 3) }
+    ensures { (folded : Bool) (delimiter : Option ℕ) (before bytes after : List ℕ) → 0 < length bytes →
+        ArePlain delimiter bytes →
+        list_at folded delimiter (before ++ 91 ∷ 94 ∷ (bytes ++ 93 ∷ after)) (length before)
+        ≡ Ok (complement (matching folded (set_of (λ c. is_among bytes c))), length before + length bytes + 3) }
 {}

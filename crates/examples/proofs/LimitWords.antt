@@ -1,0 +1,11 @@
+-- Limits of the examples.
+use Rattle.std.proofs.Common.{ℕ}
+use Rattle.sedengine.specs.Limits.{Limits, limits_of}
+
+-- the program's own, but for the turns
+abbrev pub turns : ℕ → Limits
+turns most = limits_of 1048576 4096 65536 most 16384
+
+-- the program's own
+abbrev pub own : Limits
+own = turns 18446744073709551615
