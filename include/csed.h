@@ -16,8 +16,8 @@
  * Memory. A call asks malloc and realloc of the C library (or of the allocator that stands for them), and gives back by
  * free. The three must be those of one allocator. A run asks for 3 * space + look + 8 * queue + room bytes, for searches
  * 48 KiB and about 73 * nodes bytes, space / 8 more where the script has an expression, space / 8 and some
- * sqrt(space) * nodes / 4 more where it has an s with the flag g or a number above 1, and for what the script takes. Here
- * nodes is what the script's largest expression has. None of it grows with the input.
+ * 16 * sqrt(space) * (nodes / 64 + 1) more where it has an s with the flag g or a number above 1, and for what the script
+ * takes. Here nodes is what the script's largest expression has. None of it grows with the input.
  *
  * Threads. There is no state that calls share: any number of threads may call at once, each with its own output and report.
  * Don't call from a signal handler, or in the child of a fork of a process that has several threads.

@@ -26,7 +26,7 @@ use Rattle.sedengine.specs.declared.ends.Ended.TheVariants.{Done, PatternFull, H
 use Rattle.examples.proofs.ComputedEnds.{all_fit, stops_after, EndsBy}
 use Rattle.examples.proofs.LimitWords.{turns}
 
--- the program's own limits, but for the turns, the space or the queue
+-- the program's own limits, but for the space or the queue
 abbrev space : ℕ → Limits
 space most = limits_of most 4096 65536 18446744073709551615 16384
 

@@ -27,7 +27,6 @@ use Rattle.examples.proofs.ComputedScript.{verdict, cutting, walked, is_script}
 use Rattle.examples.proofs.ScriptWords.{always, at, unless}
 use Rattle.examples.proofs.LimitWords.{own}
 
--- the program's own limits
 abbrev program : Program
 program = record {
   commands = unless (at Last AppendNext) ∷ always PrintFirst ∷ always DeleteFirst ∷ [];

@@ -20,7 +20,6 @@ use Rattle.examples.proofs.ManyBlocks.{blocks, program, means}
 use Rattle.examples.proofs.ScriptWords.{always}
 use Rattle.examples.proofs.LimitWords.{turns}
 
--- the program's own limits, but for the turns
 abbrev input : List ℕ
 input = codes "a\n"
 

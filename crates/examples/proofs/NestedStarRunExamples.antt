@@ -32,7 +32,6 @@ use Rattle.examples.proofs.NestedStarExamples.{twice_nested, no_b}
 use Rattle.examples.proofs.ScriptWords.{always, at, substitution}
 use Rattle.examples.proofs.LimitWords.{own}
 
--- the program's own limits
 -- `/RE/d` and `s//x/`, where this tells what is found
 abbrev commands : List Command
 commands = at (Match (Some 0)) Delete ∷ always (Substitute 0) ∷ []

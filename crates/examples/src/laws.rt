@@ -153,7 +153,8 @@ pub fn list_matches()
         ≡ Ok (matching folded (set_of (λ c. is_among bytes c)), length before + length bytes + 2) }
 {}
 
-/// A list of a `^` and such bytes matches exactly the bytes that the list without the `^` doesn't match.
+/// A list of a `^` and such bytes matches exactly the bytes that the list without the `^` doesn't match, and ends after its
+/// `]`.
 pub fn others_match()
     ensures { (folded : Bool) (delimiter : Option ℕ) (before bytes after : List ℕ) → 0 < length bytes →
         ArePlain delimiter bytes →

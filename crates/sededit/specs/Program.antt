@@ -103,7 +103,7 @@ DevicesAtEnd most input_old input_new sinks_old sinks_new end =
 abbrev pub GainsBy : Limits → (old new : ℕ → Option (List ℕ)) → Ended → List (ℕ × ℕ) → Type 0
 GainsBy limits old new end = GainedWithin limits.output nothing_before old new (Err end)
 
--- The run of a script came to another end than the ordinary one, and what this says of the devices is so; and where the
+-- The run of a script came to another end than the ordinary one, and what that says of the devices holds; and where the
 -- input and the texts are told, the end has its cause, after some moves. `gained` says what the sinks gained at an end.
 abbrev pub StopsEarly : Limits → Program → Option (List ℕ) → (ℕ → Option (List ℕ)) →
     (Ended → List (ℕ × ℕ) → Type 0) → (Ended → Type 0) → Type 0

@@ -42,8 +42,8 @@ pub fn script(alloc: Global, text: &[u8], kind: Kind, nodes: usize) -> Result<Sc
 /// the first of its `rfiles`. The script's expressions have at most `limits.nodes()` nodes, as where `script` read it with
 /// that number.
 ///
-/// What each sink gains stays within the limits, where the source tells contracts its bytes; so does what the engine holds,
-/// as `Engine::held` says. What was written is never taken back, however the run ends. `own_limits.rt` of the crate `hosts`
+/// What each sink gains stays within the limits, where the source tells contracts its bytes; what the engine holds does so
+/// for any source, as `Engine::held` says. What was written is never taken back, however the run ends. `own_limits.rt` of the crate `hosts`
 /// is an example.
 ///
 /// # Errors
@@ -74,8 +74,8 @@ pub fn edit<R: ByteSource, O: Outputs, T: Texts>(
         (files : ℕ → List ℕ) → TellsFiles (T.text texts.old) files →
         GainsAll (setting_of script files) (start_over script bytes)
         (Gained (O.contents outputs.old) (O.contents outputs.new))) }
-    // A device that the end names has failed, whether it tells its bytes or not, and no other has; and a sink is full only
-    // where the limits have one on the output.
+    // A device that the end names has failed, whether it tells its bytes or not, and no other source or sink has; and a sink
+    // is full only where the limits have one on the output.
     ensures input { IfOk result (SourceAtEnd (R.failures source.old) (R.failures source.new)) }
     ensures failed { IfOk result (λ end.
         SinksAtEnd limits.output (O.failures outputs.old) (O.failures outputs.new) (Err end)) }

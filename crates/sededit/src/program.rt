@@ -57,8 +57,8 @@ pub fn command<S: AsStr, I: Inputs, O: Sinks, N: Names, E: Write>(
     requires sinks { O.count sinks.old ≡ 1 }
     requires names { N.named names.old ≡ 0 }
     ensures status { (result ≡ SUCCESS) ⊎ ((result ≡ REFUSED) ⊎ ((result ≡ MISSED) ⊎ (result ≡ STOPPED))) }
-    // Status 0 says that all was written that the script writes, that no file was missed and that no read failed; or that
-    // help was asked for and written, to the standard output alone.
+    // Status 0 says that all was written that the script writes, that no input file was missed, and that no read of the
+    // input failed; or that help was asked for and written, to the standard output alone.
     ensures whole { result ≡ SUCCESS →
         (Runs (I.text inputs.old) (I.ahead inputs.old) (N.file names.old) (N.text names.old) limits.nodes
         (map S.text words.now) (Creates (O.names sinks.old) (O.names sinks.new))
@@ -66,13 +66,14 @@ pub fn command<S: AsStr, I: Inputs, O: Sinks, N: Names, E: Write>(
         × (I.refusals inputs.new ≡ I.refusals inputs.old) × (I.failures inputs.new ≡ I.failures inputs.old))
         ⊎ (AsksHelp (map S.text words.now) × WritesHelp (Gained (O.contents sinks.old) (O.contents sinks.new))
         × (O.names sinks.new ≡ O.names sinks.old) × (inputs.new ≡ inputs.old)) }
-    // Status 2 says the same, and that a file couldn't be opened.
+    // Status 2 says that all was written, that no read of the input failed, and that an input file couldn't be opened.
     ensures missed { result ≡ MISSED →
         Runs (I.text inputs.old) (I.ahead inputs.old) (N.file names.old) (N.text names.old) limits.nodes
         (map S.text words.now) (Creates (O.names sinks.old) (O.names sinks.new))
         (λ p input texts. WritesAll p input texts (Gained (O.contents sinks.old) (O.contents sinks.new)))
         × Rose (I.refusals inputs.old) (I.refusals inputs.new) × (I.failures inputs.new ≡ I.failures inputs.old) }
-    // A run that stopped has written a beginning; where help was asked for, a text.
+    // A run that stopped has written a beginning. Where help was asked for, a text was written to the standard output alone,
+    // and no input was touched.
     ensures stopped { result ≡ STOPPED →
         Runs (I.text inputs.old) (I.ahead inputs.old) (N.file names.old) (N.text names.old) limits.nodes
         (map S.text words.now) (Creates (O.names sinks.old) (O.names sinks.new))
@@ -80,7 +81,8 @@ pub fn command<S: AsStr, I: Inputs, O: Sinks, N: Names, E: Write>(
         ⊎ (AsksHelp (map S.text words.now) × WritesHelp (Gained (O.contents sinks.old) (O.contents sinks.new))
         × (O.names sinks.new ≡ O.names sinks.old) × (inputs.new ≡ inputs.old)) }
     // It stopped for a cause, within the limits, and a device that this cause names has failed in this call, the input for no
-    // other cause; or all was written, and some sink failed when it was flushed; or a sink failed as help was written.
+    // other cause; or all was written, no read of the input failed, and some sink did when it was flushed; or a sink failed
+    // as help was written.
     ensures cause { result ≡ STOPPED →
         Runs (I.text inputs.old) (I.ahead inputs.old) (N.file names.old) (N.text names.old) limits.nodes
         (map S.text words.now) (Creates (O.names sinks.old) (O.names sinks.new))

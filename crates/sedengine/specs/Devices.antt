@@ -50,7 +50,7 @@ abbrev pub SourceAtEnd : ℕ → ℕ → Ended → Type 0
 SourceAtEnd old new InputBroken = Rose old new
 SourceAtEnd old new other = new ≡ old
 
--- The source hasn't failed where the run goes on, and at an end only where that says so.
+-- The source hasn't failed where the run goes on; at an end it has exactly where the end says so.
 abbrev pub FailedSource : {T : Type 0} → ℕ → ℕ → Result T Ended → Type 0
 FailedSource old new (Ok x) = new ≡ old
 FailedSource old new (Err end) = SourceAtEnd old new end

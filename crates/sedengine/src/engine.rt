@@ -89,8 +89,8 @@ impl Engine {
             (Sends self.old self.new (O.contents outputs.old) (O.contents outputs.new) (outcome result))
             (input_of R.remaining lines.old) (input_of R.remaining lines.new)
             self.new (lines_left R.remaining lines.new) result) }
-        // A device that the end names has failed in this call, and no other has; where a next cycle is due none has. A sink is
-        // full only where the limits have one on the output.
+        // A device that the end names has failed in this call, and no other source or sink has; where a next cycle is due
+        // none has. A sink is full only where the limits have one on the output.
         ensures input { IsNone self.old.ended → lines.old.fault ≡ None →
             FailedSource (R.failures lines.old.source) (R.failures lines.new.source) (outcome result) }
         ensures output { IsNone self.old.ended →
@@ -134,8 +134,8 @@ impl Engine {
             Ending self.old.limits (setting self.old files) (at_lines self.old ls)
             (Sends self.old self.new (O.contents outputs.old) (O.contents outputs.new) (Err result))
             (input_of R.remaining lines.old) (input_of R.remaining lines.new) self.new.state result) }
-        // The device that the end names has failed in this run, and no other has. A sink is full only where the limits have
-        // one on the output.
+        // The device that the end names has failed in this run, and no other source or sink has. A sink is full only where
+        // the limits have one on the output.
         ensures input { IsNone self.old.ended → lines.old.fault ≡ None →
             SourceAtEnd (R.failures lines.old.source) (R.failures lines.new.source) result }
         ensures output { IsNone self.old.ended →

@@ -1,4 +1,4 @@
--- Private to the proofs: no contract that `sedmatch` passes on cites what stands here.
+-- Private to the proofs: no contract that `sedmatch` makes public cites what stands here.
 -- Nodes of an expression by their indices.
 use Rattle.std.specs.Prelude.{◌≡◌, ℕ, ◌+◌, ◌<◌, ◌≤◌, List, length}
 use Rattle.sedre.specs.Arena.{IsArena}

@@ -1,4 +1,4 @@
--- Private to the proofs: no contract that `sedmatch` passes on cites what stands here.
+-- Private to the proofs: no contract that `sedmatch` makes public cites what stands here.
 -- Where the parts of a node and the copies of a repetition begin and end.
 use Rattle.std.specs.Prelude.{◌≡◌, ◌<◌, ℕ, ◌≤◌, ◌↔◌, Bool, false, List, slice_get, slice_index_or, Option, Some, None, IsTrue}
 use Rattle.sedre.specs.declared.types.Node.{Node}

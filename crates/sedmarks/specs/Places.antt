@@ -1,4 +1,4 @@
--- Private to the proofs: no contract that `sedmatch` passes on cites what stands here.
+-- Private to the proofs: no contract that `sedmatch` makes public cites what stands here.
 -- Places of a text as far as an expression tells them apart, and what a pass tells of one.
 use Rattle.std.specs.Prelude.{◌≡◌, ℕ, ◌+◌, ◌≤◌, Bool, true, false, ◌↔◌, List, length, slice_get, slice_index_or, Option, Some, IsTrue}
 use Rattle.sedre.specs.declared.types.Node.{Node}

@@ -1,4 +1,4 @@
--- Private to the proofs: no contract that `sedmatch` passes on cites what stands here.
+-- Private to the proofs: no contract that `sedmatch` makes public cites what stands here.
 -- What a match begins with where single bytes are repeated.
 use Rattle.std.specs.Prelude.{◌≡◌, ℕ, ◌<◌, ◌≤◌, ◌↔◌, Bool, List, length, slice_get, Some}
 use Rattle.sedre.specs.Tree.{set}

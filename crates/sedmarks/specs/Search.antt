@@ -1,4 +1,4 @@
--- Private to the proofs: no contract that `sedmatch` passes on cites what stands here.
+-- Private to the proofs: no contract that `sedmatch` makes public cites what stands here.
 -- What each part of a search answers: where a match can begin, the earliest place at which one does, its longest end.
 use Rattle.std.specs.Prelude.{◌≡◌, ℕ, ◌+◌, ◌<◌, ◌≤◌, Bool, true, List, length, Option, Some, None, IfSome, IfNone, IsTrue}
 use Rattle.sedre.specs.Tree.{Tree}
@@ -53,8 +53,8 @@ abbrev pub LastEnd : Tree → List ℕ → ℕ → ℕ → Option ℕ → Type 0
 LastEnd e w first n None = (i k : ℕ) → first ≤ i → k < n → Spans e w i k → ⊥
 LastEnd e w first n (Some p) = (p < n) × ((i : ℕ) × (first ≤ i) × Spans e w i p) × ((i k : ℕ) → first ≤ i → k < n → Spans e w i k → k ≤ p)
 
--- the end of a match from the place i no shorter than any that ends before the place n, and up to the place stop; None:
--- no match ends before n
+-- the end, at most the place stop, of a match from the place i that is no shorter than any that ends before the place n;
+-- None: no match ends before n
 abbrev pub IsBest : Tree → List ℕ → ℕ → ℕ → ℕ → Option ℕ → Type 0
 IsBest e w i n stop best = LongestBelow e w i n best × IfSome best (λ end. (i ≤ end) × (end ≤ stop))
 

@@ -1,4 +1,4 @@
--- Private to the proofs: no contract that `sedmatch` passes on cites what stands here.
+-- Private to the proofs: no contract that `sedmatch` makes public cites what stands here.
 -- What is left to do while the groups of a match are decided.
 use Rattle.std.specs.Prelude.{◌≡◌, ℕ, ◌+◌, ◌-◌, ◌*◌, ◌<◌, ◌≤◌, Bool, true, false, if◌then◌else◌, List, [], ◌∷◌, ◌++◌, length, slice_get, slice_set, Some, None}
 use Rattle.sedre.specs.Arena.{IsArena, tree_at}

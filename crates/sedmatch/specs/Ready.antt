@@ -1,4 +1,4 @@
--- Private to the proofs: no contract that `sedmatch` passes on cites what stands here.
+-- Private to the proofs: no contract that `sedmatch` makes public cites what stands here.
 -- An expression with what is known of it, and its tables.
 use Rattle.std.specs.Prelude.{ℕ, true, IsTrue, Option}
 use Rattle.sedre.specs.Tree.{Tree}

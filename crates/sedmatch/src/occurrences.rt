@@ -224,7 +224,8 @@ impl TableMatcher {
     ///
     /// All calls for one text, from [`Occurrences::begin`] on, take at most 416 steps for each node and place together.
     /// Conditions: `begin` was called for this matcher and text, `last` is what the call before answered, `None` in the first
-    /// one, and after that the occurrences have room for the text and the expression. After `None` begin anew.
+    /// one, and after that the occurrences have room for the text and the expression; the scratch has it in every call.
+    /// After `None` begin anew.
     #[inline(always)]
     pub fn next_occurrence(
         &mut self,

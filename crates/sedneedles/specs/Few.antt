@@ -1,4 +1,4 @@
--- Private to the proofs: no contract that `sedmatch` passes on cites what stands here.
+-- Private to the proofs: no contract that `sedmatch` makes public cites what stands here.
 -- Up to three bytes, one of which is sought.
 use Rattle.std.specs.Prelude.{Bool, ◌≡◌, ◌⊎◌, ℕ, ◌<◌, ◌↔◌, List, length, slice_get, slice_index, Option, Some, None}
 use Rattle.sedmarks.specs.Bytes.{AreBytes, FirstFrom}

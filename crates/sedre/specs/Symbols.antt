@@ -13,7 +13,7 @@ use Rattle.sedre.specs.declared.syntax.Symbol.TheVariants.{Dollar, Unknown}
 abbrev pub is_letter : ℕ → Bool
 is_letter c = between 65 90 c || between 97 122 c
 
--- what a byte is in expressions of both kinds, where no backslash stands before it
+-- the symbols that both kinds share, where no backslash stands before them; any other byte is a literal here
 abbrev pub alone_in_both : ℕ → Symbol
 alone_in_both b =
     if b == 42 then Star  -- *

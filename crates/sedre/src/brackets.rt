@@ -103,7 +103,7 @@ fn members_at(delimiter: Option<u8>, text: &[u8], at: usize) -> Result<(ByteSet,
     Ok((range(at, first, next + 1, last, goes_on)?, end))
 }
 
-/// Whether the list whose elements begin at a place is a non-matching one.
+/// Whether the list whose `[` stands before a place is a non-matching one.
 fn is_negated(text: &[u8], at: usize) -> bool
     requires { at ≤ length text.now }
     ensures { result ≡ is_negated (drop at text.now) }

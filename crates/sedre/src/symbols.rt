@@ -5,7 +5,7 @@ ghost use Rattle.sedre.specs.Symbols.{alone, alone_in_both, escaped, escaped_lit
 use crate::syntax::Symbol;
 use crate::types::{Kind, Reason};
 
-/// What a byte means in expressions of both kinds, where no backslash stands before it.
+/// The symbols that both kinds share, where no backslash stands before them; any other byte is a literal here.
 fn alone_in_both(b: u8) -> Symbol
     ensures { result ≡ alone_in_both b }
 {

@@ -22,8 +22,8 @@ pub enum Reason {
     UnknownClass,
     /// E3: more than one byte stands in `[.` or `[=`
     LongCollating,
-    /// E4: a range is invalid: an end of it is no single byte, its last byte lies before its first, or it goes on as
-    /// `a-c-e` does
+    /// E4: a range is invalid: an end of it is no single byte, as a class or `[=a=]`, its last byte lies before its
+    /// first, or it goes on as `a-c-e` does
     BadRange,
     /// E5: a group isn't closed
     OpenGroup,

@@ -31,7 +31,7 @@ pub enum Action {
     /// `b`: goes to the command of this number. The number of commands is the end of the script.
     Branch(usize),
     /// `c`: deletes the pattern space and starts the next cycle, and writes the script's text of this number, counted from
-    /// 0; of a range, at its end alone.
+    /// 0; of a range, at its end alone, with `!` each time.
     Change(usize),
     /// `g`: replaces the pattern space by the hold space.
     CopyHold,

@@ -182,7 +182,7 @@ impl<R: ByteSource> Lines<R> {
         ensures failed { self.old.fault ≡ None
             → FailsIfBroken result (R.failures self.old.source) (R.failures self.new.source) }
 
-        // Where the source fails, no more than a part of one line has come of it.
+        // Where the source fails, no more than a part of one line has come from it.
         ensures broken { result ≡ Err LineFault.Broken → self.old.fault ≡ None → (self.new.ahead ≡ [])
             × LosesPart (left R.remaining self.old) (left R.remaining self.new)
             (space.old.limit - length space.old.bytes) }
