@@ -2,7 +2,7 @@
 //!
 //! A file is opened by the read that finds no byte left of the files before it, so no two are open at once. A file that
 //! can't be opened counts as empty, and is noted as missed.
-ghost use Rattle.std.specs.Prelude.{◌≡◌, ◌<◌, ◌⊎◌, [], ◌∷◌, ℕ, List, Ok, true, false, length, map, string_bytes, slice_get, unwrap_or, IfOk};
+ghost use Rattle.std.specs.Prelude.{◌≡◌, ◌<◌, ◌⊎◌, [], ◌∷◌, ℕ, List, Ok, true, false, length, map, string_bytes, slice_get, unwrap_or, IfOk, None};
 ghost use Rattle.std.specs.Io.{ReadsAtMost};
 ghost use Rattle.std.specs.Io.KnownBytes.{IsAtEnd, ReadConsumes};
 ghost use Rattle.sedspace.specs.Failures.{FailsAtErr};
@@ -170,6 +170,8 @@ impl<'a, I: Inputs> ByteSource for Joined<'a, I> {
     ghost remaining = { λ j. left I.current I.ahead j };
 
     ghost failures = { λ j. I.failures j.inputs };
+
+    ghost reads = { λ _. None };
 
     ghost reference = { λ j. j.start ∷ I.reference j.inputs };
 

@@ -1,8 +1,8 @@
 -- What contracts see of a reader of lines.
-use Rattle.std.specs.Prelude.{◌≡◌, ℕ, ◌<◌, ◌≤◌, ◌⊎◌, ◌↔◌, IsTrue, Bool, List, [], ◌∷◌, ◌++◌, length, Option, None, Some, IfSome, Result, Err, ⊤, true}
+use Rattle.std.specs.Prelude.{◌≡◌, ℕ, ◌+◌, ◌<◌, ◌≤◌, ◌⊎◌, ◌↔◌, IsTrue, Bool, List, [], ◌∷◌, ◌++◌, length, Option, None, Some, IfSome, Result, Err, ⊤, true}
 use Rattle.std.specs.Option.{option_map}
 use Rattle.std.specs.Result.{result_err}
-use Rattle.std.specs.Io.KnownBytes.{prepend_known}
+use Rattle.std.specs.Io.KnownBytes.{Consumes, prepend_known}
 use Rattle.sedspace.specs.declared.errors.LineFault.{LineFault}
 use Rattle.sedspace.specs.declared.errors.LineFault.TheVariants.{Broken}
 use Rattle.sedspace.specs.Failures.{Rises}
@@ -91,3 +91,15 @@ ReadsOn reference old new =
 abbrev pub KeepsFault : {R T : Type 0} → Result T LineFault → Stream R → Stream R → Type 0
 KeepsFault result old new =
     (new.fault ≡ result_err result) × IfSome old.fault (λ fault. (result ≡ Err fault) × (new ≡ old))
+
+-- a known number of reads rises by at most n
+abbrev pub RisesAtMost : Option ℕ → Option ℕ → ℕ → Type 0
+RisesAtMost None new n = ⊤
+RisesAtMost (Some k) None n = ⊥
+RisesAtMost (Some k) (Some m) n = m ≤ k + n
+
+-- Bytes were taken from the source, in at most n reads more than there are bytes. With n = 1 the reads of a source that gives
+-- a byte at a time are one for each byte and one that gives none: so none follows that one.
+abbrev pub ReadsForBytes : {R : Type 0} → (R → Option (List ℕ)) → (R → Option ℕ) → R → R → ℕ → Type 0
+ReadsForBytes remaining reads old new n = (taken : List ℕ) × Consumes (remaining old) (remaining new) taken
+    × RisesAtMost (reads old) (reads new) (length taken + n)

@@ -40,6 +40,8 @@ impl<R: Read> ByteSource for FromReader<R> {
 
     ghost failures = { λ s. s.failed };
 
+    ghost reads = { λ _. None };
+
     ghost reference = { λ _. [] };
 
     fn read(&mut self, buf: &mut [u8]) -> Result<usize, Broken> {

@@ -97,7 +97,7 @@ impl<R: ByteSource> Model for Lines<R> {
 }
 
 impl<R: ByteSource> Lines<R> {
-    ghost use Rattle.sedspace.specs.Stream.{Stream, left, lines_left, GivesLine, TakesLine, TakesAtMost, FirstIsLonger, NoneLeft, SeesEnd, LosesPart, FailsIfBroken, TellsLast, KeepsLines, KeepsFault, ReadsOn};
+    ghost use Rattle.sedspace.specs.Stream.{Stream, left, lines_left, GivesLine, TakesLine, TakesAtMost, FirstIsLonger, NoneLeft, SeesEnd, LosesPart, FailsIfBroken, TellsLast, KeepsLines, KeepsFault, ReadsForBytes, ReadsOn, RisesAtMost};
     ghost use Rattle.sedspace.specs.Gathering.{Gathers};
 
     /// Makes the lines of the source, and reserves memory to read ahead by at most `look` bytes, from 1 to 2^30. Nothing
@@ -192,11 +192,12 @@ impl<R: ByteSource> Lines<R> {
             × TakesAtMost (left R.remaining self.old) (left R.remaining self.new) space.old.limit) }
         ensures fault { KeepsFault result self.old self.new }
 
-        // How much is read, and when.
+        // How much is read, and when. A read that gives no byte is the last of the call.
         ensures reads { ReadsOn R.reference self.old self.new }
         ensures taken { TakesAtMost (R.remaining self.old.source) (R.remaining self.new.source)
             (self.old.look
             + (if is_ok result then length space.new.bytes - length space.old.bytes + 1 else space.old.limit)) }
+        ensures once { ReadsForBytes R.remaining R.reads self.old.source self.new.source 1 }
         ensures whole_ahead { Contains self.old.ahead 10 → self.new.source ≡ self.old.source }
         ensures ended { self.old.ended ≡ true → (self.new.source ≡ self.old.source) × (self.new.ended ≡ true) }
     {
@@ -226,11 +227,13 @@ impl<R: ByteSource> Lines<R> {
 
         // A fault is kept, and answered again.
         ensures err { OnErr result (self.new.ahead ≡ self.old.ahead) }
+        ensures broken { result ≡ Err LineFault.Broken → self.old.fault ≡ None → self.new.ahead ≡ [] }
         ensures fault { KeepsFault result self.old self.new }
 
-        // How much is read, and when.
+        // How much is read, and when: once at most.
         ensures reads { ReadsOn R.reference self.old self.new }
         ensures taken { TakesAtMost (R.remaining self.old.source) (R.remaining self.new.source) self.old.look }
+        ensures once { RisesAtMost (R.reads self.old.source) (R.reads self.new.source) 1 }
         ensures bytes_ahead { 0 < length self.old.ahead → self.new ≡ self.old }
         ensures ended { self.old.ended ≡ true → self.new ≡ self.old }
     {
@@ -266,6 +269,7 @@ impl<R: ByteSource> Lines<R> {
         ensures left { Consumes (left R.remaining self.old) (left R.remaining self.new) [] }
         ensures taken { Consumes (R.remaining self.old.source) (R.remaining self.new.source) self.new.ahead }
         ensures failed { FailsAtErr result (R.failures self.old.source) (R.failures self.new.source) }
+        ensures once { RisesAtMost (R.reads self.old.source) (R.reads self.new.source) 1 }
         ensures unread { self.old.ended ≡ true → (result ≡ Ok false) × (self.new ≡ self.old) }
         ensures reads { ReadsOn R.reference self.old self.new }
         ensures fault { self.new.fault ≡ self.old.fault }
@@ -317,6 +321,7 @@ impl<R: ByteSource> Lines<R> {
         ensures gathers { Gathers R.remaining R.failures self.old self.new space.old space.new result }
         ensures fits { OnOk result (length space.new.bytes ≤ space.new.limit) }
         ensures bound { length self.new.ahead ≤ self.new.look }
+        ensures once { ReadsForBytes R.remaining R.reads self.old.source self.new.source 1 }
         ensures same_reference { R.reference self.new.source ≡ R.reference self.old.source }
     {
         let start = space.len();

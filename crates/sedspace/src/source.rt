@@ -3,7 +3,8 @@ ghost use Rattle.std.specs.Prelude.{◌≡◌, ◌∷◌, ℕ, List, Option};
 ghost use Rattle.std.specs.Borrow.{GName};
 ghost use Rattle.std.specs.Io.{ReadsAtMost};
 ghost use Rattle.std.specs.Io.KnownBytes.{ReadConsumes};
-ghost use Rattle.sedspace.specs.Failures.{FailsAtErr};
+ghost use Rattle.std.specs.Option.{option_map};
+ghost use Rattle.sedspace.specs.Failures.{FailsAtErr, raised};
 
 use super::Broken;
 
@@ -14,6 +15,9 @@ pub trait ByteSource {
 
     /// How often it failed. The count stops at 2^64 - 1.
     ghost failures: { Self → ℕ };
+
+    /// How often it was read, where contracts may see it. The count stops at 2^64 - 1.
+    ghost reads: { Self → Option ℕ };
 
     /// What no read changes: the references that it holds, the outermost first, by which their lenders learn what became
     /// of them, and numbers that it was made with.
@@ -26,6 +30,7 @@ pub trait ByteSource {
         ensures bound { ReadsAtMost result buf.new }
         ensures bytes { ReadConsumes (remaining self.old) (remaining self.new) result buf.new }
         ensures failed { FailsAtErr result (failures self.old) (failures self.new) }
+        ensures counted { reads self.new ≡ option_map raised (reads self.old) }
         ensures same_reference { reference self.new ≡ reference self.old };
 }
 
@@ -34,6 +39,8 @@ impl<R: ByteSource> ByteSource for &mut R {
     ghost remaining = { λ r. R.remaining r.now };
 
     ghost failures = { λ r. R.failures r.now };
+
+    ghost reads = { λ r. R.reads r.now };
 
     ghost reference = { λ r. r.ghost_name ∷ R.reference r.now };
 

@@ -121,6 +121,8 @@ impl ByteSource for MemorySource {
 
     ghost failures = { λ s. s.failures };
 
+    ghost reads = { λ s. Some s.calls };
+
     ghost reference = { λ _. [] };
 
     fn read(&mut self, buf: &mut [u8]) -> Result<usize, Broken>
