@@ -23,7 +23,7 @@ use Rattle.sedengine.specs.declared.machine.Machine.TheInside.{Inside}
 use Rattle.sedengine.specs.declared.select.Chosen.{Chosen}
 use Rattle.sedengine.specs.declared.ends.Ended.{Ended}
 use Rattle.sedengine.specs.declared.ends.Ended.TheVariants.{QueueFull, TurnsSpent, NoPrevious, InputBroken}
-use Rattle.sedengine.proofs.Streams.{TakesAtMost-more, lines_same}
+use Rattle.sedengine.proofs.Streams.{LosesPart-none, LosesPartAfter-none, TakesAtMost-more, lines_same}
 use Rattle.sedengine.proofs.Moves.{move_at, ran_quietly, stopped_here, moves_writing}
 use Rattle.sedengine.proofs.NextLines.{looked_moves, looked_then, none_taken}
 use Rattle.sedengine.proofs.Tasks.{fits_of, halts_here, reach_spent, steps_by_moves}
@@ -138,8 +138,8 @@ module _ {R : Type 0} (remaining : R → Option (List ℕ)) (old new : Stream R)
   here : WithinLimits e.limits (at_lines e ls)
   here = let Q : RunState → Type 0 = λ e. WithinLimits e.limits (at_lines e ls) in subst Q seen (fits_of a ls i)
 
-  bytes_stay : (n : ℕ) → TakesAtMost (left remaining old) (left remaining new) n
-  bytes_stay n = TakesAtMost-more _ _ _ _ (omega arith) (rw (none_taken taken.lines ls taken.are) at taken.bytes)
+  bytes_stay : TakesAtMost (left remaining old) (left remaining new) 0
+  bytes_stay = rw (none_taken taken.lines ls taken.are) at taken.bytes
 
   reach_as : (choice : Option Selection) → selects (current e (none_left ls)) (is_active e.state k) c ≡ choice →
       move (setting e files) (at_lines e ls) ≡ option_and_then (performs (setting e files) (at_lines e ls) k c) choice
@@ -156,10 +156,10 @@ module _ {R : Type 0} (remaining : R → Option (List ℕ)) (old new : Stream R)
       stops : (end : Ended) → Judges (current e (none_left ls)) (is_active e.state k) c used (Err end) → Steps remaining old new ls e.limits (setting e files) e e (Sent sinks sinks) (Err end)
       stops (NoPrevious n) (without, number) =
           halts_here remaining old new e.limits (setting e files) (at_lines e ls) e sinks (NoPrevious n) here refl
-          (number, (λ _. turn_left a e seen i more), ap reaches t, reach_as None without) (record { pattern = refl; hold = refl; queue = λ _. refl; entries = omega arith }) (bytes_stay _)
+          (number, (λ _. turn_left a e seen i more), ap reaches t, reach_as None without) (record { pattern = refl; hold = refl; queue = λ _. refl; entries = omega arith }) (LosesPart-none _ _ _ bytes_stay)
       stops InputBroken h =
           halts_here remaining old new e.limits (setting e files) (at_lines e ls) e sinks InputBroken here refl
-          (ap (reads (setting e files)) t ∙ ap asks_last (command_seen a e k c seen is) ∙ either (names_last c) (is_next c.action) h) (record { pattern = refl; hold = refl; queue = λ _. refl; entries = omega arith }) (bytes_stay _)
+          (ap (reads (setting e files)) t ∙ ap asks_last (command_seen a e k c seen is) ∙ either (names_last c) (is_next c.action) h) (record { pattern = refl; hold = refl; queue = λ _. refl; entries = omega arith }) (LosesPart-none _ _ _ bytes_stay)
       stops other h = absurd h
 
   -- The addresses chose.
@@ -171,7 +171,7 @@ module _ {R : Type 0} (remaining : R → Option (List ℕ)) (old new : Stream R)
 
     acted : (P : List (ℕ × ℕ) → Type 0) (r : Result Unit Ended) → Moves e.limits (setting e files) (at_lines e ls) (at_lines e2 ls) P r → Steps remaining old new ls e.limits (setting e files) e e2 P r
     acted P (Ok u) h = (ls, taken, h)
-    acted P (Err end) h = record { rest = ls; stopped = h; lines = []; are = refl; bytes = bytes_stay _ }
+    acted P (Err end) h = record { rest = ls; stopped = h; lines = []; are = refl; bytes = LosesPartAfter-none _ _ _ (LosesPart-none _ _ _ bytes_stay) }
 
     -- the command is reached in the state in which it acts
     here_reaches : Reaches e.limits (setting e files) (at_lines e ls) (at_lines (reached_with e k (slice_set e.state.ranges k choice.active) used) ls)

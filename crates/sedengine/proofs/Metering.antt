@@ -23,7 +23,7 @@ pub Cause-as : (l : Limits) (g : Setting) (s : State) (P Q : List (ℕ × ℕ) �
 Cause-as l g s P Q end t f h = WholeOrBrokenOff-as l g s P Q end t (named_sink end) f h
 
 Ending-as : (l : Limits) (g : Setting) (s : State) (P Q : List (ℕ × ℕ) → Type 0) (old new : Input) (now : State) (end : Ended) → ((out : List (ℕ × ℕ)) → P out → Q out) → Ending l g s P old new now end → Ending l g s Q old new now end
-Ending-as l g s P Q old new now end f h = record { t = h.t; cause = Cause-as l g s P Q end h.t f h.cause; takes = h.takes; holds = h.holds }
+Ending-as l g s P Q old new now end f h = record { t = h.t; cause = Cause-as l g s P Q end h.t f h.cause; takes = h.takes; broken = h.broken; holds = h.holds }
 
 Cycles-as : (l : Limits) (g : Setting) (s : State) (P Q : List (ℕ × ℕ) → Type 0) (old new : Input) (e : RunState) (sent : List ℕ) (left : Option (List (List ℕ))) (r : Progress) → ((out : List (ℕ × ℕ)) → P out → Q out) →
     Cycles l g s P old new e left r → Cycles l g s Q old new (record e { sent = sent }) left r

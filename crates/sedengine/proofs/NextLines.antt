@@ -2,7 +2,7 @@
 use Rattle.std.proofs.Common.{◌≡◌, ℕ, ◌+◌, ◌<◌, ◌≤◌, Bool, true, false, List, [], ◌∷◌, ◌++◌, length, Option, Some, None, Result, Ok, Err, refl, subst, sym, ap, ◌∙◌, arith, length-append, append_assoc}
 use Rattle.std.proofs.lemmas.Bool.{false≢true}
 use Rattle.sedspace.specs.Spaces.{Contents}
-use Rattle.sedspace.specs.Stream.{Stream, left, lines_left, GivesLine, NoneLeft, TakesAtMost, TakesLine}
+use Rattle.sedspace.specs.Stream.{Stream, left, lines_left, GivesLine, LosesPart, NoneLeft, TakesAtMost, TakesLine}
 use Rattle.sedspace.specs.declared.lines.Got.{Got}
 use Rattle.sedspace.specs.declared.lines.Got.TheVariants.{Line, End}
 use Rattle.sedengine.specs.Limits.{Limits}
@@ -21,7 +21,7 @@ use Rattle.sedengine.specs.declared.ends.Ended.{Ended}
 use Rattle.sedengine.specs.declared.ends.Ended.TheVariants.{PatternFull, InputBroken}
 use Rattle.sedengine.specs.Inside.{run_of, IsConsistent}
 use Rattle.sedengine.specs.declared.machine.Machine.TheInside.{Inside}
-use Rattle.sedengine.proofs.Streams.{TakesAtMost-more, TakesAtMost-then, TakesLines-then, line_taken, lines_end}
+use Rattle.sedengine.proofs.Streams.{LosesPart-none, LosesPartAfter-none, LosesPartAfter-then, TakesAtMost-more, TakesAtMost-then, TakesLines-then, line_taken, lines_end}
 use Rattle.sedengine.specs.Queueing.{flushed}
 use Rattle.sedengine.proofs.Moves.{Moves-then, move_at, moves_fits, ran_fits, ran_quietly, stopped_here}
 use Rattle.sedengine.proofs.Tasks.{fits_of, fits_tasks, halts_here}
@@ -51,7 +51,7 @@ looked_moves {R} remaining o n ls l g s e' P (Err end) taken are h = record {
   stopped = h;
   lines = [];
   are = are;
-  bytes = TakesAtMost-more _ _ _ _ (omega arith) (rw (none_taken taken.lines ls taken.are) at taken.bytes);
+  bytes = LosesPartAfter-none _ _ _ (LosesPart-none _ _ _ (rw (none_taken taken.lines ls taken.are) at taken.bytes));
 }
 
 -- a call that looks at the input and takes no line, and then one that may take lines
@@ -63,7 +63,7 @@ looked_then {R} remaining a b c ls l g s e' P (Err end) taken h = record {
   stopped = h.stopped;
   lines = h.lines;
   are = h.are;
-  bytes = TakesAtMost-more _ _ _ _ (omega arith) (TakesAtMost-then _ _ _ 0 _ (TakesAtMost-more _ _ _ _ (omega arith) (rw (none_taken taken.lines ls taken.are) at taken.bytes)) h.bytes);
+  bytes = LosesPartAfter-then _ _ _ 0 _ _ _ (omega arith) (rw (none_taken taken.lines ls taken.are) at taken.bytes) h.bytes;
 }
 
 -- the engine with these bytes in its pattern space
@@ -92,14 +92,14 @@ module _ {R : Type 0} (remaining : R → Option (List ℕ)) (old new : Stream R)
   here = record { pattern = ap length (sym spaces); hold = ap length (sym hold); queue = λ _. ap length (sym queue); entries = let q = ap length queue in omega arith }
 
   -- the end comes where nothing was brought
-  halts : (end : Ended) → e' ≡ with_pattern e c'.bytes → c' ≡ c → named_sink end ≡ None → lost e.limits end ≡ c.limit → TakesAtMost (left remaining old) (left remaining new) c.limit → IsCause e.limits g s end →
+  halts : (end : Ended) → e' ≡ with_pattern e c'.bytes → c' ≡ c → named_sink end ≡ None → lost e.limits end ≡ c.limit → LosesPart (left remaining old) (left remaining new) c.limit → IsCause e.limits g s end →
       StepsFrom remaining old new ls e.limits g s e' (Sent sinks sinks) (Err end)
-  halts end after is no_sink loses gone cause =
+  halts end after is no_sink loses part cause =
       let bytes : c'.bytes ≡ e.state.pattern = ap (λ (c : Contents). c.bytes) is ∙ pattern in
       let Q : RunState → Type 0 = λ e'. StepsFrom remaining old new ls e.limits g s e' (Sent sinks sinks) (Err end) in
       let B : List ℕ → Type 0 = λ bytes. StepsFrom remaining old new ls e.limits g s (with_pattern e bytes) (Sent sinks sinks) (Err end) in
-      let T : ℕ → Type 0 = λ n. TakesAtMost (left remaining old) (left remaining new) n in
-      subst Q (sym after) (subst B (sym bytes) (halts_here remaining old new e.limits g s e sinks end fits no_sink cause here (subst T (sym loses) gone)))
+      let L : ℕ → Type 0 = λ n. LosesPart (left remaining old) (left remaining new) n in
+      subst Q (sym after) (subst B (sym bytes) (halts_here remaining old new e.limits g s e sinks end fits no_sink cause here (subst L (sym loses) part)))
 
   pub brings_steps : (r : Result Got Ended) → AfterBringing e c' e' r → Brings remaining old new ls before (e.state.number + 1) c c' r → StepsFrom remaining old new ls e.limits g s e' (Sent sinks sinks) (told r)
   brings_steps (Ok Line) after (line, rest, are, taken, is, fit) =
@@ -120,7 +120,7 @@ module _ {R : Type 0} (remaining : R → Option (List ℕ)) (old new : Stream R)
       subst Q (sym after) (subst B (sym bytes) ([], taken, ran_quietly e.limits g s over sinks fits (none are ∙ ap (λ ls. quietly (then_do [] (at_lines e ls))) are) (record { pattern = f.pattern; hold = f.hold; queue = f.queue; turns = f.turns })))
   brings_steps (Err (PatternFull n)) after (number, (line, rest, are, more), is, gone) =
       halts (PatternFull n) after is refl (sym limit) gone (number ∙ sym line_is, (λ h. absurd (false≢true (sym no_turn ∙ h))), (_, one line rest are, omega (arith, more, limit)))
-  brings_steps (Err InputBroken) after (is, gone) = halts InputBroken after is refl (sym limit) gone may_read
+  brings_steps (Err InputBroken) after (is, part) = halts InputBroken after is refl (sym limit) part may_read
   brings_steps (Err other) after h = absurd h
 
 -- `n`, `fetch`: the pattern space is emptied, and the next line comes in its place.
@@ -198,18 +198,18 @@ brings_none {R} remaining old new ls before number s last taken told is =
     let T : List (List ℕ) → Type 0 = λ ms. TakesLines remaining old new ls ms in
     (none, subst T none taken, refl)
 
-taken_none : {R : Type 0} (remaining : R → Option (List ℕ)) (old new : Stream R) (ls : List (List ℕ)) (n : ℕ) → TakesLines remaining old new ls ls → TakesAtMost (left remaining old) (left remaining new) n
-taken_none {R} remaining old new ls n taken = TakesAtMost-more _ _ _ _ (omega arith) (rw (none_taken taken.lines ls taken.are) at taken.bytes)
+taken_none : {R : Type 0} (remaining : R → Option (List ℕ)) (old new : Stream R) (ls : List (List ℕ)) → TakesLines remaining old new ls ls → TakesAtMost (left remaining old) (left remaining new) 0
+taken_none {R} remaining old new ls taken = rw (none_taken taken.lines ls taken.are) at taken.bytes
 
 pub brings_too_long : {R : Type 0} (remaining : R → Option (List ℕ)) (old new : Stream R) (ls : List (List ℕ)) (before : List ℕ) (number : ℕ) (s : Contents) (last : Bool) → TakesLines remaining old new ls ls → last ≡ none_left ls → last ≡ false → s.limit < length before →
     Brings remaining old new ls before number s s (Err (PatternFull number))
 brings_too_long {R} remaining old new ls before number s last taken told is more =
     let (line, rest, are) = one_is ls (sym told ∙ is) in
-    (refl, (line, rest, are, omega (arith, length-append before line)), refl, taken_none remaining old new ls s.limit taken)
+    (refl, (line, rest, are, omega (arith, length-append before line)), refl, LosesPart-none _ _ _ (taken_none remaining old new ls taken))
 
 pub brings_broken : {R : Type 0} (remaining : R → Option (List ℕ)) (old new : Stream R) (ls : List (List ℕ)) (before : List ℕ) (number : ℕ) (s : Contents) (end : Ended) → TakesLines remaining old new ls ls → TellsLine (none_left ls) (Err end) →
     Brings remaining old new ls before number s s (Err end)
-brings_broken {R} remaining old new ls before number s InputBroken taken told = (refl, taken_none remaining old new ls s.limit taken)
+brings_broken {R} remaining old new ls before number s InputBroken taken told = (refl, LosesPart-none _ _ _ (taken_none remaining old new ls taken))
 brings_broken {R} remaining old new ls before number s other taken told = absurd told
 
 -- `n`: by whether a line is left

@@ -1,5 +1,5 @@
 -- A run: calls that make moves, one after another, up to the end.
-use Rattle.std.proofs.Common.{◌≡◌, ℕ, ◌<◌, ◌+◌, ◌≤◌, inl, inr, true, List, ◌++◌, length, Option, Some, None, Ok, Err, subst, sym, ap, ◌∙◌, arith, add-zero, append_assoc}
+use Rattle.std.proofs.Common.{◌≡◌, ℕ, ◌<◌, ◌+◌, ◌≤◌, inl, inr, true, List, ◌++◌, length, [], Option, Some, None, Ok, Err, subst, sym, ap, ◌∙◌, arith, add-zero, append_assoc}
 use Rattle.std.specs.Prelude.{max}
 use Rattle.sedspace.specs.Stream.{Stream, left, lines_left, TakesAtMost}
 use Rattle.sedengine.specs.Limits.{Limits}
@@ -8,12 +8,14 @@ use Rattle.sedengine.specs.Move.{after, written}
 use Rattle.sedengine.specs.Meters.{Sent, SinkView}
 use Rattle.sedengine.specs.Ends.{WithinLimits, Within, named_sink}
 use Rattle.sedengine.specs.Held.{HoldsAt, SameLengths}
-use Rattle.sedengine.specs.Run.{RunState, setting, setting_of, at_lines, size_of, lost, more_at, Input, input_of, TakesLeft, Ending, EndingInCycle, Cycled, InOneCycle, starts_cycle}
+use Rattle.sedengine.specs.Run.{RunState, setting, setting_of, at_lines, size_of, lost, more_at, LosesPartAfter, Input, input_of, TakesLeft, Ending, EndingInCycle, Cycled, InOneCycle, starts_cycle}
 use Rattle.sedengine.specs.Steps.{Ran, TakesLines, Halted, Steps, KeepsRun}
 use Rattle.sedengine.specs.declared.ends.Ended.{Ended}
 use Rattle.sedengine.specs.declared.ends.Ended.TheVariants.{PatternFull, InputBroken}
 use Rattle.sedengine.proofs.Sending.{Sent-append, Sent-none}
-use Rattle.sedengine.proofs.Streams.{TakesLines-then, TakesAtMost-then, TakesAtMost-more, source_takes, lines_same, size_of-append}
+use Rattle.std.specs.Io.KnownBytes.{prepend_known}
+use Rattle.std.proofs.KnownBytes.{prepend_known-nil}
+use Rattle.sedengine.proofs.Streams.{LosesPartAfter-bytes, LosesPartAfter-takes, LosesPartAfter-then, TakesLines-then, TakesAtMost-then, TakesAtMost-more, source_takes, lines_same, size_of-append}
 use Rattle.sedengine.proofs.Moves.{after-add, written-add, Within-add, Cause-add, HoldsAt-add, InOneCycle-add, within_none, after_none, written_none}
 
 same_without : (s : State) (e : RunState) (ls : List (List ℕ)) → SameLengths s (at_lines e ls) → SameLengths s e.state
@@ -53,13 +55,13 @@ KeepsRun-then s t = record { script = t.script ∙ s.script; limits = t.limits �
 
 -- what was taken from the source, by what was taken of all that was still to come
 pub takes_of : {R : Type 0} (remaining : R → Option (List ℕ)) (from to : Stream R) (l : Limits) (g : Setting) (s : State) (t n m : ℕ) (lines : List (List ℕ)) → s.lines ≡ lines ++ (after g s t).lines →
-    TakesAtMost (left remaining from) (left remaining to) (size_of lines + n) → (k : ℕ) × TakesAtMost (remaining from.source) (remaining to.source) k →
+    LosesPartAfter (left remaining from) (left remaining to) (size_of lines) n → (k : ℕ) × TakesAtMost (remaining from.source) (remaining to.source) k →
     length to.ahead ≤ max (length from.ahead) l.look → n + l.look ≤ m → TakesLeft g s (input_of remaining from) (input_of remaining to) n m t
 takes_of {R} remaining from to l g s t n m lines are gone shrinks ahead most = record {
   input = record {
     lines = lines;
     are = are;
-    bytes = TakesAtMost-more _ _ _ _ (omega arith) (source_takes from.ahead to.ahead (remaining from.source) (remaining to.source) _ l.look shrinks gone ahead);
+    bytes = TakesAtMost-more _ _ _ _ (omega arith) (source_takes from.ahead to.ahead (remaining from.source) (remaining to.source) _ l.look shrinks (LosesPartAfter-takes _ _ _ _ gone) ahead);
   };
   all = gone;
 }
@@ -102,21 +104,26 @@ module _ {R : Type 0} (remaining : R → Option (List ℕ)) (from at to : Stream
       }
 
   abbrev pub stop_on : (e' : RunState) (end : Ended) → Steps remaining at to r.rest e.limits (setting e files) e e' (Sent mid new) (Err end) →
-      (k : ℕ) × TakesAtMost (remaining from.source) (remaining to.source) k → length to.ahead ≤ max (length from.ahead) from.look → from.look ≡ a.limits.look →
+      (k : ℕ) × TakesAtMost (remaining from.source) (remaining to.source) k → length to.ahead ≤ max (length from.ahead) from.look → from.look ≡ a.limits.look → (end ≡ InputBroken → to.ahead ≡ []) →
       Ending a.limits (setting a files) s (Sent old new) (input_of remaining from) (input_of remaining to) e'.state end
-  stop_on e' end halted shrinks ahead look =
+  stop_on e' end halted shrinks ahead look drained =
       let g : Setting = setting a files in
       let h = halted_on e' end halted in
       let u : ℕ = h.stopped.t in
       let rest : r.rest ≡ (after g s r.t).lines = sym (ap (λ (x : State). x.lines) r.is) in
       let are : s.lines ≡ (r.taken.lines ++ h.lines) ++ (after g s (r.t + u)).lines =
       r.taken.are ∙ ap (λ x. r.taken.lines ++ x) (rest ∙ h.are ∙ ap (λ x. h.lines ++ x) (sym h.stopped.lines ∙ ap (λ (x : State). x.lines) (sym (after-add g s r.t u)))) ∙ sym (append_assoc r.taken.lines h.lines _) in
-      let all = TakesAtMost-then (left remaining from) (left remaining at) (left remaining to) _ _ r.taken.bytes h.bytes in
-      let sizes : size_of r.taken.lines + (size_of h.lines + lost a.limits end) ≡ size_of (r.taken.lines ++ h.lines) + lost a.limits end = let e = size_of-append r.taken.lines h.lines in omega arith in
+      let sizes : size_of r.taken.lines + size_of h.lines ≤ size_of (r.taken.lines ++ h.lines) = let e = size_of-append r.taken.lines h.lines in omega arith in
+      let all = LosesPartAfter-then (left remaining from) (left remaining at) (left remaining to) _ _ _ _ sizes r.taken.bytes h.bytes in
       record {
         t = r.t + u;
         cause = Cause-add a.limits g s old mid new end r.t u r.within r.gained h.stopped.cause;
-        takes = takes_of remaining from to a.limits g s (r.t + u) (lost a.limits end) (more_at a.limits end) (r.taken.lines ++ h.lines) are (rw sizes at all) shrinks (rw look at ahead) (lost_more a.limits end);
+        takes = takes_of remaining from to a.limits g s (r.t + u) (lost a.limits end) (more_at a.limits end) (r.taken.lines ++ h.lines) are all shrinks (rw look at ahead) (lost_more a.limits end);
+        broken = λ is.
+            let P : Option (List ℕ) → Type 0 = λ o. LosesPartAfter (left remaining from) o (size_of (r.taken.lines ++ h.lines)) a.limits.space in
+            let L : Ended → Type 0 = λ end. LosesPartAfter (left remaining from) (left remaining to) (size_of (r.taken.lines ++ h.lines)) (lost a.limits end) in
+            let all_left : left remaining to ≡ remaining to.source = ap (λ bs. prepend_known bs (remaining to.source)) (drained is) ∙ prepend_known-nil _ in
+            (r.taken.lines ++ h.lines, are, subst P all_left (subst L is all));
         holds = HoldsAt-add g s e'.state r.t u (named_sink end) (without_lines g (after g s r.t) u e' h.rest (named_sink end) h.stopped.holds);
       }
 
@@ -151,7 +158,7 @@ cycled {R} remaining from to l g s e old new r some one starts shrinks ahead loo
         one = one;
         within = r.within;
         sinks = r.gained;
-        takes = takes_of remaining from to l g s r.t 0 l.look r.taken.lines are (rw add-zero r.taken.bytes) shrinks (rw look at ahead) (omega arith);
+        takes = takes_of remaining from to l g s r.t 0 l.look r.taken.lines are (LosesPartAfter-bytes _ _ _ r.taken.bytes) shrinks (rw look at ahead) (omega arith);
       },
     )
 

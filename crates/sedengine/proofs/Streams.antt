@@ -1,17 +1,20 @@
 -- What a call for a line does to the lines left.
-use Rattle.std.proofs.Common.{◌≡◌, ℕ, ◌+◌, ◌<◌, ◌≤◌, inl, inr, Bool, true, false, max, List, [], ◌∷◌, ◌++◌, length, Option, Some, None, Result, Ok, Err, refl, sym, subst, ap, ◌∙◌, arith, rules, length-append, append_assoc, append-nil, not}
+use Rattle.std.proofs.Common.{◌≡◌, ℕ, ◌+◌, ◌-◌, ◌<◌, ◌≤◌, inl, inr, Bool, true, false, max, List, [], ◌∷◌, ◌++◌, length, Option, Some, None, Result, Ok, Err, refl, sym, subst, ap, ◌∙◌, arith, rules, length-append, drop, append_assoc, append-nil, not}
 use Rattle.std.specs.Prelude.{OnOk}
 use Rattle.sedengine.specs.Move.{none_left}
 use Rattle.std.specs.Borrow.{GName}
 use Rattle.std.specs.List.{slice_split, onto_first}
 use Rattle.std.specs.Option.{option_map}
 use Rattle.std.specs.Io.KnownBytes.{prepend_known, Keeps}
+use Rattle.std.proofs.Math.Seq.{drop-append-add}
+use Rattle.std.proofs.lemmas.List.{drop-drop, drop_all}
+use Rattle.std.proofs.lemmas.List.Elements.{All-drop}
 use Rattle.std.proofs.lemmas.List.Splits.{slice_split-cons_yes, slice_split-cons_no, length-slice_split}
-use Rattle.sedspace.specs.Lines.{lines, is_newline, without_empty_last}
-use Rattle.sedspace.specs.Stream.{Stream, left, lines_left, GivesLine, NoneLeft, KeepsLines, TakesLine, TakesAtMost, TellsLast}
+use Rattle.sedspace.specs.Lines.{lines, is_newline, without_empty_last, HasNoNewline}
+use Rattle.sedspace.specs.Stream.{Stream, left, lines_left, GivesLine, NoneLeft, KeepsLines, LosesPart, TakesLine, TakesAtMost, TellsLast}
 use Rattle.sedengine.specs.Calls.{Reads}
 use Rattle.sedengine.specs.Devices.{FailedSource}
-use Rattle.sedengine.specs.Run.{size_of}
+use Rattle.sedengine.specs.Run.{LosesPartAfter, size_of}
 use Rattle.sedengine.specs.Steps.{TakesLines}
 use Rattle.sedengine.specs.declared.ends.Ended.{Ended}
 use Rattle.sedengine.specs.declared.ends.Ended.TheVariants.{InputBroken}
@@ -147,6 +150,7 @@ Reads-then {R} {T} remaining failures reference a b c r s t =
       shrinks = shrinks-then _ _ _ s.shrinks t.shrinks;
       sound = sound-then _ _ _ r s.sound t.sound;
       failed = λ none. FailedSource-then _ _ _ r (s.failed none) (t.failed (s.sound none));
+      broken = λ is none. t.broken is (s.sound none);
     }
 
 pub Reads-none : {R : Type 0} (remaining : R → Option (List ℕ)) (failures : R → ℕ) (reference : R → List GName) (a : Stream R) → Reads {T = Unit} remaining failures reference a a (Ok tt)
@@ -157,6 +161,7 @@ Reads-none {R} remaining failures reference a = record {
   shrinks = (0, TakesAtMost-none _);
   sound = λ none. none;
   failed = λ none. refl;
+  broken = λ is none. cc;
 }
 
 unread : {T : Type 0} (n : ℕ) (r : Result T Ended) → (r ≡ Err InputBroken → ⊥) → FailedSource n n r
@@ -173,6 +178,7 @@ Reads-unread {R} {T} remaining failures reference a r h = record {
   shrinks = (0, TakesAtMost-none _);
   sound = any_way r;
   failed = λ none. unread (failures a.source) r h;
+  broken = λ is none. absurd (h is);
 }
   where
     any_way : (r : Result T Ended) → OnOk r (a.fault ≡ None → a.fault ≡ None)
@@ -214,4 +220,52 @@ some_told (Some ms) ls last known told is =
 
 -- a call that may read, whatever it told
 pub Reads-told : {R T : Type 0} (remaining : R → Option (List ℕ)) (failures : R → ℕ) (reference : R → List GName) (a b : Stream R) (x : T) → Reads remaining failures reference a b (Ok x) → Reads {T = Unit} remaining failures reference a b (Ok tt)
-Reads-told {R} {T} remaining failures reference a b x h = record { same_look = h.same_look; same_reference = h.same_reference; ahead = h.ahead; shrinks = h.shrinks; sound = h.sound; failed = h.failed }
+Reads-told {R} {T} remaining failures reference a b x h = record { same_look = h.same_look; same_reference = h.same_reference; ahead = h.ahead; shrinks = h.shrinks; sound = h.sound; failed = h.failed; broken = λ is none. cc }
+
+-- where no byte is gone, no more than a part of a line is
+pub LosesPart-none : (old new : Option (List ℕ)) (n : ℕ) → TakesAtMost old new 0 → LosesPart old new n
+LosesPart-none None new n h = tt
+LosesPart-none (Some xs) None n h = absurd h
+LosesPart-none (Some xs) (Some ys) n ([], is, most) = ([], (λ j d lt. absurd (omega (arith, lt))), is, omega arith)
+LosesPart-none (Some xs) (Some ys) n (b ∷ bs, is, most) = absurd (omega arith)
+
+-- what holds no newline past a place holds none past a later one, with bytes before it
+clear_past : (front gone : List ℕ) (n p : ℕ) → length front + n ≤ p → HasNoNewline (drop n gone) → HasNoNewline (drop p (front ++ gone))
+clear_past front gone n p le clear =
+    let k : ℕ = p - (length front + n) in
+    let at : p ≡ length front + (n + k) = omega (arith, le) in
+    subst (λ q. HasNoNewline (drop q (front ++ gone))) (sym at) (
+    subst HasNoNewline (sym (drop-append-add front gone (n + k))) (
+    subst HasNoNewline (drop-drop k n gone) (All-drop (λ b. is_newline b ≡ false) k (drop n gone) clear)
+    )
+    )
+
+-- bytes, and then more bytes and a part of a line
+pub LosesPartAfter-then : (a b c : Option (List ℕ)) (n m p k : ℕ) → n + m ≤ p → TakesAtMost a b n → LosesPartAfter b c m k → LosesPartAfter a c p k
+LosesPartAfter-then None b c n m p k le h part = tt
+LosesPartAfter-then (Some xs) None c n m p k le h part = absurd h
+LosesPartAfter-then (Some xs) (Some ys) None n m p k le h part = absurd part
+LosesPartAfter-then (Some xs) (Some ys) (Some zs) n m p k le (front, is, few) (gone, all, clear, most) = (
+  front ++ gone,
+  is ∙ ap (λ bs. front ++ bs) all ∙ sym (append_assoc front gone zs),
+  clear_past front gone m p (omega (arith, few, le)) clear,
+  omega (arith, length-append front gone, few, most, le),
+)
+
+-- a part of a line alone
+pub LosesPartAfter-none : (a b : Option (List ℕ)) (k : ℕ) → LosesPart a b k → LosesPartAfter a b 0 k
+LosesPartAfter-none None b k part = tt
+LosesPartAfter-none (Some xs) None k part = absurd part
+LosesPartAfter-none (Some xs) (Some ys) k (part, clear, is, most) = (part, is, clear, omega arith)
+
+-- bytes alone
+pub LosesPartAfter-bytes : (a b : Option (List ℕ)) (n : ℕ) → TakesAtMost a b n → LosesPartAfter a b n 0
+LosesPartAfter-bytes None b n h = tt
+LosesPartAfter-bytes (Some xs) None n h = absurd h
+LosesPartAfter-bytes (Some xs) (Some ys) n (gone, is, most) =
+    (gone, is, subst HasNoNewline (sym (drop_all n gone most)) (λ j d lt. absurd (omega (arith, lt))), omega (arith, most))
+
+pub LosesPartAfter-takes : (a b : Option (List ℕ)) (n m : ℕ) → LosesPartAfter a b n m → TakesAtMost a b (n + m)
+LosesPartAfter-takes None b n m h = tt
+LosesPartAfter-takes (Some xs) None n m h = absurd h
+LosesPartAfter-takes (Some xs) (Some ys) n m (gone, is, clear, most) = (gone, is, most)

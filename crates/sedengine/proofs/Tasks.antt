@@ -5,7 +5,7 @@ use Rattle.std.specs.Io.KnownBytes.{Keeps}
 use Rattle.std.proofs.lemmas.List.{length-map}
 use Rattle.sedscript.specs.Script.{Program}
 use Rattle.sedspace.specs.Spaces.{Contents}
-use Rattle.sedspace.specs.Stream.{Stream, left, lines_left, TakesLine, GivesLine, NoneLeft, FirstIsLonger, KeepsLines, TakesAtMost}
+use Rattle.sedspace.specs.Stream.{Stream, left, lines_left, TakesLine, GivesLine, NoneLeft, FirstIsLonger, KeepsLines, LosesPart, TakesAtMost}
 use Rattle.sedengine.specs.Limits.{Limits}
 use Rattle.sedengine.specs.State.{Task, begin, do_at, State, Setting}
 use Rattle.sedengine.specs.Move.{move, start, quietly, then_do, none_left}
@@ -20,7 +20,7 @@ use Rattle.sedengine.specs.declared.place.Place.{Place}
 use Rattle.sedengine.specs.declared.place.Place.TheVariants as p
 use Rattle.sedengine.specs.declared.ends.Ended.{Ended}
 use Rattle.sedengine.specs.declared.ends.Ended.TheVariants.{Done, PatternFull, TurnsSpent, InputBroken}
-use Rattle.sedengine.proofs.Streams.{line_taken, lines_end, lines_stay, lines_same, TakesAtMost-more, TakesAtMost-none, TakesAtMost-kept}
+use Rattle.sedengine.proofs.Streams.{line_taken, lines_end, lines_stay, lines_same, LosesPart-none, LosesPartAfter-none, TakesAtMost-more, TakesAtMost-none, TakesAtMost-kept}
 use Rattle.sedengine.proofs.Moves.{move_at, ran_quietly, stopped_here}
 
 pub fits_at : (a : Inside) (ls : List (List ℕ)) → length a.pattern.bytes ≤ a.limits.space → length a.hold.bytes ≤ a.limits.space → length a.queue.items ≤ a.limits.queue → a.turns ≤ a.limits.turns → WithinLimits a.limits (at_lines (run_of a) ls)
@@ -40,13 +40,13 @@ seen_steps {R} remaining old new a e e' ts files ls P r seen t h =
 
 -- The end comes at once, and no line was taken.
 pub halts_here : {R : Type 0} (remaining : R → Option (List ℕ)) (old new : Stream R) (l : Limits) (g : Setting) (s : State) (e : RunState) (sinks : SinkView) (end : Ended) → WithinLimits l s → named_sink end ≡ None → IsCause l g s end → SameLengths s e.state →
-    TakesAtMost (left remaining old) (left remaining new) (lost l end) → Halted remaining old new l g s e (Sent sinks sinks) end
-halts_here {R} remaining old new l g s e sinks end f none cause same gone = record {
+    LosesPart (left remaining old) (left remaining new) (lost l end) → Halted remaining old new l g s e (Sent sinks sinks) end
+halts_here {R} remaining old new l g s e sinks end f none cause same part = record {
   rest = s.lines;
   stopped = stopped_here l g s (at_lines e s.lines) sinks end f none cause (record { pattern = same.pattern; hold = same.hold; queue = same.queue; entries = same.entries }) refl;
   lines = [];
   are = refl;
-  bytes = rw zero-add gone;
+  bytes = LosesPartAfter-none _ _ _ part;
 }
 
 -- Before a cycle the pattern space is empty.
@@ -117,7 +117,7 @@ module _ {R : Type 0} (remaining : R → Option (List ℕ)) (old new : Stream R)
   longer (line ∷ rest) h = (line, rest, refl, h)
 
   pub begins_stops : (pattern : Contents) → pattern ≡ a.pattern → (a.turns ≡ a.limits.turns → ⊥) → FirstIsLonger (lines_left remaining old) (a.pattern.limit - length a.pattern.bytes) →
-      TakesAtMost (left remaining old) (left remaining new) a.pattern.limit →
+      LosesPart (left remaining old) (left remaining new) a.pattern.limit →
       Steps remaining old new ls e.limits (setting e files) e (run_of (record a { pattern = pattern })) (Sent sinks sinks) (Err (PatternFull (a.number + 1)))
   begins_stops pattern same turns long gone =
       let r = longer ls (subst (λ (o : Option (List (List ℕ))). FirstIsLonger o (a.pattern.limit - length a.pattern.bytes)) known long) in
@@ -137,10 +137,10 @@ module _ {R : Type 0} (remaining : R → Option (List ℕ)) (old new : Stream R)
   begins_spent some spent kept =
       let Q : RunState → Type 0 = λ e. e.state.tasks ≡ begin ∷ [] → Steps remaining old new ls e.limits (setting e files) e e (Sent sinks sinks) (Err TurnsSpent) in
       subst Q seen (λ t. halts_here remaining old new a.limits (setting (run_of a) files) (at_lines (run_of a) ls) (run_of a) sinks TurnsSpent (fits_of a ls i) refl
-      (spent, ap (takes_turn (setting (run_of a) files) (at_lines (run_of a) ls)) t ∙ some) (record { pattern = refl; hold = refl; queue = λ _. refl; entries = omega arith }) (TakesAtMost-kept _ _ kept)) at
+      (spent, ap (takes_turn (setting (run_of a) files) (at_lines (run_of a) ls)) t ∙ some) (record { pattern = refl; hold = refl; queue = λ _. refl; entries = omega arith }) (LosesPart-none _ _ _ (TakesAtMost-kept _ _ kept))) at
 
   -- The source failed.
-  pub begins_broken : (pattern : Contents) → pattern ≡ a.pattern → TakesAtMost (left remaining old) (left remaining new) a.limits.space →
+  pub begins_broken : (pattern : Contents) → pattern ≡ a.pattern → LosesPart (left remaining old) (left remaining new) a.limits.space →
       Steps remaining old new ls e.limits (setting e files) e (run_of (record a { pattern = pattern })) (Sent sinks sinks) (Err InputBroken)
   begins_broken pattern same gone =
       seen_steps remaining old new a e (run_of (record a { pattern = pattern })) (begin ∷ []) files ls (Sent sinks sinks) (Err InputBroken) seen at
@@ -151,7 +151,7 @@ module _ {R : Type 0} (remaining : R → Option (List ℕ)) (old new : Stream R)
   begins_failed kept =
       let Q : RunState → Type 0 = λ e. e.state.tasks ≡ begin ∷ [] → Steps remaining old new ls e.limits (setting e files) e e (Sent sinks sinks) (Err InputBroken) in
       subst Q seen (λ t. halts_here remaining old new a.limits (setting (run_of a) files) (at_lines (run_of a) ls) (run_of a) sinks InputBroken (fits_of a ls i) refl
-      (ap (reads (setting (run_of a) files)) t) (record { pattern = refl; hold = refl; queue = λ _. refl; entries = omega arith }) (TakesAtMost-more _ _ 0 _ (omega arith) (TakesAtMost-kept _ _ kept))) at
+      (ap (reads (setting (run_of a) files)) t) (record { pattern = refl; hold = refl; queue = λ _. refl; entries = omega arith }) (LosesPart-none _ _ _ (TakesAtMost-kept _ _ kept))) at
 
 -- An engine with the fields a that stands before command k, or before the end of the script.
 module _ (a : Inside) (e : RunState) (seen : run_of a ≡ e) (i : IsConsistent a) (files : ℕ → List ℕ) (ls : List (List ℕ)) (k : ℕ) (at : e.state.tasks ≡ do_at k ∷ []) where
@@ -173,7 +173,7 @@ pub ends_here : {R : Type 0} (remaining : R → Option (List ℕ)) (old : Stream
     Steps remaining old old ls e.limits (setting e files) e e (Sent sinks sinks) (Err Done)
 ends_here {R} remaining old a e seen i ls files sinks over =
     let Q : RunState → Type 0 = λ e. Steps remaining old old ls e.limits (setting e files) e e (Sent sinks sinks) (Err Done) in
-    subst Q seen (halts_here remaining old old a.limits (setting (run_of a) files) (at_lines (run_of a) ls) (run_of a) sinks Done (fits_of a ls i) refl (ap tasks_of over) (record { pattern = refl; hold = refl; queue = λ _. refl; entries = omega arith }) (TakesAtMost-none _))
+    subst Q seen (halts_here remaining old old a.limits (setting (run_of a) files) (at_lines (run_of a) ls) (run_of a) sinks Done (fits_of a ls i) refl (ap tasks_of over) (record { pattern = refl; hold = refl; queue = λ _. refl; entries = omega arith }) (LosesPart-none _ _ _ (TakesAtMost-none _)))
 
 -- What takes no lines keeps those that are left.
 pub steps_by_moves : {R : Type 0} (remaining : R → Option (List ℕ)) (old : Stream R) (ls : List (List ℕ)) (l : Limits) (g : Setting) (e e' : RunState) (P : List (ℕ × ℕ) → Type 0) (r : Result Unit Ended) → lines_left remaining old ≡ Some ls →
@@ -184,7 +184,7 @@ steps_by_moves {R} remaining old ls l g e e' P (Err end) known stopped = record 
   stopped = stopped;
   lines = [];
   are = refl;
-  bytes = TakesAtMost-more _ _ 0 _ (omega arith) (TakesAtMost-none _);
+  bytes = LosesPartAfter-none _ _ _ (LosesPart-none _ _ _ (TakesAtMost-none _));
 }
 
 -- an engine at the start, with this pattern space, hold space, queue and ranges

@@ -2,7 +2,7 @@
 -- What calls that bring the next line into a space promise.
 use Rattle.std.specs.Prelude.{◌≡◌, ℕ, false, ◌<◌, ◌≤◌, ◌+◌, Option, Result, Ok, Err, List, [], ◌∷◌, ◌++◌, length}
 use Rattle.sedspace.specs.Spaces.{Contents}
-use Rattle.sedspace.specs.Stream.{Stream, left, TakesAtMost}
+use Rattle.sedspace.specs.Stream.{Stream, left, LosesPart}
 use Rattle.sedspace.specs.declared.lines.Got.{Got}
 use Rattle.sedspace.specs.declared.lines.Got.TheVariants.{Line, End}
 use Rattle.sedengine.specs.Run.{RunState}
@@ -11,7 +11,7 @@ use Rattle.sedengine.specs.declared.ends.Ended.{Ended}
 use Rattle.sedengine.specs.declared.ends.Ended.TheVariants.{PatternFull, InputBroken}
 
 -- What a call answers that brings a space to hold the bytes `before` and the next line, whose number is given, where the
--- lines ls are left. Where there is none, or an end comes, the space stays.
+-- lines ls are left. Where there is none, or an end comes, the space stays; at an end a part of one line is gone.
 abbrev pub Brings : {R : Type 0} → (R → Option (List ℕ)) → Stream R → Stream R → List (List ℕ) → List ℕ → ℕ →
     Contents → Contents → Result Got Ended → Type 0
 Brings remaining old new ls before number s s' (Ok Line) =
@@ -20,9 +20,9 @@ Brings remaining old new ls before number s s' (Ok Line) =
 Brings remaining old new ls before number s s' (Ok End) = (ls ≡ []) × TakesLines remaining old new ls [] × (s' ≡ s)
 Brings remaining old new ls before number s s' (Err (PatternFull n)) =
     (n ≡ number) × ((line : List ℕ) × (rest : List (List ℕ)) × (ls ≡ line ∷ rest) × (s.limit < length (before ++ line)))
-    × (s' ≡ s) × TakesAtMost (left remaining old) (left remaining new) s.limit
+    × (s' ≡ s) × LosesPart (left remaining old) (left remaining new) s.limit
 Brings remaining old new ls before number s s' (Err InputBroken) =
-    (s' ≡ s) × TakesAtMost (left remaining old) (left remaining new) s.limit
+    (s' ≡ s) × LosesPart (left remaining old) (left remaining new) s.limit
 Brings remaining old new ls before number s s' (Err other) = ⊥
 
 -- the engine that goes on with the line that was brought, or whose run is over where there was none; its pattern space

@@ -1,13 +1,13 @@
 -- Private to the proofs: no contract of a public item cites what stands here.
 -- What the engine's calls do to the devices that they are given.
-use Rattle.std.specs.Prelude.{◌≡◌, ℕ, ◌≤◌, max, Option, Some, None, Result, Ok, Err, OnOk, List, length, take, slice_get}
+use Rattle.std.specs.Prelude.{◌≡◌, ℕ, ◌≤◌, max, Option, Some, None, Result, Ok, Err, OnOk, List, [], length, take, slice_get}
 use Rattle.std.specs.Borrow.{GName}
 use Rattle.sedspace.specs.Stream.{Stream, TakesAtMost}
 use Rattle.sedengine.specs.Devices.{FailedSink, FailedSource}
 use Rattle.sedengine.specs.Ends.{named_sink}
 use Rattle.sedengine.specs.Meters.{SinkView, FullSink}
 use Rattle.sedengine.specs.declared.ends.Ended.{Ended}
-use Rattle.sedengine.specs.declared.ends.Ended.TheVariants.{OutputBroken, OutputFull}
+use Rattle.sedengine.specs.declared.ends.Ended.TheVariants.{InputBroken, OutputBroken, OutputFull}
 
 -- All of these bytes were written, or a sink failed or was full where one of them was due.
 abbrev pub Puts : (List (ℕ × ℕ) → Type 0) → List (ℕ × ℕ) → Result Unit Ended → Type 0
@@ -32,6 +32,7 @@ pub record Reads {R T : Type 0} (remaining : R → Option (List ℕ)) (failures 
   pub shrinks : (n : ℕ) × TakesAtMost (remaining old.source) (remaining new.source) n
   pub sound : OnOk result (old.fault ≡ None → new.fault ≡ None)
   pub failed : old.fault ≡ None → FailedSource (failures old.source) (failures new.source) result
+  pub broken : result ≡ Err InputBroken → old.fault ≡ None → new.ahead ≡ []
 
 -- an answer that names no sink
 abbrev pub NoSinkFailed : {T : Type 0} → Result T Ended → Type 0

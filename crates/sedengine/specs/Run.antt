@@ -1,8 +1,9 @@
 -- The engine as its callers see it, and how a run of it ends (this project's own).
-use Rattle.std.specs.Prelude.{◌≡◌, ℕ, ◌+◌, ◌<◌, Bool, true, false, Option, Some, None, Result, Ok, Err, List, [], ◌∷◌, ◌++◌, length, is_some, slice_get, get_or, IfSome}
+use Rattle.std.specs.Prelude.{◌≡◌, ℕ, ◌+◌, ◌<◌, ◌≤◌, Bool, true, false, Option, Some, None, Result, Ok, Err, List, [], ◌∷◌, ◌++◌, length, drop, is_some, slice_get, get_or, IfSome, ⊤}
 use Rattle.sedre.specs.Arena.{Written, tree}
 use Rattle.sedmatch.specs.Matching.{found, report}
 use Rattle.sedscript.specs.Script.{Program}
+use Rattle.sedspace.specs.Lines.{HasNoNewline}
 use Rattle.sedspace.specs.Stream.{Stream, TakesAtMost, left}
 use Rattle.sedengine.specs.Limits.{Limits}
 use Rattle.sedengine.specs.State.{Task, begin, rebegin, State, Setting}
@@ -105,6 +106,19 @@ more_at l (PatternFull n) = l.space + 1 + l.look
 more_at l InputBroken = l.space + 1 + l.look
 more_at l other = l.look
 
+-- known bytes lose at most n + m from the front, and of these what comes after the first n holds no newline
+abbrev pub LosesPartAfter : Option (List ℕ) → Option (List ℕ) → ℕ → ℕ → Type 0
+LosesPartAfter None new n m = ⊤
+LosesPartAfter (Some xs) None n m = ⊥
+LosesPartAfter (Some xs) (Some ys) n m =
+    (gone : List ℕ) × (xs ≡ gone ++ ys) × HasNoNewline (drop n gone) × (length gone ≤ n + m)
+
+-- Where the source failed, what it gave after the last line that the first t moves took holds no newline: it is a part of
+-- one line, of at most `space` bytes.
+abbrev pub BreaksInLine : Setting → State → Option (List ℕ) → Option (List ℕ) → ℕ → ℕ → Type 0
+BreaksInLine g s old new space t =
+    (lines : List (List ℕ)) × (s.lines ≡ lines ++ (after g s t).lines) × LosesPartAfter old new (size_of lines) space
+
 -- what is still to come: from the source, and in all, with the bytes that are ahead
 pub record Input : Type 0 where
   pub source : Option (List ℕ)
@@ -114,19 +128,21 @@ pub record Input : Type 0 where
 abbrev pub input_of : {R : Type 0} → (R → Option (List ℕ)) → Stream R → Input
 input_of remaining lines = record { source = remaining lines.source; all = left remaining lines }
 
--- The first t moves took lines: of all that was still to come, the bytes of these and at most `lost` more are gone. So a
--- series of calls takes from the source at most its lines, what is lost, and what is ahead at its end.
+-- The first t moves took lines: of all that was still to come, the bytes of these and a part of the next line are gone, of
+-- at most `lost` bytes. So a series of calls takes from the source at most its lines, what is lost, and what is ahead at its end.
 pub record TakesLeft (g : Setting) (s : State) (old new : Input) (lost more : ℕ) (t : ℕ) : Type 0 where
   pub input : TakesInput g s old.source new.source more t
-  pub all : TakesAtMost old.all new.all (size_of input.lines + lost)
+  pub all : LosesPartAfter old.all new.all (size_of input.lines) lost
 
 -- A run from the state s came to this end: after some moves, which took lines and led to the state `now`. `gained` says
--- what the sinks gained, and `old` and `new` what was still to come.
+-- what the sinks gained, and `old` and `new` what was still to come. No whole line is lost where the source failed, not
+-- even one that was ahead.
 pub record Ending (l : Limits) (g : Setting) (s : State) (gained : List (ℕ × ℕ) → Type 0)
     (old new : Input) (now : State) (end : Ended) : Type 0 where
   pub t : ℕ
   pub cause : Cause l g s gained end t
   pub takes : TakesLeft g s old new (lost l end) (more_at l end) t
+  pub broken : end ≡ InputBroken → BreaksInLine g s old.all new.source l.space t
   pub holds : HoldsAt g s t now (named_sink end)
 
 -- whether a cycle starts with the first task

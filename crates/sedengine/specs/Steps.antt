@@ -11,7 +11,7 @@ use Rattle.sedengine.specs.Meters.{Sent, SinkView}
 use Rattle.sedengine.specs.Move.{acts, move, after, written}
 use Rattle.sedengine.specs.Ends.{WithinLimits, HasTurn, Within, Cause, named_sink, reaches, reads}
 use Rattle.sedengine.specs.Held.{HoldsAt, SameLengths}
-use Rattle.sedengine.specs.Run.{RunState, InOneCycle, at_lines, lost, setting, size_of}
+use Rattle.sedengine.specs.Run.{RunState, InOneCycle, LosesPartAfter, at_lines, lost, setting, size_of}
 use Rattle.sedengine.specs.declared.ends.Ended.{Ended}
 
 -- Moves were made, which led to this state. Only the last of them may have led to the start of a cycle.
@@ -97,14 +97,14 @@ pub record TakesLines {R : Type 0} (remaining : R → Option (List ℕ)) (old ne
   pub are : ls ≡ lines ++ rest
   pub bytes : TakesAtMost (left remaining old) (left remaining new) (size_of lines)
 
--- Moves were made that took these lines, and then the end came.
+-- Moves were made that took these lines, and then the end came. What is gone after the lines is a part of one.
 pub record Halted {R : Type 0} (remaining : R → Option (List ℕ)) (old new : Stream R) (l : Limits) (g : Setting)
     (s : State) (e : RunState) (gained : List (ℕ × ℕ) → Type 0) (end : Ended) : Type 0 where
   pub rest : List (List ℕ)
   pub stopped : Stopped l g s (at_lines e rest) gained end
   pub lines : List (List ℕ)
   pub are : s.lines ≡ lines ++ rest
-  pub bytes : TakesAtMost (left remaining old) (left remaining new) (size_of lines + lost l end)
+  pub bytes : LosesPartAfter (left remaining old) (left remaining new) (size_of lines) (lost l end)
 
 -- What a call that makes moves from the state s and may take lines answers, where ls are left before.
 abbrev pub StepsFrom : {R : Type 0} → (R → Option (List ℕ)) → Stream R → Stream R → List (List ℕ) → Limits → Setting →

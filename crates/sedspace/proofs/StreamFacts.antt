@@ -166,10 +166,10 @@ module _ {R : Type 0} (remaining : R → Option (List ℕ)) (failures : R → �
   restored TooLong h n e = cut_back before after h.1 h.3.space n e
   restored Broken h n e = cut_back before after h.1 h.3.space n e
 
-  -- what is lost at a fault fits into a space
-  pub lost_gathered : (f : LineFault) → Gathers remaining failures old new before after (Err f) → TakesAtMost (left remaining old) (left remaining new) before.limit
-  lost_gathered TooLong h = takes_at_most _ _ h.1 _ h.3.left_is (omega (arith, size_of before after h.1 h.3.space, limit_of before after h.1 h.3.space, h.4))
-  lost_gathered Broken h = takes_at_most _ _ h.1 _ h.3.left_is (omega (arith, size_of before after h.1 h.3.space, limit_of before after h.1 h.3.space, h.4))
+  -- what is lost at a fault is a part of a line, and fits into a space
+  pub lost_gathered : (f : LineFault) → Gathers remaining failures old new before after (Err f) → LosesPart (left remaining old) (left remaining new) before.limit
+  lost_gathered TooLong h = loses_part _ _ h.1 _ h.3.left_is h.3.part_is (omega (arith, size_of before after h.1 h.3.space, limit_of before after h.1 h.3.space, h.4))
+  lost_gathered Broken h = loses_part _ _ h.1 _ h.3.left_is h.3.part_is (omega (arith, size_of before after h.1 h.3.space, limit_of before after h.1 h.3.space, h.4))
 
   -- how much is taken from the source
   pub taken_gathered : (r : Result Got LineFault) → Gathers remaining failures old new before after r → length new.ahead ≤ new.look → TakesAtMost (remaining old.source) (remaining new.source) (old.look + (if is_ok r then length after.bytes - length before.bytes + 1 else before.limit))

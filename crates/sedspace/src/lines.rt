@@ -187,9 +187,9 @@ impl<R: ByteSource> Lines<R> {
             × LosesPart (left R.remaining self.old) (left R.remaining self.new)
             (space.old.limit - length space.old.bytes) }
 
-        // A fault loses at most the space's limit of the bytes still to come, is kept, and is answered again.
+        // A fault loses a part of one line, of at most the space's limit, is kept, and is answered again.
         ensures err { OnErr result ((space.new ≡ space.old)
-            × TakesAtMost (left R.remaining self.old) (left R.remaining self.new) space.old.limit) }
+            × LosesPart (left R.remaining self.old) (left R.remaining self.new) space.old.limit) }
         ensures fault { KeepsFault result self.old self.new }
 
         // How much is read, and when. A read that gives no byte is the last of the call.

@@ -1,4 +1,4 @@
-use Rattle.std.proofs.Common.{refl, subst}
+use Rattle.std.proofs.Common.{Err, ap, refl, subst}
 use Rattle.sedengine.specs.Ends.{WithinLimits}
 use Rattle.sedengine.specs.Run.{RunState, at_lines}
 use Rattle.sedengine.proofs.Writing.{Delivers-none, Delivers-then}
@@ -27,9 +27,9 @@ pub returns-in-Err-clause-ends : goal.returns-in-Err-clause-ends
 returns-in-Err-clause-ends g c = λ sound ls known files told.
     let h = c.moves.invariant in
     let r = h.reached sound ls known files told in
-    let input = Reads-then _ _ _ _ _ _ _ h.input c.step.ensures.input in
+    let input = Reads-then _ _ _ _ _ _ _ h.input c.in-Err.ensures.input in
     stop_on g.R.ByteSource.remaining c.args.lines.now c.moves.lines c.step.new.lines files c.args.self.now _ c.moves.self _ _ _ h.same r c.step.new.self c.in-Err.end
-    (c.in-Err.ensures.steps (h.input.sound sound) r.rest r.taken.known files (tells_on _ _ files told h.kept)) input.shrinks input.ahead c.requires.look
+    (c.in-Err.ensures.steps (h.input.sound sound) r.rest r.taken.known files (tells_on _ _ files told h.kept)) input.shrinks input.ahead c.requires.look (λ is. input.broken (ap Err is) sound)
 
 pub moves-preserved : goal.moves-preserved
 moves-preserved g c =

@@ -1,4 +1,4 @@
-use Rattle.std.proofs.Common.{◌∙◌, refl, sym, ap, subst, arith}
+use Rattle.std.proofs.Common.{◌∙◌, Err, refl, sym, ap, subst, arith}
 use Rattle.sedengine.specs.State.{State}
 use Rattle.sedengine.specs.Ends.{WithinLimits}
 use Rattle.sedengine.specs.Run.{RunState, at_lines, setting, starts_cycle}
@@ -33,7 +33,7 @@ returns-in-Err-clause-cycles g c = λ sound ls known files told.
     let input = Reads-then _ _ _ _ _ _ _ h.input c.in-Err.ensures.input in
     let stop = c.in-Err.ensures.steps (h.input.sound sound) r.rest r.taken.known files (tells_on _ _ files told h.kept) in
     record {
-      ending = stop_on g.R.ByteSource.remaining c.args.lines.now c.moves.lines c.step.new.lines files c.args.self.now _ c.moves.self _ _ _ h.same r c.step.new.self c.in-Err.end stop input.shrinks input.ahead c.requires.look;
+      ending = stop_on g.R.ByteSource.remaining c.args.lines.now c.moves.lines c.step.new.lines files c.args.self.now _ c.moves.self _ _ _ h.same r c.step.new.self c.in-Err.end stop input.shrinks input.ahead c.requires.look (λ is. input.broken (ap Err is) sound);
       one = one_stop g.R.ByteSource.remaining c.args.lines.now c.moves.lines c.step.new.lines files c.args.self.now _ c.moves.self _ _ _ h.same r c.step.new.self c.in-Err.end stop reached.1;
     }
 
