@@ -23,7 +23,7 @@ use Rattle.sedengine.specs.declared.machine.Machine.TheInside.{Inside}
 use Rattle.sedengine.specs.declared.select.Chosen.{Chosen}
 use Rattle.sedengine.specs.declared.ends.Ended.{Ended}
 use Rattle.sedengine.specs.declared.ends.Ended.TheVariants.{QueueFull, TurnsSpent, NoPrevious, InputBroken}
-use Rattle.sedengine.proofs.Streams.{LosesPart-none, LosesPartAfter-none, TakesAtMost-more, lines_same}
+use Rattle.sedengine.proofs.Streams.{LosesPart-none, LosesPartAfter-none, lines_same}
 use Rattle.sedengine.proofs.Moves.{move_at, ran_quietly, stopped_here, moves_writing}
 use Rattle.sedengine.proofs.NextLines.{looked_moves, looked_then, none_taken}
 use Rattle.sedengine.proofs.Tasks.{fits_of, halts_here, reach_spent, steps_by_moves}

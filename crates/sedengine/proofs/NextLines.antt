@@ -21,7 +21,7 @@ use Rattle.sedengine.specs.declared.ends.Ended.{Ended}
 use Rattle.sedengine.specs.declared.ends.Ended.TheVariants.{PatternFull, InputBroken}
 use Rattle.sedengine.specs.Inside.{run_of, IsConsistent}
 use Rattle.sedengine.specs.declared.machine.Machine.TheInside.{Inside}
-use Rattle.sedengine.proofs.Streams.{LosesPart-none, LosesPartAfter-none, LosesPartAfter-then, TakesAtMost-more, TakesAtMost-then, TakesLines-then, line_taken, lines_end}
+use Rattle.sedengine.proofs.Streams.{LosesPart-none, LosesPartAfter-none, LosesPartAfter-then, TakesLines-then, line_taken, lines_end}
 use Rattle.sedengine.specs.Queueing.{flushed}
 use Rattle.sedengine.proofs.Moves.{Moves-then, move_at, moves_fits, ran_fits, ran_quietly, stopped_here}
 use Rattle.sedengine.proofs.Tasks.{fits_of, fits_tasks, halts_here}

@@ -1,5 +1,5 @@
 -- A run: calls that make moves, one after another, up to the end.
-use Rattle.std.proofs.Common.{◌≡◌, ℕ, ◌<◌, ◌+◌, ◌≤◌, inl, inr, true, List, ◌++◌, length, [], Option, Some, None, Ok, Err, subst, sym, ap, ◌∙◌, arith, add-zero, append_assoc}
+use Rattle.std.proofs.Common.{◌≡◌, ℕ, ◌<◌, ◌+◌, ◌≤◌, inl, inr, true, List, ◌++◌, length, [], Option, Some, None, Ok, Err, subst, sym, ap, ◌∙◌, arith, append_assoc}
 use Rattle.std.specs.Prelude.{max}
 use Rattle.sedspace.specs.Stream.{Stream, left, lines_left, TakesAtMost}
 use Rattle.sedengine.specs.Limits.{Limits}
@@ -15,7 +15,7 @@ use Rattle.sedengine.specs.declared.ends.Ended.TheVariants.{PatternFull, InputBr
 use Rattle.sedengine.proofs.Sending.{Sent-append, Sent-none}
 use Rattle.std.specs.Io.KnownBytes.{prepend_known}
 use Rattle.std.proofs.KnownBytes.{prepend_known-nil}
-use Rattle.sedengine.proofs.Streams.{LosesPartAfter-bytes, LosesPartAfter-takes, LosesPartAfter-then, TakesLines-then, TakesAtMost-then, TakesAtMost-more, source_takes, lines_same, size_of-append}
+use Rattle.sedengine.proofs.Streams.{LosesPartAfter-bytes, LosesPartAfter-takes, LosesPartAfter-then, TakesLines-then, TakesAtMost-more, source_takes, lines_same, size_of-append}
 use Rattle.sedengine.proofs.Moves.{after-add, written-add, Within-add, Cause-add, HoldsAt-add, InOneCycle-add, within_none, after_none, written_none}
 
 same_without : (s : State) (e : RunState) (ls : List (List ℕ)) → SameLengths s (at_lines e ls) → SameLengths s e.state

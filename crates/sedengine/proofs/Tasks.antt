@@ -1,5 +1,5 @@
 -- What the engine does with its fields are moves.
-use Rattle.std.proofs.Common.{◌≡◌, ℕ, suc, zero, ◌<◌, ◌+◌, ◌-◌, ◌≤◌, Bool, true, false, List, [], ◌∷◌, ◌++◌, length, map, Option, Some, None, Result, Ok, Err, refl, subst, sym, ap, ◌∙◌, arith, zero-add, not}
+use Rattle.std.proofs.Common.{◌≡◌, ℕ, suc, zero, ◌<◌, ◌+◌, ◌-◌, ◌≤◌, Bool, true, false, List, [], ◌∷◌, ◌++◌, length, map, Option, Some, None, Result, Ok, Err, refl, subst, sym, ap, ◌∙◌, arith, not}
 use Rattle.std.specs.Prelude.{slice_get, is_some}
 use Rattle.std.specs.Io.KnownBytes.{Keeps}
 use Rattle.std.proofs.lemmas.List.{length-map}
@@ -20,7 +20,7 @@ use Rattle.sedengine.specs.declared.place.Place.{Place}
 use Rattle.sedengine.specs.declared.place.Place.TheVariants as p
 use Rattle.sedengine.specs.declared.ends.Ended.{Ended}
 use Rattle.sedengine.specs.declared.ends.Ended.TheVariants.{Done, PatternFull, TurnsSpent, InputBroken}
-use Rattle.sedengine.proofs.Streams.{line_taken, lines_end, lines_stay, lines_same, LosesPart-none, LosesPartAfter-none, TakesAtMost-more, TakesAtMost-none, TakesAtMost-kept}
+use Rattle.sedengine.proofs.Streams.{line_taken, lines_end, lines_stay, lines_same, LosesPart-none, LosesPartAfter-none, TakesAtMost-none, TakesAtMost-kept}
 use Rattle.sedengine.proofs.Moves.{move_at, ran_quietly, stopped_here}
 
 pub fits_at : (a : Inside) (ls : List (List ℕ)) → length a.pattern.bytes ≤ a.limits.space → length a.hold.bytes ≤ a.limits.space → length a.queue.items ≤ a.limits.queue → a.turns ≤ a.limits.turns → WithinLimits a.limits (at_lines (run_of a) ls)
