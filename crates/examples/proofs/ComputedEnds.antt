@@ -183,12 +183,12 @@ whole_first {l = l} {g = g} {s = s} {m = m} {end = end} {t = t} e fits h = recor
   cause = subst (λ (x : State). IsCause l g x end) (sym (after_first g s m t e)) h.cause;
 }
 
-pub stops_whole : {l : Limits} {g : Setting} {s : State} {end : Ended} {out : List (ℕ × ℕ)} {t : ℕ} → IsWhole l g s out end t →
+abbrev pub stops_whole : {l : Limits} {g : Setting} {s : State} {end : Ended} {out : List (ℕ × ℕ)} {t : ℕ} → IsWhole l g s out end t →
     named_sink end ≡ None → Stops l g s end out
 stops_whole {l = l} {g = g} {s = s} {end = end} {out = out} {t = t} h sink =
     record { moves = t; cause = whole_or_cut l g s end out t (named_sink end) sink h }
 
-pub stops_after : {l : Limits} {g : Setting} {s : State} {end : Ended} {out : List (ℕ × ℕ)} (n : ℕ) →
+abbrev pub stops_after : {l : Limits} {g : Setting} {s : State} {end : Ended} {out : List (ℕ × ℕ)} (n : ℕ) →
     (course g n s).writes ≡ out → is_cause l g (course g n s).last end ≡ true → all_fit l g n s ≡ true →
     named_sink end ≡ None → Stops l g s end out
 stops_after n w c f sink = stops_whole (whole_after n w c f) sink

@@ -1,6 +1,6 @@
 -- Examples of single cycles, computed by the definitions: the moves of one cycle, what it writes, and how many bytes it may
 -- take from the source.
-use Rattle.std.proofs.Common.{◌≡◌, ℕ, zero, suc, ◌+◌, ◌<◌, List, [], ◌∷◌, ◌++◌, length, Some, refl, ap, sym, ◌∙◌, length-append, arith}
+use Rattle.std.proofs.Common.{◌≡◌, ℕ, zero, suc, ◌+◌, ◌<◌, ◌≤◌, Bool, true, false, List, [], ◌∷◌, ◌++◌, length, drop, Some, refl, subst, ap, sym, ◌∙◌, length-append, arith}
 use Rattle.std.specs.Prelude.{codes}
 use Rattle.sedre.specs.declared.types.Kind.TheVariants.{Basic}
 use Rattle.sedscript.specs.Addresses.{address_at, second_at, addresses_at}
@@ -8,12 +8,14 @@ use Rattle.sedscript.specs.Bytes.{past}
 use Rattle.sedscript.specs.Functions.{name_from, text_from}
 use Rattle.sedscript.specs.Items.{function_at, item_at}
 use Rattle.sedscript.specs.Script.{Program}
-use Rattle.sedspace.specs.Lines.{lines}
+use Rattle.sedspace.specs.Lines.{lines, is_newline, HasNoNewline}
+use Rattle.sedengine.specs.Ends.{Cause, reads}
 use Rattle.sedengine.specs.Limits.{Limits, limits_of}
 use Rattle.sedengine.specs.Move.{move, after, start, to_sink, written}
-use Rattle.sedengine.specs.Run.{Cycled, TakesInput, setting_of, size_of}
+use Rattle.sedengine.specs.Run.{BreaksInLine, Cycled, Ending, LosesPartAfter, TakesInput, setting_of, size_of}
 use Rattle.sedengine.specs.Select.{selects}
 use Rattle.sedengine.specs.State.{Setting, State}
+use Rattle.sedengine.specs.declared.ends.Ended.TheVariants.{InputBroken}
 use Rattle.examples.proofs.ComputedEnds.{all_fit, within_so}
 use Rattle.examples.proofs.ComputedRun.{no_files}
 use Rattle.examples.proofs.ComputedScript.{verdict, cutting, walked, Script, is_script}
@@ -82,3 +84,50 @@ first_cycle = is_script {text = codes "p"} {kind = Basic} {Fits = IsFirst} (reco
   };
   no_more = not_so_many _ _ (codes "a") (codes "b") (codes "c") input (codes "c\n") 1 6 refl refl (omega arith);
 })
+
+-- A line and its newline are no part of a line.
+line_no_part : (part line rest new : List ℕ) → HasNoNewline part → part ++ new ≡ line ++ 10 ∷ rest → length new ≤ length rest → ⊥
+line_no_part [] line rest new h is less = absurd (omega (arith, ap length is, length-append line (10 ∷ rest)))
+line_no_part (b ∷ bs) [] rest new h is less =
+    let same : b ≡ 10 = cc in
+    let no : is_newline b ≡ false = h 0 0 (omega arith) in
+    absurd (let clash : true ≡ false = rw same at no in cc)
+line_no_part (b ∷ bs) (l ∷ ls) rest new h is less =
+    let tails : bs ++ new ≡ ls ++ 10 ∷ rest = cc in
+    line_no_part bs ls rest new (λ j d lt. h (suc j) d (omega (arith, lt))) tails less
+
+none_dropped : (xs ys line : List ℕ) (n m : ℕ) → n ≡ 0 → xs ≡ line ++ 10 ∷ ys → LosesPartAfter (Some xs) (Some ys) n m → ⊥
+none_dropped xs ys line n m zero_is is (gone, all, clear, most) =
+    line_no_part gone line ys ys (subst (λ k. HasNoNewline (drop k gone)) zero_is clear) (sym all ∙ is) (omega arith)
+
+no_size : (taken ls : List (List ℕ)) → ls ≡ taken ++ ls → size_of taken ≡ 0
+no_size [] ls e = refl
+no_size (x ∷ xs) ls e = absurd (omega (arith, ap length e, length-append (x ∷ xs) ls))
+
+nothing_front : (xs ys : List (ℕ × ℕ)) → xs ++ ys ≡ [] → xs ≡ []
+nothing_front [] ys e = refl
+nothing_front (x ∷ xs) ys e = cc
+
+first_two : (g : Setting) (s : State) (n : ℕ) → written g s (suc (suc n)) ≡ [] → written g s 2 ≡ []
+unfolding written
+first_two g s zero e = e
+first_two g s (suc n) e = first_two g s n (nothing_front _ _ e)
+
+-- Where the first move asks for no input and the second writes, a line that is gone was given before the source failed.
+dropped_at : (l : Limits) (g : Setting) (s : State) (xs ys line : List ℕ) (t : ℕ) → reads g (after g s 1).tasks ≡ false → (written g s 2 ≡ [] → ⊥) → xs ≡ line ++ 10 ∷ ys →
+    Cause l g s (λ out. out ≡ []) InputBroken t → BreaksInLine g s (Some xs) (Some ys) l.space t → ⊥
+unfolding after
+dropped_at l g s xs ys line zero quiet writes is cause (taken, are, part) = none_dropped xs ys line _ _ (no_size taken s.lines are) is part
+dropped_at l g s xs ys line (suc zero) quiet writes is cause part = absurd (let clash : true ≡ false = sym cause.cause ∙ quiet in cc)
+dropped_at l g s xs ys line (suc (suc n)) quiet writes is cause part = writes (first_two g s n cause.sinks)
+
+-- An engine that takes the first line and throws it away, since the read after it fails, is none that the contracts allow:
+-- the failure comes with the line gone and nothing written.
+abbrev KeepsItsLine : Program → Type 0
+KeepsItsLine p = (now : State) → Ending one_ahead (setting_of p no_files) (start p.commands (lines input)) (λ out. out ≡ [])
+    (record { source = Some input; all = Some input }) (record { source = Some (codes "b\nc\n"); all = Some (codes "b\nc\n") }) now InputBroken → ⊥
+
+line_kept : Script (codes "p") Basic KeepsItsLine
+unfolding verdict cutting walked item_at past function_at addresses_at address_at second_at text_from name_from lines after written move selects all_fit
+line_kept = is_script {text = codes "p"} {kind = Basic} {Fits = KeepsItsLine} (λ now e.
+    dropped_at one_ahead _ _ input (codes "b\nc\n") (codes "a") e.t refl (λ none. cc) refl e.cause (e.broken refl))

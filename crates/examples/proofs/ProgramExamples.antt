@@ -1,6 +1,6 @@
 -- Examples of what the program's command lines come to, computed by the definitions from the parts of a script on: the
 -- script's text, the files, and what is written or how the run ends (XCU sed, "Options", "Operands").
-use Rattle.std.proofs.Common.{◌≡◌, ◌≢◌, ℕ, List, [], ◌∷◌, Option, Some, None, refl, subst, arith}
+use Rattle.std.proofs.Common.{◌≡◌, ◌≢◌, ℕ, List, [], ◌∷◌, Option, Some, None, refl, subst, arith, rules}
 use Rattle.std.specs.Prelude.{codes}
 use Rattle.sedre.specs.declared.types.Kind.{Kind}
 use Rattle.sedre.specs.declared.types.Kind.TheVariants.{Basic}
@@ -11,10 +11,10 @@ use Rattle.sedscript.specs.Addresses.{match_at, address_at, second_at, addresses
 use Rattle.sedscript.specs.Bytes.{past}
 use Rattle.sedscript.specs.Functions.{name_from, text_from}
 use Rattle.sedscript.specs.Items.{function_at, item_at}
-use Rattle.sedspace.specs.Lines.{lines}
+use Rattle.sedspace.specs.Lines.{HasNoNewline, lines}
 use Rattle.sedengine.specs.Ends.{Cause}
-use Rattle.sedengine.specs.Move.{move, to_sink}
-use Rattle.sedengine.specs.Run.{setting_of}
+use Rattle.sedengine.specs.Move.{after, move, to_sink}
+use Rattle.sedengine.specs.Run.{BreaksInLine, setting_of}
 use Rattle.sedengine.specs.Select.{selects}
 use Rattle.sedengine.specs.declared.ends.Ended.{Ended}
 use Rattle.sedengine.specs.declared.ends.Ended.TheVariants.{Done, NoPrevious, InputBroken, OutputBroken}
@@ -166,22 +166,26 @@ file_of_the_script = record {
 
 -- Runs that stop early. The numbers of failures are those of the input and of the sinks, before and after.
 
--- The script of a text, over this input, stops early at this end, when its sinks have gained these bytes.
-abbrev Stopped : (whole bytes : List ℕ) → (Ended → Type 0) → List ℕ → Type 0
-Stopped whole bytes failed output =
-    Script whole Basic (λ p. StopsEarly own p (Some bytes) (λ k. None) (λ end gained. gained ≡ to_sink 0 output) failed)
+-- The script of a text, over this input, stops early at this end, when its sinks have gained these bytes and the input has
+-- these still to give.
+abbrev Stopped : (whole bytes rest : List ℕ) → (Ended → Type 0) → List ℕ → Type 0
+Stopped whole bytes rest failed output =
+    Script whole Basic (λ p. StopsEarly own p (Some bytes) (λ more. more ≡ Some rest) (λ k. None) (λ end gained. gained ≡ to_sink 0 output) failed)
 
 -- A script's run over this input comes to this end whichever files the script may read.
-record OverAnyFiles (p : Program) (bytes output : List ℕ) (end : Ended) : Type 0 where
+record OverAnyFiles (p : Program) (bytes rest output : List ℕ) (end : Ended) : Type 0 where
   each : (files : ℕ → List ℕ) → Stops own (setting_of p files) (start_over p bytes) end (to_sink 0 output)
+  breaks : (files : ℕ → List ℕ) → end ≡ InputBroken → BreaksInLine (setting_of p files) (start_over p bytes) (Some bytes) (Some rest) own.space (each files).moves
 
-over_any : {p : Program} {bytes output : List ℕ} {end : Ended} →
-    ((files : ℕ → List ℕ) → Stops own (setting_of p files) (start_over p bytes) end (to_sink 0 output)) → OverAnyFiles p bytes output end
-over_any each = record { each = each }
+over_any : {p : Program} {bytes rest output : List ℕ} {end : Ended} →
+    (each : (files : ℕ → List ℕ) → Stops own (setting_of p files) (start_over p bytes) end (to_sink 0 output)) →
+    ((files : ℕ → List ℕ) → end ≡ InputBroken → BreaksInLine (setting_of p files) (start_over p bytes) (Some bytes) (Some rest) own.space (each files).moves) →
+    OverAnyFiles p bytes rest output end
+over_any each breaks = record { each = each; breaks = breaks }
 
-stopped : (whole bytes output : List ℕ) (failed : Ended → Type 0) (end : Ended) → Script whole Basic (λ p. OverAnyFiles p bytes output end) →
-    end ≢ Done → failed end → Stopped whole bytes failed output
-stopped whole bytes output failed end s other has =
+stopped : (whole bytes rest output : List ℕ) (failed : Ended → Type 0) (end : Ended) → Script whole Basic (λ p. OverAnyFiles p bytes rest output end) →
+    end ≢ Done → failed end → Stopped whole bytes rest failed output
+stopped whole bytes rest output failed end s other has =
     let p = s.program in
     record {
       program = p;
@@ -192,34 +196,40 @@ stopped whole bytes output failed end s other has =
         has,
         λ given known files tells.
             let same : bytes ≡ given = cc in
-            let run = s.is.each files in
-            (run.moves, subst (λ (x : List ℕ). Cause own (setting_of p files) (start_over p x) (λ gained. gained ≡ to_sink 0 output) end run.moves) same run.cause),
+            let run = s.is.each files in (
+              run.moves,
+              subst (λ (x : List ℕ). Cause own (setting_of p files) (start_over p x) (λ gained. gained ≡ to_sink 0 output) end run.moves) same run.cause,
+              λ is. (Some rest, refl, subst (λ (x : List ℕ). BreaksInLine (setting_of p files) (start_over p x) (Some bytes) (Some rest) own.space run.moves) same (s.is.breaks files is)),
+            ),
       );
     }
 
 abbrev none_failed : ℕ → ℕ
 none_failed k = 0
 
--- The second line cannot be read.
-input_broke_run : Script (codes "p\n") Basic (λ p. OverAnyFiles p (codes "a\nb\n") (codes "a\na\n") InputBroken)
-unfolding verdict cutting walked item_at past function_at addresses_at address_at second_at text_from name_from lines course move selects all_fit
-input_broke_run = is_script (over_any (λ files. stops_after 6 refl refl refl refl))
+part_only : HasNoNewline (codes "b")
+part_only = search rules
 
-input_broke : Stopped (codes "p\n") (codes "a\nb\n") (DevicesAtEnd None 0 1 none_failed none_failed) (codes "a\na\n")
-input_broke = stopped (codes "p\n") (codes "a\nb\n") (codes "a\na\n") (DevicesAtEnd None 0 1 none_failed none_failed) InputBroken input_broke_run (λ e. absurd cc) (omega arith, tt)
+-- The second line cannot be read to its end: its first byte is gone.
+input_broke_run : Script (codes "p\n") Basic (λ p. OverAnyFiles p (codes "a\nbc\n") (codes "c\n") (codes "a\na\n") InputBroken)
+unfolding verdict cutting walked item_at past function_at addresses_at address_at second_at text_from name_from lines after course move selects all_fit
+input_broke_run = is_script (over_any (λ files. stops_after 6 refl refl refl refl) (λ files is. (codes "a" ∷ [], refl, codes "a\nb", refl, part_only, omega arith)))
+
+input_broke : Stopped (codes "p\n") (codes "a\nbc\n") (codes "c\n") (DevicesAtEnd None 0 1 none_failed none_failed) (codes "a\na\n")
+input_broke = stopped (codes "p\n") (codes "a\nbc\n") (codes "c\n") (codes "a\na\n") (DevicesAtEnd None 0 1 none_failed none_failed) InputBroken input_broke_run (λ e. absurd cc) (omega arith, tt)
 
 -- The standard output takes three bytes.
-output_broke_run : Script (codes "p\n") Basic (λ p. OverAnyFiles p (codes "ab\n") (codes "ab\n") (OutputBroken 0))
+output_broke_run : Script (codes "p\n") Basic (λ p. OverAnyFiles p (codes "ab\n") [] (codes "ab\n") (OutputBroken 0))
 unfolding verdict cutting walked item_at past function_at addresses_at address_at second_at text_from name_from lines course move selects all_fit
-output_broke_run = is_script (over_any (λ files. stops_within 3 0 97 refl refl refl refl refl))
+output_broke_run = is_script (over_any (λ files. stops_within 3 0 97 refl refl refl refl refl) (λ files is. absurd cc))
 
-output_broke : Stopped (codes "p\n") (codes "ab\n") (DevicesAtEnd None 0 0 none_failed (λ k. 1)) (codes "ab\n")
-output_broke = stopped (codes "p\n") (codes "ab\n") (codes "ab\n") (DevicesAtEnd None 0 0 none_failed (λ k. 1)) (OutputBroken 0) output_broke_run (λ e. absurd cc) (refl, omega arith)
+output_broke : Stopped (codes "p\n") (codes "ab\n") [] (DevicesAtEnd None 0 0 none_failed (λ k. 1)) (codes "ab\n")
+output_broke = stopped (codes "p\n") (codes "ab\n") [] (codes "ab\n") (DevicesAtEnd None 0 0 none_failed (λ k. 1)) (OutputBroken 0) output_broke_run (λ e. absurd cc) (refl, omega arith)
 
 -- `sed //p nofile a`: no device has failed.
-no_previous_expression_run : Script (codes "//p\n") Basic (λ p. OverAnyFiles p (codes "x\n") (codes "") (NoPrevious 1))
+no_previous_expression_run : Script (codes "//p\n") Basic (λ p. OverAnyFiles p (codes "x\n") [] (codes "") (NoPrevious 1))
 unfolding verdict cutting walked item_at past function_at addresses_at address_at second_at text_from name_from lines course move selects all_fit match_at delimiter_at
-no_previous_expression_run = is_script (over_any (λ files. stops_after 1 refl refl refl refl))
+no_previous_expression_run = is_script (over_any (λ files. stops_after 1 refl refl refl refl) (λ files is. absurd cc))
 
-no_previous_expression : Stopped (codes "//p\n") (codes "x\n") (DevicesAtEnd None 0 0 none_failed none_failed) (codes "")
-no_previous_expression = stopped (codes "//p\n") (codes "x\n") (codes "") (DevicesAtEnd None 0 0 none_failed none_failed) (NoPrevious 1) no_previous_expression_run (λ e. absurd cc) (refl, tt)
+no_previous_expression : Stopped (codes "//p\n") (codes "x\n") [] (DevicesAtEnd None 0 0 none_failed none_failed) (codes "")
+no_previous_expression = stopped (codes "//p\n") (codes "x\n") [] (codes "") (DevicesAtEnd None 0 0 none_failed none_failed) (NoPrevious 1) no_previous_expression_run (λ e. absurd cc) (refl, tt)

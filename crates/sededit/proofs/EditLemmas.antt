@@ -43,14 +43,15 @@ from_start l p e' old new r out h = record {
 
 -- a run of an opened engine over all lines is an edit
 pub Edits-run : (l : Limits) (p : Program) (files : ℕ → List ℕ) (e e' : RunState) (x : List ℕ) (sinks sinks' : ℕ → Option (List ℕ)) (old new : Option (List ℕ)) (before after : Input) (now : State) (end : Ended) →
-    e ≡ opened l p → before.source ≡ old → after.source ≡ new → Ending e.limits (setting e files) (at_lines e (lines x)) (Sends e e' sinks sinks' (Err end)) before after now end →
+    e ≡ opened l p → before.source ≡ old → before.all ≡ old → after.source ≡ new → Ending e.limits (setting e files) (at_lines e (lines x)) (Sends e e' sinks sinks' (Err end)) before after now end →
     Edits l (setting_of p files) (start_over p x) (GainedWithin l.output nothing_before sinks sinks' (Err end)) old new end
-Edits-run l p files e e' x sinks sinks' old new before after now end is same_old same_new h =
+Edits-run l p files e e' x sinks sinks' old new before after now end is same_old none_ahead same_new h =
     let h' = rw is at h in
     record {
       t = h'.t;
       cause = Cause-as l _ _ _ _ end h'.t (from_start l p e' sinks sinks' (Err end)) h'.cause;
       takes = (let input = h'.takes.input in rw (same_old, same_new) at input);
+      broken = λ is. (let part = h'.broken is in rw (none_ahead, same_new) at part);
     }
 
 -- what the sinks gained is a beginning of what is written

@@ -1,5 +1,5 @@
 -- Sinks over memory, and the files that are created among them.
-use Rattle.std.proofs.Common.{◌≡◌, ℕ, zero, suc, ◌+◌, ◌<◌, Bool, true, false, List, [], ◌∷◌, ◌++◌, take, length, Option, Some, None, refl, ap, ◌∙◌, arith, ◌⊎◌, inl, inr, ◌≢◌, eqb}
+use Rattle.std.proofs.Common.{◌≡◌, ℕ, zero, suc, ◌+◌, ◌<◌, Bool, true, false, List, [], ◌∷◌, ◌++◌, take, length, Option, Some, None, Result, Ok, Err, refl, subst, sym, ap, ◌∙◌, arith, ◌⊎◌, inl, inr, ◌≢◌, eqb}
 use Rattle.std.specs.Prelude.{IfSome, slice_get, unwrap_or}
 use Rattle.std.specs.Option.{option_map, option_map_or}
 use Rattle.std.specs.Str.{bytes_eq}
@@ -9,8 +9,10 @@ use Rattle.std.proofs.Math.Dec.{ltb}
 use Rattle.std.proofs.lemmas.List.{append-nil}
 use Rattle.std.proofs.lemmas.Bool.Decides.{eqb_tells}
 use Rattle.std.specs.Io.KnownBytes.{Appends}
-use Rattle.sedspace.specs.Memory.{Sink, Sinks, sink_bytes, sink_failures}
-use Rattle.sededit.specs.MemorySinks.{SinkFiles, contents_of}
+use Rattle.sedspace.specs.Failures.{raised}
+use Rattle.sedspace.specs.Memory.{Sink, Sinks, TakesBytes, sink_bytes, sink_failures}
+use Rattle.sedspace.specs.declared.errors.Broken.{Broken}
+use Rattle.sededit.specs.MemorySinks.{NextFails, SinkFiles, contents_of}
 
 -- the names of the files created, and the next
 pub names_grow : (names : List (List ℕ)) (k : ℕ) (name : List ℕ) → option_map_or (λ next. bytes_eq next name) (slice_get names k) false ≡ true →
@@ -63,6 +65,33 @@ failures_kept old new sink k h others = by (eqb_tells k sink)
     by : ((eqb k sink ≡ true) × (k ≡ sink)) ⊎ ((eqb k sink ≡ false) × (k ≢ sink)) → sink_failures new k ≡ sink_failures old k
     by (inl (e, here)) = rw here h
     by (inr (e, there)) = ap (λ s. unwrap_or (option_map (λ x. x.failures) s) 0) (others k there)
+
+sink_at : (held : List Sink) (k : ℕ) → k < length held → (s : Sink) × (slice_get held k ≡ Some s)
+sink_at [] k inside = absurd (omega (arith, inside))
+sink_at (sink ∷ held) zero inside = (sink, refl)
+sink_at (sink ∷ held) (suc k) inside = sink_at held k (omega (arith, inside))
+
+-- A write of no bytes that passes was not told to fail.
+module _ (old new : Sinks) (k : ℕ) (inside : k < length old.held) (same : length new.held ≡ length old.held) where
+  abbrev Takes : Result ℕ Broken → Type 0
+  Takes r = IfSome (slice_get old.held k) (λ s. IfSome (slice_get new.held k) (λ t. TakesBytes s t old.most [] r))
+
+  pub write_passes : (n : ℕ) → Takes (Ok n) → NextFails old k → ⊥
+  write_passes n h (s, at, fails) =
+      let t = sink_at new.held k (omega (arith, inside, same)) in
+      let taken : TakesBytes s t.0 old.most [] (Ok n) = rw (at, t.1) at h in
+      taken.2 (fails ∙ sym (ap (λ (x : Sink). Some x.writes) taken.3))
+
+-- what wasn't written to is told to fail as before
+pub NextFails-same : (old new : Sinks) (k : ℕ) → slice_get new.held k ≡ slice_get old.held k → NextFails new k → NextFails old k
+NextFails-same old new k same (s, at, fails) = (s, sym same ∙ at, fails)
+
+pub one_more_passed : (o : Sinks) (sink : ℕ) → ((j : ℕ) → j < sink → NextFails o j → ⊥) → (NextFails o sink → ⊥) → (k : ℕ) → k < sink + 1 → NextFails o k → ⊥
+one_more_passed o sink before here k inside fails = by (ltb k sink) refl
+  where
+    by : (b : Bool) → ltb k sink ≡ b → ⊥
+    by true e = before k (ltb-true k sink e) fails
+    by false e = let is : k ≡ sink = omega (arith, inside, ltb-false k sink e) in here (subst (λ j. NextFails o j) is fails)
 
 -- a file that is created holds nothing, as it did before
 pub created_keeps : (s : SinkFiles) (k : ℕ) → s.created + 1 < length s.outputs.held → ((j : ℕ) → s.created < j → IfSome (slice_get s.outputs.held j) (λ sink. sink.bytes ≡ [])) →

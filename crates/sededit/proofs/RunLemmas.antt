@@ -1,13 +1,15 @@
 -- From the end of an edit to the status of the program.
-use Rattle.std.proofs.Common.{◌≡◌, ◌∙◌, ◌≤◌, ◌⊎◌, inl, inr, ℕ, Bool, true, false, List, Option, Some, None, Err, arith, subst}
+use Rattle.std.proofs.Common.{◌≡◌, ◌∙◌, ◌≤◌, ◌⊎◌, inl, inr, ℕ, Bool, true, false, List, Option, Some, None, Err, arith, subst, sym}
 use Rattle.sedspace.specs.Failures.{Rose}
 use Rattle.sedscript.specs.Script.{Program}
 use Rattle.sedengine.specs.Limits.{Limits}
 use Rattle.sedengine.specs.Devices.{FailedSink, Gained, SinksAtEnd, SourceAtEnd}
 use Rattle.sedengine.specs.declared.ends.Ended.{Ended}
-use Rattle.sedengine.specs.declared.ends.Ended.TheVariants.{Done, OutputBroken, OutputFull}
+use Rattle.sedengine.specs.declared.ends.Ended.TheVariants.{Done, InputBroken, OutputBroken, OutputFull}
+use Rattle.sedengine.specs.Run.{BreaksInLine, setting_of}
 use Rattle.sedengine.proofs.Metering.{Cause-as}
 use Rattle.std.specs.Option.{option_map}
+use Rattle.sededit.specs.Editing.{start_over}
 use Rattle.sededit.specs.Joined.{joined}
 use Rattle.sededit.specs.Opening.{KeepsFiles, WereRefused, contents}
 use Rattle.sededit.specs.Program.{GainsBy, DevicesAtEnd, SinkAtEnd, SinkFailed, StopsEarly, WritesAll, WritesBeginning}
@@ -57,10 +59,14 @@ some_refused true old new is h = h
 some_refused false old new is h = absurd cc
 
 -- how a run stopped, said of the same input and numbers under other names
-pub cause_moved : (l : Limits) (p : Program) (texts : ℕ → Option (List ℕ)) (by : Ended → List (ℕ × ℕ) → Type 0) (gained : List (ℕ × ℕ) → Type 0) (old new : ℕ → ℕ) (W : Type 0) (x y : Option (List ℕ)) (a b a' b' : ℕ) →
-    y ≡ x → a' ≡ a → b' ≡ b → StopsEarly l p x texts by (DevicesAtEnd l.output a b old new) ⊎ (WritesAll p x texts gained × W × (b ≡ a)) →
-    StopsEarly l p y texts by (DevicesAtEnd l.output a' b' old new) ⊎ (WritesAll p y texts gained × W × (b' ≡ a'))
-cause_moved l p texts by gained old new W x y a b a' b' input before after h = rw (input, before, after) h
+module _ (l : Limits) (p : Program) (texts : ℕ → Option (List ℕ)) (by : Ended → List (ℕ × ℕ) → Type 0) (gained : List (ℕ × ℕ) → Type 0) (old new : ℕ → ℕ) (W : Type 0) (q r : Option (List ℕ) → Type 0) (gives : (more : Option (List ℕ)) → q more → r more) where
+  rest_as : (x : Option (List ℕ)) (a b : ℕ) → StopsEarly l p x q texts by (DevicesAtEnd l.output a b old new) → StopsEarly l p x r texts by (DevicesAtEnd l.output a b old new)
+  rest_as x a b h = (h.0, h.1, h.2, λ bytes known files told. let w = h.3 bytes known files told in (w.0, w.1, λ is. let m = w.2 is in (m.0, gives m.0 m.1, m.2)))
+
+  pub cause_moved : (x y : Option (List ℕ)) (a b a' b' : ℕ) → y ≡ x → a' ≡ a → b' ≡ b → StopsEarly l p x q texts by (DevicesAtEnd l.output a b old new) ⊎ (WritesAll p x texts gained × W × (b ≡ a)) →
+      StopsEarly l p y r texts by (DevicesAtEnd l.output a' b' old new) ⊎ (WritesAll p y texts gained × W × (b' ≡ a'))
+  cause_moved x y a b a' b' input before after (inl h) = inl (rw (input, before, after) (rest_as x a b h))
+  cause_moved x y a b a' b' input before after (inr h) = inr (rw (input, before, after) h)
 
 -- a run over what was made ready for it, said of how things stood before
 pub record Ready (files0 files1 : Option (List (Option (List ℕ)))) (texts0 texts1 sinks0 sinks1 : ℕ → Option (List ℕ)) : Type 0 where
@@ -101,16 +107,17 @@ sink-from most n0 n1 n _ same h = tt
 devices-from : (most : Option ℕ) (i0 i1 i : ℕ) (n0 n1 n : ℕ → ℕ) (end : Ended) → i1 ≡ i0 → ((k : ℕ) → n1 k ≡ n0 k) → DevicesAtEnd most i1 i n1 n end → DevicesAtEnd most i0 i n0 n end
 devices-from most i0 i1 i n0 n1 n end is same h = (subst (λ m. SourceAtEnd m i end) is h.0, sink-from most n0 n1 n end same h.1)
 
-pub cause-from : (l : Limits) (p : Program) (f0 f1 : Option (List (Option (List ℕ)))) (t0 t1 s0 s1 new : ℕ → Option (List ℕ)) (i0 i1 i : ℕ) (n0 n1 n : ℕ → ℕ) →
+pub cause-from : (l : Limits) (p : Program) (q : Option (List ℕ) → Type 0) (f0 f1 : Option (List (Option (List ℕ)))) (t0 t1 s0 s1 new : ℕ → Option (List ℕ)) (i0 i1 i : ℕ) (n0 n1 n : ℕ → ℕ) →
     Ready f0 f1 t0 t1 s0 s1 → i1 ≡ i0 → ((k : ℕ) → n1 k ≡ n0 k) →
-    StopsEarly l p (all_joined f1) t1 (GainsBy l s1 new) (DevicesAtEnd l.output i1 i n1 n) ⊎ (WritesAll p (all_joined f1) t1 (Gained s1 new) × SinkFailed n1 n × (i ≡ i1)) →
-    StopsEarly l p (all_joined f0) t0 (GainsBy l s0 new) (DevicesAtEnd l.output i0 i n0 n) ⊎ (WritesAll p (all_joined f0) t0 (Gained s0 new) × SinkFailed n0 n × (i ≡ i0))
-cause-from l p f0 f1 t0 t1 s0 s1 new i0 i1 i n0 n1 n r is same (inl h) = inl (
+    StopsEarly l p (all_joined f1) q t1 (GainsBy l s1 new) (DevicesAtEnd l.output i1 i n1 n) ⊎ (WritesAll p (all_joined f1) t1 (Gained s1 new) × SinkFailed n1 n × (i ≡ i1)) →
+    StopsEarly l p (all_joined f0) q t0 (GainsBy l s0 new) (DevicesAtEnd l.output i0 i n0 n) ⊎ (WritesAll p (all_joined f0) t0 (Gained s0 new) × SinkFailed n0 n × (i ≡ i0))
+cause-from l p q f0 f1 t0 t1 s0 s1 new i0 i1 i n0 n1 n r is same (inl h) = inl (
   h.0,
   h.1,
   devices-from l.output i0 i1 i n0 n1 n h.0 is same h.2,
   λ bytes known files tells.
       let w = h.3 bytes (told f0 f1 bytes r.kept known) files (λ k. r.same_texts k ∙ tells k) in
-      (w.0, Cause-as l _ _ _ _ h.0 w.0 (λ out sent. GainsBy-from l s0 s1 new h.0 out r.same_sinks sent) w.1),
+      let P : Option (List ℕ) → Type 0 = λ input. h.0 ≡ InputBroken → (more : Option (List ℕ)) × q more × BreaksInLine (setting_of p files) (start_over p bytes) input more l.space w.0 in
+      (w.0, Cause-as l _ _ _ _ h.0 w.0 (λ out sent. GainsBy-from l s0 s1 new h.0 out r.same_sinks sent) w.1, subst P (told f0 f1 bytes r.kept known ∙ sym known) w.2),
 )
-cause-from l p f0 f1 t0 t1 s0 s1 new i0 i1 i n0 n1 n r is same (inr h) = inr (WritesAll-from p f0 f1 t0 t1 s0 s1 new r h.0, sink_failed n0 n1 n same h.1, h.2 ∙ is)
+cause-from l p q f0 f1 t0 t1 s0 s1 new i0 i1 i n0 n1 n r is same (inr h) = inr (WritesAll-from p f0 f1 t0 t1 s0 s1 new r h.0, sink_failed n0 n1 n same h.1, h.2 ∙ is)

@@ -32,6 +32,11 @@ left_ahead ahead j = joined_files ahead j.inputs j.names
 abbrev pub left : {I : Type 0} → (I → Option (List ℕ)) → (I → List (List ℕ) → Option (List (Option (List ℕ)))) → Joining I → Option (List ℕ)
 left current ahead j = option_append (left_of_current current j) (left_ahead ahead j)
 
+-- what inputs whose files are joined have still to give: what is left of the file being read, with its newline where one is
+-- due, and what further files give
+abbrev pub StillGives : {I : Type 0} → (I → Option (List ℕ)) → (I → List (List ℕ) → Option (List (Option (List ℕ)))) → I → Option (List ℕ) → Type 0
+StillGives {I} current ahead inputs more = (j : Joining I) × (j.inputs ≡ inputs) × (more ≡ left current ahead j)
+
 -- only the last of the files gives bytes, if any
 abbrev pub OnlyLastGives : List (Option (List ℕ)) → Type 0
 OnlyLastGives (file ∷ next ∷ files) = (unwrap_or file [] ≡ []) × OnlyLastGives (next ∷ files)

@@ -13,9 +13,9 @@ use Rattle.sedengine.specs.Devices.{GainedWithin, SourceAtEnd}
 use Rattle.sedengine.specs.Ends.{Cause}
 use Rattle.sedengine.specs.Limits.{Limits}
 use Rattle.sedengine.specs.Move.{to_sink}
-use Rattle.sedengine.specs.Run.{TellsFiles, setting_of}
+use Rattle.sedengine.specs.Run.{BreaksInLine, TellsFiles, setting_of}
 use Rattle.sedengine.specs.declared.ends.Ended.{Ended}
-use Rattle.sedengine.specs.declared.ends.Ended.TheVariants.{Done, OutputBroken, OutputFull}
+use Rattle.sedengine.specs.declared.ends.Ended.TheVariants.{Done, InputBroken, OutputBroken, OutputFull}
 use Rattle.sededit.specs.CommandLine.{Given, IsCommandLine, IsLine, file, given, sed_command, text}
 use Rattle.sededit.specs.Editing.{GainsAll, GainsBeginning, nothing_before, start_over}
 use Rattle.sededit.specs.Joined.{joined}
@@ -104,13 +104,16 @@ abbrev pub GainsBy : Limits → (old new : ℕ → Option (List ℕ)) → Ended 
 GainsBy limits old new end = GainedWithin limits.output nothing_before old new (Err end)
 
 -- The run of a script came to another end than the ordinary one, and what that says of the devices holds; and where the
--- input and the texts are told, the end has its cause, after some moves. `gained` says what the sinks gained at an end.
-abbrev pub StopsEarly : Limits → Program → Option (List ℕ) → (ℕ → Option (List ℕ)) →
+-- input and the texts are told, the end has its cause, after some moves, and no whole line is lost where the input failed.
+-- `rest` says what the input has still to give, and `gained` what the sinks gained at an end.
+abbrev pub StopsEarly : Limits → Program → Option (List ℕ) → (Option (List ℕ) → Type 0) → (ℕ → Option (List ℕ)) →
     (Ended → List (ℕ × ℕ) → Type 0) → (Ended → Type 0) → Type 0
-StopsEarly limits p input texts gained devices =
+StopsEarly limits p input rest texts gained devices =
     (end : Ended) × (end ≢ Done) × devices end × ForSome input (λ bytes.
     (files : ℕ → List ℕ) → TellsFiles texts files →
-    ((t : ℕ) × Cause limits (setting_of p files) (start_over p bytes) (gained end) end t))
+    ((t : ℕ) × Cause limits (setting_of p files) (start_over p bytes) (gained end) end t
+    × (end ≡ InputBroken → (more : Option (List ℕ)) × rest more
+    × BreaksInLine (setting_of p files) (start_over p bytes) input more limits.space t)))
 
 -- some sink has failed in this call
 abbrev pub SinkFailed : (ℕ → ℕ) → (ℕ → ℕ) → Type 0

@@ -1,4 +1,3 @@
--- Private to the proofs: no contract of a public item cites what stands here.
 -- What reading the files of -f leaves as it is.
 use Rattle.std.specs.Prelude.{◌≡◌, ℕ, List, Option}
 use Rattle.std.specs.Io.KnownBytes.{Keeps}

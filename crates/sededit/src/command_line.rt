@@ -104,37 +104,33 @@ fn command<'a>(alloc: Global) -> Result<Command<'a>, clap::Error>
     ensures shape { IfOk result (λ c. app_of c ≡ sed_command) }
     ensures memory { IfErr result (λ e. kind_of e ≡ ErrorKind.OutOfMemory) }
 {
-    let quiet = counted(
-        alloc,
-        "quiet",
-        'n',
-        "Write no pattern space unless the script asks for it",
-    );
-    let extended = counted(
-        alloc,
-        "extended",
-        'E',
-        "Read extended regular expressions in the script",
-    );
-    let expression = repeated(
-        alloc,
-        "expression",
-        'e',
-        "Add these editing commands to the script",
-    );
-    let file = repeated(
-        alloc,
-        "file",
-        'f',
-        "Add the editing commands in this file to the script",
-    );
     let command = Command::new(alloc, "sed")
         .no_binary_name(true)
         .about("Edits files line by line, and writes to the standard output")
-        .arg(quiet)?
-        .arg(extended)?
-        .arg(expression)?
-        .arg(file)?
+        .arg(counted(
+            alloc,
+            "quiet",
+            'n',
+            "Write no pattern space unless the script asks for it",
+        ))?
+        .arg(counted(
+            alloc,
+            "extended",
+            'E',
+            "Read extended regular expressions in the script",
+        ))?
+        .arg(repeated(
+            alloc,
+            "expression",
+            'e',
+            "Add these editing commands to the script",
+        ))?
+        .arg(repeated(
+            alloc,
+            "file",
+            'f',
+            "Add the editing commands in this file to the script",
+        ))?
         .arg(operands(alloc))?;
     Ok(command)
 }

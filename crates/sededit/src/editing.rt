@@ -59,7 +59,8 @@ pub fn edit<R: ByteSource, O: Outputs, T: Texts>(
     requires sinks { length script.wfiles < O.count outputs.old }
     requires nodes { script.max_nodes ≤ limits.nodes }
     // Each end has its cause, in whatever pieces the bytes came; no sink has gained more than the limit, where one is
-    // set; and no more is read than the lines taken and what is read ahead.
+    // set; and no more is read than the lines taken and what is read ahead. Where the source failed, what it gave after
+    // the last line taken holds no newline.
     ensures ending { IfOk result (λ end. ForSome (R.remaining source.old) (λ bytes.
         (files : ℕ → List ℕ) → TellsFiles (T.text texts.old) files →
         Edits limits (setting_of script files) (start_over script bytes)

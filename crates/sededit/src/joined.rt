@@ -2,7 +2,7 @@
 //!
 //! A file is opened by the read that finds no byte left of the files before it, so no two are open at once. A file that
 //! can't be opened counts as empty, and is noted as missed.
-ghost use Rattle.std.specs.Prelude.{◌≡◌, ◌<◌, ◌⊎◌, [], ◌∷◌, ℕ, List, Ok, true, false, length, map, string_bytes, slice_get, unwrap_or, IfOk, None};
+ghost use Rattle.std.specs.Prelude.{◌≡◌, ◌<◌, ◌⊎◌, [], ◌∷◌, ℕ, List, Ok, true, false, length, map, string_bytes, slice_get, unwrap_or, IfOk, None, vec_len};
 ghost use Rattle.std.specs.Io.{ReadsAtMost};
 ghost use Rattle.std.specs.Io.KnownBytes.{IsAtEnd, ReadConsumes};
 ghost use Rattle.sedspace.specs.Failures.{FailsAtErr};
@@ -67,8 +67,24 @@ impl<'a, I: Inputs> Joined<'a, I> {
             ≡ joined_files I.ahead inputs (map string_bytes names.now)) }
     {
         let missed = vec![in alloc; false; names.len()]?;
+        Ok(Joined::over(inputs, names, missed))
+    }
+
+    /// Makes the source with room to note of each file whether it was missed: so inputs are lent once it is reserved.
+    pub(crate) fn over(inputs: I, names: &'a [String], missed: Vec<bool>) -> Joined<'a, I>
+        requires { vec_len missed ≡ length names.now }
+        ensures value { result ≡ record {
+          inputs = inputs;
+          names = map string_bytes names.now;
+          reading = false;
+          due = false;
+          missed = [];
+          start = I.refusals inputs;
+        } }
+        ensures joined { left I.current I.ahead result ≡ joined_files I.ahead inputs (map string_bytes names.now) }
+    {
         let start = inputs.refused();
-        Ok(Joined {
+        Joined {
             inputs,
             names,
             next: 0,
@@ -77,7 +93,7 @@ impl<'a, I: Inputs> Joined<'a, I> {
             missed,
             has_missed: false,
             start,
-        })
+        }
     }
 
     /// Whether the file of this number, counted from 0, couldn't be opened when its turn came. A file whose turn is still

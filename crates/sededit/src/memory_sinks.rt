@@ -2,7 +2,7 @@
 ghost use Rattle.std.specs.Prelude.{◌≡◌, ◌+◌, ◌<◌, ◌≤◌, ℕ, Some, length, map, replicate, take, true, IfOk, IfSome, if◌then◌else◌, slice_get, slice_set};
 ghost use Rattle.sedspace.specs.Memory.{new_sink, sink_bytes, sink_failures};
 ghost use Rattle.sededit.specs.Sinks.{AddsName, FailsFlush};
-ghost use Rattle.sededit.specs.MemorySinks.{contents_of, is_next};
+ghost use Rattle.sededit.specs.MemorySinks.{FlushesFirst, contents_of, is_next};
 ghost use Rattle.sededit.specs.MemorySinkLaws.{absent_holds_nothing};
 
 use crate::sinks::Sinks;
@@ -124,6 +124,7 @@ fn flush_first(outputs: &mut MemoryOutputs, count: usize) -> Result<(), usize>
     ensures kept { (k : ℕ) → sink_bytes outputs.new k ≡ sink_bytes outputs.old k }
     ensures failed { FailsFlush result (sink_failures outputs.old) (sink_failures outputs.new) }
     ensures sinks { length outputs.new.held ≡ length outputs.old.held }
+    ensures told { FlushesFirst outputs.old count result }
 {
     for sink in 0..count {
         match outputs.write(sink, b"") {
@@ -152,7 +153,12 @@ impl Sinks for MemorySinks {
         true
     }
 
-    fn flush(&mut self) -> Result<(), usize> {
+    fn flush(&mut self) -> Result<(), usize>
+        ensures contents { (k : ℕ) → contents_of self.new k ≡ contents_of self.old k }
+        ensures failed { FailsFlush result (sink_failures self.old.outputs) (sink_failures self.new.outputs) }
+        ensures told { FlushesFirst self.old.outputs (self.old.created + 1) result }
+        ensures rest { self.new ≡ record self.old { outputs = self.new.outputs } }
+    {
         flush_first(&mut self.outputs, self.created + 1)
     }
 }

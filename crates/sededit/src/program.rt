@@ -5,9 +5,11 @@ ghost use Rattle.sedspace.specs.Failures.{Rose};
 ghost use Rattle.sedengine.specs.Devices.{Gained};
 ghost use Rattle.sedengine.specs.Move.{to_sink};
 ghost use Rattle.clap.specs.Words.{kind_of};
+ghost use Rattle.sededit.specs.FilesInTurn.{StillGives};
 ghost use Rattle.sededit.specs.MemoryFiles.{dash};
 ghost use Rattle.sededit.specs.Program.{AsksHelp, GainsBy, DevicesAtEnd, Runs, RunsLine, SinkFailed, StopsEarly, WritesAll, WritesBeginning};
 ghost use Rattle.sededit.specs.Program.{WritesHelp, or_standard, texts_of};
+ghost use Rattle.sededit.specs.Reading.{OnlyReadsScripts};
 ghost use Rattle.sededit.specs.Sinks.{Creates, CreatesFirst, CreatesUpTo};
 
 use crate::asked::{Line, Refused};
@@ -81,18 +83,23 @@ pub fn command<S: AsStr, I: Inputs, O: Sinks, N: Names, E: Write>(
         ⊎ (AsksHelp (map S.text words.now) × WritesHelp (Gained (O.contents sinks.old) (O.contents sinks.new))
         × (O.names sinks.new ≡ O.names sinks.old) × (inputs.new ≡ inputs.old)) }
     // It stopped for a cause, within the limits, and a device that this cause names has failed in this call, the input for no
-    // other cause; or all was written, no read of the input failed, and some sink did when it was flushed; or a sink failed
-    // as help was written.
+    // other cause, and then no whole line is lost; or all was written, no read of the input failed, and some sink did when it
+    // was flushed; or a sink failed as help was written.
     ensures cause { result ≡ STOPPED →
         Runs (I.text inputs.old) (I.ahead inputs.old) (N.file names.old) (N.text names.old) limits.nodes
         (map S.text words.now) (Creates (O.names sinks.old) (O.names sinks.new))
-        (λ p input texts. StopsEarly limits p input texts (GainsBy limits (O.contents sinks.old) (O.contents sinks.new))
+        (λ p input texts. StopsEarly limits p input (StillGives I.current I.ahead inputs.new) texts (GainsBy limits (O.contents sinks.old) (O.contents sinks.new))
         (DevicesAtEnd limits.output (I.failures inputs.old) (I.failures inputs.new) (O.failures sinks.old) (O.failures sinks.new))
         ⊎ (WritesAll p input texts (Gained (O.contents sinks.old) (O.contents sinks.new))
         × SinkFailed (O.failures sinks.old) (O.failures sinks.new) × (I.failures inputs.new ≡ I.failures inputs.old)))
         ⊎ (AsksHelp (map S.text words.now) × SinkFailed (O.failures sinks.old) (O.failures sinks.new)) }
-    // A refusal writes nothing, and of the files that the script writes it leaves the first ones created, if any.
+    // At every other status no sink has failed, neither when it was flushed nor as help was written.
+    ensures no_sink { result ≢ STOPPED → (k : ℕ) → O.failures sinks.new k ≡ O.failures sinks.old k }
+    // A refusal writes nothing, opens no input file and reads none of the input, and of the files that the script writes it
+    // leaves the first ones created, if any.
     ensures refused { result ≡ REFUSED → (k : ℕ) → O.contents sinks.new k ≡ O.contents sinks.old k }
+    ensures unread { result ≡ REFUSED →
+        OnlyReadsScripts I.current I.ahead I.text I.refusals I.failures I.reference inputs.old inputs.new }
     ensures created { result ≡ REFUSED → (O.names sinks.new ≡ O.names sinks.old)
         ⊎ Runs (I.text inputs.old) (I.ahead inputs.old) (N.file names.old) (N.text names.old) limits.nodes
         (map S.text words.now) (CreatesFirst (O.names sinks.old) (O.names sinks.new)) (λ _ _ _. ⊤) }
@@ -134,11 +141,14 @@ fn run_line<I: Inputs, O: Sinks, N: Names, E: Write>(
     ensures cause { result ≡ STOPPED →
         RunsLine (I.text inputs.old) (I.ahead inputs.old) (N.file names.old) (N.text names.old) limits.nodes line.now
         (Creates (O.names sinks.old) (O.names sinks.new))
-        (λ p input texts. StopsEarly limits p input texts (GainsBy limits (O.contents sinks.old) (O.contents sinks.new))
+        (λ p input texts. StopsEarly limits p input (StillGives I.current I.ahead inputs.new) texts (GainsBy limits (O.contents sinks.old) (O.contents sinks.new))
         (DevicesAtEnd limits.output (I.failures inputs.old) (I.failures inputs.new) (O.failures sinks.old) (O.failures sinks.new))
         ⊎ (WritesAll p input texts (Gained (O.contents sinks.old) (O.contents sinks.new))
         × SinkFailed (O.failures sinks.old) (O.failures sinks.new) × (I.failures inputs.new ≡ I.failures inputs.old))) }
     ensures refused { result ≡ REFUSED → (k : ℕ) → O.contents sinks.new k ≡ O.contents sinks.old k }
+    ensures no_sink { result ≢ STOPPED → (k : ℕ) → O.failures sinks.new k ≡ O.failures sinks.old k }
+    ensures unread { result ≡ REFUSED →
+        OnlyReadsScripts I.current I.ahead I.text I.refusals I.failures I.reference inputs.old inputs.new }
     ensures created { result ≡ REFUSED → (O.names sinks.new ≡ O.names sinks.old)
         ⊎ RunsLine (I.text inputs.old) (I.ahead inputs.old) (N.file names.old) (N.text names.old) limits.nodes line.now
         (CreatesFirst (O.names sinks.old) (O.names sinks.new)) (λ _ _ _. ⊤) }
@@ -198,6 +208,7 @@ fn answer_words<O: Sinks, E: Write>(
     ensures help { result ≢ REFUSED → WritesHelp (Gained (O.contents sinks.old) (O.contents sinks.new)) }
     ensures names { O.names sinks.new ≡ O.names sinks.old }
     ensures refused { result ≡ REFUSED → sinks.new ≡ sinks.old }
+    ensures no_sink { result ≢ STOPPED → (k : ℕ) → O.failures sinks.new k ≡ O.failures sinks.old k }
 {
     let ErrorKind::DisplayHelp = error.kind() else {
         let _ = write!(errors, "{error}");
@@ -218,6 +229,7 @@ fn write_out<O: Sinks>(sinks: &mut O, bytes: &[u8]) -> Result<(), Ended>
     ensures whole { OnOk result (Gained (O.contents sinks.old) (O.contents sinks.new) (to_sink 0 bytes.now)) }
     ensures part { (count : ℕ) × Gained (O.contents sinks.old) (O.contents sinks.new) (to_sink 0 (take count bytes.now)) }
     ensures names { O.names sinks.new ≡ O.names sinks.old }
+    ensures kept { OnOk result ((k : ℕ) → O.failures sinks.new k ≡ O.failures sinks.old k) }
     ensures failed { IfErr result (λ end. (k : ℕ)
         × (end ≡ Ended.OutputBroken k) × Rose (O.failures sinks.old k) (O.failures sinks.new k)) }
 {

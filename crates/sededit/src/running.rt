@@ -3,7 +3,7 @@ ghost use Rattle.std.specs.Prelude.{◌≡◌, ◌≢◌, ◌<◌, ◌≤◌, �
 ghost use Rattle.std.specs.String.{string_bytes};
 ghost use Rattle.sedspace.specs.Failures.{Rose};
 ghost use Rattle.sedengine.specs.Devices.{Gained};
-ghost use Rattle.sededit.specs.FilesInTurn.{joined_files, left};
+ghost use Rattle.sededit.specs.FilesInTurn.{StillGives, joined_files, left};
 ghost use Rattle.sededit.specs.Program.{GainsBy, DevicesAtEnd, SinkFailed, StopsEarly, WritesAll, WritesBeginning};
 
 use crate::edit;
@@ -62,6 +62,7 @@ fn finish<O: Sinks, E: Write>(end: Ended, has_missed: bool, sinks: &mut O, error
     ensures stopped { result ≡ STOPPED → (end ≢ Ended.Done) ⊎ ((end ≡ Ended.Done)
         × SinkFailed (O.failures sinks.old) (O.failures sinks.new)) }
     ensures failures { (k : ℕ) → O.failures sinks.old k ≤ O.failures sinks.new k }
+    ensures no_sink { result ≢ STOPPED → (k : ℕ) → O.failures sinks.new k ≡ O.failures sinks.old k }
     ensures contents { (k : ℕ) → O.contents sinks.new k ≡ O.contents sinks.old k }
     ensures names { O.names sinks.new ≡ O.names sinks.old }
 {
@@ -98,7 +99,7 @@ fn run_joined<I: Inputs, O: Sinks, T: Texts, E: Write>(
     ensures stopped { result ≡ STOPPED → WritesBeginning script (left I.current I.ahead joined.old)
         (T.text texts.old) (Gained (O.contents sinks.old) (O.contents sinks.new)) }
     ensures cause { result ≡ STOPPED → StopsEarly limits script (left I.current I.ahead joined.old)
-        (T.text texts.old) (GainsBy limits (O.contents sinks.old) (O.contents sinks.new))
+        (λ more. more ≡ left I.current I.ahead joined.new) (T.text texts.old) (GainsBy limits (O.contents sinks.old) (O.contents sinks.new))
         (DevicesAtEnd limits.output (I.failures joined.old.inputs) (I.failures joined.new.inputs)
         (O.failures sinks.old) (O.failures sinks.new))
         ⊎ (WritesAll script (left I.current I.ahead joined.old)
@@ -106,6 +107,8 @@ fn run_joined<I: Inputs, O: Sinks, T: Texts, E: Write>(
         × SinkFailed (O.failures sinks.old) (O.failures sinks.new)
         × (I.failures joined.new.inputs ≡ I.failures joined.old.inputs)) }
     ensures refused { result ≡ REFUSED → sinks.new ≡ sinks.old }
+    ensures no_sink { result ≢ STOPPED → (k : ℕ) → O.failures sinks.new k ≡ O.failures sinks.old k }
+    ensures unread { result ≡ REFUSED → joined.new ≡ joined.old }
     ensures names { O.names sinks.new ≡ O.names sinks.old }
     ensures same_reference { joined.new.start ∷ I.reference joined.new.inputs
         ≡ joined.old.start ∷ I.reference joined.old.inputs }
@@ -143,19 +146,22 @@ pub(crate) fn run<I: Inputs, O: Sinks, T: Texts, E: Write>(
         (joined_files I.ahead inputs.old (map string_bytes names.now))
         (T.text texts.old) (Gained (O.contents sinks.old) (O.contents sinks.new)) }
     ensures cause { result ≡ STOPPED → StopsEarly limits script
-        (joined_files I.ahead inputs.old (map string_bytes names.now))
+        (joined_files I.ahead inputs.old (map string_bytes names.now)) (StillGives I.current I.ahead inputs.new)
         (T.text texts.old) (GainsBy limits (O.contents sinks.old) (O.contents sinks.new))
         (DevicesAtEnd limits.output (I.failures inputs.old) (I.failures inputs.new) (O.failures sinks.old) (O.failures sinks.new))
         ⊎ (WritesAll script (joined_files I.ahead inputs.old (map string_bytes names.now))
         (T.text texts.old) (Gained (O.contents sinks.old) (O.contents sinks.new))
         × SinkFailed (O.failures sinks.old) (O.failures sinks.new)
         × (I.failures inputs.new ≡ I.failures inputs.old)) }
+    ensures no_sink { result ≢ STOPPED → (k : ℕ) → O.failures sinks.new k ≡ O.failures sinks.old k }
     ensures refused { result ≡ REFUSED → sinks.new ≡ sinks.old }
+    ensures unread { result ≡ REFUSED → inputs.new ≡ inputs.old }
     ensures names { O.names sinks.new ≡ O.names sinks.old }
 {
-    let Ok(mut joined) = Joined::new(alloc, &mut *inputs, names) else {
+    let Ok(missed) = vec![in alloc; false; names.len()] else {
         return out_of_memory(errors);
     };
+    let mut joined = Joined::over(&mut *inputs, names, missed);
     let status = run_joined(
         alloc,
         script,

@@ -44,7 +44,7 @@ returns-clause-cause g c is =
       c.in-Ok-read_script.script,
       rw (← c.nodes.ensures.value) c.in-Ok-read_script.ensures.gives,
       c.run.ensures.names ∙ c.create_files.ensures.names (search rules),
-      cause-from c.args.limits c.in-Ok-read_script.script _ _ _ _ _ _ _ _ _ _ _ _ _ ready c.in-Ok-read_script.ensures.inputs.failed c.create_files.ensures.failed (c.run.ensures.cause is),
+      cause-from c.args.limits c.in-Ok-read_script.script _ _ _ _ _ _ _ _ _ _ _ _ _ _ ready c.in-Ok-read_script.ensures.inputs.failed c.create_files.ensures.failed (c.run.ensures.cause is),
     )
 
 pub returns-in-Err-name_files-clause-created : goal.returns-in-Err-name_files-clause-created

@@ -1,4 +1,4 @@
-use Rattle.std.proofs.Common.{Ok, ap, inl, inr, rules}
+use Rattle.std.proofs.Common.{Ok, ap, inl, inr, refl, rules}
 use Rattle.sedengine.proofs.Metering.{Cause-as}
 use Rattle.sededit.proofs.RunLemmas.{GainsBy-same, WritesAll-same, WritesBeginning-same, none_failed, none_refused, sink_failed, sink_flushed, some_refused, source_kept}
 use Rattle.sededit.proofs.running.run_joined.Goals as goal
@@ -31,7 +31,7 @@ returns-clause-cause g c is =
         c.in-Ok.end,
         early,
         (e.input, sink_flushed _ _ _ _ c.in-Ok.end e.failed c.finish.ensures.failures),
-        λ bytes known files told. let h = e.ending bytes known files told in (h.t, Cause-as _ _ _ _ _ c.in-Ok.end h.t (λ out sent. GainsBy-same c.args.limits _ _ _ c.in-Ok.end out same sent) h.cause),
+        λ bytes known files told. let h = e.ending bytes known files told in (h.t, Cause-as _ _ _ _ _ c.in-Ok.end h.t (λ out sent. GainsBy-same c.args.limits _ _ _ c.in-Ok.end out same sent) h.cause, λ is. (_, refl, h.broken is)),
       )
       | inr flushed ↦ inr (WritesAll-same c.args.script _ _ _ _ _ same (e.whole (ap Ok flushed.0)), sink_failed _ _ _ (none_failed _ _ _ flushed.0 e.failed.0) flushed.1, source_kept _ _ _ flushed.0 e.input)
     ]
