@@ -21,6 +21,7 @@ pub mod PassLemmas
 pub mod SearchLemmas
 pub mod OpenLemmas
 pub mod WordLemmas
+pub mod BitLemmas
 pub mod CutLemmas
 pub mod WholeLemmas
 pub mod MarkLemmas

@@ -51,6 +51,11 @@ pub marks_of-get : (words : List ℕ) (n i word : ℕ) → i < n → word ≡ sl
 unfolding marks_of is_set
 marks_of-get words n i word lt is = ap (λ v. eqb (bit_at v (i % 64)) 1) is ∙ sym (table-get (is_set words) n i lt)
 
+-- a mark is a bit
+pub mark_bit : (words : List ℕ) (n i : ℕ) → i < n → slice_index_or (marks_of words n) i false ≡ is_set words i
+unfolding marks_of
+mark_bit words n i lt = table-get (is_set words) n i lt
+
 zero_unmarked : (words : List ℕ) (i : ℕ) → slice_index_or words (i / 64) 0 ≡ 0 → is_set words i ≡ false
 unfolding is_set
 zero_unmarked words i is = ap (λ v. eqb (bit_at v (i % 64)) 1) is ∙ ap (λ v. eqb v 1) (bit_at-zero (i % 64))
@@ -192,3 +197,9 @@ module _ (words : List ℕ) (width marks rows : ℕ) (seen : List (List Bool)) (
       let all = marks_seen q lt in
       let most : (c + 63) / 64 ≤ width = omega arith in
       row_inside width rows q ((c + 63) / 64) (length words) (omega arith) most long
+
+  pub row_bit : (q i : ℕ) → q < length seen → i < length (row_of seen q) → slice_index_or (row_of seen q) i false ≡ is_set words (64 * (width * q) + i)
+  unfolding row_at
+  row_bit q i lt low =
+      let all = marks_seen q lt in
+      ap (λ l. slice_index_or l i false) (sym (row_seen q lt)) ∙ table-get (λ k. is_set words (64 * (width * q) + k)) marks i (omega arith)

@@ -1,11 +1,12 @@
 //! What can be looked at only by calls that count.
 ghost use Rattle.std.specs.Prelude.{◌≡◌, ℕ, Bool, false, true, List, ◌+◌, ◌-◌, ◌^◌, ◌<◌, ◌≤◌, length};
-ghost use Rattle.std.specs.Prelude.{slice_index_or, slice_set, slice_get, Some, IfOk, replicate, eqb, ◌≢◌, ◌*◌};
+ghost use Rattle.std.specs.Prelude.{slice_index_or, slice_set, slice_get, Some, IfOk, replicate, eqb, ◌≢◌, ◌*◌, IsTrue, ◌↔◌};
 ghost use Rattle.std.specs.Prelude.{vec_len};
 ghost use Rattle.std.specs.Int.{bit_at};
 ghost use Rattle.std.specs.Prelude.{reverse};
 ghost use Rattle.sedmarks.specs.Bytes.{AreBytes, FirstAt, looked_at, in_order};
 ghost use Rattle.sedmarks.specs.Words.{marks_of};
+ghost use Rattle.sedre.specs.Words.{is_set};
 ghost use Rattle.sedre.specs.Steps.{Takes, Counted};
 
 mod node_marks;
@@ -294,6 +295,17 @@ impl Marks {
         clear_words(&mut self.words, count.div_ceil(64));
     }
 
+    /// Whether none of the first `count` marks is set, a word at a time. Counts a look for each of the `count`.
+    pub fn is_clear(&self, count: usize, steps: &mut Steps) -> bool
+        requires inside { count ≤ length self.now }
+        ensures clear { IsTrue result ↔ ((c : ℕ) → c < count → slice_index_or self.now c false ≡ false) }
+        ensures cost { Takes steps.old steps.new count }
+        ensures counts { Counted steps.old steps.new count }
+    {
+        steps.add(count);
+        are_clear(&self.words, count)
+    }
+
     /// A number made of the first `count` marks and the rest of their last word.
     /// Counts a look for each of the `count`.
     pub fn digest(&self, count: usize, steps: &mut Steps) -> u64
@@ -343,6 +355,31 @@ fn clear_words(words: &mut Vec<u64>, count: usize)
     for x in 0..count {
         words[x] = 0;
     }
+}
+
+/// The lowest bits of a word, at most `count` of them.
+fn lowest(word: u64, count: usize) -> u64
+    ensures inside { (k : ℕ) → k < count → bit_at result k ≡ bit_at word k }
+    ensures none { (k : ℕ) → count ≤ k → bit_at result k ≡ 0 }
+{
+    if count < 64 {
+        word & ((1u64 << count) - 1)
+    } else {
+        word
+    }
+}
+
+/// Whether none of the first `count` bits of the words is set.
+fn are_clear(words: &Vec<u64>, count: usize) -> bool
+    requires { count ≤ 64 * vec_len words.now }
+    ensures { IsTrue result ↔ ((c : ℕ) → c < count → is_set words.now.items c ≡ false) }
+{
+    for x in 0..count.div_ceil(64) {
+        if lowest(words[x], count - 64 * x) != 0 {
+            return false;
+        }
+    }
+    true
 }
 
 /// A number made of the first `count` words.

@@ -2,10 +2,11 @@
 use Rattle.std.proofs.Common.{◌≡◌, ℕ, zero, suc, ◌+◌, ◌-◌, ◌<◌, ◌≤◌, inl, inr, length, List, [], ◌∷◌, ◌++◌, Some, refl, ap, subst, ◌∙◌, sym, append_assoc, append-nil, arith, length-append}
 use Rattle.std.specs.Prelude.{slice_get}
 use Rattle.std.proofs.lemmas.Bool.Decides.{leb_tells}
+use Rattle.std.proofs.lemmas.Option.{slice_get_within}
 use Rattle.sedre.specs.declared.types.Node.{Node}
 use Rattle.sedre.specs.declared.types.Node.TheVariants as node
 use Rattle.sedre.specs.Tree.{Tree, empty, set, begin, end, seq, alt, group, star, opt, size}
-use Rattle.sedre.specs.Arena.{IsArena, tree_of, tree_at, IsExpr}
+use Rattle.sedre.specs.Arena.{IsArena, tree_of, tree_at, FollowsParts, IsExpr}
 use Rattle.sedre.specs.Packed.{id}
 use Rattle.sedre.specs.Finished.{Numbered}
 use Rattle.sedre.specs.Stacks.{postorder}
@@ -133,6 +134,59 @@ module _ (ns : List Node) (arena : IsArena ns) where
   sizes_fit (star a first) base x h lo hi = one_fits a (star a first) base x refl h (λ g. sizes_fit a base x h.0 lo g) hi
   sizes_fit (opt a first) base x h lo hi = one_fits a (opt a first) base x refl h (λ g. sizes_fit a base x h.0 lo g) hi
 
+  -- what stands at an index, told of an equal one
+  follows_at : (x y : ℕ) (own n : Node) → x ≡ y → slice_get ns y ≡ Some own → slice_get ns x ≡ Some n → FollowsParts ns y own → FollowsParts ns x n
+  follows_at x y own n e there is parts =
+      let at : slice_get ns x ≡ slice_get ns y = ap (slice_get ns) e in
+      let same : own ≡ n = cc in
+      subst (λ (m : Node). FollowsParts ns x m) same (subst (λ (k : ℕ). FollowsParts ns k own) (sym e) parts)
+
+  -- the parts of two and their node
+  two_follow : (a b : Tree) (base x : ℕ) (own n : Node) → slice_get ns (base + size a + size b) ≡ Some own → FollowsParts ns (base + size a + size b) own → slice_get ns x ≡ Some n →
+      (x < base + size a → FollowsParts ns x n) → (base + size a ≤ x → x < base + size a + size b → FollowsParts ns x n) → x < base + (1 + size a + size b) → FollowsParts ns x n
+  two_follow a b base x own n there parts is left right hi = elim (leb_tells (base + size a) x) [
+    | inr w ↦ left w.1
+    | inl w ↦ elim (leb_tells (base + size a + size b) x) [
+      | inr v ↦ right w.1 v.1
+      | inl v ↦ follows_at x (base + size a + size b) own n (omega (arith, v.1, hi)) there is parts
+    ]
+  ]
+
+  one_follows : (a : Tree) (base x : ℕ) (own n : Node) → slice_get ns (base + size a) ≡ Some own → FollowsParts ns (base + size a) own → slice_get ns x ≡ Some n →
+      (x < base + size a → FollowsParts ns x n) → x < base + (1 + size a) → FollowsParts ns x n
+  one_follows a base x own n there parts is inner hi = elim (leb_tells (base + size a) x) [
+    | inr w ↦ inner w.1
+    | inl w ↦ follows_at x (base + size a) own n (omega (arith, w.1, hi)) there is parts
+  ]
+
+  -- the last node of the right part, and with it that of the left one
+  right_size : (b : Tree) (base low : ℕ) → Holds ns (base + low) b → 0 < low → (base + low - 1) + size (tree_at ns (base + low + size b - 1)) + 1 ≡ base + low + size b
+  right_size b base low held some = omega (arith, some, ap size (root_is b (base + low) held))
+
+  last_part : (a : Tree) (base : ℕ) → (base + size a - 1) + 1 ≡ base + size a
+  last_part a base = omega (arith, size_positive a)
+
+  -- each node at the indices of a tree follows its parts
+  pub follow_parts : (t : Tree) (base x : ℕ) (n : Node) → Holds ns base t → base ≤ x → x < base + size t → slice_get ns x ≡ Some n → FollowsParts ns x n
+  follow_parts empty base x n h lo hi is = follows_at x base node.Empty n (omega (arith, lo, hi)) h is tt
+  follow_parts (set members) base x n h lo hi is = follows_at x base (node.Set members) n (omega (arith, lo, hi)) h is tt
+  follow_parts begin base x n h lo hi is = follows_at x base node.Begin n (omega (arith, lo, hi)) h is tt
+  follow_parts end base x n h lo hi is = follows_at x base node.End n (omega (arith, lo, hi)) h is tt
+  follow_parts (seq a b) base x n h lo hi is =
+      two_follow a b base x (node.Seq (id (base + size a - 1)) (id (base + size a + size b - 1))) n h.2
+      (right_size b base (size a) h.1 (size_positive a), last_part b (base + size a)) is
+      (λ g. follow_parts a base x n h.0 lo g is) (λ f g. follow_parts b (base + size a) x n h.1 f g is) hi
+  follow_parts (alt a b) base x n h lo hi is =
+      two_follow a b base x (node.Alt (id (base + size a - 1)) (id (base + size a + size b - 1))) n h.2
+      (right_size b base (size a) h.1 (size_positive a), last_part b (base + size a)) is
+      (λ g. follow_parts a base x n h.0 lo g is) (λ f g. follow_parts b (base + size a) x n h.1 f g is) hi
+  follow_parts (group k a) base x n h lo hi is =
+      one_follows a base x (node.Group k (id (base + size a - 1))) n h.1 (last_part a base) is (λ g. follow_parts a base x n h.0 lo g is) hi
+  follow_parts (star a first) base x n h lo hi is =
+      one_follows a base x (node.Star (id (base + size a - 1)) first) n h.1 (last_part a base) is (λ g. follow_parts a base x n h.0 lo g is) hi
+  follow_parts (opt a first) base x n h lo hi is =
+      one_follows a base x (node.Opt (id (base + size a - 1)) first) n h.1 (last_part a base) is (λ g. follow_parts a base x n h.0 lo g is) hi
+
 -- ---- the numbers of groups
 
 abbrev NumberedNode : ℕ → Node → Type 0
@@ -186,6 +240,7 @@ whole_expr t groups ns e g small =
     record {
       arena = arena;
       sizes = λ x h. omega (arith, sizes_fit ns arena t 0 x held (omega arith) (omega (arith, h, count)));
+      ranges = λ x n f. follow_parts ns arena t 0 x n held (omega arith) (omega (arith, slice_get_within ns x n f, count)) f;
       numbers = λ x k a f. number_at groups ns x (node.Group k a) (subst (AllNumbered groups) (sym e) (numbered_nodes groups 0 t g)) f;
       whole = ap size (whole_tree t ns e) ∙ sym count;
       few = omega (arith, count, small);

@@ -3,6 +3,7 @@ use Rattle.std.proofs.Common.{◌≡◌, ℕ, zero, suc, ◌+◌, ◌-◌, ◌<�
 use Rattle.std.specs.declared.alloc.AllocError.{AllocError}
 use Rattle.std.proofs.lemmas.Bool.Decides.{leb_tells}
 use Rattle.std.proofs.lemmas.List.{take_more, get_or_append_left}
+use Rattle.std.proofs.lemmas.Option.{slice_get-get_or}
 use Rattle.sedre.specs.declared.types.Node.{Node}
 use Rattle.sedre.specs.declared.types.Node.TheVariants as node
 use Rattle.sedre.specs.declared.packed.Entry.{Entry}
@@ -256,3 +257,22 @@ copied_view r old view new count e p = subst (λ (x : List Node). OnOk r (count 
 pub on_ok_map : (r : Result (Unit {0}) AllocError) (P Q : Type 0) → (P → Q) → OnOk r P → OnOk r Q
 on_ok_map (Ok u) P Q f p = f p
 on_ok_map (Err x) P Q f p = tt
+
+-- the set of a node is among the sets
+set_shape : (sets : List (List Bool)) (x : ℕ) (s : Shape) (left right : ℕ) (m : List Bool) → FitsShape sets x s left right → node_of sets x s left right ≡ node.Set m → (k : ℕ) × (slice_get sets k ≡ Some m)
+set_shape sets x shape.Set left right m p e = let same : get_or sets left [] ≡ m = cc in (left, slice_get-get_or sets left [] p ∙ ap (λ (s : List Bool). Some s) same)
+set_shape sets x shape.Empty left right m p e = absurd cc
+set_shape sets x shape.Begin left right m p e = absurd cc
+set_shape sets x shape.End left right m p e = absurd cc
+set_shape sets x shape.Seq left right m p e = absurd cc
+set_shape sets x shape.Alt left right m p e = absurd cc
+set_shape sets x shape.Group left right m p e = absurd cc
+set_shape sets x shape.FirstStar left right m p e = absurd cc
+set_shape sets x shape.Star left right m p e = absurd cc
+set_shape sets x shape.FirstOpt left right m p e = absurd cc
+set_shape sets x shape.Opt left right m p e = absurd cc
+
+pub set_listed : (sets : List (List Bool)) (base : ℕ) (es : List Entry) (x : ℕ) (m : List Bool) → FitFrom sets base es → slice_get (nodes_from sets base es) x ≡ Some (node.Set m) → (k : ℕ) × (slice_get sets k ≡ Some m)
+set_listed sets base [] x m p is = absurd cc
+set_listed sets base (e ∷ es) zero m p is = set_shape sets base e.shape e.left e.right m p.0 cc
+set_listed sets base (e ∷ es) (suc x) m p is = set_listed sets (base + 1) es x m p.1 is

@@ -68,6 +68,19 @@ tree e = tree_at e.nodes (length e.nodes - 1)
 abbrev pub SizesFit : List Node → Type 0
 SizesFit nodes = (x : ℕ) → x < length nodes → size (tree_at nodes x) ≤ x + 1
 
+-- the parts of the node x stand directly before it, the left one's tree directly before the right one's
+abbrev pub FollowsParts : List Node → ℕ → Node → Type 0
+FollowsParts nodes x (Seq a b) = (a.index + size (tree_at nodes b.index) + 1 ≡ x) × (b.index + 1 ≡ x)
+FollowsParts nodes x (Alt a b) = (a.index + size (tree_at nodes b.index) + 1 ≡ x) × (b.index + 1 ≡ x)
+FollowsParts nodes x (Group k a) = a.index + 1 ≡ x
+FollowsParts nodes x (Star a first) = a.index + 1 ≡ x
+FollowsParts nodes x (Opt a first) = a.index + 1 ≡ x
+FollowsParts nodes x other = Unit {0}
+
+-- so the nodes of each tree are a range of indices
+abbrev pub AreRanges : List Node → Type 0
+AreRanges nodes = (x : ℕ) (node : Node) → slice_get nodes x ≡ Some node → FollowsParts nodes x node
+
 -- the groups are numbered from 1 up to the given number
 abbrev pub GroupsWithin : List Node → ℕ → Type 0
 GroupsWithin nodes groups = (x k : ℕ) (a : NodeId) → slice_get nodes x ≡ Some (Group k a) → (1 ≤ k) × (k ≤ groups)
@@ -76,6 +89,7 @@ GroupsWithin nodes groups = (x k : ℕ) (a : NodeId) → slice_get nodes x ≡ S
 pub record IsExpr (nodes : List Node) (groups : ℕ) : Type 0 where
   pub arena : IsArena nodes
   pub sizes : SizesFit nodes
+  pub ranges : AreRanges nodes
   pub numbers : GroupsWithin nodes groups
   pub whole : size (tree_at nodes (length nodes - 1)) ≡ length nodes
   pub few : length nodes ≤ 65536

@@ -5,6 +5,7 @@ ghost use Rattle.sedre.specs.Packed.{node_at, nodes_from, Fits, FitFrom, star_sh
 ghost use Rattle.sedre.specs.Packed.{AddsSets, PartsBelow, numbered, shifted, entry_seen};
 ghost use Rattle.std.specs.Prelude.{option_map, true};
 ghost use Rattle.sedre.specs.Mirror.{node_seen};
+ghost use Rattle.sedre.specs.declared.types.Node.TheVariants.{Set};
 
 use crate::byte_set::ByteSet;
 use crate::types::{Node, NodeId};
@@ -277,6 +278,13 @@ impl Packed {
         ensures { result ≡ length self.now }
     {
         self.entries.len()
+    }
+
+    /// The sets, among them that of each node.
+    pub fn sets(&self) -> &[ByteSet]
+        ensures { (x : ℕ) (members : List Bool) → slice_get self.now x ≡ Some (Set members) → (k : ℕ) × (slice_get result.now k ≡ Some members) }
+    {
+        &self.sets
     }
 
     /// The node at an index.

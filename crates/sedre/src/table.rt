@@ -1,10 +1,12 @@
 //! Expressions as callers see them: nodes, each after its parts.
-ghost use Rattle.std.specs.Prelude.{◌≡◌, ◌<◌, ◌≤◌, ◌+◌, Some, IfOk, length, slice_get};
+ghost use Rattle.std.specs.Prelude.{◌≡◌, ◌<◌, ◌≤◌, ◌+◌, ℕ, Bool, List, Some, IfOk, length, slice_get};
+ghost use Rattle.sedre.specs.declared.types.Node.TheVariants.{Set};
 ghost use Rattle.std.specs.Prelude.{option_map};
 ghost use Rattle.sedre.specs.Arena.{Written, IsArena, IsExpr};
 ghost use Rattle.sedre.specs.Mirror.{node_seen};
 ghost use Rattle.sedre.specs.Steps.{Takes, Counted};
 
+use crate::byte_set::ByteSet;
 use crate::packed::Packed;
 use crate::steps::Steps;
 use crate::types::{Node, NodeId};
@@ -55,6 +57,14 @@ impl Expr {
         ensures few { length self.now.nodes ≤ 65536 }
     {
         self.nodes.len()
+    }
+
+    /// The sets of its nodes, with no more of them than the text that was read has.
+    pub fn sets(&self) -> &[ByteSet]
+        ensures { (x : ℕ) (members : List Bool) → slice_get self.now.nodes x ≡ Some (Set members) →
+            (k : ℕ) × (slice_get result.now k ≡ Some members) }
+    {
+        self.nodes.sets()
     }
 
     /// How many groups the text that was read has.

@@ -1,5 +1,5 @@
 //! Marks for the nodes of an expression.
-ghost use Rattle.std.specs.Prelude.{◌≡◌, ℕ, Bool, false, List, ◌<◌, ◌≤◌, length, slice_index_or, slice_set};
+ghost use Rattle.std.specs.Prelude.{◌≡◌, ℕ, Bool, false, List, ◌<◌, ◌≤◌, length, slice_index_or, slice_set, IsTrue, ◌↔◌};
 ghost use Rattle.sedre.specs.Steps.{Takes, Counted};
 
 use super::Marks;
@@ -69,6 +69,17 @@ impl NodeMarks {
         ensures counts { Counted steps.old steps.new count }
     {
         self.marks.clear(count, steps);
+    }
+
+    /// Whether none of the first `count` marks is set, a word at a time. Counts a look for each of the `count`.
+    #[inline(always)]
+    pub fn is_clear(&self, count: usize, steps: &mut Steps) -> bool
+        requires inside { count ≤ 65536 }
+        ensures clear { IsTrue result ↔ ((c : ℕ) → c < count → slice_index_or self.now c false ≡ false) }
+        ensures cost { Takes steps.old steps.new count }
+        ensures counts { Counted steps.old steps.new count }
+    {
+        self.marks.is_clear(count, steps)
     }
 
     /// A number made of the first `count` marks and the rest of their last word.

@@ -1,9 +1,10 @@
 //! Marks of several states, a row for each.
-ghost use Rattle.std.specs.Prelude.{◌≡◌, ◌≢◌, ℕ, Bool, List, ◌+◌, ◌*◌, ◌<◌, ◌≤◌, length, slice_index_or, vec_len, IfOk, IsTrue};
+ghost use Rattle.std.specs.Prelude.{◌≡◌, ◌≢◌, ℕ, Bool, List, ◌+◌, ◌*◌, ◌<◌, ◌≤◌, length, slice_index_or, vec_len, IfOk, IsTrue, ◌↔◌, false};
 ghost use Rattle.sedmarks.specs.Words.{AgreeBelow, rows_of, row_of};
 ghost use Rattle.sedre.specs.Steps.{Takes, Counted};
+ghost use Rattle.sedre.specs.Words.{is_set};
 
-use super::{Marks, NodeMarks, zero_words};
+use super::{Marks, NodeMarks, has_bit, lowest, zero_words};
 use sedre::Steps;
 use std::alloc::{AllocError, Global};
 use std::marker::Model;
@@ -92,6 +93,48 @@ impl Rows {
         ensures counts { Counted steps.old steps.new count }
     {
         self.same_marks(row, &marks.marks, count, steps)
+    }
+
+    /// Whether a mark of a row is set. Counts one look.
+    #[inline(always)]
+    pub fn get(&self, row: usize, i: usize, steps: &mut Steps) -> bool
+        requires row { row < length self.now }
+        requires inside { i < length (row_of self.now row) }
+        ensures mark { result ≡ slice_index_or (row_of self.now row) i false }
+        ensures cost { Takes steps.old steps.new 1 }
+        ensures counts { Counted steps.old steps.new 1 }
+    {
+        steps.add(1);
+        has_bit(self.words[self.width * row + i / 64], i % 64)
+    }
+
+    /// Whether some of the first `count` marks is set in a row and in one of others, a word at a time.
+    /// Counts a look for each of the `count`.
+    #[inline(always)]
+    pub fn meets(
+        &self,
+        row: usize,
+        other: &Rows,
+        other_row: usize,
+        count: usize,
+        steps: &mut Steps,
+    ) -> bool
+        requires row { row < length self.now }
+        requires other_row { other_row < length other.now }
+        requires inside { count ≤ length (row_of self.now row) }
+        requires there { count ≤ length (row_of other.now other_row) }
+        ensures meets { IsTrue result ↔ ((c : ℕ) × (c < count) × IsTrue (slice_index_or (row_of self.now row) c false) × IsTrue (slice_index_or (row_of other.now other_row) c false)) }
+        ensures cost { Takes steps.old steps.new count }
+        ensures counts { Counted steps.old steps.new count }
+    {
+        steps.add(count);
+        words_meet(
+            &self.words,
+            self.width * row,
+            &other.words,
+            other.width * other_row,
+            count,
+        )
     }
 
     /// Copies the first `count` marks of a row into `marks`, a word at a time; those after them may change too.
@@ -184,4 +227,18 @@ fn same_words(words: &Vec<u64>, at: usize, other: &Vec<u64>, count: usize) -> bo
         }
     }
     true
+}
+
+/// Whether some of the first `count` bits of the words from `at` on is set in those of `other` from `from` on too.
+fn words_meet(words: &Vec<u64>, at: usize, other: &Vec<u64>, from: usize, count: usize) -> bool
+    requires inside { 64 * at + count ≤ 64 * vec_len words.now }
+    requires there { 64 * from + count ≤ 64 * vec_len other.now }
+    ensures { IsTrue result ↔ ((c : ℕ) × (c < count) × IsTrue (is_set words.now.items (64 * at + c)) × IsTrue (is_set other.now.items (64 * from + c))) }
+{
+    for x in 0..count.div_ceil(64) {
+        if lowest(words[at + x] & other[from + x], count - 64 * x) != 0 {
+            return true;
+        }
+    }
+    false
 }

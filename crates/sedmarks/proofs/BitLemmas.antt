@@ -1,0 +1,113 @@
+-- The lowest bits of words.
+use Rattle.std.proofs.Common.{◌≡◌, ◌≢◌, ℕ, ◌+◌, ◌-◌, ◌*◌, ◌/◌, ◌%◌, ◌^◌, ◌<◌, ◌≤◌, ◌⊎◌, ◌↔◌, Bool, true, false, List, IsTrue, refl, sym, ap, ◌∙◌, subst, ⊎_elim, true≢false, arith, bit_and, w64, min}
+use Rattle.std.specs.Prelude.{eqb, slice_index_or}
+use Rattle.std.specs.Int.{bit_at, trailing_zeros}
+use Rattle.std.proofs.lemmas.Bool.{cases_lt, eqb-true}
+use Rattle.std.proofs.lemmas.Nat.{one_shl}
+use Rattle.std.proofs.lemmas.Nat.Bits.{bit_at-zero, bit_at_and, bit_at_ones, bit_at_ones_above, bit_at_above, bit_at-lt, bit_at-trailing_zeros}
+use Rattle.sedre.specs.Words.{is_set}
+
+pub lowest_inside : (word count k : ℕ) → count < 64 → k < count → bit_at (bit_and word (1 * 2 ^ count % 2 ^ 64 - 1)) k ≡ bit_at word k
+lowest_inside word count k small lt =
+    ap (λ v. bit_at (bit_and word (v - 1)) k) (one_shl count 64 small) ∙ bit_at_and word (2 ^ count - 1) k
+    ∙ ap (λ v. min (bit_at word k) v) (bit_at_ones count k lt) ∙ (let h = bit_at-lt word k in omega (arith, h))
+
+pub lowest_none : (word count k : ℕ) → count < 64 → count ≤ k → bit_at (bit_and word (1 * 2 ^ count % 2 ^ 64 - 1)) k ≡ 0
+lowest_none word count k small ge =
+    ap (λ v. bit_at (bit_and word (v - 1)) k) (one_shl count 64 small) ∙ bit_at_and word (2 ^ count - 1) k
+    ∙ ap (λ v. min (bit_at word k) v) (bit_at_ones_above count k ge) ∙ omega arith
+
+-- the bit of a number
+pub set_at : (words : List ℕ) (c x k : ℕ) → c ≡ 64 * x + k → k < 64 → is_set words c ≡ eqb (bit_at (slice_index_or words x 0) k) 1
+unfolding is_set
+set_at words c x k e lt =
+    let word : c / 64 ≡ x = omega arith in
+    let bit : c % 64 ≡ k = omega arith in
+    ap (λ v. eqb (bit_at (slice_index_or words v 0) (c % 64)) 1) word ∙ ap (λ v. eqb (bit_at (slice_index_or words x 0) v) 1) bit
+
+-- the lowest bits of a word are none
+pub low_none : (low word count k : ℕ) → low ≡ 0 → ((i : ℕ) → i < count → bit_at low i ≡ bit_at word i) → k < count → bit_at word k ≡ 0
+low_none low word count k none inside lt = sym (inside k lt) ∙ ap (λ v. bit_at v k) none ∙ bit_at-zero k
+
+-- or one of them is set
+pub low_some : (low word count : ℕ) → low ≢ 0 → low < 2 ^ 64 → ((i : ℕ) → i < count → bit_at low i ≡ bit_at word i) → ((i : ℕ) → count ≤ i → bit_at low i ≡ 0) →
+    (k : ℕ) × (k < count) × (k < 64) × (bit_at word k ≡ 1)
+low_some low word count some fits inside none =
+    let first = bit_at-trailing_zeros w64 low (omega (arith, some)) fits in
+    let k = trailing_zeros w64 low in
+    ⊎_elim
+    (λ (lt : k < count). (k, lt, first.0, sym (inside k lt) ∙ first.1))
+    (λ (ge : count ≤ k). let zero = none k ge in absurd (omega (arith, zero, first.1)))
+    (cases_lt k count)
+
+-- words without a bit up to a number
+pub clear_more : (words : List ℕ) (word low count x : ℕ) → word ≡ slice_index_or words x 0 → low ≡ 0 → ((i : ℕ) → i < count - 64 * x → bit_at low i ≡ bit_at word i) →
+    ((c : ℕ) → c < count → c < 64 * x → is_set words c ≡ false) → (c : ℕ) → c < count → c < 64 * (x + 1) → is_set words c ≡ false
+clear_more words word low count x is none inside before c lt up =
+    ⊎_elim
+    (λ (less : c < 64 * x). before c lt less)
+    (λ (ge : 64 * x ≤ c).
+    let k = c - 64 * x in
+    set_at words c x k (omega arith) (omega arith)
+    ∙ ap (λ v. eqb (bit_at v k) 1) (sym is)
+    ∙ ap (λ v. eqb v 1) (low_none low word (count - 64 * x) k none inside (omega arith)))
+    (cases_lt c (64 * x))
+
+-- one of which has a bit
+pub clear_not : (words : List ℕ) (word low count x : ℕ) → word ≡ slice_index_or words x 0 → low ≢ 0 → low < 2 ^ 64 → ((i : ℕ) → i < count - 64 * x → bit_at low i ≡ bit_at word i) → ((i : ℕ) → count - 64 * x ≤ i → bit_at low i ≡ 0) →
+    ((c : ℕ) → c < count → is_set words c ≡ false) → ⊥
+clear_not words word low count x is some fits inside none all =
+    let h = low_some low word (count - 64 * x) some fits inside none in
+    let k = h.0 in
+    let lt = h.1 in
+    let set = set_at words (64 * x + k) x k refl h.2 ∙ ap (λ v. eqb (bit_at v k) 1) (sym is) ∙ ap (λ v. eqb v 1) h.3 in
+    true≢false (sym set ∙ all (64 * x + k) (omega arith))
+
+-- rows that have a bit in common
+module _ (words other : List ℕ) (at from count : ℕ) where
+  abbrev pub Meet : ℕ → Type 0
+  Meet c = (c < count) × IsTrue (is_set words (64 * at + c)) × IsTrue (is_set other (64 * from + c))
+
+  here : (x k : ℕ) → k < 64 → IsTrue (is_set words (64 * at + (64 * x + k))) ↔ (bit_at (slice_index_or words (at + x) 0) k ≡ 1)
+  here x k lt =
+      let e = set_at words (64 * at + (64 * x + k)) (at + x) k (omega arith) lt in
+      (λ h. eqb-true (bit_at (slice_index_or words (at + x) 0) k) 1 (sym e ∙ h), λ h. e ∙ ap (λ v. eqb v 1) h)
+
+  there : (x k : ℕ) → k < 64 → IsTrue (is_set other (64 * from + (64 * x + k))) ↔ (bit_at (slice_index_or other (from + x) 0) k ≡ 1)
+  there x k lt =
+      let e = set_at other (64 * from + (64 * x + k)) (from + x) k (omega arith) lt in
+      (λ h. eqb-true (bit_at (slice_index_or other (from + x) 0) k) 1 (sym e ∙ h), λ h. e ∙ ap (λ v. eqb v 1) h)
+
+  pub meet_here : (x word two low : ℕ) → word ≡ slice_index_or words (at + x) 0 → two ≡ slice_index_or other (from + x) 0 → low ≢ 0 → low < 2 ^ 64 →
+      ((i : ℕ) → i < count - 64 * x → bit_at low i ≡ bit_at (bit_and word two) i) → ((i : ℕ) → count - 64 * x ≤ i → bit_at low i ≡ 0) → (c : ℕ) × Meet c
+  meet_here x word two low is is_two some fits inside none =
+      let h = low_some low (bit_and word two) (count - 64 * x) some fits inside none in
+      let k = h.0 in
+      let lt = h.1 in
+      let both = sym (bit_at_and word two k) ∙ h.3 in
+      let one : bit_at word k ≡ 1 = (let a = bit_at-lt word k in omega (arith, both, a)) in
+      let other_one : bit_at two k ≡ 1 = (let a = bit_at-lt two k in omega (arith, both, a)) in (
+        64 * x + k,
+        (
+          omega arith,
+          (here x k h.2).1 (ap (λ v. bit_at v k) (sym is) ∙ one),
+          (there x k h.2).1 (ap (λ v. bit_at v k) (sym is_two) ∙ other_one),
+        ),
+      )
+
+  pub meet_later : (x word two low : ℕ) → word ≡ slice_index_or words (at + x) 0 → two ≡ slice_index_or other (from + x) 0 → low ≡ 0 →
+      ((i : ℕ) → i < count - 64 * x → bit_at low i ≡ bit_at (bit_and word two) i) →
+      ((c : ℕ) → c < 64 * x → Meet c → ⊥) → (c : ℕ) → c < 64 * (x + 1) → Meet c → ⊥
+  meet_later x word two low is is_two none inside before c up met =
+      let low_c = met.0 in
+      ⊎_elim
+      (λ (less : c < 64 * x). before c less met)
+      (λ (ge : 64 * x ≤ c).
+      let k = c - 64 * x in
+      let e : c ≡ 64 * x + k = omega arith in
+      let small : k < 64 = omega arith in
+      let zero = sym (bit_at_and word two k) ∙ low_none low (bit_and word two) (count - 64 * x) k none inside (omega arith) in
+      let one = ap (λ v. bit_at v k) is ∙ (here x k small).0 (subst (λ v. IsTrue (is_set words (64 * at + v))) e met.1) in
+      let other_one = ap (λ v. bit_at v k) is_two ∙ (there x k small).0 (subst (λ v. IsTrue (is_set other (64 * from + v))) e met.2) in
+      omega (arith, zero, one, other_one))
+      (cases_lt c (64 * x))
