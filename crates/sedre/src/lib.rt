@@ -17,14 +17,14 @@ pub mod laws;
 mod mirrored;
 mod packed;
 mod parts;
-pub mod reader;
+mod reader;
 mod repeats;
 mod stack;
 mod steps;
 mod symbols;
 mod syntax;
 mod table;
-pub mod types;
+mod types;
 
 pub use byte_set::ByteSet;
 pub use delimiter::delimited;
