@@ -31,7 +31,7 @@ module _ (g : Setting) where
   stays s zero e = refl
   stays s (suc n) e = rw (stays s n e, e) refl
 
-  stays_still : (s : State) (n : ℕ) → move g s ≡ None → written g s n ≡ []
+  pub stays_still : (s : State) (n : ℕ) → move g s ≡ None → written g s n ≡ []
   unfolding written
   stays_still s zero e = refl
   stays_still s (suc n) e = rw (stays_still s n e, stays s n e, e) refl

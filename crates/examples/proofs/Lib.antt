@@ -5,9 +5,9 @@ mod CaseRunExamples
 mod ClassExamples
 mod CommandLineExamples
 mod ComputedEnds
-mod ComputedReading
-mod ComputedRun
-mod ComputedScript
+pub mod ComputedReading
+pub mod ComputedRun
+pub mod ComputedScript
 mod ComputedSearch
 mod CycleExamples
 mod DelimitedExamples
@@ -41,18 +41,18 @@ mod NestedGroupExamples
 mod NestedStarExamples
 mod NestedStarRunExamples
 mod OccurrenceExamples
-mod PieceReading
+pub mod PieceReading
 mod ProgramExamples
 mod ReportExamples
 mod RunExamples
 mod ScriptExamples
 mod ScriptMemoryFaultExamples
-mod ScriptWords
+pub mod ScriptWords
 mod SearchExamples
 mod SpaceRunExamples
 mod StandardExamples
 mod StringEnds
-mod StringReading
+pub mod StringReading
 mod SubstitutionFaultExamples
 mod SubstitutionRunExamples
 mod SymbolExamples
@@ -60,6 +60,6 @@ mod TextEnds
 mod TextExamples
 mod TextReading
 mod TextRunExamples
-mod WrittenEnds
+pub mod WrittenEnds
 mod WrittenExamples
-mod WrittenFaults
+pub mod WrittenFaults

@@ -1,0 +1,258 @@
+-- The laws of the famous scripts.
+use Rattle.std.proofs.Common.{◌≡◌, ◌≢◌, ◌⊎◌, inl, inr, ap₂, append-nil, append_assoc, ℕ, zero, suc, ◌+◌, ◌-◌, ◌^◌, ◌<◌, List, [], ◌∷◌, ◌++◌, length, map, take, drop, Bool, true, false, not, None, Some, refl, sym, ap, subst, ◌∙◌, arith}
+use Rattle.std.specs.Prelude.{codes, decimal, reverse}
+use Rattle.std.specs.List.{filter, flat_map}
+use Rattle.sedre.specs.Arena.{Written, tree}
+use Rattle.sedre.specs.Tree.{Tree}
+use Rattle.sedre.specs.declared.types.Kind.TheVariants.{Basic}
+use Rattle.sedscript.specs.declared.types.Action.TheVariants as action
+use Rattle.sedscript.specs.declared.types.Address.TheVariants.{Line, Last, Match}
+use Rattle.sedscript.specs.declared.substitution.Piece.{Piece}
+use Rattle.sedscript.specs.Addresses.{address_at, match_at, second_at, addresses_at}
+use Rattle.sedscript.specs.Bytes.{past}
+use Rattle.sedscript.specs.Functions.{name_from, text_from}
+use Rattle.sedscript.specs.Items.{function_at, item_at, substitute_at}
+use Rattle.sedscript.specs.Replacement.{GroupsWithin}
+use Rattle.sedscript.specs.Script.{Program, Means}
+use Rattle.sedspace.specs.Lines.{lines}
+use Rattle.sedengine.specs.Move.{line_to, newline, start, to_sink}
+use Rattle.std.specs.List.{list_any}
+use Rattle.std.proofs.lemmas.Bool.{eqb-true}
+use Rattle.sedmatch.specs.Matching.{found, report}
+use Rattle.sedspace.specs.Lines.{is_newline}
+use Rattle.sedengine.specs.Devices.{part}
+use Rattle.sedengine.specs.Substitute.{Occurrence}
+use Rattle.sedengine.proofs.Gains.{part-append, part-same, part-other}
+use Rattle.sedengine.specs.Run.{finds_in, match_with_span, search_in}
+use Rattle.sedengine.specs.Substitute.{occurrences, replaced_from}
+use Rattle.std.proofs.Math.Path.{fun_ext}
+use Rattle.sedre.specs.Delimited.{delimiter_at}
+use Rattle.sedre.specs.Intervals.{interval}
+use Rattle.sedre.specs.Items.{item_at as expression_item_at}
+use Rattle.sedre.specs.Sets.{set_of}
+use Rattle.sedscript.specs.Between.{substituted}
+use Rattle.sedscript.specs.declared.substitution.Piece.TheVariants.{Literal}
+use Rattle.examples.specs.WrittenReplacements.{written_pieces}
+use Rattle.examples.proofs.ComputedReading.{outcome, rest_of, written, tree_of_written}
+use Rattle.examples.proofs.ComputedScript.{verdict, cutting, walked}
+use Rattle.examples.proofs.ScriptWords.{always, at, from_to, unless}
+use Rattle.scripts.specs.Edited.{Ends, Sends, text_of, Writes}
+use Rattle.scripts.specs.Slashed.{IsSlashed}
+use Rattle.scripts.specs.Words.{numbered, odd_ones, replaced, has_none, in_one}
+use Rattle.scripts.proofs.Meanings.{of_commands, meant}
+use Rattle.scripts.proofs.Numbers.{quit_means, cut_means}
+use Rattle.scripts.proofs.Slashes.{with_expression, delete_means, print_means}
+use Rattle.scripts.proofs.Plain.{empty_run, quiet_run, twice_run, once_run, number_run, delete_run, print_run, quit_run, cut_run, half_run, tee_run, twofold}
+use Rattle.scripts.proofs.Holding.{turned_run, pair_run}
+use Rattle.scripts.proofs.Finding.{deletes_run, prints_run, replaces_by, replaces_run, replacing, with_replaced}
+use Rattle.scripts.proofs.Joining.{SeeksNewlines, joins_run}
+use Rattle.scripts.proofs.Newlines.{newline_alone, none_found, next_found}
+use Rattle.scripts.proofs.Substituting.{substitutes, substitute_means}
+use Rattle.scripts.proofs.LineLaws.{NoneBroken, lines_none_broken}
+use Rattle.scripts.proofs.Cycles.{ends_there}
+use Rattle.scripts.proofs.Links.{OneMeaning, sends, one_alone, setting, sought}
+
+-- ---- what the texts mean
+
+empty_means : Means (codes "") Basic 65536 (of_commands [] [])
+unfolding verdict cutting walked item_at past function_at addresses_at address_at second_at text_from name_from
+empty_means = meant _ _ refl
+
+print_means' : Means (codes "p") Basic 65536 (of_commands (always action.Print ∷ []) [])
+unfolding verdict cutting walked item_at past function_at addresses_at address_at second_at text_from name_from
+print_means' = meant _ _ refl
+
+number_means : Means (codes "=") Basic 65536 (of_commands (always action.LineNumber ∷ []) [])
+unfolding verdict cutting walked item_at past function_at addresses_at address_at second_at text_from name_from
+number_means = meant _ _ refl
+
+not_last_means : Means (codes "$!d") Basic 65536 (of_commands (unless (at Last action.Delete) ∷ []) [])
+unfolding verdict cutting walked item_at past function_at addresses_at address_at second_at text_from name_from
+not_last_means = meant _ _ refl
+
+last_means : Means (codes "$p") Basic 65536 (of_commands (at Last action.Print ∷ []) [])
+unfolding verdict cutting walked item_at past function_at addresses_at address_at second_at text_from name_from
+last_means = meant _ _ refl
+
+half_means : Means (codes "n;d") Basic 65536 (of_commands (always action.NextLine ∷ always action.Delete ∷ []) [])
+unfolding verdict cutting walked item_at past function_at addresses_at address_at second_at text_from name_from
+half_means = meant _ _ refl
+
+turned_means : Means (codes "1!G;h;$!d") Basic 65536 (of_commands (unless (at (Line 1) action.AppendHold) ∷ always action.Hold ∷ unless (at Last action.Delete) ∷ []) [])
+unfolding verdict cutting walked item_at past function_at addresses_at address_at second_at text_from name_from
+turned_means = meant _ _ refl
+
+pairs_means : Means (codes "$!N;P;D") Basic 65536 (of_commands (unless (at Last action.AppendNext) ∷ always action.PrintFirst ∷ always action.DeleteFirst ∷ []) [])
+unfolding verdict cutting walked item_at past function_at addresses_at address_at second_at text_from name_from
+pairs_means = meant _ _ refl
+
+file_means : Means (codes "w f") Basic 65536 (of_commands (always (action.WriteFile 1) ∷ []) (codes "f" ∷ []))
+unfolding verdict cutting walked item_at past function_at addresses_at address_at second_at text_from name_from
+file_means = meant _ _ refl
+
+-- ---- the laws
+
+module _ (one : OneMeaning) where
+  pub empty_law : (input : List ℕ) → Writes false (codes "") input (lines input) × Writes true (codes "") input []
+  empty_law input = (
+    sends one false (codes "") input (to_sink 0 (text_of (lines input))) (of_commands [] []) empty_means (λ es files same. empty_run (finds_in es) (search_in es) files (lines input) 0 0),
+    sends one true (codes "") input [] (of_commands [] []) empty_means (λ es files same. quiet_run (finds_in es) (search_in es) files (lines input) 0 0),
+  )
+
+  pub print_law : (input : List ℕ) → Writes false (codes "p") input (flat_map (λ line. line ∷ line ∷ []) (lines input)) × Writes true (codes "p") input (lines input)
+  print_law input = (
+    sends one false (codes "p") input (to_sink 0 (text_of (flat_map (λ line. line ∷ line ∷ []) (lines input)))) (of_commands (always action.Print ∷ []) []) print_means' (λ es files same. twice_run (finds_in es) (search_in es) files (lines input) 0 0),
+    sends one true (codes "p") input (to_sink 0 (text_of (lines input))) (of_commands (always action.Print ∷ []) []) print_means' (λ es files same. once_run (finds_in es) (search_in es) files (lines input) 0 0),
+  )
+
+  pub number_law : (input : List ℕ) → Writes false (codes "=") input (numbered 1 (lines input))
+  number_law input = sends one false (codes "=") input (to_sink 0 (text_of (numbered 1 (lines input)))) (of_commands (always action.LineNumber ∷ []) []) number_means (λ es files same. number_run (finds_in es) (search_in es) files (lines input) 0 0)
+
+  pub last_law : (input : List ℕ) → Writes false (codes "$!d") input (drop (length (lines input) - 1) (lines input)) × Writes true (codes "$p") input (drop (length (lines input) - 1) (lines input))
+  last_law input = (
+    sends one false (codes "$!d") input (to_sink 0 (text_of (drop (length (lines input) - 1) (lines input)))) (of_commands (unless (at Last action.Delete) ∷ []) []) not_last_means (λ es files same. delete_run (finds_in es) (search_in es) files (lines input) 0 0),
+    sends one true (codes "$p") input (to_sink 0 (text_of (drop (length (lines input) - 1) (lines input)))) (of_commands (at Last action.Print ∷ []) []) last_means (λ es files same. print_run (finds_in es) (search_in es) files (lines input) 0 0),
+  )
+
+  pub half_law : (input : List ℕ) → Writes false (codes "n;d") input (odd_ones (lines input))
+  half_law input = sends one false (codes "n;d") input (to_sink 0 (text_of (odd_ones (lines input)))) (of_commands (always action.NextLine ∷ always action.Delete ∷ []) []) half_means (λ es files same. half_run (finds_in es) (search_in es) files (lines input) 0 0)
+
+  pub turned_law : (input : List ℕ) → Writes false (codes "1!G;h;$!d") input (reverse (lines input))
+  turned_law input = sends one false (codes "1!G;h;$!d") input (to_sink 0 (text_of (reverse (lines input)))) (of_commands (unless (at (Line 1) action.AppendHold) ∷ always action.Hold ∷ unless (at Last action.Delete) ∷ []) []) turned_means (λ es files same. turned_run (finds_in es) (search_in es) files (lines input))
+
+  pub pairs_law : (input : List ℕ) → Writes false (codes "$!N;P;D") input (lines input)
+  pairs_law input = sends one false (codes "$!N;P;D") input (to_sink 0 (text_of (lines input))) (of_commands (unless (at Last action.AppendNext) ∷ always action.PrintFirst ∷ always action.DeleteFirst ∷ []) []) pairs_means (λ es files same. pair_run (finds_in es) (search_in es) files (lines input) (lines_none_broken input))
+
+  -- ---- numbers
+
+  first_run : (n : ℕ) (input : List ℕ) → suc n < 2 ^ 64 → Writes false (decimal (suc n) ++ codes "q") input (take (suc n) (lines input))
+  first_run n input h = sends one false (decimal (suc n) ++ codes "q") input (to_sink 0 (text_of (take (suc n) (lines input)))) (of_commands (at (Line (suc n)) action.Quit ∷ []) []) (quit_means n h)
+      (λ es files same. quit_run (finds_in es) (search_in es) files (suc n) n (lines input) 0 0 (omega arith))
+
+  pub first_law : (n : ℕ) (input : List ℕ) → 0 < n → n < 2 ^ 64 → Writes false (decimal n ++ codes "q") input (take n (lines input))
+  first_law zero input some h = absurd (omega arith)
+  first_law (suc n) input some h = first_run n input h
+
+  cut_out : (n m : ℕ) (input : List ℕ) → n < m → suc n < 2 ^ 64 → suc m < 2 ^ 64 → Writes false (decimal (suc n) ++ (codes "," ++ (decimal (suc m) ++ codes "d"))) input (take n (lines input) ++ drop (suc m) (lines input))
+  cut_out n m input less h k =
+      sends one false (decimal (suc n) ++ (codes "," ++ (decimal (suc m) ++ codes "d"))) input (to_sink 0 (text_of (take n (lines input) ++ drop (suc m) (lines input)))) (of_commands (from_to (Line (suc n)) (Line (suc m)) action.Delete ∷ []) []) (cut_means n m h k)
+      (λ es files same. cut_run (finds_in es) (search_in es) files (suc n) (suc m) n m (lines input) 0 0 (omega arith) (omega arith) less)
+
+  pub cut_law : (n m : ℕ) (input : List ℕ) → 0 < n → n < m → m < 2 ^ 64 → Writes false (decimal n ++ (codes "," ++ (decimal m ++ codes "d"))) input (take (n - 1) (lines input) ++ drop m (lines input))
+  cut_law zero m input some less h = absurd (omega arith)
+  cut_law (suc n) zero input some less h = absurd (omega arith)
+  cut_law (suc n) (suc m) input some less h =
+      let before : suc n - 1 ≡ n = omega arith in
+      subst (λ k. Writes false (decimal (suc n) ++ (codes "," ++ (decimal (suc m) ++ codes "d"))) input (take k (lines input) ++ drop (suc m) (lines input))) (sym before) (cut_out n m input (omega arith) (omega arith) h)
+
+  -- ---- expressions
+
+  filtered : (t : Tree) (e : Written) → tree e ≡ t → (ls : List (List ℕ)) → filter (λ line. not (finds_in (e ∷ []) 0 line)) ls ≡ filter (has_none t) ls
+  filtered t e same ls = ap (λ t. filter (has_none t) ls) same
+
+  pub without_law : (re : List ℕ) (t : Tree) (groups : ℕ) (input : List ℕ) → IsSlashed re t groups →
+      Writes false (codes "/" ++ (re ++ codes "/d")) input (filter (has_none t) (lines input)) × Writes true (codes "/" ++ (re ++ codes "/!p")) input (filter (has_none t) (lines input))
+  without_law re t groups input is =
+      let deletes = with_expression (written t groups) (of_commands (at (Match (Some 0)) action.Delete ∷ []) []) in
+      let prints = with_expression (written t groups) (of_commands (unless (at (Match (Some 0)) action.Print) ∷ []) []) in (
+        sends one false (codes "/" ++ (re ++ codes "/d")) input (to_sink 0 (text_of (filter (has_none t) (lines input)))) deletes (delete_means re t groups is)
+            (λ es files same.
+            let e = one_alone t es (ap (λ t. t ∷ []) (sym (tree_of_written t groups)) ∙ same) in
+            subst (λ es. Ends (setting deletes.commands [] [] [] false es files) (start deletes.commands (lines input)) (to_sink 0 (text_of (filter (has_none t) (lines input))))) (sym e.1)
+            (subst (λ ls. Ends (setting deletes.commands [] [] [] false (e.0 ∷ []) files) (start deletes.commands (lines input)) (to_sink 0 (text_of ls))) (filtered t e.0 e.2 (lines input)) (deletes_run (finds_in (e.0 ∷ [])) (search_in (e.0 ∷ [])) files (lines input) 0 (false, None, 0)))),
+        sends one true (codes "/" ++ (re ++ codes "/!p")) input (to_sink 0 (text_of (filter (has_none t) (lines input)))) prints (print_means re t groups is)
+            (λ es files same.
+            let e = one_alone t es (ap (λ t. t ∷ []) (sym (tree_of_written t groups)) ∙ same) in
+            subst (λ es. Ends (setting prints.commands [] [] [] true es files) (start prints.commands (lines input)) (to_sink 0 (text_of (filter (has_none t) (lines input))))) (sym e.1)
+            (subst (λ ls. Ends (setting prints.commands [] [] [] true (e.0 ∷ []) files) (start prints.commands (lines input)) (to_sink 0 (text_of ls))) (filtered t e.0 e.2 (lines input)) (prints_run (finds_in (e.0 ∷ [])) (search_in (e.0 ∷ [])) files (lines input) 0 (false, None, 0)))),
+      )
+
+  replaced_run : (t : Tree) (pieces : List Piece) (e : Written) → tree e ≡ t → (files : ℕ → List ℕ) (ls : List (List ℕ)) →
+      Ends (replaces_by (finds_in (e ∷ [])) (search_in (e ∷ [])) files 1 true pieces) (start (always (action.Substitute 0) ∷ []) ls) (to_sink 0 (text_of (map (replaced t pieces) ls)))
+  replaced_run t pieces e same files ls =
+      let alike : (w : List ℕ) → with_replaced (finds_in (e ∷ [])) (search_in (e ∷ [])) files 1 true pieces w ≡ replaced t pieces w = λ w. ap (λ f. replaced_from w pieces 0 (occurrences f (length w))) (sought t e same w) in
+      subst (λ f. Ends (replaces_by (finds_in (e ∷ [])) (search_in (e ∷ [])) files 1 true pieces) (start (always (action.Substitute 0) ∷ []) ls) (to_sink 0 (text_of (map f ls)))) (fun_ext alike)
+      (replaces_run (finds_in (e ∷ [])) (search_in (e ∷ [])) files 1 true pieces ls 0 (false, None, 0))
+
+  pub replaced_law : (re : List ℕ) (t : Tree) (groups : ℕ) (pieces : List Piece) (input : List ℕ) → IsSlashed re t groups → GroupsWithin 9 pieces → GroupsWithin groups pieces →
+      Writes false (codes "s/" ++ (re ++ (codes "/" ++ (written_pieces 47 pieces ++ codes "/g")))) input (map (replaced t pieces) (lines input))
+  replaced_law re t groups pieces input is nine have =
+      let text : List ℕ = codes "s/" ++ (re ++ (codes "/" ++ (written_pieces 47 pieces ++ codes "/g"))) in
+      let out : List (ℕ × ℕ) = to_sink 0 (text_of (map (replaced t pieces) (lines input))) in
+      let p : Program = substitutes re t groups is pieces nine have pieces in
+      sends one false text input out p (substitute_means re t groups is pieces nine have)
+      (λ es files same.
+      let e = one_alone t es (ap (λ t. t ∷ []) (sym (tree_of_written t groups)) ∙ same) in
+      subst (λ es. Ends (setting p.commands [] p.substitutions [] false es files) (start p.commands (lines input)) out) (sym e.1) (replaced_run t pieces e.0 e.2 files (lines input)))
+
+  -- ---- `:a;$!{N;ba;};s/\n/,/g`
+
+  abbrev joining : Program
+  joining = with_expression (written newline_alone 0) (record (of_commands (unless (at Last (action.Block 3)) ∷ always action.AppendNext ∷ always (action.Branch 0) ∷ always (action.Substitute 0) ∷ []) []) {
+    substitutions = replacing 1 true (Literal 44 ∷ []) ∷ [];
+  })
+
+  joining_means : Means (codes ":a;$!{N;ba;};s/\\n/,/g") Basic 65536 joining
+  unfolding verdict cutting walked item_at past function_at addresses_at address_at second_at text_from name_from match_at substitute_at substituted delimiter_at outcome rest_of expression_item_at interval set_of
+  joining_means = meant _ _ refl
+
+  first_newline : (left : List ℕ) → (list_any is_newline left ≡ false) ⊎ ((before : List ℕ) × (behind : List ℕ) × (left ≡ before ++ 10 ∷ behind) × (list_any is_newline before ≡ false))
+  first_newline [] = inl refl
+  first_newline (b ∷ bs) = by_test (is_newline b) refl (first_newline bs)
+    where
+      by_test : (t : Bool) → is_newline b ≡ t → (list_any is_newline bs ≡ false) ⊎ ((before : List ℕ) × (behind : List ℕ) × (bs ≡ before ++ 10 ∷ behind) × (list_any is_newline before ≡ false)) →
+          (list_any is_newline (b ∷ bs) ≡ false) ⊎ ((before : List ℕ) × (behind : List ℕ) × (b ∷ bs ≡ before ++ 10 ∷ behind) × (list_any is_newline before ≡ false))
+      by_test true e rest = inr ([], bs, ap (λ c. c ∷ bs) (eqb-true b 10 e), refl)
+      by_test false e (inl h) = inl (rw e h)
+      by_test false e (inr h) = inr (b ∷ h.0, h.1, ap (λ (x : List ℕ). b ∷ x) h.2, rw e h.3)
+
+  seeks_newlines : (e : Written) → tree e ≡ newline_alone → SeeksNewlines (search_in (e ∷ []))
+  seeks_newlines e same passed left = elim (first_newline left) [
+    | inl h ↦ inl (h, ap (λ t. match_with_span e (passed ++ left) (found t (passed ++ left) (length passed))) same ∙ ap (match_with_span e (passed ++ left)) (none_found passed left h))
+    | inr h ↦
+        let w : List ℕ = passed ++ left in
+        let i : ℕ = length passed + length h.0 in
+        let m : Occurrence = record { start = i; end = i + 1; groups = report (tree e) w i (i + 1) } in
+        let there : found newline_alone w (length passed) ≡ Some (i, i + 1) = rw h.2 (next_found passed h.0 h.1 h.3) in
+        inr (h.0, h.1, m, h.2, h.3, ap (λ t. match_with_span e w (found t w (length passed))) same ∙ ap (match_with_span e w) there, refl, refl)
+  ]
+
+  joins_any : (e : Written) → tree e ≡ newline_alone → (files : ℕ → List ℕ) (ls : List (List ℕ)) → NoneBroken ls →
+      Ends (setting joining.commands [] joining.substitutions [] false (e ∷ []) files) (start joining.commands ls) (to_sink 0 (text_of (in_one ls)))
+  joins_any e same files [] none = ends_there (setting joining.commands [] joining.substitutions [] false (e ∷ []) files) 0 [] false (false ∷ false ∷ false ∷ false ∷ []) None 0
+  joins_any e same files (line ∷ rest) none = joins_run (search_in (e ∷ [])) (seeks_newlines e same) (finds_in (e ∷ [])) files line rest none
+
+  pub joined_law : (input : List ℕ) → Writes false (codes ":a;$!{N;ba;};s/\\n/,/g") input (in_one (lines input))
+  joined_law input =
+      let out : List (ℕ × ℕ) = to_sink 0 (text_of (in_one (lines input))) in
+      sends one false (codes ":a;$!{N;ba;};s/\\n/,/g") input out joining joining_means
+      (λ es files same.
+      let e = one_alone newline_alone es (ap (λ t. t ∷ []) (sym (tree_of_written newline_alone 0)) ∙ same) in
+      subst (λ es. Ends (setting joining.commands [] joining.substitutions [] false es files) (start joining.commands (lines input)) out) (sym e.1) (joins_any e.0 e.2 files (lines input) (lines_none_broken input)))
+
+  -- ---- `w f`
+
+  one_not_zero : ◌≢◌ {A = ℕ} 1 0
+  one_not_zero e = absurd cc
+
+  zero_not_one : ◌≢◌ {A = ℕ} 0 1
+  zero_not_one e = absurd cc
+
+  part_of_line : (k : ℕ) → (k ≡ 0) ⊎ (k ≡ 1) → (line : List ℕ) → part k (line_to 1 line ++ line_to 0 line) ≡ line ++ newline ∷ []
+  part_of_line k (inl e) line = rw e (part-append 0 (line_to 1 line) (line_to 0 line) ∙ ap₂ (λ x y. x ++ y) (part-other 1 0 (line ++ newline ∷ []) one_not_zero) (part-same 0 (line ++ newline ∷ [])))
+  part_of_line k (inr e) line = rw e (part-append 1 (line_to 1 line) (line_to 0 line) ∙ ap₂ (λ x y. x ++ y) (part-same 1 (line ++ newline ∷ [])) (part-other 0 1 (line ++ newline ∷ []) zero_not_one) ∙ append-nil (line ++ newline ∷ []))
+
+  part_of_lines : (k : ℕ) → (k ≡ 0) ⊎ (k ≡ 1) → (ls : List (List ℕ)) → part k (twofold (λ j w. false) (λ j w from. None) (λ j. []) ls) ≡ text_of ls
+  part_of_lines k is [] = refl
+  part_of_lines k is (line ∷ rest) =
+      part-append k (line_to 1 line ++ line_to 0 line) (twofold (λ j w. false) (λ j w from. None) (λ j. []) rest)
+      ∙ ap₂ (λ x y. x ++ y) (part_of_line k is line) (part_of_lines k is rest) ∙ append_assoc line (newline ∷ []) (text_of rest)
+
+  pub file_law : (input : List ℕ) → (out : List (ℕ × ℕ)) × Sends false (codes "w f") input out × (part 1 out ≡ text_of (lines input)) × (part 0 out ≡ text_of (lines input))
+  file_law input =
+      let out : List (ℕ × ℕ) = twofold (λ j w. false) (λ j w from. None) (λ j. []) (lines input) in (
+        out,
+        sends one false (codes "w f") input out (of_commands (always (action.WriteFile 1) ∷ []) (codes "f" ∷ [])) file_means (λ es files same. tee_run (finds_in es) (search_in es) files (lines input) 0 0),
+        part_of_lines 1 (inr refl) (lines input),
+        part_of_lines 0 (inl refl) (lines input),
+      )

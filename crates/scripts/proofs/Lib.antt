@@ -1,0 +1,15 @@
+mod Cycles
+mod Plain
+mod LineLaws
+mod Holding
+mod Finding
+mod Apart
+mod Joining
+mod Meanings
+mod Numbers
+mod Slashes
+mod Newlines
+mod Substituting
+mod Links
+mod Famous
+mod Cutting

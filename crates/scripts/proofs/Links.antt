@@ -1,0 +1,72 @@
+-- From the bytes of a script to its runs.
+use Rattle.std.proofs.Common.{◌≡◌, ℕ, List, [], ◌∷◌, map, Bool, ◌||◌, Option, None, Some, refl, ap, subst, ◌∙◌}
+use Rattle.std.proofs.Math.Path.{fun_ext}
+use Rattle.sedre.specs.Arena.{Written, tree}
+use Rattle.sedre.specs.Tree.{Tree}
+use Rattle.sedre.specs.declared.types.Kind.{Kind}
+use Rattle.sedre.specs.declared.types.Kind.TheVariants.{Basic}
+use Rattle.sedmatch.specs.Matching.{found}
+use Rattle.sedscript.specs.declared.types.Command.{Command}
+use Rattle.sedscript.specs.declared.substitution.Substitution.{Substitution}
+use Rattle.sedscript.specs.Script.{Program, Means}
+use Rattle.sedspace.specs.Lines.{lines}
+use Rattle.sedengine.specs.State.{Setting}
+use Rattle.sedengine.specs.Move.{start}
+use Rattle.sedengine.specs.Run.{match_with_span, search_in, finds_in}
+use Rattle.scripts.specs.Edited.{Ends, Sends}
+use Rattle.scripts.specs.Words.{match_with}
+
+-- what the law `one_meaning` of sedscript says
+abbrev pub OneMeaning : Type 0
+OneMeaning = (text : List ℕ) (kind : Kind) (max_nodes : ℕ) (s t : Program) → Means text kind max_nodes s → Means text kind max_nodes t →
+    (s.commands ≡ t.commands) × (s.texts ≡ t.texts) × (s.substitutions ≡ t.substitutions) × (s.tables ≡ t.tables)
+    × (s.rfiles ≡ t.rfiles) × (s.wfiles ≡ t.wfiles) × (s.quiet ≡ t.quiet) × (s.max_nodes ≡ t.max_nodes)
+    × (map tree s.expressions ≡ map tree t.expressions) × (map (λ e. e.groups) s.expressions ≡ map (λ e. e.groups) t.expressions)
+
+abbrev pub setting : List Command → List (List ℕ) → List Substitution → List (List ℕ) → Bool → List Written → (ℕ → List ℕ) → Setting
+setting commands texts substitutions tables quiet expressions files = record {
+  commands = commands;
+  texts = texts;
+  substitutions = substitutions;
+  tables = tables;
+  finds = finds_in expressions;
+  search = search_in expressions;
+  quiet = quiet;
+  files = files;
+}
+
+same_run : (c c' : List Command) (tx tx' : List (List ℕ)) (sb sb' : List Substitution) (tb tb' : List (List ℕ)) (q q' : Bool) (es : List Written) (files : ℕ → List ℕ) (ls : List (List ℕ)) (out : List (ℕ × ℕ)) →
+    c ≡ c' → tx ≡ tx' → sb ≡ sb' → tb ≡ tb' → q ≡ q' → Ends (setting c tx sb tb q es files) (start c ls) out → Ends (setting c' tx' sb' tb' q' es files) (start c' ls) out
+same_run c c' tx tx' sb sb' tb tb' q q' es files ls out a b d e f h =
+    subst (λ c. Ends (setting c tx' sb' tb' q' es files) (start c ls) out) a
+    (subst (λ tx. Ends (setting c tx sb' tb' q' es files) (start c ls) out) b
+    (subst (λ sb. Ends (setting c tx sb tb' q' es files) (start c ls) out) d
+    (subst (λ tb. Ends (setting c tx sb tb q' es files) (start c ls) out) e
+    (subst (λ q. Ends (setting c tx sb tb q es files) (start c ls) out) f h))))
+
+-- The runs of any script that the text means are those of this one, whatever its expressions are as long as they have these
+-- trees.
+pub sends : OneMeaning → (quiet : Bool) (text input : List ℕ) (out : List (ℕ × ℕ)) (p : Program) → Means text Basic 65536 p →
+    ((es : List Written) (files : ℕ → List ℕ) → map tree p.expressions ≡ map tree es →
+    Ends (setting p.commands p.texts p.substitutions p.tables (quiet || p.quiet) es files) (start p.commands (lines input)) out) → Sends quiet text input out
+sends one quiet text input out p meant runs = record {
+  means = (p, meant);
+  edits = λ q files m.
+      let same = one text Basic 65536 p q meant m in
+      same_run p.commands q.commands p.texts q.texts p.substitutions q.substitutions p.tables q.tables (quiet || p.quiet) (quiet || q.quiet) q.expressions files (lines input) out
+      same.0 same.1 same.2 same.3 (ap (λ b. quiet || b) same.6) (runs q.expressions files same.8);
+}
+
+-- one expression, by its tree
+pub one_alone : (t : Tree) (es : List Written) → t ∷ [] ≡ map tree es → (e : Written) × (es ≡ e ∷ []) × (tree e ≡ t)
+one_alone t [] h = absurd cc
+one_alone t (e ∷ []) h = (e, refl, cc)
+one_alone t (e ∷ f ∷ es) h = absurd cc
+
+found_by : (e : Written) (w : List ℕ) (o : Option (ℕ × ℕ)) → match_with_span e w o ≡ match_with (tree e) w o
+found_by e w None = refl
+found_by e w (Some span) = refl
+
+-- how an expression of this tree is sought
+pub sought : (t : Tree) (e : Written) → tree e ≡ t → (w : List ℕ) → search_in (e ∷ []) 0 w ≡ (λ from. match_with t w (found t w from))
+sought t e same w = fun_ext (λ from. found_by e w (found (tree e) w from) ∙ ap (λ t. match_with t w (found t w from)) same)

@@ -1,0 +1,36 @@
+-- What a script makes of an input, from the bytes of both (XCU sed, Extended Description).
+use Rattle.std.specs.Prelude.{◌≡◌, ℕ, Bool, ◌||◌, List, [], ◌∷◌, ◌++◌}
+use Rattle.sedre.specs.declared.types.Kind.TheVariants.{Basic}
+use Rattle.sedscript.specs.Script.{Program, Means}
+use Rattle.sedspace.specs.Lines.{lines}
+use Rattle.sedengine.specs.State.{State, Setting}
+use Rattle.sedengine.specs.Move.{newline, after, start, to_sink, written}
+use Rattle.sedengine.specs.Run.{setting_of}
+
+-- a run from a state comes to its end, and has written these bytes, each to its sink
+pub record Ends (g : Setting) (s : State) (out : List (ℕ × ℕ)) : Type 0 where
+  pub moves : ℕ
+  pub ended : (after g s moves).tasks ≡ []
+  pub wrote : written g s moves ≡ out
+
+-- a run of this script over the lines of these bytes does so
+abbrev pub Edits : Program → (ℕ → List ℕ) → (input : List ℕ) → (out : List (ℕ × ℕ)) → Type 0
+Edits p files input out = Ends (setting_of p files) (start p.commands (lines input)) out
+
+-- a script with the option -n, where that is given
+abbrev pub with_option : Bool → Program → Program
+with_option quiet p = record p { quiet = quiet || p.quiet }
+
+-- The text means a script, and whatever the files are that it reads, a run of it ends and has written these bytes.
+pub record Sends (quiet : Bool) (text input : List ℕ) (out : List (ℕ × ℕ)) : Type 0 where
+  pub means : (p : Program) × Means text Basic 65536 p
+  pub edits : (p : Program) (files : ℕ → List ℕ) → Means text Basic 65536 p → Edits (with_option quiet p) files input out
+
+-- lines, each with its newline
+abbrev pub text_of : List (List ℕ) → List ℕ
+text_of [] = []
+text_of (line ∷ more) = line ++ newline ∷ text_of more
+
+-- it has written these lines to the standard output
+abbrev pub Writes : (quiet : Bool) (text input : List ℕ) (out : List (List ℕ)) → Type 0
+Writes quiet text input out = Sends quiet text input (to_sink 0 (text_of out))

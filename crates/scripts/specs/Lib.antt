@@ -1,0 +1,4 @@
+pub mod Edited
+pub mod Words
+pub mod Alone
+pub mod Slashed

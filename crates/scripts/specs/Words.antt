@@ -1,0 +1,36 @@
+-- Words of lines.
+use Rattle.std.specs.Prelude.{ℕ, ◌+◌, List, [], ◌∷◌, length, Bool, not, Option, Some, None, is_some, decimal}
+use Rattle.std.specs.List.{join_with_byte}
+use Rattle.sedre.specs.Tree.{Tree}
+use Rattle.sedmatch.specs.Matching.{found, report}
+use Rattle.sedscript.specs.declared.substitution.Piece.{Piece}
+use Rattle.sedengine.specs.Substitute.{Occurrence, occurrences, replaced_from}
+
+-- each line after its number, counted from this one
+abbrev pub numbered : ℕ → List (List ℕ) → List (List ℕ)
+numbered n [] = []
+numbered n (line ∷ more) = decimal n ∷ line ∷ numbered (n + 1) more
+
+-- the first line, the third and so on
+abbrev pub odd_ones : List (List ℕ) → List (List ℕ)
+odd_ones [] = []
+odd_ones (line ∷ []) = line ∷ []
+odd_ones (line ∷ next ∷ more) = line ∷ odd_ones more
+
+-- the match of an expression, by its span, with its groups
+abbrev pub match_with : Tree → List ℕ → Option (ℕ × ℕ) → Option Occurrence
+match_with e w None = None
+match_with e w (Some span) = Some (record { start = span.0; end = span.1; groups = report e w span.0 span.1 })
+
+-- a text with all occurrences of an expression in it replaced
+abbrev pub replaced : Tree → List Piece → List ℕ → List ℕ
+replaced e pieces w = replaced_from w pieces 0 (occurrences (λ from. match_with e w (found e w from)) (length w))
+
+-- whether an expression has no match in a text
+abbrev pub has_none : Tree → List ℕ → Bool
+has_none e w = not (is_some (found e w 0))
+
+-- the lines in one, with commas between them; none where there are none
+abbrev pub in_one : List (List ℕ) → List (List ℕ)
+in_one [] = []
+in_one lines = join_with_byte 44 lines ∷ []

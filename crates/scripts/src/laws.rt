@@ -1,0 +1,122 @@
+//! What famous scripts write, over every input. The calls do nothing.
+
+ghost use Rattle.std.specs.Prelude.{◌≡◌, ◌<◌, ◌-◌, ◌^◌, ℕ, List, [], ◌∷◌, ◌++◌, false, true, codes, decimal, drop, length, map, reverse, take};
+ghost use Rattle.std.specs.List.{filter, flat_map};
+ghost use Rattle.sedre.specs.Tree.{Tree};
+ghost use Rattle.sedscript.specs.Replacement.{GroupsWithin};
+ghost use Rattle.sedscript.specs.Script.{Program};
+ghost use Rattle.sedscript.specs.declared.substitution.Piece.{Piece};
+ghost use Rattle.sedspace.specs.Lines.{lines};
+ghost use Rattle.sedengine.specs.Devices.{part};
+ghost use Rattle.examples.specs.WrittenReplacements.{written_pieces};
+ghost use Rattle.scripts.specs.Alone.{EachLooksAtLine, EndsLine};
+ghost use Rattle.scripts.specs.Edited.{Edits, Sends, Writes, text_of};
+ghost use Rattle.scripts.specs.Slashed.{IsSlashed};
+ghost use Rattle.scripts.specs.Words.{has_none, in_one, numbered, odd_ones, replaced};
+
+use sedscript::laws::one_meaning;
+
+/// The empty script writes the lines; with -n it writes nothing.
+pub fn empty()
+    ensures { (input : List ℕ) → Writes false (codes "") input (lines input) × Writes true (codes "") input [] }
+{
+    one_meaning();
+}
+
+/// `p` writes each line twice; with -n once.
+pub fn print()
+    ensures { (input : List ℕ) →
+        Writes false (codes "p") input (flat_map (λ line. line ∷ line ∷ []) (lines input)) × Writes true (codes "p") input (lines input) }
+{
+    one_meaning();
+}
+
+/// `=` writes each line after its number.
+pub fn number()
+    ensures { (input : List ℕ) → Writes false (codes "=") input (numbered 1 (lines input)) }
+{
+    one_meaning();
+}
+
+/// `$!d`, and `$p` with -n, write the last line.
+pub fn last()
+    ensures { (input : List ℕ) → let end = drop (length (lines input) - 1) (lines input) in
+        Writes false (codes "$!d") input end × Writes true (codes "$p") input end }
+{
+    one_meaning();
+}
+
+/// `Nq` writes the first N lines, for any number N above 0.
+pub fn first()
+    ensures { (n : ℕ) (input : List ℕ) → 0 < n → n < 2 ^ 64 →
+        Writes false (decimal n ++ codes "q") input (take n (lines input)) }
+{
+    one_meaning();
+}
+
+/// `N,Md` writes all lines but those from N to M, for any numbers N below M.
+pub fn without()
+    ensures { (n m : ℕ) (input : List ℕ) → 0 < n → n < m → m < 2 ^ 64 →
+        Writes false (decimal n ++ (codes "," ++ (decimal m ++ codes "d"))) input (take (n - 1) (lines input) ++ drop m (lines input)) }
+{
+    one_meaning();
+}
+
+/// `n;d` writes the first line, the third and so on.
+pub fn half()
+    ensures { (input : List ℕ) → Writes false (codes "n;d") input (odd_ones (lines input)) }
+{
+    one_meaning();
+}
+
+/// `1!G;h;$!d` writes the lines in reverse order, as `tac` does.
+pub fn turned()
+    ensures { (input : List ℕ) → Writes false (codes "1!G;h;$!d") input (reverse (lines input)) }
+{
+    one_meaning();
+}
+
+/// `$!N;P;D` writes the lines as they are.
+pub fn pairs()
+    ensures { (input : List ℕ) → Writes false (codes "$!N;P;D") input (lines input) }
+{
+    one_meaning();
+}
+
+/// `:a;$!{N;ba;};s/\n/,/g` writes the lines in one, with commas between them.
+pub fn joined()
+    ensures { (input : List ℕ) → Writes false (codes ":a;$!{N;ba;};s/\\n/,/g") input (in_one (lines input)) }
+{
+    one_meaning();
+}
+
+/// `w f` writes to the file what it writes to the standard output, each line once.
+pub fn file()
+    ensures { (input : List ℕ) → (out : List (ℕ × ℕ)) × Sends false (codes "w f") input out
+        × (part 1 out ≡ text_of (lines input)) × (part 0 out ≡ text_of (lines input)) }
+{
+    one_meaning();
+}
+
+/// `/RE/d`, and `/RE/!p` with -n, write the lines in which the expression has no match, for any expression.
+pub fn unmatched()
+    ensures { (re : List ℕ) (e : Tree) (groups : ℕ) (input : List ℕ) → IsSlashed re e groups → let left = filter (has_none e) (lines input) in
+        Writes false (codes "/" ++ (re ++ codes "/d")) input left × Writes true (codes "/" ++ (re ++ codes "/!p")) input left }
+{
+    one_meaning();
+}
+
+/// `s/RE/text/g` writes each line with its occurrences replaced, for any expression and any text.
+pub fn substituted()
+    ensures { (re : List ℕ) (e : Tree) (groups : ℕ) (text : List Piece) (input : List ℕ) → IsSlashed re e groups → GroupsWithin 9 text → GroupsWithin groups text →
+        Writes false (codes "s/" ++ (re ++ (codes "/" ++ (written_pieces 47 text ++ codes "/g")))) input (map (replaced e text) (lines input)) }
+{
+    one_meaning();
+}
+
+/// A script whose commands look at their line alone writes over two inputs one after the other, the first of which ends in
+/// a newline, what it writes over the one and then what it writes over the other.
+pub fn apart()
+    ensures { (p : Program) (files : ℕ → List ℕ) (a b : List ℕ) (x y : List (ℕ × ℕ)) → EachLooksAtLine p → EndsLine a →
+        Edits p files a x → Edits p files b y → Edits p files (a ++ b) (x ++ y) }
+{}
