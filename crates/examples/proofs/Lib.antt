@@ -4,7 +4,7 @@ mod BackslashLemmas
 mod CaseRunExamples
 mod ClassExamples
 mod CommandLineExamples
-mod ComputedEnds
+pub mod ComputedEnds
 pub mod ComputedReading
 pub mod ComputedRun
 pub mod ComputedScript

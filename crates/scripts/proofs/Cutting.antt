@@ -8,7 +8,7 @@ use Rattle.sedspace.proofs.LineLemmas.{lines_nil, lines_none}
 use Rattle.sedengine.specs.Move.{start}
 use Rattle.sedengine.specs.Run.{setting_of}
 use Rattle.scripts.specs.Alone.{EachLooksAtLine, EndsLine}
-use Rattle.scripts.specs.Edited.{Ends, Edits}
+use Rattle.scripts.specs.Edited.{Ends, RunsTo}
 use Rattle.scripts.proofs.Apart.{one_after_other}
 
 first_kept : (x : List ℕ) (ys : List (List ℕ)) → 0 < length ys → without_empty_last (x ∷ ys) ≡ x ∷ without_empty_last ys
@@ -24,13 +24,13 @@ onto_kept x ([] ∷ (z ∷ zs)) h = refl
 onto_kept x ((b ∷ bs) ∷ (z ∷ zs)) h = refl
 
 -- a first byte that is a newline, and another one
-lines_yes : (x : ℕ) (xs : List ℕ) → is_newline x ≡ true → lines (x ∷ xs) ≡ [] ∷ lines xs
+pub lines_yes : (x : ℕ) (xs : List ℕ) → is_newline x ≡ true → lines (x ∷ xs) ≡ [] ∷ lines xs
 unfolding lines
 lines_yes x xs h =
     let pieces : 0 < length (slice_split is_newline xs) = omega (arith, length-slice_split is_newline xs) in
     ap without_empty_last (slice_split-cons_yes is_newline x xs h) ∙ first_kept [] (slice_split is_newline xs) pieces
 
-lines_no : (x : ℕ) (xs : List ℕ) → is_newline x ≡ false → lines (x ∷ xs) ≡ onto_first x (lines xs)
+pub lines_no : (x : ℕ) (xs : List ℕ) → is_newline x ≡ false → lines (x ∷ xs) ≡ onto_first x (lines xs)
 unfolding lines
 lines_no x xs h =
     let pieces : 0 < length (slice_split is_newline xs) = omega (arith, length-slice_split is_newline xs) in
@@ -67,7 +67,7 @@ pub lines_apart : (a b : List ℕ) → EndsLine a → lines (a ++ b) ≡ lines a
 lines_apart a b (inl e) = rw e (sym (ap (λ ls. ls ++ lines b) lines_nil))
 lines_apart a b (inr h) = rw h.1 (ap lines (append_assoc h.0 (10 ∷ []) b) ∙ lines_behind h.0 b)
 
-pub apart_law : (p : Program) (files : ℕ → List ℕ) (a b : List ℕ) (x y : List (ℕ × ℕ)) → EachLooksAtLine p → EndsLine a → Edits p files a x → Edits p files b y → Edits p files (a ++ b) (x ++ y)
+pub apart_law : (p : Program) (files : ℕ → List ℕ) (a b : List ℕ) (x y : List (ℕ × ℕ)) → EachLooksAtLine p → EndsLine a → RunsTo p files a x → RunsTo p files b y → RunsTo p files (a ++ b) (x ++ y)
 apart_law p files a b x y alone ends first second =
     subst (λ ls. Ends (setting_of p files) (start p.commands ls) (x ++ y)) (sym (lines_apart a b ends))
     (one_after_other (setting_of p files) alone p.commands (lines a) (lines b) x y first second)

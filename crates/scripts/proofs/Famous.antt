@@ -78,7 +78,10 @@ half_means : Means (codes "n;d") Basic 65536 (of_commands (always action.NextLin
 unfolding verdict cutting walked item_at past function_at addresses_at address_at second_at text_from name_from
 half_means = meant _ _ refl
 
-turned_means : Means (codes "1!G;h;$!d") Basic 65536 (of_commands (unless (at (Line 1) action.AppendHold) ∷ always action.Hold ∷ unless (at Last action.Delete) ∷ []) [])
+abbrev pub turned_program : Program
+turned_program = of_commands (unless (at (Line 1) action.AppendHold) ∷ always action.Hold ∷ unless (at Last action.Delete) ∷ []) []
+
+pub turned_means : Means (codes "1!G;h;$!d") Basic 65536 turned_program
 unfolding verdict cutting walked item_at past function_at addresses_at address_at second_at text_from name_from
 turned_means = meant _ _ refl
 

@@ -25,11 +25,11 @@ module _ (finds : ℕ → List ℕ → Bool) (search : ℕ → List ℕ → ℕ 
   held_at lines number hold turns = between lines number hold false (false ∷ false ∷ false ∷ []) None turns
 
   -- what is in the pattern space once a line has come
-  abbrev onto : ℕ → List ℕ → List ℕ → List ℕ
+  abbrev pub onto : ℕ → List ℕ → List ℕ → List ℕ
   onto zero line hold = line
   onto (suc number) line hold = line ++ newline ∷ hold
 
-  not_first : (number : ℕ) → nat_eq 1 (suc number + 1) ≡ false
+  pub not_first : (number : ℕ) → nat_eq 1 (suc number + 1) ≡ false
   not_first number = let n : suc number + 1 ≡ suc (suc number) = omega arith in grind (arith, nat_tests)
 
   hold_cycle : (number : ℕ) (line next : List ℕ) (more : List (List ℕ)) (hold : List ℕ) (turns : ℕ) →
@@ -45,19 +45,19 @@ module _ (finds : ℕ → List ℕ → Bool) (search : ℕ → List ℕ → ℕ 
   hold_last (suc number) line hold turns = record { moves = 8; is = rw (not_first number) refl; wrote = rw (not_first number) (simp append-nil refl) }
 
   -- the lines held so far, with their newlines
-  abbrev held : ℕ → List ℕ → List ℕ
+  abbrev pub held : ℕ → List ℕ → List ℕ
   held zero hold = []
   held (suc number) hold = hold ++ newline ∷ []
 
-  onto_held : (number : ℕ) (line hold : List ℕ) → held (number + 1) (onto number line hold) ≡ line ++ newline ∷ held number hold
+  pub onto_held : (number : ℕ) (line hold : List ℕ) → held (number + 1) (onto number line hold) ≡ line ++ newline ∷ held number hold
   onto_held zero line hold = refl
   onto_held (suc number) line hold = let n : suc number + 1 ≡ suc (suc number) = omega arith in rw n (append_assoc line (newline ∷ hold) (newline ∷ []))
 
-  onto_last : (number : ℕ) (line hold : List ℕ) → onto number line hold ++ newline ∷ [] ≡ line ++ newline ∷ held number hold
+  pub onto_last : (number : ℕ) (line hold : List ℕ) → onto number line hold ++ newline ∷ [] ≡ line ++ newline ∷ held number hold
   onto_last zero line hold = refl
   onto_last (suc number) line hold = append_assoc line (newline ∷ hold) (newline ∷ [])
 
-  more_turned : (line : List ℕ) (rest : List (List ℕ)) (old : List ℕ) → text_of (reverse rest) ++ (line ++ newline ∷ old) ≡ text_of (reverse (line ∷ rest)) ++ old
+  pub more_turned : (line : List ℕ) (rest : List (List ℕ)) (old : List ℕ) → text_of (reverse rest) ++ (line ++ newline ∷ old) ≡ text_of (reverse (line ∷ rest)) ++ old
   more_turned line rest old =
       sym (ap (λ ls. text_of ls ++ old) (reverse_onto rest line []) ∙ ap (λ bs. bs ++ old) (text_of-append (reverse rest) (line ∷ [])) ∙ append_assoc (text_of (reverse rest)) (line ++ newline ∷ []) old
       ∙ ap (λ bs. text_of (reverse rest) ++ bs) (append_assoc line (newline ∷ []) old))

@@ -13,3 +13,5 @@ mod Substituting
 mod Links
 mod Famous
 mod Cutting
+mod Ample
+mod TurnedEnds

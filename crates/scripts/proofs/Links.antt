@@ -10,7 +10,7 @@ use Rattle.sedscript.specs.declared.types.Command.{Command}
 use Rattle.sedscript.specs.declared.substitution.Substitution.{Substitution}
 use Rattle.sedscript.specs.Script.{Program, Means}
 use Rattle.sedspace.specs.Lines.{lines}
-use Rattle.sedengine.specs.State.{Setting}
+use Rattle.sedengine.specs.State.{State, Setting}
 use Rattle.sedengine.specs.Move.{start}
 use Rattle.sedengine.specs.Run.{match_with_span, search_in, finds_in}
 use Rattle.scripts.specs.Edited.{Ends, Sends}
@@ -35,14 +35,15 @@ setting commands texts substitutions tables quiet expressions files = record {
   files = files;
 }
 
-same_run : (c c' : List Command) (tx tx' : List (List ℕ)) (sb sb' : List Substitution) (tb tb' : List (List ℕ)) (q q' : Bool) (es : List Written) (files : ℕ → List ℕ) (ls : List (List ℕ)) (out : List (ℕ × ℕ)) →
-    c ≡ c' → tx ≡ tx' → sb ≡ sb' → tb ≡ tb' → q ≡ q' → Ends (setting c tx sb tb q es files) (start c ls) out → Ends (setting c' tx' sb' tb' q' es files) (start c' ls) out
-same_run c c' tx tx' sb sb' tb tb' q q' es files ls out a b d e f h =
-    subst (λ c. Ends (setting c tx' sb' tb' q' es files) (start c ls) out) a
-    (subst (λ tx. Ends (setting c tx sb' tb' q' es files) (start c ls) out) b
-    (subst (λ sb. Ends (setting c tx sb tb' q' es files) (start c ls) out) d
-    (subst (λ tb. Ends (setting c tx sb tb q' es files) (start c ls) out) e
-    (subst (λ q. Ends (setting c tx sb tb q es files) (start c ls) out) f h))))
+-- what is so of the runs of some commands with their texts, substitutions and tables is so of those of equal ones
+pub same_run : (P : Setting → State → Type 0) (c c' : List Command) (tx tx' : List (List ℕ)) (sb sb' : List Substitution) (tb tb' : List (List ℕ)) (q q' : Bool) (es : List Written) (files : ℕ → List ℕ) (ls : List (List ℕ)) →
+    c ≡ c' → tx ≡ tx' → sb ≡ sb' → tb ≡ tb' → q ≡ q' → P (setting c tx sb tb q es files) (start c ls) → P (setting c' tx' sb' tb' q' es files) (start c' ls)
+same_run P c c' tx tx' sb sb' tb tb' q q' es files ls a b d e f h =
+    subst (λ c. P (setting c tx' sb' tb' q' es files) (start c ls)) a
+    (subst (λ tx. P (setting c tx sb' tb' q' es files) (start c ls)) b
+    (subst (λ sb. P (setting c tx sb tb' q' es files) (start c ls)) d
+    (subst (λ tb. P (setting c tx sb tb q' es files) (start c ls)) e
+    (subst (λ q. P (setting c tx sb tb q es files) (start c ls)) f h))))
 
 -- The runs of any script that the text means are those of this one, whatever its expressions are as long as they have these
 -- trees.
@@ -51,9 +52,9 @@ pub sends : OneMeaning → (quiet : Bool) (text input : List ℕ) (out : List (�
     Ends (setting p.commands p.texts p.substitutions p.tables (quiet || p.quiet) es files) (start p.commands (lines input)) out) → Sends quiet text input out
 sends one quiet text input out p meant runs = record {
   means = (p, meant);
-  edits = λ q files m.
+  runs = λ q files m.
       let same = one text Basic 65536 p q meant m in
-      same_run p.commands q.commands p.texts q.texts p.substitutions q.substitutions p.tables q.tables (quiet || p.quiet) (quiet || q.quiet) q.expressions files (lines input) out
+      same_run (λ g s. Ends g s out) p.commands q.commands p.texts q.texts p.substitutions q.substitutions p.tables q.tables (quiet || p.quiet) (quiet || q.quiet) q.expressions files (lines input)
       same.0 same.1 same.2 same.3 (ap (λ b. quiet || b) same.6) (runs q.expressions files same.8);
 }
 

@@ -14,8 +14,8 @@ pub record Ends (g : Setting) (s : State) (out : List (ℕ × ℕ)) : Type 0 whe
   pub wrote : written g s moves ≡ out
 
 -- a run of this script over the lines of these bytes does so
-abbrev pub Edits : Program → (ℕ → List ℕ) → (input : List ℕ) → (out : List (ℕ × ℕ)) → Type 0
-Edits p files input out = Ends (setting_of p files) (start p.commands (lines input)) out
+abbrev pub RunsTo : Program → (ℕ → List ℕ) → (input : List ℕ) → (out : List (ℕ × ℕ)) → Type 0
+RunsTo p files input out = Ends (setting_of p files) (start p.commands (lines input)) out
 
 -- a script with the option -n, where that is given
 abbrev pub with_option : Bool → Program → Program
@@ -24,7 +24,7 @@ with_option quiet p = record p { quiet = quiet || p.quiet }
 -- The text means a script, and whatever the files are that it reads, a run of it ends and has written these bytes.
 pub record Sends (quiet : Bool) (text input : List ℕ) (out : List (ℕ × ℕ)) : Type 0 where
   pub means : (p : Program) × Means text Basic 65536 p
-  pub edits : (p : Program) (files : ℕ → List ℕ) → Means text Basic 65536 p → Edits (with_option quiet p) files input out
+  pub runs : (p : Program) (files : ℕ → List ℕ) → Means text Basic 65536 p → RunsTo (with_option quiet p) files input out
 
 -- lines, each with its newline
 abbrev pub text_of : List (List ℕ) → List ℕ

@@ -2,3 +2,4 @@ pub mod Edited
 pub mod Words
 pub mod Alone
 pub mod Slashed
+pub mod Ampleness

@@ -1,16 +1,24 @@
 //! What famous scripts write, over every input. The calls do nothing.
 
-ghost use Rattle.std.specs.Prelude.{◌≡◌, ◌<◌, ◌-◌, ◌^◌, ℕ, List, [], ◌∷◌, ◌++◌, false, true, codes, decimal, drop, length, map, reverse, take};
+ghost use Rattle.std.specs.Prelude.{◌≡◌, ◌<◌, ◌-◌, ◌^◌, ℕ, List, [], ◌∷◌, ◌++◌, false, true, Option, Err, codes, decimal, drop, length, map, reverse, take};
 ghost use Rattle.std.specs.List.{filter, flat_map};
 ghost use Rattle.sedre.specs.Tree.{Tree};
 ghost use Rattle.sedscript.specs.Replacement.{GroupsWithin};
-ghost use Rattle.sedscript.specs.Script.{Program};
+ghost use Rattle.sedre.specs.declared.types.Kind.TheVariants.{Basic};
+ghost use Rattle.sedscript.specs.Script.{Means, Program};
+ghost use Rattle.sedengine.specs.Ends.{Cause};
+ghost use Rattle.sedengine.specs.Limits.{Limits};
+ghost use Rattle.sedengine.specs.Move.{start, to_sink};
+ghost use Rattle.sedengine.specs.Run.{setting_of};
+ghost use Rattle.sedengine.specs.declared.ends.Ended.{Ended};
+ghost use Rattle.sedengine.specs.declared.ends.Ended.TheVariants.{Done};
+ghost use Rattle.scripts.specs.Ampleness.{Ample, NoDevice};
 ghost use Rattle.sedscript.specs.declared.substitution.Piece.{Piece};
 ghost use Rattle.sedspace.specs.Lines.{lines};
-ghost use Rattle.sedengine.specs.Devices.{part};
+ghost use Rattle.sedengine.specs.Devices.{Gained, GainedWithin, part};
 ghost use Rattle.examples.specs.WrittenReplacements.{written_pieces};
 ghost use Rattle.scripts.specs.Alone.{EachLooksAtLine, EndsLine};
-ghost use Rattle.scripts.specs.Edited.{Edits, Sends, Writes, text_of};
+ghost use Rattle.scripts.specs.Edited.{RunsTo, Sends, Writes, text_of};
 ghost use Rattle.scripts.specs.Slashed.{IsSlashed};
 ghost use Rattle.scripts.specs.Words.{has_none, in_one, numbered, odd_ones, replaced};
 
@@ -118,5 +126,16 @@ pub fn substituted()
 /// a newline, what it writes over the one and then what it writes over the other.
 pub fn apart()
     ensures { (p : Program) (files : ℕ → List ℕ) (a b : List ℕ) (x y : List (ℕ × ℕ)) → EachLooksAtLine p → EndsLine a →
-        Edits p files a x → Edits p files b y → Edits p files (a ++ b) (x ++ y) }
+        RunsTo p files a x → RunsTo p files b y → RunsTo p files (a ++ b) (x ++ y) }
 {}
+
+/// Over any source within ample limits, an edit by `1!G;h;$!d` in which no device fails or is full comes to the ordinary end,
+/// and its sinks have gained the lines in reverse order.
+pub fn turned_ends()
+    ensures { (l : Limits) (p : Program) (files : ℕ → List ℕ) (input : List ℕ) (before : ℕ → ℕ) (old new : ℕ → Option (List ℕ)) (end : Ended) (t : ℕ) →
+        Means (codes "1!G;h;$!d") Basic 65536 p → Ample l 4 input → NoDevice end →
+        Cause l (setting_of p files) (start p.commands (lines input)) (GainedWithin l.output before old new (Err end)) end t →
+        (end ≡ Done) × Gained old new (to_sink 0 (text_of (reverse (lines input)))) }
+{
+    one_meaning();
+}
