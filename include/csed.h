@@ -4,7 +4,8 @@
  * A script is run over bytes in memory, within limits that the caller sets. Nothing else is read or written: no file,
  * no stream, no environment, no locale, no clock. A byte is a character.
  *
- * Link with libcsed.a and the kit's liblibc_c.a; docs/EMBEDDING.md has the commands.
+ * Compile and link with what `pkg-config --cflags --libs csed` prints after `./install --library PREFIX`;
+ * docs/EMBEDDING.md has the commands.
  *
  * Pointers. Each must be valid for the bytes that its length names, and none may be NULL, also where the length is 0. The
  * output and the report may not overlap each other or anything else that the call is given; the script, the input and the
