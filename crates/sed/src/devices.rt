@@ -1,5 +1,5 @@
 //! The devices of all sinks. Those that read share them, since what is gathered is written out before a read that may
-//! wait.
+//! wait, and before a write that may.
 ghost use Rattle.std.specs.Prelude.{◌<◌, length, IfOk};
 ghost use Rattle.std.specs.Io.{WritesAtMost};
 
@@ -7,7 +7,7 @@ use crate::output::{Device, Gathered};
 use sedspace::Broken;
 use std::alloc::Global;
 use std::cell::RefCell;
-use std::fs::File;
+use std::fs::{self, File, Metadata};
 use std::io;
 use std::rt::Stdout;
 
@@ -25,8 +25,10 @@ pub(crate) struct Devices {
 
 impl Devices {
     /// The standard output alone, as sink 0.
-    pub(crate) fn new(alloc: Global, output: Stdout) -> io::Result<Devices> {
-        let standard = Gathered::new(alloc, Device::Standard(output), OUTPUT_ROOM)?;
+    pub(crate) fn new(rt: &HostRuntime, output: Stdout) -> io::Result<Devices> {
+        let alloc = rt.alloc();
+        let metadata = fs::metadata(rt, "/dev/stdout").ok();
+        let standard = Gathered::new(alloc, Device::Standard(output), metadata, OUTPUT_ROOM)?;
         let all = vec![in alloc; standard]?;
         Ok(Devices {
             all: RefCell::new(all),
@@ -35,7 +37,8 @@ impl Devices {
 
     /// Adds a file as the last sink.
     pub(crate) fn add(&self, alloc: Global, file: File) -> io::Result<()> {
-        let file = Gathered::new(alloc, Device::File(file), FILE_ROOM)?;
+        let metadata = file.metadata().ok();
+        let file = Gathered::new(alloc, Device::File(file), metadata, FILE_ROOM)?;
         match self.all.try_borrow_mut() {
             Ok(mut all) => Ok(all.push(file)?),
             Err(_) => Err(io::Error::from(io::ErrorKind::ResourceBusy)),
@@ -47,12 +50,39 @@ impl Devices {
         ensures bound { WritesAtMost result bytes.now }
         ensures progress { IfOk result (λ n. 0 < length bytes.now → 0 < n) }
     {
+        self.prepare_to_write(sink, bytes);
         let Ok(mut all) = self.all.try_borrow_mut() else {
             return Err(Broken);
         };
         match all.get_mut(sink) {
             Some(device) => device.write(bytes),
             None => Err(Broken),
+        }
+    }
+
+    // Writes out what is gathered for the other sinks where a write to this one may wait: who reads both may need it first.
+    fn prepare_to_write(&self, sink: usize, bytes: &[u8]) {
+        let Ok(mut all) = self.all.try_borrow_mut() else {
+            return;
+        };
+        if !all
+            .get(sink)
+            .is_some_and(|device| device.may_wait_to_take(bytes))
+        {
+            return;
+        }
+        for (number, device) in all.iter_mut().enumerate() {
+            if number != sink {
+                let _ = device.flush();
+            }
+        }
+    }
+
+    /// Whether an ordinary file that is written is the one of this metadata.
+    pub(crate) fn has_file(&self, metadata: &Metadata) -> bool {
+        match self.all.try_borrow() {
+            Ok(all) => all.iter().skip(1).any(|device| device.is_file(metadata)),
+            Err(_) => false,
         }
     }
 

@@ -12,7 +12,7 @@ use std::io::{self, ErrorKind};
 /// Which file is current.
 #[derive(Drop)]
 enum Current {
-    /// None: none was opened, or the last couldn't be.
+    /// None: none was opened, or the last couldn't be or is written by the script.
     Nothing,
     /// The standard input.
     Standard,
@@ -35,7 +35,7 @@ pub(crate) struct FileInputs<'a> {
 }
 
 /// Whether a read of the file of this name may wait, as one of a pipe, a terminal or a device does.
-pub(crate) fn may_wait(rt: &HostRuntime, name: &str) -> bool {
+fn may_wait(rt: &HostRuntime, name: &str) -> bool {
     is_no_file(fs::metadata(rt, name))
 }
 
@@ -95,6 +95,14 @@ impl<'a> FileInputs<'a> {
         }
     }
 
+    // What is to be read: nothing where the script writes this file, since it was emptied then and what it gets is output.
+    fn unless_written(&self, file: Current, metadata: io::Result<Metadata>) -> Current {
+        match metadata {
+            Ok(metadata) if self.devices.has_file(&metadata) => Current::Nothing,
+            _ => file,
+        }
+    }
+
     // Reads on in the standard input, unless its end was met before.
     fn read_standard(&mut self, buf: &mut [u8]) -> Result<usize, Broken>
         ensures bound { ReadsAtMost result buf.new }
@@ -147,13 +155,15 @@ impl<'a> Inputs for FileInputs<'a> {
         self.current = Current::Nothing;
         self.may_wait = None;
         if name == "-" {
-            self.current = Current::Standard;
+            let metadata = fs::metadata(self.rt, "/dev/stdin");
+            self.current = self.unless_written(Current::Standard, metadata);
             return true;
         }
         self.prepare_to_open(name);
         match File::open(self.rt, name) {
             Ok(file) => {
-                self.current = Current::File(file);
+                let metadata = file.metadata();
+                self.current = self.unless_written(Current::File(file), metadata);
                 true
             }
             Err(_) => {
@@ -170,6 +180,13 @@ impl<'a> Inputs for FileInputs<'a> {
                 self.failures = self.failures.saturating_add(1);
                 Err(Broken)
             }
+        }
+    }
+
+    fn give_back(&self, count: usize) {
+        if let (Current::Standard, Ok(count @ 1..)) = (&self.current, i64::try_from(count)) {
+            // A pipe or a terminal refuses, and keeps what was read.
+            let _ = libc::lseek(libc::STDIN_FILENO, -count, libc::SEEK_CUR);
         }
     }
 

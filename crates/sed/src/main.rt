@@ -7,6 +7,7 @@
 mod closed;
 mod devices;
 mod inputs;
+mod messages;
 mod names;
 mod output;
 mod sinks;

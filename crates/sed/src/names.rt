@@ -2,26 +2,32 @@
 ghost use Rattle.std.specs.Prelude.{◌≡◌, ◌≤◌, [], None, length};
 
 use crate::devices::Devices;
-use crate::inputs::may_wait;
 use sededit::Names;
 use sedspace::{ByteSource, FromReader, Texts};
 use std::alloc::AllocError;
-use std::fs::File;
+use std::fs::{self, File};
 use std::io::{Seek, SeekFrom};
 use std::marker::Model;
 use std::str;
 
-/// A file that is being read: its number, and how far it has been read.
+/// A file that is being read: its number, how far it has been read, and whether a read of it may wait.
 #[derive(Drop)]
 struct Reading {
     file: File,
     number: usize,
     offset: u64,
+    may_wait: bool,
 }
 
 impl Reading {
     /// Opens the file of this name, to be read from the place on.
-    fn new(rt: &HostRuntime, name: &str, number: usize, offset: u64) -> Option<Reading> {
+    fn new(
+        rt: &HostRuntime,
+        name: &str,
+        number: usize,
+        offset: u64,
+        may_wait: bool,
+    ) -> Option<Reading> {
         let mut file = File::open(rt, name).ok()?;
         if offset > 0 {
             file.seek(SeekFrom::Start(offset)).ok()?;
@@ -30,6 +36,7 @@ impl Reading {
             file,
             number,
             offset,
+            may_wait,
         })
     }
 
@@ -61,16 +68,9 @@ impl<'a> Model for FileNames<'a> {
     ghost view = { λ s. map (λ name. name.items) s.names.items };
 }
 
-/// Writes out what is gathered for the files, since this one may be among them; and where a read of it may wait, what is
-/// gathered for the standard output, too.
-fn prepare(rt: &HostRuntime, devices: &Devices, name: &str) {
-    let first = if may_wait(rt, name) { 0 } else { 1 };
-    devices.write_out(first);
-}
-
 impl<'a> FileNames<'a> {
     /// Files of which none is named. What the devices have gathered for files is written out before one is read, so that
-    /// it may be one of those; and what they have gathered for all, where the read may wait.
+    /// it may be one of those; and what they have gathered for all, where opening it or a read may wait.
     pub(crate) fn new(rt: &'a HostRuntime, devices: &'a Devices) -> FileNames<'a>
         ensures { result ≡ [] }
     {
@@ -94,8 +94,9 @@ impl<'a> FileNames<'a> {
     fn opened(&self, number: usize, offset: u64) -> Option<Reading> {
         let name = self.names.get(number)?;
         let name = str::from_utf8(name.as_slice()).ok()?;
-        prepare(self.rt, self.devices, name);
-        Reading::new(self.rt, name, number, offset)
+        let may_wait = !fs::metadata(self.rt, name).ok()?.is_file();
+        self.devices.write_out(if may_wait { 0 } else { 1 });
+        Reading::new(self.rt, name, number, offset, may_wait)
     }
 }
 
@@ -107,7 +108,12 @@ impl<'a> Texts for FileNames<'a> {
             self.reading = self.opened(number, offset);
         }
         let count = match &mut self.reading {
-            Some(reading) => reading.read(buf),
+            Some(reading) => {
+                if reading.may_wait {
+                    self.devices.write_out(0);
+                }
+                reading.read(buf)
+            }
             None => 0,
         };
         if count == 0 {

@@ -4,8 +4,9 @@ ghost use Rattle.std.specs.Io.{WritesAtMost};
 
 use sedspace::Broken;
 use std::alloc::Global;
-use std::fs::File;
+use std::fs::{File, Metadata};
 use std::io::{self, BufWriter, IsTerminal, Write};
+use std::os::unix::fs::MetadataExt;
 use std::rt::Stdout;
 
 /// Where a sink's bytes go.
@@ -47,19 +48,44 @@ impl Write for Device {
 pub(crate) struct Gathered {
     writer: BufWriter<Device>,
     is_terminal: bool,
+    // What it is, where that is known.
+    metadata: Option<Metadata>,
     // Whether it failed, which each later call answers.
     is_broken: bool,
 }
 
 impl Gathered {
-    /// Gathers up to `room` bytes.
-    pub(crate) fn new(alloc: Global, device: Device, room: usize) -> io::Result<Gathered> {
+    /// Gathers up to `room` bytes for a device, which is what its metadata say.
+    pub(crate) fn new(
+        alloc: Global,
+        device: Device,
+        metadata: Option<Metadata>,
+        room: usize,
+    ) -> io::Result<Gathered> {
         let is_terminal = device.is_terminal();
         Ok(Gathered {
             writer: BufWriter::with_capacity(alloc, room, device)?,
             is_terminal,
+            metadata,
             is_broken: false,
         })
+    }
+
+    /// Whether it is the ordinary file of this metadata.
+    pub(crate) fn is_file(&self, other: &Metadata) -> bool {
+        self.metadata.as_ref().is_some_and(|own| {
+            own.is_file() && own.dev() == other.dev() && own.ino() == other.ino()
+        })
+    }
+
+    /// Whether taking the bytes writes to a device that may wait, as any but an ordinary file does.
+    pub(crate) fn may_wait_to_take(&self, bytes: &[u8]) -> bool {
+        let room = self
+            .writer
+            .capacity()
+            .saturating_sub(self.writer.buffer().len());
+        (self.is_terminal || bytes.len() > room)
+            && !self.metadata.as_ref().is_some_and(|own| own.is_file())
     }
 
     /// Whether there are bytes that aren't written yet.

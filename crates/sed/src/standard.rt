@@ -9,6 +9,7 @@ ghost use Rattle.sededit.specs.Program.{AsksHelp};
 use crate::closed::placeholders;
 use crate::devices::Devices;
 use crate::inputs::FileInputs;
+use crate::messages::Messages;
 use crate::names::FileNames;
 use crate::sinks::FileSinks;
 use sededit::command;
@@ -42,7 +43,10 @@ pub(crate) fn run(rt: &HostRuntime) -> u8
     ensures { (result ≡ 0) ⊎ ((result ≡ 1) ⊎ ((result ≡ 2) ⊎ (result ≡ 4))) }
 {
     let _closed = placeholders(rt);
-    let mut errors = rt.stderr();
+    let Ok(mut errors) = Messages::new(rt.alloc(), rt.stderr()) else {
+        let _ = say_no_memory(&mut rt.stderr());
+        return REFUSED;
+    };
     match words(rt) {
         Ok(words) => run_words(rt, words.as_slice(), &mut errors),
         Err(error) => {
@@ -71,7 +75,7 @@ fn run_words<E: Write>(rt: &HostRuntime, words: &[String], errors: &mut E) -> u8
     ensures asked { result ≡ 0 →
         IsCommandLine (map string_bytes words.now) ⊎ AsksHelp (map string_bytes words.now) }
 {
-    let Ok(devices) = Devices::new(rt.alloc(), rt.stdout()) else {
+    let Ok(devices) = Devices::new(rt, rt.stdout()) else {
         let _ = say_no_memory(errors);
         return REFUSED;
     };

@@ -8,6 +8,7 @@ ghost use Rattle.clap.specs.declared.builder.action.ArgAction.TheVariants.{Appen
 ghost use Rattle.sededit.specs.CommandLine.{IsCommandLine, IsLine, IsRefusal, operand_rule, sed_command};
 
 use crate::asked::{Line, Refused};
+use crate::help::{CODES, USAGE};
 use crate::parts::{Uses, asked_of, words_of};
 use clap::error::ErrorKind;
 use clap::{Arg, ArgAction, ArgMatches, Command};
@@ -107,6 +108,8 @@ fn command<'a>(alloc: Global) -> Result<Command<'a>, clap::Error>
     let command = Command::new(alloc, "sed")
         .no_binary_name(true)
         .about("Edits files line by line, and writes to the standard output")
+        .override_usage(USAGE)
+        .after_help(CODES)
         .arg(counted(
             alloc,
             "quiet",

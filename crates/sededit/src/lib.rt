@@ -5,6 +5,7 @@
 mod asked;
 mod command_line;
 mod editing;
+mod help;
 mod inputs;
 mod joined;
 mod memory_inputs;

@@ -1,5 +1,6 @@
 //! What the program says on the standard error, a line each (this project's own words).
 
+use crate::help::USAGE;
 use sedengine::Ended;
 use sedscript::{Reason, ScriptFault};
 use std::io::{self, Write};
@@ -54,4 +55,15 @@ pub(crate) fn say_no_memory<E: Write>(errors: &mut E) -> io::Result<()> {
 /// Says that no script was given.
 pub(crate) fn say_no_script<E: Write>(errors: &mut E) -> io::Result<()> {
     writeln!(errors, "sed: no script")
+}
+
+/// Says that a command line is refused: what `clap` says of it, but for its advice to take an option for an operand.
+pub(crate) fn say_refused<E: Write>(errors: &mut E, text: &str) -> io::Result<()> {
+    match text.split_once("\n\n  tip:") {
+        Some((what, _advice)) => writeln!(
+            errors,
+            "{what}\n\nUsage: {USAGE}\n\nFor more information, try '--help'."
+        ),
+        None => write!(errors, "{text}"),
+    }
 }

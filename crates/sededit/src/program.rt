@@ -15,7 +15,7 @@ ghost use Rattle.sededit.specs.Sinks.{Creates, CreatesFirst, CreatesUpTo};
 use crate::asked::{Line, Refused};
 use crate::command_line::line;
 use crate::inputs::Inputs;
-use crate::messages::{say_cannot_open, say_fault, say_no_script};
+use crate::messages::{say_cannot_open, say_fault, say_no_script, say_refused};
 use crate::names::Names;
 use crate::reading::{NoScript, read_script};
 use crate::running::{MISSED, REFUSED, STOPPED, SUCCESS, out_of_memory, run, stopped};
@@ -210,14 +210,14 @@ fn answer_words<O: Sinks, E: Write>(
     ensures refused { result ≡ REFUSED → sinks.new ≡ sinks.old }
     ensures no_sink { result ≢ STOPPED → (k : ℕ) → O.failures sinks.new k ≡ O.failures sinks.old k }
 {
-    let ErrorKind::DisplayHelp = error.kind() else {
-        let _ = write!(errors, "{error}");
-        return REFUSED;
-    };
-    let Ok(help) = error.to_string(alloc) else {
+    let Ok(text) = error.to_string(alloc) else {
         return out_of_memory(errors);
     };
-    match write_out(sinks, help.as_bytes()) {
+    let ErrorKind::DisplayHelp = error.kind() else {
+        let _ = say_refused(errors, text.as_str());
+        return REFUSED;
+    };
+    match write_out(sinks, text.as_bytes()) {
         Ok(()) => SUCCESS,
         Err(end) => stopped(end, errors),
     }
