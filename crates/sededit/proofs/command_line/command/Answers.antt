@@ -6,18 +6,10 @@ use Rattle.sededit.proofs.command_line.command.Goals as goal
 pub returns-clause-shape : goal.returns-clause-shape
 unfolding sed_command
 returns-clause-shape c =
-<<<<<<< HEAD
-    let top_is : app_of c.about.result ≡ without_name (new_app (codes "sed")) = rw (c.about.ensures, c.no_binary_name.ensures) (ap without_name c.new.ensures.app) in
+    let top_is : app_of c.after_help.result ≡ without_name (new_app (codes "sed")) =
+    rw (c.after_help.ensures, c.override_usage.ensures, c.about.ensures, c.no_binary_name.ensures) (ap without_name c.new.ensures.app) in
     let first_is = c.in_ok-arg.ensures.shape c.counted.ensures.local ∙ ap₂ with_rule top_is c.counted.ensures.rule in
     let second_is = c.in_ok-arg-2.ensures.shape c.counted-2.ensures.local ∙ ap₂ with_rule first_is c.counted-2.ensures.rule in
     let third_is = c.in_ok-arg-3.ensures.shape c.repeated.ensures.local ∙ ap₂ with_rule second_is c.repeated.ensures.rule in
     let fourth_is = c.in_ok-arg-4.ensures.shape c.repeated-2.ensures.local ∙ ap₂ with_rule third_is c.repeated-2.ensures.rule in
-=======
-    let top_is : app_of c.after_help.result ≡ without_name (new_app (codes "sed")) =
-    rw (c.after_help.ensures, c.override_usage.ensures, c.about.ensures, c.no_binary_name.ensures) (ap without_name c.new.ensures.app) in
-    let first_is = c.in_ok-arg.ensures.shape c.counted-quiet.ensures.local ∙ ap₂ with_rule top_is c.counted-quiet.ensures.rule in
-    let second_is = c.in_ok-arg-2.ensures.shape c.counted-extended.ensures.local ∙ ap₂ with_rule first_is c.counted-extended.ensures.rule in
-    let third_is = c.in_ok-arg-3.ensures.shape c.repeated-expression.ensures.local ∙ ap₂ with_rule second_is c.repeated-expression.ensures.rule in
-    let fourth_is = c.in_ok-arg-4.ensures.shape c.repeated-file.ensures.local ∙ ap₂ with_rule third_is c.repeated-file.ensures.rule in
->>>>>>> d8a9b07 (The standard input is left where q ended the run; nobody waits for what is held back; help tells every code; an operand that the script writes gives no line)
     c.in_ok-command.ensures.shape c.operands.ensures.local ∙ ap₂ with_rule fourth_is c.operands.ensures.rule

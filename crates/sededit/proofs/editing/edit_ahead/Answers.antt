@@ -5,13 +5,8 @@ use Rattle.sededit.proofs.editing.edit_ahead.Goals as goal
 
 pub returns-clause-ending : goal.returns-clause-ending
 returns-clause-ending g c x known files told =
-<<<<<<< HEAD:crates/sededit/proofs/editing/edit/Answers.antt
     Edits-run c.args.limits c.args.script files c.in_ok-engine.engine _ x _ _ _ _ _ _ _ _ c.in_ok-engine.ensures (search rules) (rw c.over-lines.ensures (prepend_known-nil _)) (search rules)
-    (c.run-ended.ensures.ends (search rules) (search rules) _ (search rules) files told)
-=======
-    Edits-run c.args.limits c.args.script files c.in_ok-engine.engine _ x _ _ _ _ _ _ _ _ c.in_ok-engine.ensures (search rules) (search rules)
     (c.run-end.ensures.ends (search rules) (search rules) _ (search rules) files told)
->>>>>>> d8a9b07 (The standard input is left where q ended the run; nobody waits for what is held back; help tells every code; an operand that the script writes gives no line):crates/sededit/proofs/editing/edit_ahead/Answers.antt
 
 pub returns-clause-output : goal.returns-clause-output
 returns-clause-output g c x known files told =

@@ -1,8 +1,4 @@
-<<<<<<< HEAD
-use Rattle.std.proofs.Common.{Ok, ap, inl, inr, refl, rules}
-=======
-use Rattle.std.proofs.Common.{inl, inr, rules}
->>>>>>> d8a9b07 (The standard input is left where q ended the run; nobody waits for what is held back; help tells every code; an operand that the script writes gives no line)
+use Rattle.std.proofs.Common.{inl, inr, refl, rules}
 use Rattle.sedengine.proofs.Metering.{Cause-as}
 use Rattle.sededit.proofs.RunLemmas.{GainsBy-same, WritesAll-same, WritesBeginning-same, none_failed, none_refused, sink_failed, sink_flushed, some_refused, source_kept}
 use Rattle.sededit.proofs.running.run_joined.Goals as goal
@@ -34,13 +30,8 @@ returns-clause-cause g c is =
       | inl early ↦ inl (
         c.in-Ok.edited.end,
         early,
-<<<<<<< HEAD
-        (e.input, sink_flushed _ _ _ _ c.in-Ok.end e.failed c.finish.ensures.failures),
-        λ bytes known files told. let h = e.ending bytes known files told in (h.t, Cause-as _ _ _ _ _ c.in-Ok.end h.t (λ out sent. GainsBy-same c.args.limits _ _ _ c.in-Ok.end out same sent) h.cause, λ is. (_, refl, h.broken is)),
-=======
         (e.input, sink_flushed _ _ _ _ c.in-Ok.edited.end e.failed c.finish.ensures.failures),
-        λ bytes known files told. let h = e.ending bytes known files told in (h.t, Cause-as _ _ _ _ _ c.in-Ok.edited.end h.t (λ out sent. GainsBy-same c.args.limits _ _ _ c.in-Ok.edited.end out same sent) h.cause),
->>>>>>> d8a9b07 (The standard input is left where q ended the run; nobody waits for what is held back; help tells every code; an operand that the script writes gives no line)
+        λ bytes known files told. let h = e.ending bytes known files told in (h.t, Cause-as _ _ _ _ _ c.in-Ok.edited.end h.t (λ out sent. GainsBy-same c.args.limits _ _ _ c.in-Ok.edited.end out same sent) h.cause, λ is. (_, refl, h.broken is)),
       )
       | inr flushed ↦ inr (WritesAll-same c.args.script _ _ _ _ _ same (e.whole flushed.0), sink_failed _ _ _ (none_failed _ _ _ flushed.0 e.failed.0) flushed.1, source_kept _ _ _ flushed.0 e.input)
     ]
