@@ -6,7 +6,7 @@
 //! * `errors=TEXT`: what is written to the standard error; `errors_begin=TEXT`, `output_begins=TEXT`: a beginning alone
 //! * `f:NAME=TEXT`: a file that can be read, as an input, as a script or by the command `r`
 //! * `w:NAME=TEXT`: a file that can be created, and what it gets; in the order in which the script first names them
-//! * `space=3`, `queue=`, `turns=`, `nodes=`: limits other than the program's
+//! * `space=3`, `queue=`, `turns=`, `nodes=`: limits other than the program's; `output=4`: the most bytes that each sink gains
 //! * `fails=2`: the second read of the inputs fails; `room=3`: a sink takes three bytes and then fails;
 //!   `refuses=1`: a write to this sink fails, the first one, or with `write=3` the third; a flush is a write too
 //!
@@ -31,7 +31,7 @@ use std::str;
 /// What a row looks like.
 pub(crate) const SHAPE: Shape<'static> = Shape {
     fields: "* * * #",
-    options: "errors=* errors_begin=* output_begins=* f:* w:* space=# queue=# turns=# nodes=# fails=# room=# refuses=# write=#",
+    options: "errors=* errors_begin=* output_begins=* f:* w:* space=# queue=# turns=# nodes=# output=# fails=# room=# refuses=# write=#",
 };
 
 /// The most bytes of a read, of a write, and ahead.

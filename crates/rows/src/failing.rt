@@ -9,6 +9,7 @@ ghost use Rattle.std.specs.Prelude.{◌<◌};
 
 use crate::engines::{Ready, engine_of};
 use crate::faults::put_end;
+use crate::files::PiecedTexts;
 use crate::job::{check_script, source_of};
 use crate::options::name_and_value;
 use crate::report::{NO_INPUT, NO_MEMORY, Report};
@@ -102,16 +103,25 @@ fn run_failing(alloc: Global, row: &Row, failing: &Row, report: &mut Report) -> 
         mut engine,
         mut lines,
         mut outputs,
-        mut texts,
+        texts: held,
     } = ready;
+    let mut texts = PiecedTexts {
+        held,
+        most: usize::MAX,
+        good: usize::MAX,
+    };
     let end = end_of(&mut engine, &mut lines, &mut outputs, &mut texts);
     let writes = all_writes(&outputs);
+    let reads_left = texts.good;
     if !stays_at(&mut engine, &mut lines, &mut outputs, &mut texts, end) {
         report.tell("the engine goes on after its end");
     }
     drop(engine);
     if all_writes(&outputs) != writes {
         report.tell("a sink is written after the end");
+    }
+    if texts.good != reads_left {
+        report.tell("a text is read after the end");
     }
     compare_beginnings(&outputs, row, report);
     let failed = if lines.source().failures() > 0 {

@@ -30,7 +30,7 @@ use crate::table::Row;
 use sededit::edit;
 use sedengine::{Ended, Engine, Limits, Progress};
 use sedscript::Script;
-use sedspace::{Lines, MemoryOutputs, MemorySource, MemoryTexts, Outputs};
+use sedspace::{Lines, MemoryOutputs, MemorySource, MemoryTexts, Outputs, Texts};
 use std::alloc::Global;
 
 /// What a row looks like.
@@ -322,11 +322,11 @@ fn run_engine(alloc: Global, row: &Row, report: &mut Report) {
 }
 
 /// A cycle, and the rest of the run.
-pub(crate) fn end_of(
+pub(crate) fn end_of<T: Texts>(
     engine: &mut Engine,
     lines: &mut Lines<MemorySource>,
     outputs: &mut MemoryOutputs,
-    texts: &mut MemoryTexts,
+    texts: &mut T,
 ) -> Ended
     requires look { lines.old.look ≡ engine.old.limits.look }
     requires sinks { length engine.old.script.wfiles < length outputs.old.held }
@@ -338,11 +338,11 @@ pub(crate) fn end_of(
 }
 
 /// Whether the engine answers its end again, and reads nothing more.
-pub(crate) fn stays_at(
+pub(crate) fn stays_at<T: Texts>(
     engine: &mut Engine,
     lines: &mut Lines<MemorySource>,
     outputs: &mut MemoryOutputs,
-    texts: &mut MemoryTexts,
+    texts: &mut T,
     end: Ended,
 ) -> bool
     requires look { lines.old.look ≡ engine.old.limits.look }
