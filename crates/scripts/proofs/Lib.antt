@@ -15,3 +15,4 @@ mod Famous
 mod Cutting
 mod Ample
 mod TurnedEnds
+mod Transliterating

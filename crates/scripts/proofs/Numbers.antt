@@ -262,7 +262,7 @@ means_one text i es to gives ends settled loud = record {
   nodes = refl;
 }
 
-gives_plainly : (text : List ℕ) (i : Item) (to : ℕ) → item_at text 0 0 ≡ plainly (Ok (Is i to)) → Gives text Basic 65536 (item_at text 0 0) [] (Is i to)
+pub gives_plainly : (text : List ℕ) (i : Item) (to : ℕ) → item_at text 0 0 ≡ plainly (Ok (Is i to)) → Gives text Basic 65536 (item_at text 0 0) [] (Is i to)
 gives_plainly text i to e = subst (λ r. Gives text Basic 65536 r [] (Is i to)) (sym e) value
 
 -- `Nq`

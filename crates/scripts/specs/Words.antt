@@ -1,6 +1,9 @@
 -- Words of lines.
 use Rattle.std.specs.Prelude.{ℕ, ◌+◌, List, [], ◌∷◌, length, Bool, not, Option, Some, None, is_some, decimal}
+use Rattle.std.specs.Prelude.{◌&&◌, map, true}
 use Rattle.std.specs.List.{join_with_byte}
+use Rattle.sedscript.specs.Transliteration.{is_among, table_of}
+use Rattle.sedengine.specs.Move.{in_table}
 use Rattle.sedre.specs.Tree.{Tree}
 use Rattle.sedmatch.specs.Matching.{found, report}
 use Rattle.sedscript.specs.declared.substitution.Piece.{Piece}
@@ -34,3 +37,12 @@ has_none e w = not (is_some (found e w 0))
 abbrev pub in_one : List (List ℕ) → List (List ℕ)
 in_one [] = []
 in_one lines = join_with_byte 44 lines ∷ []
+
+-- no byte stands twice among these, nor one of those that stand before them
+abbrev pub each_once : (before : List ℕ) → List ℕ → Bool
+each_once before [] = true
+each_once before (b ∷ bs) = not (is_among before b) && each_once (b ∷ before) bs
+
+-- a text, byte by byte, by the table of two strings
+abbrev pub by_table : (string1 string2 : List ℕ) → List ℕ → List ℕ
+by_table string1 string2 w = map (in_table (Some (table_of string1 string2))) w

@@ -16,11 +16,12 @@ ghost use Rattle.scripts.specs.Ampleness.{Ample, NoDevice};
 ghost use Rattle.sedscript.specs.declared.substitution.Piece.{Piece};
 ghost use Rattle.sedspace.specs.Lines.{lines};
 ghost use Rattle.sedengine.specs.Devices.{Gained, GainedWithin, part};
+ghost use Rattle.examples.specs.Strings.{written};
 ghost use Rattle.examples.specs.WrittenReplacements.{written_pieces};
 ghost use Rattle.scripts.specs.Alone.{EachLooksAtLine, EndsLine};
 ghost use Rattle.scripts.specs.Edited.{RunsTo, Sends, Writes, text_of};
 ghost use Rattle.scripts.specs.Slashed.{IsSlashed};
-ghost use Rattle.scripts.specs.Words.{has_none, in_one, numbered, odd_ones, replaced};
+ghost use Rattle.scripts.specs.Words.{by_table, each_once, has_none, in_one, numbered, odd_ones, replaced};
 
 use sedscript::laws::one_meaning;
 
@@ -118,6 +119,15 @@ pub fn unmatched()
 pub fn substituted()
     ensures { (re : List ℕ) (e : Tree) (groups : ℕ) (text : List Piece) (input : List ℕ) → IsSlashed re e groups → GroupsWithin 9 text → GroupsWithin groups text →
         Writes false (codes "s/" ++ (re ++ (codes "/" ++ (written_pieces 47 text ++ codes "/g")))) input (map (replaced e text) (lines input)) }
+{
+    one_meaning();
+}
+
+/// `y/string1/string2/` writes each line byte by byte as its table says, where no byte stands twice in the first string and
+/// the two are of one length.
+pub fn transliterated()
+    ensures { (s1 s2 input : List ℕ) → each_once [] s1 ≡ true → length s1 ≡ length s2 →
+        Writes false (codes "y/" ++ (written 47 s1 ++ (codes "/" ++ (written 47 s2 ++ codes "/")))) input (map (by_table s1 s2) (lines input)) }
 {
     one_meaning();
 }
