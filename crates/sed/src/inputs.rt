@@ -183,13 +183,6 @@ impl<'a> Inputs for FileInputs<'a> {
         }
     }
 
-    fn give_back(&self, count: usize) {
-        if let (Current::Standard, Ok(count @ 1..)) = (&self.current, i64::try_from(count)) {
-            // A pipe or a terminal refuses, and keeps what was read.
-            let _ = libc::lseek(libc::STDIN_FILENO, -count, libc::SEEK_CUR);
-        }
-    }
-
     fn whole(&mut self, _alloc: Global, name: &str) -> Result<Option<Vec<u8>>, AllocError> {
         match fs::read(self.rt, name) {
             Ok(bytes) => Ok(Some(bytes)),

@@ -274,8 +274,6 @@ impl Inputs for MemoryInputs {
         Ok(count)
     }
 
-    fn give_back(&self, _count: usize) {}
-
     fn whole(&mut self, alloc: Global, name: &str) -> Result<Option<Vec<u8>>, AllocError>
         ensures given { IfOk result (λ file.
             GivesWhole (Some (file_of self.old.files name.now)) (option_map (λ bytes. bytes.items) file)) }

@@ -6,7 +6,7 @@ ghost use Rattle.sedengine.specs.Devices.{Gained};
 ghost use Rattle.sededit.specs.FilesInTurn.{StillGives, joined_files, left};
 ghost use Rattle.sededit.specs.Program.{GainsBy, DevicesAtEnd, SinkFailed, StopsEarly, WritesAll, WritesBeginning};
 
-use crate::editing::{Edited, edit_ahead};
+use crate::edit;
 use crate::inputs::Inputs;
 use crate::joined::Joined;
 use crate::messages::{say_cannot_open, say_end, say_no_memory};
@@ -51,13 +51,6 @@ fn say_missed<I: Inputs, E: Write>(joined: &Joined<'_, I>, names: &[String], err
         if joined.missed(number) {
             let _ = say_cannot_open(errors, name.as_bytes());
         }
-    }
-}
-
-/// Gives back what a run left ahead that `q` ended.
-fn give_back<I: Inputs>(joined: &Joined<'_, I>, edited: Edited) {
-    if let Ended::Done = edited.end {
-        joined.give_back(edited.ahead);
     }
 }
 
@@ -120,14 +113,13 @@ fn run_joined<I: Inputs, O: Sinks, T: Texts, E: Write>(
     ensures same_reference { joined.new.start ∷ I.reference joined.new.inputs
         ≡ joined.old.start ∷ I.reference joined.old.inputs }
 {
-    let edited = match edit_ahead(alloc, script, limits, &mut *joined, sinks, texts) {
-        Ok(edited) => edited,
+    let end = match edit(alloc, script, limits, &mut *joined, sinks, texts) {
+        Ok(end) => end,
         Err(AllocError) => return out_of_memory(errors),
     };
-    give_back(&*joined, edited);
     say_missed(&*joined, names, errors);
     let has_missed = joined.has_missed();
-    finish(edited.end, has_missed, sinks, errors)
+    finish(end, has_missed, sinks, errors)
 }
 
 /// Runs a script over the files of these names, joined.
