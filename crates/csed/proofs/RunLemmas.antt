@@ -4,7 +4,7 @@ use Rattle.sedscript.specs.Script.{Program}
 use Rattle.sedengine.specs.Limits.{Limits}
 use Rattle.sedengine.specs.State.{Setting, State}
 use Rattle.sedengine.specs.Move.{written, to_sink}
-use Rattle.sedengine.specs.Devices.{part, Gained, GainedWithin}
+use Rattle.sedengine.specs.Devices.{part, Gained, GainedWithin, SourceAtEnd}
 use Rattle.sedengine.specs.Ends.{WholeOrBrokenOff, named_sink}
 use Rattle.sedengine.specs.Run.{setting_of}
 use Rattle.sedengine.specs.declared.ends.Ended.{Ended}
@@ -54,6 +54,10 @@ sinks_at : (l : Limits) (g : Setting) (s : State) (gained : List (ℕ × ℕ) �
 sinks_at l g s gained end t None w = (written g s t, w.sinks)
 sinks_at l g s gained end t (Some k) w = (take w.b (written g s (suc t)), w.sinks)
 
+-- a source that counts no failure is no cause
+never_failed : (end : Ended) → SourceAtEnd 0 0 end → end ≢ InputBroken
+never_failed end h is = let rose : SourceAtEnd 0 0 InputBroken = rw is at h in absurd (omega (arith, rose))
+
 -- the one sink holds no more than the room, and where it is full all of it
 module _ (room : ℕ) (held held' : Option (List ℕ)) (bytes : List ℕ) (before : held ≡ Some []) (after : Some bytes ≡ held') where
   within_room : (most : Option ℕ) (r : Result Unit Ended) (out : List (ℕ × ℕ)) → most ≡ Some room → GainedWithin most nothing_before (of_one held) (of_one held') r out → length bytes ≤ room
@@ -92,12 +96,14 @@ module _ (room : ℕ) (held held' : Option (List ℕ)) (bytes : List ℕ) (befor
       within_room l.output (Err end) out is sent
 
   -- an edit that ended early has stopped for its cause
-  pub Stops-early : (l : Limits) (g : Setting) (s : State) (old new : Option (List ℕ)) (end : Ended) → l.output ≡ Some room → end ≢ Done →
+  pub Stops-early : (l : Limits) (g : Setting) (s : State) (old new : Option (List ℕ)) (end : Ended) → l.output ≡ Some room → end ≢ Done → SourceAtEnd 0 0 end → ((k : ℕ) → end ≢ OutputBroken k) →
       Edits l g s (GainedWithin l.output nothing_before (of_one held) (of_one held') (Err end)) old new end → Stops l g s room bytes end
-  Stops-early l g s old new end is early h =
+  Stops-early l g s old new end is early source output h =
       let (out, sent) = sinks_at l g s _ end h.t (named_sink end) h.cause in
       record {
         early = early;
+        input = never_failed end source;
+        output = output;
         t = h.t;
         cause = Cause-as l g s _ (AreWritten bytes) end h.t (λ o w. Are-written held held' bytes before after o w.gained) h.cause;
         full = full_by l.output end out is sent;

@@ -8,7 +8,7 @@ use Rattle.sedengine.specs.Move.{to_sink}
 use Rattle.sedengine.specs.Ends.{Cause}
 use Rattle.sedengine.specs.Run.{setting_of}
 use Rattle.sedengine.specs.declared.ends.Ended.{Ended}
-use Rattle.sedengine.specs.declared.ends.Ended.TheVariants.{Done}
+use Rattle.sedengine.specs.declared.ends.Ended.TheVariants.{Done, InputBroken, OutputBroken}
 use Rattle.sededit.specs.Editing.{GainsAll, GainsBeginning, start_over}
 use Rattle.sededit.specs.Program.{kind_with}
 use Rattle.csed.specs.declared.asked.Asked.{Asked}
@@ -73,9 +73,11 @@ IsBeginning text a input bytes =
     (p : Program) × GivesScript text a p × GainsBeginning (setting_of p no_files) (start_over p input) (AreWritten bytes)
 
 -- A run from the state s stopped for a cause that is true after some moves, with these bytes written; F8 at exactly the
--- room.
+-- room. Memory is no device that fails: neither F6 nor F7 is a cause.
 pub record Stops (l : Limits) (g : Setting) (s : State) (room : ℕ) (bytes : List ℕ) (end : Ended) : Type 0 where
   pub early : end ≢ Done
+  pub input : end ≢ InputBroken
+  pub output : (k : ℕ) → end ≢ OutputBroken k
   pub t : ℕ
   pub cause : Cause l g s (AreWritten bytes) end t
   pub full : cause_of end ≡ 8 → length bytes ≡ room

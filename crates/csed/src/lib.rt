@@ -4,6 +4,7 @@
 
 mod asked;
 mod calls;
+mod input;
 mod outcome;
 mod running;
 mod standard_output;

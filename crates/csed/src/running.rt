@@ -1,17 +1,18 @@
 //! A script is read, and run over bytes in memory.
-ghost use Rattle.std.specs.Prelude.{◌≡◌, ◌≢◌, ◌<◌, ◌≤◌, ◌⊎◌, ◌||◌, [], IfErr, IfOk, drop, length, take};
+ghost use Rattle.std.specs.Prelude.{◌≡◌, ◌≢◌, ◌<◌, ◌≤◌, ◌⊎◌, ◌||◌, ℕ, [], Ok, IfErr, IfOk, IfSome, drop, length, take};
 ghost use Rattle.csed.specs.declared.outcome.Outcome.TheVariants.{Faulty as HasFault, NoMemory, WritesFiles as HasFiles};
 ghost use Rattle.csed.specs.Calls.{GivesScript};
 ghost use Rattle.csed.specs.Outcomes.{IsRefusal, RunsTo, outcome_of, written_of};
 
 use crate::asked::Asked;
+use crate::input::Input;
 use crate::outcome::Outcome;
 use crate::standard_output::StandardOutput;
 use sededit::{edit, script};
 use sedengine::{Ended, Limits};
 use sedscript::{NO_MEMORY, Reason, Script, ScriptFault};
-use sedspace::{FromReader, MemoryTexts};
-use std::alloc::Global;
+use sedspace::MemoryTexts;
+use std::alloc::{AllocError, Global};
 
 /// Reads a script that may run here.
 pub(crate) fn read(alloc: Global, text: &[u8], asked: &Asked) -> Result<Script, Outcome>
@@ -68,6 +69,17 @@ fn outcome_of(end: Ended, written: usize) -> Outcome
     }
 }
 
+/// How a run ended, unless for want of memory. For nothing else can the sink fail: it has room for all that the limit lets
+/// through.
+fn end_of(ended: Result<Ended, AllocError>) -> Option<Ended>
+    ensures { IfSome result (λ end. (ended ≡ Ok end) × ((k : ℕ) → end ≢ Ended.OutputBroken k)) }
+{
+    match ended {
+        Err(_) | Ok(Ended::OutputBroken(_)) => None,
+        Ok(end) => Some(end),
+    }
+}
+
 /// Runs a script over the input into the output, which limits what is written.
 pub(crate) fn run(
     alloc: Global,
@@ -87,7 +99,7 @@ pub(crate) fn run(
     let Ok(mut standard) = StandardOutput::with_room(alloc, room) else {
         return Outcome::NoMemory;
     };
-    let mut source = FromReader::new(input);
+    let mut source = Input::new(input);
     let mut texts = MemoryTexts::new(Vec::new(alloc));
     let ended = edit(
         alloc,
@@ -97,7 +109,7 @@ pub(crate) fn run(
         &mut standard,
         &mut texts,
     );
-    let Ok(end) = ended else {
+    let Some(end) = end_of(ended) else {
         return Outcome::NoMemory;
     };
     let bytes = standard.bytes();
