@@ -148,7 +148,7 @@ pub record Stops (l : Limits) (g : Setting) (s : State) (end : Ended) (out : Lis
   pub moves : ℕ
   pub cause : Cause l g s (λ bytes. bytes ≡ out) end moves
 
-whole_or_cut : (l : Limits) (g : Setting) (s : State) (end : Ended) (out : List (ℕ × ℕ)) (t : ℕ) (o : Option ℕ) → o ≡ None →
+pub whole_or_cut : (l : Limits) (g : Setting) (s : State) (end : Ended) (out : List (ℕ × ℕ)) (t : ℕ) (o : Option ℕ) → o ≡ None →
     IsWhole l g s out end t → WholeOrBrokenOff l g s (λ bytes. bytes ≡ out) end t o
 whole_or_cut l g s end out t None e h = h
 whole_or_cut l g s end out t (Some k) e h = absurd cc

@@ -79,7 +79,7 @@ first_cycle = is_script {text = codes "p"} {kind = Basic} {Fits = IsFirst} (reco
     sinks = refl;
     takes = record {
       input = record { lines = codes "a" ∷ []; are = refl; bytes = (codes "a\nb", refl, omega arith) };
-      all = (codes "a\n", refl, omega arith);
+      all = (codes "a\n", refl, (λ k d inside. absurd (omega (arith, inside))), omega arith);
     };
   };
   no_more = not_so_many _ _ (codes "a") (codes "b") (codes "c") input (codes "c\n") 1 6 refl refl (omega arith);

@@ -14,7 +14,7 @@ use Rattle.sedscript.specs.Items.{function_at, item_at}
 use Rattle.sedspace.specs.Lines.{HasNoNewline, lines}
 use Rattle.sedengine.specs.Ends.{Cause}
 use Rattle.sedengine.specs.Move.{after, move, to_sink}
-use Rattle.sedengine.specs.Run.{BreaksInLine, setting_of}
+use Rattle.sedengine.specs.Run.{BreaksInLine, LosesPartAfter, setting_of}
 use Rattle.sedengine.specs.Select.{selects}
 use Rattle.sedengine.specs.declared.ends.Ended.{Ended}
 use Rattle.sedengine.specs.declared.ends.Ended.TheVariants.{Done, NoPrevious, InputBroken, OutputBroken}
@@ -210,10 +210,13 @@ none_failed k = 0
 part_only : HasNoNewline (codes "b")
 part_only = search rules
 
+part_gone : LosesPartAfter (Some (codes "a\nbc\n")) (Some (codes "c\n")) 2 own.space
+part_gone = (codes "a\nb", refl, part_only, omega arith)
+
 -- The second line cannot be read to its end: its first byte is gone.
 input_broke_run : Script (codes "p\n") Basic (λ p. OverAnyFiles p (codes "a\nbc\n") (codes "c\n") (codes "a\na\n") InputBroken)
 unfolding verdict cutting walked item_at past function_at addresses_at address_at second_at text_from name_from lines after course move selects all_fit
-input_broke_run = is_script (over_any (λ files. stops_after 6 refl refl refl refl) (λ files is. (codes "a" ∷ [], refl, codes "a\nb", refl, part_only, omega arith)))
+input_broke_run = is_script (over_any {bytes = codes "a\nbc\n"} {rest = codes "c\n"} {output = codes "a\na\n"} {end = InputBroken} (λ files. stops_after 6 refl refl refl refl) (λ files is. (codes "a" ∷ [], refl, part_gone)))
 
 input_broke : Stopped (codes "p\n") (codes "a\nbc\n") (codes "c\n") (DevicesAtEnd None 0 1 none_failed none_failed) (codes "a\na\n")
 input_broke = stopped (codes "p\n") (codes "a\nbc\n") (codes "c\n") (codes "a\na\n") (DevicesAtEnd None 0 1 none_failed none_failed) InputBroken input_broke_run (λ e. absurd cc) (omega arith, tt)
