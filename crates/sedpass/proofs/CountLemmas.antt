@@ -1,0 +1,57 @@
+-- Counts of steps that stay at the largest.
+use Rattle.std.proofs.Common.{◌≡◌, ℕ, ◌+◌, ◌*◌, ◌≤◌, arith}
+use Rattle.sedre.specs.Steps.{Counted, TakesAtLeast}
+
+-- nothing is counted yet
+pub least_none : (s n : ℕ) → n ≡ 0 → TakesAtLeast s s n
+unfolding TakesAtLeast
+least_none s n e = omega (arith, e)
+
+-- one look more
+pub least_one : (s a b n m : ℕ) → TakesAtLeast s a n → Counted a b 1 → n + 1 ≡ m → TakesAtLeast s b m
+unfolding TakesAtLeast Counted
+least_one s a b n m before one is = omega (arith, before, one, is)
+
+-- two looks more, and others between them
+pub least_two : (s a b k c n m : ℕ) → TakesAtLeast s a n → Counted a b 1 → b ≤ k → Counted k c 1 → n + 2 ≡ m → TakesAtLeast s c m
+unfolding TakesAtLeast Counted
+least_two s a b k c n m before one grows two is = omega (arith, before, one, grows, two, is)
+
+-- six looks more, and others before the last two
+pub least_six : (s a b c d e k f g n m : ℕ) → TakesAtLeast s a n → Counted a b 1 → Counted b c 1 → Counted c d 1 → Counted d e 1 → e ≤ k → Counted k f 1 → Counted f g 1 → n + 6 ≡ m →
+    TakesAtLeast s g m
+unfolding TakesAtLeast Counted
+least_six s a b c d e k f g n m before one two three four grows five six is = omega (arith, before, one, two, three, four, grows, five, six, is)
+
+-- twice so many looks, others, and what was counted after them
+pub least_after : (s a b c d k n m : ℕ) → Counted s a k → Counted a b k → b ≤ c → TakesAtLeast c d n → 2 * k + n ≡ m → TakesAtLeast s d m
+unfolding TakesAtLeast Counted
+least_after s a b c d k n m one two grows after is = omega (arith, one, two, grows, after, is)
+
+-- one after the other
+pub least_both : (s a b n k m : ℕ) → TakesAtLeast s a n → TakesAtLeast a b k → m ≤ n + k → TakesAtLeast s b m
+unfolding TakesAtLeast
+least_both s a b n k m before more is = omega (arith, before, more, is)
+
+-- and others after them, or before them
+pub least_up : (s a b n : ℕ) → TakesAtLeast s a n → a ≤ b → TakesAtLeast s b n
+unfolding TakesAtLeast
+least_up s a b n before grows = omega (arith, before, grows)
+
+pub least_since : (s a b n : ℕ) → s ≤ a → TakesAtLeast a b n → TakesAtLeast s b n
+unfolding TakesAtLeast
+least_since s a b n grows after = omega (arith, grows, after)
+
+pub least_fewer : (s a n m : ℕ) → m ≤ n → TakesAtLeast s a n → TakesAtLeast s a m
+unfolding TakesAtLeast
+least_fewer s a n m few least = omega (arith, few, least)
+
+-- so many looks
+pub least_counted : (s t n : ℕ) → Counted s t n → TakesAtLeast s t n
+unfolding TakesAtLeast Counted
+least_counted s t n is = omega (arith, is)
+
+-- and fewer than were counted
+pub least_less : (s t n k : ℕ) → TakesAtLeast s t n → k ≤ n → TakesAtLeast s t k
+unfolding TakesAtLeast
+least_less s t n k before less = omega (arith, before, less)

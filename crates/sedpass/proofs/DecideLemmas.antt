@@ -1,0 +1,463 @@
+-- The groups that are told to be due, as the state of a decision; what nodes and regions cost.
+use Rattle.std.proofs.Common.{◌≡◌, ℕ, zero, suc, ◌+◌, ◌-◌, ◌*◌, ◌<◌, ◌≤◌, ◌↔◌, ◌&&◌, not, Bool, true, false, List, [], ◌∷◌, length, Option, None, Some, IsTrue, refl, sym, ap, ◌∙◌, subst, inl, inr, ⊎_elim, true≢false, arith, mul-le-mul_left}
+use Rattle.std.specs.Prelude.{IfSome, cond, eqb, nat_lt, slice_get, slice_set, slice_index_or}
+use Rattle.std.specs.Int.{bit_at}
+use Rattle.std.proofs.lemmas.Bool.{and_parts, and_from, or_cases, or_left, or_right, cases_Bool, cases_eq, eqb-true, eq-eqb, lt-ltb, le-ltb}
+use Rattle.std.proofs.lemmas.Bool.Decides.{eqb_tells}
+use Rattle.std.proofs.lemmas.List.{get_or-set_other, length-set}
+use Rattle.std.proofs.Math.Dec.{ltb}
+use Rattle.sedre.specs.Tree.{Tree, empty, set, begin, end, seq, alt, group, star, opt}
+use Rattle.sedre.specs.Arena.{Written, IsExpr, IsPart, AreRanges, tree_at, tree}
+use Rattle.sedre.specs.declared.types.Node.{Node}
+use Rattle.sedre.specs.Steps.{TakesAtLeast}
+use Rattle.sedre.specs.declared.types.Node.TheVariants.{Empty, Set, Begin, End, Seq, Alt, Group, Star, Opt}
+use Rattle.sedre.proofs.TreeLemmas.{tree_at-node}
+use Rattle.sedmarks.proofs.OpenLemmas.{node_at}
+use Rattle.sedmarks.specs.Caps.{Groups, LastCut, LastCopy}
+use Rattle.sedmarks.specs.Reach.{At, one_start}
+use Rattle.sedre.specs.Arena.{IsArena}
+use Rattle.sedmarks.specs.Spans.{Spans, Copies, no_copy}
+use Rattle.sedmarks.proofs.SpanLemmas.{Spans-forward}
+use Rattle.sedpass.specs.Decide.{found, undecided, HasAll, flags_of, told_of, nodes_in, EndsIn, IsDesk, HasDesk, IsSetAt, region_cost}
+use Rattle.sedpass.specs.Kept.{AllMarked, CeasesAt, IsKept, SameKept, ends_told}
+use Rattle.sedpass.specs.Regions.{IsLastIn, all_of, Reaches, StopsAt, RunsTo, IsRunOf, repeated, in_group}
+use Rattle.sedpass.specs.Table.{IsTable, SameShape, MayBegin}
+use Rattle.sedpass.specs.declared.groups.GroupTables.{GroupTables}
+use Rattle.sedpass.specs.declared.groups.Matched.{Matched}
+use Rattle.sedpass.specs.declared.kept.Kept.{Kept}
+use Rattle.sedpass.specs.declared.kept.Region.{Region}
+use Rattle.sedpass.specs.declared.kept.Subject.{Subject}
+use Rattle.sedpass.specs.declared.table.Table.{Table}
+use Rattle.sedpass.proofs.LeaveLemmas.{last_inside}
+use Rattle.sedpass.proofs.LengthLemmas.{all_long, copies_long}
+use Rattle.sedpass.proofs.MeetingLemmas.{set_early}
+use Rattle.sedpass.specs.Groups.{reported, holds, has_group}
+use Rattle.sedpass.specs.Overlay.{is_due, settle, drop_groups, HasGroup, NoneDue, IsStart}
+use Rattle.sedpass.specs.Lengths.{AllLong}
+use Rattle.sedpass.specs.Prepared.{IsFacts, nullable, null_in, is_set, run_of}
+use Rattle.sedpass.specs.Turns.{Blank}
+use Rattle.sedpass.specs.declared.group_set.GroupSet.{GroupSet}
+use Rattle.sedpass.specs.declared.nodes.Facts.{Facts}
+use Rattle.sedpass.specs.declared.nodes.Kind.{Kind}
+use Rattle.sedpass.proofs.OverlayLemmas.{make-state, settle-due, settle-not}
+use Rattle.sedpass.proofs.TurnLemmas.{copy_spans, none_there, closed, same_bools, drop_as}
+
+-- an entry of the flags
+pub flags_at : (s : GroupSet) (k : ℕ) → slice_index_or (flags_of s) k false ≡ holds s k
+flags_at s zero = refl
+flags_at s (suc zero) = refl
+flags_at s (suc (suc zero)) = refl
+flags_at s (suc (suc (suc zero))) = refl
+flags_at s (suc (suc (suc (suc zero)))) = refl
+flags_at s (suc (suc (suc (suc (suc zero))))) = refl
+flags_at s (suc (suc (suc (suc (suc (suc zero)))))) = refl
+flags_at s (suc (suc (suc (suc (suc (suc (suc zero))))))) = refl
+flags_at s (suc (suc (suc (suc (suc (suc (suc (suc zero)))))))) = refl
+flags_at s (suc (suc (suc (suc (suc (suc (suc (suc (suc zero))))))))) = refl
+flags_at s (suc (suc (suc (suc (suc (suc (suc (suc (suc (suc k)))))))))) =
+    let n : ℕ = suc (suc (suc (suc (suc (suc (suc (suc (suc (suc k))))))))) in
+    sym (ap (λ b. b && eqb (bit_at s.bits n) 1) (le-ltb n 10 (omega arith)))
+
+-- whether a group stands in the expression
+pub has_told : (t : Tree) (k : ℕ) → HasGroup t k → has_group t k ≡ true
+has_told empty k has = absurd has
+has_told (set members) k has = absurd has
+has_told begin k has = absurd has
+has_told end k has = absurd has
+has_told (seq a b) k (inl has) = or_left (has_group a k) (has_group b k) (has_told a k has)
+has_told (seq a b) k (inr has) = or_right (has_group a k) (has_group b k) (has_told b k has)
+has_told (alt a b) k (inl has) = or_left (has_group a k) (has_group b k) (has_told a k has)
+has_told (alt a b) k (inr has) = or_right (has_group a k) (has_group b k) (has_told b k has)
+has_told (group n a) k (inl same) = or_left (eqb n k) (has_group a k) (eq-eqb n k same)
+has_told (group n a) k (inr has) = or_right (eqb n k) (has_group a k) (has_told a k has)
+has_told (star a first) k has = has_told a k has
+has_told (opt a first) k has = has_told a k has
+
+pub told_has : (t : Tree) (k : ℕ) → has_group t k ≡ true → HasGroup t k
+told_has empty k is = absurd (true≢false (sym is))
+told_has (set members) k is = absurd (true≢false (sym is))
+told_has begin k is = absurd (true≢false (sym is))
+told_has end k is = absurd (true≢false (sym is))
+told_has (seq a b) k is = elim (or_cases (has_group a k) (has_group b k) is) [ inl l ↦ inl (told_has a k l) | inr r ↦ inr (told_has b k r) ]
+told_has (alt a b) k is = elim (or_cases (has_group a k) (has_group b k) is) [ inl l ↦ inl (told_has a k l) | inr r ↦ inr (told_has b k r) ]
+told_has (group n a) k is = elim (or_cases (eqb n k) (has_group a k) is) [ inl l ↦ inl (eqb-true n k l) | inr r ↦ inr (told_has a k r) ]
+told_has (star a first) k is = told_has a k is
+told_has (opt a first) k is = told_has a k is
+
+-- a group that is due is one of those that are reported
+due_reported : (due : GroupSet) (k : ℕ) → holds due 0 ≡ false → holds due k ≡ true → reported k ≡ true
+due_reported due zero whole is = absurd (true≢false (sym is ∙ whole))
+due_reported due (suc k) whole is = and_from (nat_lt 0 (suc k)) (nat_lt (suc k) 10) (lt-ltb 0 (suc k) (omega arith)) (and_parts (nat_lt (suc k) 10) (eqb (bit_at due.bits (suc k)) 1) is).0
+
+-- a node of which no group is due
+pub none_due : (nodes : List Node) (x : ℕ) (facts : Facts) (due : GroupSet) (spans : Groups) → IsFacts (tree_at nodes x) x facts → holds due 0 ≡ false →
+    ((k : ℕ) → IsTrue (holds facts.groups k) → IsTrue (holds due k) → ⊥) → NoneDue (tree_at nodes x) (told_of due spans)
+none_due nodes x facts due spans is whole apart k has = elim (cases_Bool (holds due k)) [
+  | inl yes_due ↦ absurd (apart k (facts_groups yes_due) yes_due)
+  | inr not_due ↦ flags_at due k ∙ not_due
+]
+  where
+    facts_groups : holds due k ≡ true → holds facts.groups k ≡ true
+    facts_groups due_is = is.groups k ∙ and_from (reported k) (has_group (tree_at nodes x) k) (due_reported due k whole due_is) (has_told (tree_at nodes x) k has)
+
+-- what a test denies
+pub not_met : (b : Bool) (P : Type 0) → b ≡ false → (IsTrue b ↔ P) → P → ⊥
+not_met b P is tells p = true≢false (sym (tells.1 p) ∙ is)
+
+false_and : (b : Bool) → (b && false) ≡ false
+false_and true = refl
+false_and false = refl
+
+true_and : (b : Bool) → (b && true) ≡ b
+true_and true = refl
+true_and false = refl
+
+-- a group that is due is settled
+pub settled : (old one new : GroupSet) (k : ℕ) (v : Option (ℕ × ℕ)) (spans : Groups) → holds old 0 ≡ false → holds old k ≡ true →
+    ((n : ℕ) → holds one n ≡ (reported n && eqb k n)) → ((n : ℕ) → holds new n ≡ (holds old n && not (holds one n))) →
+    told_of new (slice_set spans k v) ≡ settle k v (told_of old spans)
+settled old one new k v spans whole due alone without =
+    make-state (flags_of new) (slice_set (flags_of old) k false) (slice_set spans k v) (slice_set spans k v)
+    (same_bools (flags_of new) (slice_set (flags_of old) k false) (sym (length-set (flags_of old) k false)) each) refl
+    ∙ sym (settle-due k v (told_of old spans) (flags_at old k ∙ due))
+  where
+    at : (n : ℕ) → n ≡ k → slice_index_or (flags_of new) n false ≡ slice_index_or (slice_set (flags_of old) k false) n false
+    at n same =
+        let one_is : holds one n ≡ true = alone n ∙ and_from (reported n) (eqb k n) (due_reported old n whole (ap (holds old) same ∙ due)) (eq-eqb k n (sym same)) in
+        flags_at new n ∙ without n ∙ ap (λ b. holds old n && not b) one_is ∙ false_and (holds old n)
+        ∙ sym (closed (flags_of old) k) ∙ ap (λ m. slice_index_or (slice_set (flags_of old) k false) m false) (sym same)
+
+    other : (n : ℕ) → (n ≡ k → ⊥) → slice_index_or (flags_of new) n false ≡ slice_index_or (slice_set (flags_of old) k false) n false
+    other n ne =
+        let differs : eqb k n ≡ false = elim (eqb_tells k n) [ inl w ↦ absurd (ne (sym w.1)) | inr w ↦ w.0 ] in
+        let one_is : holds one n ≡ false = alone n ∙ ap (λ b. reported n && b) differs ∙ false_and (reported n) in
+        flags_at new n ∙ without n ∙ ap (λ b. holds old n && not b) one_is ∙ true_and (holds old n)
+        ∙ sym (flags_at old n) ∙ sym (get_or-set_other (flags_of old) k n false false ne)
+
+    each : (n : ℕ) → slice_index_or (flags_of new) n false ≡ slice_index_or (slice_set (flags_of old) k false) n false
+    each n = ⊎_elim (at n) (other n) (cases_eq n k)
+
+-- one that isn't due is left
+pub unsettled : (due : GroupSet) (k : ℕ) (v : Option (ℕ × ℕ)) (spans : Groups) → holds due k ≡ false → told_of due spans ≡ settle k v (told_of due spans)
+unsettled due k v spans is = sym (settle-not k v (told_of due spans) (flags_at due k ∙ is))
+
+-- what is taken from what is due is not due before
+pub still_whole : (old other new : GroupSet) → holds old 0 ≡ false → ((n : ℕ) → holds new n ≡ (holds old n && not (holds other n))) → holds new 0 ≡ false
+still_whole old other new whole without = without 0 ∙ ap (λ b. b && not (holds other 0)) whole
+
+-- the groups of a node are taken from what is due
+pub dropped : (nodes : List Node) (x : ℕ) (facts : Facts) (old new : GroupSet) (spans : Groups) → IsFacts (tree_at nodes x) x facts → holds old 0 ≡ false → Blank (told_of old spans) →
+    ((n : ℕ) → holds new n ≡ (holds old n && not (holds facts.groups n))) → told_of new spans ≡ drop_groups (tree_at nodes x) (told_of old spans)
+dropped nodes x facts old new spans is whole blank without =
+    drop_as (tree_at nodes x) (told_of old spans) (told_of new spans) blank refl refl (λ k. (out k, back k))
+  where
+    out : (k : ℕ) → is_due (told_of new spans) k ≡ true → (is_due (told_of old spans) k ≡ true) × (HasGroup (tree_at nodes x) k → ⊥)
+    out k due =
+        let parts = and_parts (holds old k) (not (holds facts.groups k)) (sym (without k) ∙ sym (flags_at new k) ∙ due) in (
+          flags_at old k ∙ parts.0,
+          λ has.
+              let in_facts : holds facts.groups k ≡ true = is.groups k ∙ and_from (reported k) (has_group (tree_at nodes x) k) (due_reported old k whole parts.0) (has_told (tree_at nodes x) k has) in
+              true≢false (sym parts.1 ∙ ap (λ b. not b) in_facts),
+        )
+
+    back : (k : ℕ) → (is_due (told_of old spans) k ≡ true) × (HasGroup (tree_at nodes x) k → ⊥) → is_due (told_of new spans) k ≡ true
+    back k h =
+        let due : holds old k ≡ true = sym (flags_at old k) ∙ h.0 in
+        let lacks : has_group (tree_at nodes x) k ≡ false = elim (cases_Bool (has_group (tree_at nodes x) k)) [ inl has ↦ absurd (h.1 (told_has (tree_at nodes x) k has)) | inr lacks ↦ lacks ] in
+        let not_in : holds facts.groups k ≡ false = is.groups k ∙ ap (λ b. reported k && b) lacks ∙ false_and (reported k) in
+        flags_at new k ∙ without k ∙ and_from (holds old k) (not (holds facts.groups k)) due (ap (λ b. not b) not_in)
+
+-- the groups of the whole expression, and a start with them
+pub all_told : (e : Written) (root : ℕ) (facts : Facts) → root + 1 ≡ length e.nodes → IsFacts (tree_at e.nodes root) root facts → HasAll facts.groups (tree e)
+all_told e root facts last is k low high has =
+    let same : length e.nodes - 1 ≡ root = omega arith in
+    is.groups k
+    ∙ and_from (reported k) (has_group (tree_at e.nodes root) k) (and_from (nat_lt 0 k) (nat_lt k 10) (lt-ltb 0 k (omega arith)) (lt-ltb k 10 high))
+    (has_told (tree_at e.nodes root) k (subst (λ x. HasGroup (tree_at e.nodes x) k) same has))
+
+pub starts_due : (e : Tree) (i j : ℕ) (due : GroupSet) → holds due 0 ≡ false → HasAll due e → IsStart e i j (told_of due (undecided i j))
+starts_due e i j due whole all = record {
+  whole = whole;
+  each = λ k low high has. flags_at due k ∙ all k low high has;
+  none = refl;
+}
+
+-- a span more
+pub found_set : (g : Groups) (k : ℕ) (v : Option (ℕ × ℕ)) → found (slice_set g k v) ≤ found g + 1
+found_set [] k v = omega arith
+found_set (None ∷ g) zero None = omega arith
+found_set (None ∷ g) zero (Some u) = omega arith
+found_set (Some t ∷ g) zero None = omega arith
+found_set (Some t ∷ g) zero (Some u) = omega arith
+found_set (None ∷ g) (suc k) v = found_set g k v
+found_set (Some t ∷ g) (suc k) v = omega (arith, found_set g k v)
+
+pub starts_blank : (i j : ℕ) (due : GroupSet) → holds due 0 ≡ false → Blank (told_of due (undecided i j))
+starts_blank i j due whole zero is = absurd (true≢false (sym is ∙ whole))
+starts_blank i j due whole (suc k) is = none_there 9 k
+
+-- Places.
+
+-- a cut is within the span
+pub cut_within : (nodes : List Node) (w : List ℕ) (a b i j k : ℕ) → LastCut (At nodes w a) (At nodes w b) i j k → (i ≤ k) × (k ≤ j)
+cut_within nodes w a b i j k cut = (Spans-forward (tree_at nodes a) w i k cut.left, Spans-forward (tree_at nodes b) w k j cut.right)
+
+-- of a null string
+pub null_cut : (nodes : List Node) (w : List ℕ) (a b i j : ℕ) → (k : ℕ) × At nodes w a i k × At nodes w b k j → i ≡ j → LastCut (At nodes w a) (At nodes w b) i j i
+null_cut nodes w a b i j parts same =
+    let up = Spans-forward (tree_at nodes a) w i parts.0 parts.1 in
+    let on = Spans-forward (tree_at nodes b) w parts.0 j parts.2 in
+    let here : parts.0 ≡ i = omega arith in
+    record {
+      left = subst (λ v. At nodes w a i v) here parts.1;
+      right = subst (λ v. At nodes w b v j) here parts.2;
+      greatest = λ l left right. let on = Spans-forward (tree_at nodes b) w l j right in omega arith;
+    }
+
+-- the null string is matched where it is told
+pub null_told : (t : Tree) (w : List ℕ) (p : ℕ) (first last : Bool) → (IsTrue first ↔ (p ≡ 0)) → (IsTrue last ↔ (p ≡ length w)) → IsTrue (nullable first last t) ↔ Spans t w p p
+null_told empty w p first last begins ends = (λ _. refl, λ _. refl)
+null_told (set members) w p first last begins ends = (λ h. absurd (true≢false (sym h)), λ s. let next = s.3 in absurd (omega arith))
+null_told begin w p first last begins ends = (λ h. (begins.0 h, begins.0 h), λ s. begins.1 s.0)
+null_told end w p first last begins ends = (λ h. (ends.0 h, ends.0 h), λ s. ends.1 s.0)
+null_told (seq a b) w p first last begins ends =
+    let left = null_told a w p first last begins ends in
+    let right = null_told b w p first last begins ends in (
+      λ h. let both = and_parts (nullable first last a) (nullable first last b) h in (p, left.0 both.0, right.0 both.1),
+      λ s.
+          let up = Spans-forward a w p s.0 s.1 in
+          let on = Spans-forward b w s.0 p s.2 in
+          let here : s.0 ≡ p = omega arith in
+          and_from (nullable first last a) (nullable first last b) (left.1 (subst (λ v. Spans a w p v) here s.1)) (right.1 (subst (λ v. Spans b w v p) here s.2)),
+    )
+null_told (alt a b) w p first last begins ends =
+    let left = null_told a w p first last begins ends in
+    let right = null_told b w p first last begins ends in (
+      λ h. elim (or_cases (nullable first last a) (nullable first last b) h) [ inl l ↦ inl (left.0 l) | inr r ↦ inr (right.0 r) ],
+      λ s. elim s [ inl l ↦ or_left (nullable first last a) (nullable first last b) (left.1 l) | inr r ↦ or_right (nullable first last a) (nullable first last b) (right.1 r) ],
+    )
+null_told (group k a) w p first last begins ends = null_told a w p first last begins ends
+null_told (star a one) w p first last begins ends = (λ _. no_copy, λ _. refl)
+null_told (opt a one) w p first last begins ends = (λ _. inl refl, λ _. refl)
+
+-- the same of a node, by its facts
+pub empty_told : (nodes : List Node) (w : List ℕ) (x p n : ℕ) (kind : Kind) (first result : Bool) → first ≡ true → n ≡ length w →
+    (IsTrue kind.begin ↔ (p ≡ 0)) → (IsTrue kind.end ↔ (p ≡ n)) → result ≡ null_in nodes kind x → IsTrue result ↔ (IsTrue first × At nodes w x p p)
+empty_told nodes w x p n kind first result is_first same begins ends told =
+    let both = null_told (tree_at nodes x) w p kind.begin kind.end begins (subst (λ v. IsTrue kind.end ↔ (p ≡ v)) same ends) in
+    (λ h. (is_first, both.0 (sym told ∙ h)), λ h. told ∙ both.1 h.1)
+
+-- lengths that are told
+pub long_at : (nodes : List Node) (w : List ℕ) (x n : ℕ) (facts : Facts) → IsFacts (tree_at nodes x) x facts → facts.length ≡ Some n → AllLong (At nodes w x) n
+long_at nodes w x n facts is told = all_long (tree_at nodes x) w n (sym is.long ∙ told)
+
+-- a length that is known
+pub not_open : {told all : Option ℕ} (n : ℕ) → told ≡ all → told ≡ Some n → all ≡ None → ⊥
+not_open n same known none = cc
+
+pub copy_fits : (nodes : List Node) (w : List ℕ) (x i j n : ℕ) → AllLong (At nodes w x) n → i < j → Copies (At nodes w x) j i → n ≤ j
+copy_fits nodes w x i j n long some copies =
+    let copy = copy_spans (At nodes w x) j i (j - n) (copies_long (At nodes w x) j n long i some copies) in
+    let all = long (j - n) j copy.2 in
+    omega arith
+
+-- names of parts
+pub cut_named : (nodes : List Node) (w : List ℕ) (a b c d i j k : ℕ) → a ≡ c → b ≡ d → LastCut (At nodes w a) (At nodes w b) i j k → LastCut (At nodes w c) (At nodes w d) i j k
+cut_named nodes w a b c d i j k left right cut =
+    subst (λ v. LastCut (At nodes w c) (At nodes w v) i j k) right (subst (λ v. LastCut (At nodes w v) (At nodes w b) i j k) left cut)
+
+pub copy_named : (nodes : List Node) (w : List ℕ) (a c i j k : ℕ) → a ≡ c → LastCopy (At nodes w a) j i k → LastCopy (At nodes w c) j i k
+copy_named nodes w a c i j k same copy = subst (λ v. LastCopy (At nodes w v) j i k) same copy
+
+-- a part of a node that is last in the region of r is no later than r
+pub part_low : (nodes : List Node) (w : List ℕ) (r x c : ℕ) (node : Node) → IsArena nodes → slice_get nodes x ≡ Some node → IsPart node c → IsLastIn nodes r x → c ≤ r
+part_low nodes w r x c node arena is part last =
+    let below = arena.below x c node is part in
+    let inside = last_inside nodes w r (one_start 0) arena x last in
+    omega arith
+
+-- Runs.
+set_is : (nodes : List Node) → IsArena nodes → (x : ℕ) → x < length nodes → is_set (tree_at nodes x) ≡ true → IsSetAt nodes x
+set_is nodes arena x inside = let there = node_at nodes x inside in by there.0 there.1
+  where
+    by : (n : Node) → slice_get nodes x ≡ Some n → is_set (tree_at nodes x) ≡ true → IsSetAt nodes x
+    by Empty is = rw (tree_at-node nodes x Empty arena is) (λ h. absurd (true≢false (sym h)))
+    by (Set members) is = λ h. (members, is)
+    by Begin is = rw (tree_at-node nodes x Begin arena is) (λ h. absurd (true≢false (sym h)))
+    by End is = rw (tree_at-node nodes x End arena is) (λ h. absurd (true≢false (sym h)))
+    by (Seq a b) is = rw (tree_at-node nodes x (Seq a b) arena is) (λ h. absurd (true≢false (sym h)))
+    by (Alt a b) is = rw (tree_at-node nodes x (Alt a b) arena is) (λ h. absurd (true≢false (sym h)))
+    by (Group k a) is = rw (tree_at-node nodes x (Group k a) arena is) (λ h. absurd (true≢false (sym h)))
+    by (Star a first) is = rw (tree_at-node nodes x (Star a first) arena is) (λ h. absurd (true≢false (sym h)))
+    by (Opt a first) is = rw (tree_at-node nodes x (Opt a first) arena is) (λ h. absurd (true≢false (sym h)))
+
+abbrev IsRun : List Node → ℕ → ℕ → Type 0
+IsRun nodes x c = IsRunOf nodes c x × IsSetAt nodes c
+
+starred : (b : Bool) (x c : ℕ) → cond b (Some x) None ≡ Some c → (b ≡ true) × (x ≡ c)
+starred true x c is = (refl, cc)
+starred false x c is = cc
+
+-- by the runs of the nodes before it
+run_by : (nodes : List Node) → IsArena nodes → AreRanges nodes → (x c : ℕ) → x < length nodes → ((y : ℕ) → y < x → run_of (tree_at nodes y) y ≡ Some c → IsRun nodes y c) →
+    (m : Node) → slice_get nodes x ≡ Some m → run_of (tree_at nodes x) x ≡ Some c → IsRun nodes x c
+run_by nodes arena ranges x c inside below Empty is = rw (tree_at-node nodes x Empty arena is) (λ h. cc)
+run_by nodes arena ranges x c inside below (Set members) is = rw (tree_at-node nodes x (Set members) arena is) (λ h. cc)
+run_by nodes arena ranges x c inside below Begin is = rw (tree_at-node nodes x Begin arena is) (λ h. cc)
+run_by nodes arena ranges x c inside below End is = rw (tree_at-node nodes x End arena is) (λ h. cc)
+run_by nodes arena ranges x c inside below (Seq a b) is = rw (tree_at-node nodes x (Seq a b) arena is) (λ h. cc)
+run_by nodes arena ranges x c inside below (Alt a b) is = rw (tree_at-node nodes x (Alt a b) arena is) (λ h. cc)
+run_by nodes arena ranges x c inside below (Group k a) is =
+    let next : a.index + 1 ≡ x = ranges x (Group k a) is in
+    let before : x - 1 ≡ a.index = omega arith in
+    rw (tree_at-node nodes x (Group k a) arena is) (λ h.
+    let inner = below a.index (omega arith) (subst (λ v. run_of (tree_at nodes a.index) v ≡ Some c) before h) in
+    (in_group x k a is inner.0, inner.1))
+run_by nodes arena ranges x c inside below (Star a first) is =
+    let next : a.index + 1 ≡ x = ranges x (Star a first) is in
+    rw (tree_at-node nodes x (Star a first) arena is) (λ h.
+    let both = starred (is_set (tree_at nodes a.index)) (x - 1) c h in
+    let at = both.1 in
+    let here : a.index ≡ c = omega arith in
+    (repeated x (a, first, is, here), subst (IsSetAt nodes) here (set_is nodes arena a.index (omega arith) both.0)))
+run_by nodes arena ranges x c inside below (Opt a first) is = rw (tree_at-node nodes x (Opt a first) arena is) (λ h. cc)
+
+run_within : (n : ℕ) (nodes : List Node) → IsArena nodes → AreRanges nodes → (x c : ℕ) → x < n → x < length nodes → run_of (tree_at nodes x) x ≡ Some c → IsRun nodes x c
+run_within zero nodes arena ranges x c low inside told = absurd (omega arith)
+run_within (suc n) nodes arena ranges x c low inside told =
+    let there = node_at nodes x inside in
+    run_by nodes arena ranges x c inside (λ y less. run_within n nodes arena ranges y c (omega arith) (omega arith)) there.0 there.1 told
+
+pub run_found : (nodes : List Node) (groups x c : ℕ) (facts : Facts) → IsExpr nodes groups → x < length nodes → IsFacts (tree_at nodes x) x facts → facts.run ≡ Some c → IsRunOf nodes c x × IsSetAt nodes c
+run_found nodes groups x c facts expr inside is told =
+    run_within (x + 1) nodes expr.arena expr.ranges x c (omega arith) inside (sym is.run ∙ told)
+
+-- Regions.
+
+-- what a kept pass of one stop tells
+pub stops_at : (nodes : List Node) (w : List ℕ) (r stop a i p : ℕ) (sweeps : Bool) → sweeps ≡ false → CeasesAt nodes w r (ends_told sweeps (length w) stop) a i p → StopsAt nodes w r stop a i p
+stops_at nodes w r stop a i p sweeps is ceases = subst (λ b. CeasesAt nodes w r (ends_told b (length w) stop) a i p) is ceases
+
+pub runs_to : (nodes : List Node) (w : List ℕ) (r stop x i p : ℕ) (sweeps : Bool) → sweeps ≡ false → IsArena nodes → IsSetAt nodes x → i ≤ p →
+    AllMarked nodes w r (ends_told sweeps (length w) stop) x true i p → (p < stop → IsTrue false ↔ Reaches nodes w r (ends_told sweeps (length w) stop) x p) → RunsTo nodes w r stop x i p
+runs_to nodes w r stop x i p sweeps is arena a_set up passed found =
+    let all = subst (λ b. AllMarked nodes w r (ends_told b (length w) stop) x true i p) is passed in
+    let last = subst (λ b. p < stop → IsTrue false ↔ Reaches nodes w r (ends_told b (length w) stop) x p) is found in (
+      up,
+      λ q from to. (all q from to).0 refl,
+      λ reaches. true≢false (sym ((last (set_early nodes w r x p (one_start stop) a_set.0 arena a_set.1 reaches)).1 reaches)),
+    )
+
+-- the region is the same
+pub ends_still : (s : Subject) (old new : Kept) (here : Matched) → SameKept old new → EndsIn s old.region here → EndsIn s new.region here
+ends_still s old new here same ends = (subst (λ r. IsLastIn (nodes_in s) r here.node) (sym same.root) ends.0, ends.1 ∙ sym same.end)
+
+-- so are the tables' ways
+pub desk_still : (s : Subject) (inside ahead inside' ahead' : Table) (kept : Kept) → IsKept s.prepared.now s.text.now inside' kept → IsTable s.prepared.now ahead' →
+    inside.way.sweeps ≡ false → ahead.way.mirrored ≡ false → ahead.way.sweeps ≡ false → SameShape inside inside' → SameShape ahead ahead' →
+    IsDesk s (record { ahead = ahead'; inside = inside' }) kept
+desk_still s inside ahead inside' ahead' kept region table one_end forwards one_start same same' = record {
+  region = region;
+  one_end = ap (λ v. v.sweeps) same.0 ∙ one_end;
+  ahead = table;
+  forwards = ap (λ v. v.mirrored) same'.0 ∙ forwards;
+  one_start = ap (λ v. v.sweeps) same'.0 ∙ one_start;
+}
+
+-- a part that goes on in the region
+pub part_ends : (s : Subject) (old new : Kept) (here : Matched) (part : ℕ) → SameKept old new → IsLastIn (nodes_in s) old.region.root part → EndsIn s old.region here → EndsIn s new.region (record here { node = part })
+part_ends s old new here part same last ends = ends_still s old new (record here { node = part }) same (last, ends.1)
+
+-- a region that begins with the part
+pub begun_ends : (s : Subject) (r : Region) (part start stop : ℕ) → r.root ≡ part → r.end ≡ stop → EndsIn s r (record { node = part; start = start; stop = stop })
+begun_ends s r part start stop root ends = (all_of part (sym root), sym ends)
+
+-- a desk serves any region
+pub desk_has : (s : Subject) (tables : GroupTables) (kept : Kept) → IsDesk s tables kept → HasDesk s tables kept
+desk_has s tables kept desk = record {
+  inside = desk.region.region.table;
+  places = desk.region.region.room;
+  one_end = desk.one_end;
+  ahead = desk.ahead;
+  forwards = desk.forwards;
+  one_start = desk.one_start;
+}
+
+-- with a region that was begun it is one again
+pub desk_begun : (s : Subject) (tables : GroupTables) (old new : Kept) → HasDesk s tables old → IsKept s.prepared.now s.text.now tables.inside new → IsDesk s tables new
+desk_begun s tables old new desk region = record { region = region; one_end = desk.one_end; ahead = desk.ahead; forwards = desk.forwards; one_start = desk.one_start }
+
+-- and passes for any node may begin
+pub may_begin : (s : Subject) (tables : GroupTables) (x : ℕ) → tables.inside.way.sweeps ≡ false → x < length (nodes_in s) → MayBegin s.prepared.now tables.inside.way x
+may_begin s tables x one_end inside = (inside, λ sweeps. absurd (true≢false (sym sweeps ∙ one_end)))
+
+-- Looks at least.
+pub least_less : (s t n k : ℕ) → k ≤ n → TakesAtLeast s t n → TakesAtLeast s t k
+unfolding TakesAtLeast
+least_less s t n k less counts = omega (arith, less, counts)
+
+pub least_none : (s n k : ℕ) → n ≡ k → TakesAtLeast s s (n - k)
+unfolding TakesAtLeast
+least_none s n k same = omega (arith, same)
+
+pub least_then : (s t u i k l : ℕ) → i ≤ k → k ≤ l → TakesAtLeast s t (k - i) → TakesAtLeast t u (2 * (l - k) + 1) → TakesAtLeast s u (l - i)
+unfolding TakesAtLeast
+least_then s t u i k l low high one two = omega (arith, low, high, one, two)
+
+pub least_no_byte : (s t i j : ℕ) → s ≤ t → j ≤ i → TakesAtLeast s t (j - i)
+unfolding TakesAtLeast
+least_no_byte s t i j up none = omega (arith, up, none)
+
+-- Costs.
+part_pays : (m s t o o' i e d : ℕ) → t + (o' + 40 * m * i) ≤ s + (o + 40 * m * (i + e + 2)) → t + (o' + 120 * m * d) ≤ s + (o + 120 * m * (e + d) + 90 * m)
+part_pays m s t o o' i e d pays = omega (arith, pays)
+
+-- a pass ahead up to a place
+pub cut_pays : (m s t o o' i k j : ℕ) → i ≤ k → k ≤ j → t + (o' + 40 * m * i) ≤ s + (o + 40 * m * (k + 2)) → t + (o' + 120 * m * (j - k)) ≤ s + (o + 120 * m * (j - i) + 90 * m)
+cut_pays m s t o o' i k j up on pays =
+    let whole : i + (k - i) ≡ k = omega arith in
+    let rest : (k - i) + (j - k) ≡ j - i = omega arith in
+    subst (λ v. t + (o' + 120 * m * (j - k)) ≤ s + (o + 120 * m * v + 90 * m)) rest
+    (part_pays m s t o o' i (k - i) (j - k) (subst (λ v. t + (o' + 40 * m * i) ≤ s + (o + 40 * m * (v + 2))) (sym whole) pays))
+
+copy_part : (m s t o o' i e d : ℕ) → t + (o' + 40 * m * i) ≤ s + (o + 40 * m * (i + (1 + e) + 2)) → t + (o' + 120 * m * d) ≤ s + (o + 120 * m * ((1 + e) + d))
+copy_part m s t o o' i e d pays = omega (arith, pays)
+
+-- a pass over a copy of at least one byte
+pub copy_pays : (m s t o o' i k j : ℕ) → i < k → k ≤ j → t + (o' + 40 * m * i) ≤ s + (o + 40 * m * (k + 2)) → t + (o' + 120 * m * (j - k)) ≤ s + (o + 120 * m * (j - i))
+copy_pays m s t o o' i k j up on pays =
+    let whole : i + (1 + (k - (i + 1))) ≡ k = omega arith in
+    let rest : (1 + (k - (i + 1))) + (j - k) ≡ j - i = omega arith in
+    subst (λ v. t + (o' + 120 * m * (j - k)) ≤ s + (o + 120 * m * v)) rest
+    (copy_part m s t o o' i (k - (i + 1)) (j - k) (subst (λ v. t + (o' + 40 * m * i) ≤ s + (o + 40 * m * (v + 2))) (sym whole) pays))
+
+run_part : (m s t o o' i e d : ℕ) → t + (o' + 2 * i) ≤ s + (o + 2 * (i + e) + 2) → t + (o' + 120 * (1 + m) * d) ≤ s + (o + 120 * (1 + m) * (e + d) + 90 * (1 + m))
+run_part m s t o o' i e d pays = omega (arith, pays)
+
+-- looks at a run
+pub run_pays : (m s t o o' i k j : ℕ) → 1 ≤ m → i ≤ k → k ≤ j → t + (o' + 2 * i) ≤ s + (o + 2 * k + 2) → t + (o' + 120 * m * (j - k)) ≤ s + (o + 120 * m * (j - i) + 90 * m)
+run_pays m s t o o' i k j some up on pays =
+    let whole : i + (k - i) ≡ k = omega arith in
+    let rest : (k - i) + (j - k) ≡ j - i = omega arith in
+    let above : 1 + (m - 1) ≡ m = omega arith in
+    subst (λ v. t + (o' + 120 * v * (j - k)) ≤ s + (o + 120 * v * (j - i) + 90 * v)) above
+    (subst (λ v. t + (o' + 120 * (1 + (m - 1)) * (j - k)) ≤ s + (o + 120 * (1 + (m - 1)) * v + 90 * (1 + (m - 1)))) rest
+    (run_part (m - 1) s t o o' i (k - i) (j - k) (subst (λ v. t + (o' + 2 * i) ≤ s + (o + 2 * v + 2)) (sym whole) pays)))
+
+-- no look at all
+pub fixed_pays : (m s o o' i k j : ℕ) → i ≤ k → o' ≤ o → s + (o' + 120 * m * (j - k)) ≤ s + (o + 120 * m * (j - i) + 90 * m)
+fixed_pays m s o o' i k j up falls =
+    let less : j - k ≤ j - i = omega arith in
+    omega (arith, falls, mul-le-mul_left (120 * m) less)
+
+-- if a run is told
+pub run_told : (nodes : List Node) (groups x : ℕ) (facts : Facts) (run : Option ℕ) → IsExpr nodes groups → x < length nodes → IsFacts (tree_at nodes x) x facts → facts.run ≡ run →
+    IfSome run (λ c. IsRunOf nodes c x × IsSetAt nodes c)
+run_told nodes groups x facts None expr inside is told = tt
+run_told nodes groups x facts (Some c) expr inside is told = run_found nodes groups x c facts expr inside is told
+
+-- a region for a part of a match
+pub region_pays : (m o i k j : ℕ) → i ≤ k → k ≤ j → o ≤ 124 * m * (j - k + 1) → o + 120 * m * (j - k) ≤ region_cost m (j - i)
+region_pays m o i k j up on owed_is =
+    let less : j - k ≤ j - i = omega arith in
+    omega (arith, owed_is, mul-le-mul_left (124 * m) less, mul-le-mul_left (120 * m) less)

@@ -1,0 +1,340 @@
+-- Passes for the whole expression.
+use Rattle.std.proofs.Common.{◌≡◌, ℕ, ◌+◌, ◌-◌, ◌*◌, ◌/◌, ◌^◌, ◌<◌, ◌≤◌, ◌⊎◌, ◌↔◌, Bool, true, false, not, ◌&&◌, ◌||◌, List, length, Option, Some, None, IsTrue, refl, sym, ap, ◌∙◌, subst, ⊎_elim, true≢false, arith, mul-le-mul_left, min}
+use Rattle.std.specs.Prelude.{slice_get, is_some}
+use Rattle.std.proofs.lemmas.Bool.{cases_lt, cases_Bool, both_ways}
+use Rattle.std.proofs.lemmas.Option.{slice_get_within}
+use Rattle.sedre.specs.Arena.{Written, IsArena, tree, tree_at}
+use Rattle.sedre.specs.Mirror.{seen}
+use Rattle.sedre.specs.declared.types.Node.{Node}
+use Rattle.sedmarks.specs.declared.passes.Starts.{Starts}
+use Rattle.sedmarks.specs.Matching.{takes}
+use Rattle.sedmarks.specs.Reach.{At, IsStart, SomeSpan, Longest}
+use Rattle.sedmarks.specs.Spans.{Spans, SomeFound}
+use Rattle.sedmarks.proofs.SpanLemmas.{Spans-forward, Spans-within}
+use Rattle.sedmarks.specs.Places.{IsPlace}
+use Rattle.sedpass.specs.Rows.{nodes_of, at_begin, at_end, RowAt}
+use Rattle.sedpass.specs.Cells.{stops, code_of}
+use Rattle.sedpass.specs.Table.{State, state_of, IsTold, StateAt, LeadsOn, BeginsIn, Names, IsTable}
+use Rattle.sedpass.specs.Forwards.{starts_of, LastBelow, IsEnd, Arrives, EndsBelow, PassIs}
+use Rattle.sedpass.specs.declared.cells.Flags.{Flags}
+use Rattle.sedpass.specs.declared.nodes.Kind.{Kind}
+use Rattle.sedpass.specs.declared.nodes.Prepared.{Prepared}
+use Rattle.sedpass.specs.declared.rows.Way.{Way}
+use Rattle.sedpass.specs.declared.table.Table.{Table}
+use Rattle.sedpass.specs.declared.forwards.Passed.{Passed}
+use Rattle.sedpass.proofs.RowLemmas.{dead, row_root, row_empty}
+use Rattle.sedpass.proofs.TableLemmas.{names_state, names_offset, names_code, names_small, names_map}
+use Rattle.sedre.proofs.MirrorLemmas.{seen-arena, seen-length}
+
+-- The starts of a pass.
+
+first_start : (sweeps : Bool) (from : ℕ) (w : List ℕ) (i : ℕ) → IsStart (starts_of sweeps from w) i → from ≤ i
+first_start true from w i is = is.0
+first_start false from w i is = is.0
+
+last_start : (sweeps : Bool) (from : ℕ) (w : List ℕ) (i : ℕ) → from ≤ length w → IsStart (starts_of sweeps from w) i → i ≤ length w
+last_start true from w i within is = is.1
+last_start false from w i within is = let low = is.1 in omega arith
+
+next_start : (sweeps : Bool) (from : ℕ) (w : List ℕ) (p : ℕ) → from ≤ p → p < length w → IsTrue sweeps ↔ IsStart (starts_of sweeps from w) (p + 1)
+next_start true from w p after inside = (λ h. (omega arith, omega arith), λ h. refl)
+next_start false from w p after inside = (λ h. absurd (true≢false (sym h)), λ h. let low = h.1 in absurd (omega arith))
+
+-- Last ends.
+
+module _ (nodes : List Node) (w : List ℕ) (r : ℕ) (s : Starts) where
+  last_step : (n : ℕ) (end : Option ℕ) → (SomeSpan nodes w r s n → ⊥) → LastBelow nodes w r s n end → LastBelow nodes w r s (n + 1) end
+  last_step n None none last = λ k low some.
+      ⊎_elim
+      (λ (lt : k < n). last k lt some)
+      (λ (ge : n ≤ k). let e : k ≡ n = omega arith in none (subst (λ x. SomeSpan nodes w r s x) e some))
+      (cases_lt k n)
+  last_step n (Some j) none last = (
+    last.0,
+    λ k low some.
+        ⊎_elim
+        (λ (lt : k < n). last.1 k lt some)
+        (λ (ge : n ≤ k). let e : k ≡ n = omega arith in absurd (none (subst (λ x. SomeSpan nodes w r s x) e some)))
+        (cases_lt k n),
+  )
+
+  last_here : (n : ℕ) → SomeSpan nodes w r s n → LastBelow nodes w r s (n + 1) (Some n)
+  last_here n some = (some, λ k low h. omega arith)
+
+  -- if none ends from n on, the last one below n is the last of all
+  all_below : (sweeps : Bool) (n : ℕ) (end : Option ℕ) → ((k : ℕ) → n ≤ k → SomeSpan nodes w r s k → ⊥) → LastBelow nodes w r s n end → IsEnd sweeps nodes w r s end
+  all_below sweeps n None none last = λ k some. ⊎_elim (λ (lt : k < n). last k lt some) (λ (ge : n ≤ k). none k ge some) (cases_lt k n)
+  all_below sweeps n (Some j) none last = (last.0, λ e k some. ⊎_elim (λ (lt : k < n). last.1 k lt some) (λ (ge : n ≤ k). absurd (none k ge some)) (cases_lt k n))
+
+-- nothing ends before a start
+pub none_before : (p : Prepared) (way : Way) (w : List ℕ) (from : ℕ) → EndsBelow p way w from from None
+none_before p way w from k low some =
+    let after = first_start way.sweeps from w some.0 some.1 in
+    let on = Spans-forward (tree_at (nodes_of way p.expr) p.root) w some.0 k some.2 in
+    omega arith
+
+-- Codes.
+
+pub plain_code : (b : Bool) (o v : ℕ) → v ≡ code_of b o → o < 2147483647 → 2147483648 ≤ v → b ≡ false
+plain_code true o v is small high = absurd (omega arith)
+plain_code false o v is small high = refl
+
+pub low_code : (b : Bool) (o v : ℕ) → v ≡ code_of b o → v < 2147483648 → b ≡ true
+low_code true o v is low = refl
+low_code false o v is low = absurd (omega arith)
+
+no_end_by : (keeps sweeps ends dead : Bool) → keeps ≡ false → ((not keeps && (ends || (dead && not sweeps))) || (keeps && dead)) ≡ false → ends ≡ false
+no_end_by true sweeps ends dead e is = absurd (true≢false e)
+no_end_by false sweeps false dead e is = refl
+no_end_by false sweeps true dead e is = absurd (true≢false is)
+
+swept_by : (keeps sweeps ends dead : Bool) → keeps ≡ false → IsTrue sweeps → ((not keeps && (ends || (dead && not sweeps))) || (keeps && dead)) ≡ true → IsTrue ends
+swept_by true sweeps ends dead e s is = absurd (true≢false e)
+swept_by false false ends dead e s is = absurd (true≢false (sym s))
+swept_by false true true dead e s is = refl
+swept_by false true false true e s is = absurd (true≢false (sym is))
+swept_by false true false false e s is = absurd (true≢false (sym is))
+
+no_end : (way : Way) (f : Flags) → way.keeps ≡ false → stops way f ≡ false → f.ends ≡ false
+no_end way f keeps is = no_end_by way.keeps way.sweeps f.ends f.dead keeps is
+
+swept_end : (way : Way) (f : Flags) → way.keeps ≡ false → IsTrue way.sweeps → stops way f ≡ true → IsTrue f.ends
+swept_end way f keeps sweeps is = swept_by way.keeps way.sweeps f.ends f.dead keeps sweeps is
+
+-- At a place.
+
+module _ (p : Prepared) (way : Way) (w : List ℕ) (start place : ℕ) (a : State) (keeps : way.keeps ≡ false) (arena : IsArena (nodes_of way p.expr)) (inside : p.root < length (nodes_of way p.expr))
+    (after : start ≤ place) (within : place ≤ length w) (told : IsTold a) (here : Arrives p way w start place a) where
+  abbrev N : List Node
+  N = nodes_of way p.expr
+
+  abbrev S : Starts
+  S = starts_of way.sweeps start w
+
+  ends_here : IsTrue a.flags.ends ↔ SomeSpan N w p.root S place
+  ends_here =
+      let law = row_root N w a.root place S way.keeps a.entered a.ended arena here.1 in (
+        λ h. subst (λ r. SomeSpan N w r S place) here.0 (law.0 (sym told.0 ∙ h)),
+        λ h. told.0 ∙ law.1 (subst (λ r. SomeSpan N w r S place) (sym here.0) h),
+      )
+
+  pub plain_ends : (end : Option ℕ) → stops way a.flags ≡ false → EndsBelow p way w start place end → EndsBelow p way w start (place + 1) end
+  plain_ends end is = last_step N w p.root S place end (λ some. both_ways a.flags.ends (no_end way a.flags keeps is) (ends_here.1 some))
+
+  pub noted_ends : (ends : Bool) (end : Option ℕ) → ends ≡ a.flags.ends → EndsBelow p way w start place end → (IsTrue ends → EndsBelow p way w start (place + 1) (Some place)) × (ends ≡ false → EndsBelow p way w start (place + 1) end)
+  noted_ends ends end same last = (
+    λ h. last_here N w p.root S place (ends_here.0 (sym same ∙ h)),
+    λ h. last_step N w p.root S place end (λ some. both_ways ends h (same ∙ ends_here.1 some)) last,
+  )
+
+  -- where no leaf is entered no match goes on
+  pub dead_end : (end : Option ℕ) → way.sweeps ≡ false → IsTrue a.flags.dead → EndsBelow p way w start (place + 1) end → IsEnd way.sweeps N w p.root S end
+  dead_end end single is last =
+      let none = row_empty N w a.root place S way.keeps a.entered a.ended here.1 (told.1.0 is) in
+      all_below N w p.root S way.sweeps (place + 1) end
+      (λ k late some.
+      let one = subst (λ b. IsStart (starts_of b start w) some.0) single some.1 in
+      let low = one.1 in
+      dead N w a.root place some.0 k S arena (subst (λ r. r < length N) (sym here.0) inside) none some.1 (omega arith) (omega arith) (subst (λ r. At N w r some.0 k) (sym here.0) some.2))
+      last
+
+  -- a sweep stops where a match ends
+  pub swept : IsTrue way.sweeps → stops way a.flags ≡ true → IsEnd way.sweeps N w p.root S (Some place)
+  swept sweeps is = (ends_here.0 (swept_end way a.flags keeps sweeps is), λ single. absurd (both_ways way.sweeps single sweeps))
+
+  pub swept_ends : IsTrue way.sweeps → stops way a.flags ≡ true → IsTrue a.flags.ends
+  swept_ends sweeps is = swept_end way a.flags keeps sweeps is
+
+-- a code of the state of a place
+module _ (p : Prepared) (t : Table) (w : List ℕ) (start place code o : ℕ) (end : Option ℕ) (table : IsTable p t) (keeps : t.way.keeps ≡ false) (after : start ≤ place) (within : place ≤ length w)
+    (tells : (b : Bool) (u : ℕ) → u < 2147483647 → code ≡ code_of b u → o ≡ u) (n : Names (length p.expr.nodes) t (Arrives p t.way w start place) code) (last : EndsBelow p t.way w start place end) where
+  abbrev q : ℕ
+  q = o / 2 ^ t.layout.shift
+
+  abbrev here : State
+  here = state_of (length p.expr.nodes) t q
+
+  arena : IsArena (nodes_of t.way p.expr)
+  arena = seen-arena t.way.mirrored p.expr table.expr.arena
+
+  inside : p.root < length (nodes_of t.way p.expr)
+  inside = (let root = p.is_prepared.last in omega (arith, root, seen-length t.way.mirrored p.expr))
+
+  arrived : Arrives p t.way w start place here
+  arrived = names_state p t table (Arrives p t.way w start place) code o n tells
+
+  is_told : IsTold here
+  is_told = table.told q (names_offset p t table (Arrives p t.way w start place) code o n tells).0
+
+  code_is : code ≡ code_of (stops t.way here.flags) o
+  code_is = names_code p t table (Arrives p t.way w start place) code o n tells
+
+  pub arrive_plain : 2147483648 ≤ code → PassIs p t w start (record { offset = o; place = place; end = end; over = false })
+  arrive_plain high = record {
+    after = after;
+    within = within;
+    state = arrived;
+    last = plain_ends p t.way w start place here keeps arena inside after within is_told arrived end
+        (plain_code (stops t.way here.flags) o code code_is (names_small p t table (Arrives p t.way w start place) code o n tells) high) last;
+    over = λ h. absurd (true≢false (sym h));
+  }
+
+  pub arrive_low : (flags : Flags) (noted : Option ℕ) (over : Bool) → code < 2147483648 → flags ≡ here.flags → (IsTrue flags.ends → noted ≡ Some place) → (flags.ends ≡ false → noted ≡ end) →
+      (IsTrue over → IsTrue t.way.sweeps ⊎ ((t.way.sweeps ≡ false) × IsTrue flags.dead)) → PassIs p t w start (record { offset = o; place = place; end = noted; over = over })
+  arrive_low flags noted over low same ends none why =
+      let stop : stops t.way here.flags ≡ true = low_code (stops t.way here.flags) o code code_is low in
+      let told_ends = noted_ends p t.way w start place here keeps arena inside after within is_told arrived flags.ends end (ap (λ (f : Flags). f.ends) same) last in
+      let all : EndsBelow p t.way w start (place + 1) noted =
+      ⊎_elim
+      (λ (is : flags.ends ≡ true). subst (λ x. EndsBelow p t.way w start (place + 1) x) (sym (ends is)) (told_ends.0 is))
+      (λ (is : flags.ends ≡ false). subst (λ x. EndsBelow p t.way w start (place + 1) x) (sym (none is)) (told_ends.1 is))
+      (cases_Bool flags.ends) in
+      record {
+        after = after;
+        within = within;
+        state = arrived;
+        last = all;
+        over = λ h. ⊎_elim
+            (λ (sweeps : IsTrue t.way.sweeps).
+            let end_is = ends (ap (λ (f : Flags). f.ends) same ∙ swept_ends p t.way w start place here keeps arena inside after within is_told arrived sweeps stop) in
+            subst (λ x. IsEnd t.way.sweeps (nodes_of t.way p.expr) w p.root (starts_of t.way.sweeps start w) x) (sym end_is)
+            (swept p t.way w start place here keeps arena inside after within is_told arrived sweeps stop))
+            (λ (d : (t.way.sweeps ≡ false) × IsTrue flags.dead).
+            dead_end p t.way w start place here keeps arena inside after within is_told arrived noted d.0 (sym (ap (λ (f : Flags). f.dead) same) ∙ d.1) all)
+            (why h);
+      }
+
+-- Further on.
+
+pub arrives_next : (p : Prepared) (way : Way) (w : List ℕ) (start place byte : ℕ) (edge : Bool) (a b : State) → start ≤ place → slice_get w place ≡ Some byte → place < length w → (IsTrue edge ↔ (place + 1 ≡ length w)) →
+    Arrives p way w start place a → LeadsOn (nodes_of way p.expr) way a byte edge b → Arrives p way w start (place + 1) b
+arrives_next p way w start place byte edge a b after is inside edges here leads = (
+  leads.0 ∙ here.0,
+  subst (λ r. StateAt (nodes_of way p.expr) w (starts_of way.sweeps start w) way.keeps (place + 1) (record { root = r; entered = b.entered; ended = b.ended; flags = b.flags })) (sym leads.0)
+      (leads.1 w (starts_of way.sweeps start w) place (λ x m set. ap (λ o. takes o m) is) edges (next_start way.sweeps start w place after inside) here.1),
+)
+
+-- a pass goes on, in the table as it was or in one that was added to
+pub goes_on : (p : Prepared) (t u : Table) (w : List ℕ) (start byte code : ℕ) (edge : Bool) (mid next : Passed) → u.way ≡ t.way → PassIs p t w start mid → slice_get w mid.place ≡ Some byte → (IsTrue edge ↔ (mid.place + 1 ≡ length w)) →
+    Names (length p.expr.nodes) u (LeadsOn (nodes_of t.way p.expr) t.way (state_of (length p.expr.nodes) t (mid.offset / 2 ^ t.layout.shift)) byte edge) code →
+    (start ≤ mid.place + 1 → mid.place + 1 ≤ length w → Names (length p.expr.nodes) u (Arrives p u.way w start (mid.place + 1)) code → EndsBelow p u.way w start (mid.place + 1) mid.end → PassIs p u w start next) → PassIs p u w start next
+goes_on p t u w start byte code edge mid next way pass is edges names arrive =
+    let inside = slice_get_within w mid.place byte is in
+    let after = pass.after in
+    let a = state_of (length p.expr.nodes) t (mid.offset / 2 ^ t.layout.shift) in
+    arrive (omega arith) (omega arith)
+    (subst (λ (x : Way). Names (length p.expr.nodes) u (Arrives p x w start (mid.place + 1)) code) (sym way)
+    (names_map (length p.expr.nodes) u (LeadsOn (nodes_of t.way p.expr) t.way a byte edge) (Arrives p t.way w start (mid.place + 1)) code
+    (λ b leads. arrives_next p t.way w start mid.place byte edge a b after is inside edges pass.state leads) names))
+    (subst (λ (x : Way). EndsBelow p x w start (mid.place + 1) mid.end) (sym way) pass.last)
+
+-- by a filled cell, before the text's last byte
+pub follows_on : (p : Prepared) (t : Table) (w : List ℕ) (start byte cell place : ℕ) (mid next : Passed) → mid.place ≡ place → place + 1 < length w → PassIs p t w start mid → slice_get w place ≡ Some byte →
+    Names (length p.expr.nodes) t (LeadsOn (nodes_of t.way p.expr) t.way (state_of (length p.expr.nodes) t (mid.offset / 2 ^ t.layout.shift)) byte false) cell →
+    (start ≤ place + 1 → place + 1 ≤ length w → Names (length p.expr.nodes) t (Arrives p t.way w start (place + 1)) cell → EndsBelow p t.way w start (place + 1) mid.end → PassIs p t w start next) → PassIs p t w start next
+follows_on p t w start byte cell place mid next at inside pass is names arrive =
+    goes_on p t t w start byte cell false mid next refl pass (subst (λ x. slice_get w x ≡ Some byte) (sym at) is)
+    ((λ h. absurd (true≢false (sym h))), (λ e. absurd (omega (arith, e, at, inside)))) names
+    (subst (λ x. start ≤ x + 1 → x + 1 ≤ length w → Names (length p.expr.nodes) t (Arrives p t.way w start (x + 1)) cell → EndsBelow p t.way w start (x + 1) mid.end → PassIs p t w start next) (sym at) arrive)
+
+-- The beginning of a pass.
+
+first_is : (sweeps : Bool) (from : ℕ) (w : List ℕ) → (starts_of sweeps from w).first ≡ from
+first_is true from w = refl
+first_is false from w = refl
+
+starts_order : (sweeps : Bool) (from : ℕ) (w : List ℕ) → from ≤ length w → (starts_of sweeps from w).first ≤ (starts_of sweeps from w).last
+starts_order true from w low = low
+starts_order false from w low = omega arith
+
+pub arrives_first : (p : Prepared) (way : Way) (w : List ℕ) (from : ℕ) (kind : Kind) (a : State) → way.mirrored ≡ false → from ≤ length w → (IsTrue kind.begin ↔ (from ≡ 0)) → (IsTrue kind.end ↔ (from ≡ length w)) →
+    BeginsIn (nodes_of way p.expr) way p.root kind a → Arrives p way w from from a
+arrives_first p way w from kind a mirrored low begin end begins =
+    let s = starts_of way.sweeps from w in
+    let first = first_is way.sweeps from w in
+    let place : IsPlace w s.first (at_begin way.mirrored kind) (at_end way.mirrored kind) =
+    subst (λ b. IsPlace w s.first (at_begin b kind) (at_end b kind)) (sym mirrored) (subst (λ x. IsPlace w x kind.begin kind.end) (sym first) (begin, end)) in (
+      begins.0,
+      subst (λ r. RowAt (nodes_of way p.expr) w r s way.keeps from a.entered a.ended) (sym begins.0)
+          (subst (λ x. RowAt (nodes_of way p.expr) w p.root s way.keeps x a.entered a.ended) first (begins.1 w s place (starts_order way.sweeps from w low))),
+    )
+
+-- The end of a pass.
+
+pub pass_end : (p : Prepared) (t : Table) (w : List ℕ) (start : ℕ) (at : Passed) → start ≤ length w → PassIs p t w start at → (at.over ≡ true) ⊎ (length w ≤ at.place) →
+    IsEnd t.way.sweeps (nodes_of t.way p.expr) w p.root (starts_of t.way.sweeps start w) at.end
+pass_end p t w start at low pass done =
+    ⊎_elim
+    (λ (over : at.over ≡ true). pass.over over)
+    (λ (last : length w ≤ at.place).
+    let s = starts_of t.way.sweeps start w in
+    let nodes = nodes_of t.way p.expr in
+    all_below nodes w p.root s t.way.sweeps (at.place + 1) at.end
+    (λ k late some.
+    let within = Spans-within (tree_at nodes p.root) w some.0 k (last_start t.way.sweeps start w some.0 low some.1) some.2 in
+    omega arith)
+    pass.last)
+    done
+
+module _ (e : Written) (r : ℕ) (w : List ℕ) (from : ℕ) (whole : r + 1 ≡ length e.nodes) where
+  whole_is : length e.nodes - 1 ≡ r
+  whole_is = omega arith
+
+  to_tree : (i k : ℕ) → At e.nodes w r i k → Spans (tree e) w i k
+  to_tree i k span = subst (λ x. Spans (tree_at e.nodes x) w i k) (sym whole_is) span
+
+  from_tree : (i k : ℕ) → Spans (tree e) w i k → At e.nodes w r i k
+  from_tree i k span = subst (λ x. Spans (tree_at e.nodes x) w i k) whole_is span
+
+  pub end_longest : (end : Option ℕ) → IsEnd false e.nodes w r (starts_of false from w) end → Longest (tree e) w from end
+  end_longest None none = λ k span. none k (from, (omega arith, omega arith), from_tree from k span)
+  end_longest (Some j) is = (
+    (let some = is.0 in
+        let low = some.1.0 in
+        let high = some.1.1 in
+        let same : some.0 ≡ from = omega arith in
+        to_tree from j (subst (λ i. At e.nodes w r i j) same some.2)),
+    λ k span. is.1 refl k (from, (omega arith, omega arith), from_tree from k span),
+  )
+
+  pub end_found : from ≤ length w → (end : Option ℕ) → IsEnd true e.nodes w r (starts_of true from w) end → IsTrue (is_some end) ↔ SomeFound (tree e) w from
+  end_found low None none = (λ h. absurd (true≢false (sym h)), λ some. absurd (none some.1 (some.0, (some.2, some.3), from_tree some.0 some.1 some.4)))
+  end_found low (Some j) is = (λ h. let some = is.0 in (some.0, j, some.1.0, some.1.1, to_tree some.0 j some.2), λ some. refl)
+
+-- of a pass forwards
+module _ (p : Prepared) (way u : Way) (w : List ℕ) (from : ℕ) (end : Option ℕ) (same : u ≡ way) (mirrored : way.mirrored ≡ false) (is : IsEnd u.sweeps (nodes_of u p.expr) w p.root (starts_of u.sweeps from w) end) where
+  seen_end : IsEnd way.sweeps p.expr.nodes w p.root (starts_of way.sweeps from w) end
+  seen_end = subst (λ b. IsEnd way.sweeps (seen b p.expr).nodes w p.root (starts_of way.sweeps from w) end) mirrored
+      (subst (λ (x : Way). IsEnd x.sweeps (nodes_of x p.expr) w p.root (starts_of x.sweeps from w) end) same is)
+
+  pub run_longest : way.sweeps ≡ false → Longest (tree p.expr) w from end
+  run_longest single = end_longest p.expr p.root w from p.is_prepared.last end (subst (λ b. IsEnd b p.expr.nodes w p.root (starts_of b from w) end) single seen_end)
+
+  pub run_found : from ≤ length w → IsTrue way.sweeps → IsTrue (is_some end) ↔ SomeFound (tree p.expr) w from
+  run_found low sweeps = end_found p.expr p.root w from p.is_prepared.last low end (subst (λ b. IsEnd b p.expr.nodes w p.root (starts_of b from w) end) sweeps seen_end)
+
+-- Costs.
+
+pub over_cost : (m from place last s0 s1 : ℕ) → 1 ≤ m → from < place → s1 + 2 * from ≤ s0 + 2 * min (place + 1) last → s1 + 40 * m * from ≤ s0 + 40 * m * place
+over_cost m from place last s0 s1 some moved cost =
+    let d = place - from in
+    let e : place ≡ from + d = omega arith in
+    let most = mul-le-mul_left d some in
+    let all : 40 * m * place ≡ 40 * m * (from + d) = ap (λ v. 40 * m * v) e in
+    omega (arith, most, all)
+
+pub fill_cost : (m from place last s0 s1 s2 s3 : ℕ) → 1 ≤ m → from ≤ place → s1 + 2 * from ≤ s0 + 2 * min (place + 1) last → s2 ≤ s1 + 1 → s3 ≤ s2 + 37 * m → s3 + 40 * m * from ≤ s0 + 40 * m * (place + 1)
+fill_cost m from place last s0 s1 s2 s3 some low cost byte act =
+    let d = place - from in
+    let e : place ≡ from + d = omega arith in
+    let most = mul-le-mul_left d some in
+    let all : 40 * m * (place + 1) ≡ 40 * m * (from + d + 1) = ap (λ v. 40 * m * (v + 1)) e in
+    omega (arith, most, all)
+
+pub last_cost : (m from place last s0 s1 s2 s3 : ℕ) → 1 ≤ m → from ≤ place → place ≡ last → s1 + 2 * from ≤ s0 + 2 * min (place + 1) last → s2 ≤ s1 + 1 → s3 ≤ s2 + 38 * m → s3 + 40 * m * from ≤ s0 + 40 * m * (place + 1)
+last_cost m from place last s0 s1 s2 s3 some low is cost byte act =
+    let d = place - from in
+    let e : place ≡ from + d = omega arith in
+    let most = mul-le-mul_left d some in
+    let all : 40 * m * (place + 1) ≡ 40 * m * (from + d + 1) = ap (λ v. 40 * m * (v + 1)) e in
+    omega (arith, most, all)

@@ -1,0 +1,130 @@
+-- The bits of a set of groups.
+use Rattle.std.proofs.Common.{◌≡◌, ℕ, ◌-◌, ◌*◌, ◌%◌, ◌^◌, ◌<◌, ◌≤◌, ◌⊎◌, Bool, true, false, ◌&&◌, ◌||◌, not, IsTrue, refl, sym, ap, ◌∙◌, inl, inr, ⊎_elim, true≢false, max, min, arith, bit_and, bit_or, w16}
+use Rattle.std.specs.Prelude.{eqb, nat_lt}
+use Rattle.std.specs.Int.{bit_at, trailing_zeros}
+use Rattle.std.proofs.Math.Pow.{pow_mono}
+use Rattle.std.proofs.Math.Nat.{mod-eq_of_lt}
+use Rattle.std.proofs.lemmas.Nat.Bits.{bit_at_or, bit_at_and, bit_at_not, bit_at-lt, bit_at-zero, bit_at-pow_same, bit_at-pow_other, bit_at_above, bit_at_ones, bit_at-trailing_zeros}
+use Rattle.std.proofs.lemmas.Nat.{and_le_r}
+use Rattle.std.proofs.lemmas.Bool.{and_parts, and_from, cases_lt, cases_eq, eqb-true, eq-eqb, lt-ltb, le-ltb, ltb-true}
+use Rattle.sedpass.specs.Groups.{reported, holds}
+use Rattle.sedpass.specs.declared.group_set.GroupSet.{GroupSet}
+
+abbrev of_bits : ℕ → GroupSet
+of_bits n = record { bits = n }
+
+is_one : (n : ℕ) → n < 2 → (n ≡ 0) ⊎ (n ≡ 1)
+is_one n small = ⊎_elim (λ (e : n ≡ 0). inl e) (λ (ne : n ≡ 0 → ⊥). inr (omega arith)) (cases_eq n 0)
+
+max_bits : (a b : ℕ) → a < 2 → b < 2 → eqb (max a b) 1 ≡ (eqb a 1 || eqb b 1)
+max_bits a b small small' =
+    ⊎_elim
+    (λ (e : a ≡ 0). ⊎_elim (λ (f : b ≡ 0). rw (e, f) refl) (λ (f : b ≡ 1). rw (e, f) refl) (is_one b small'))
+    (λ (e : a ≡ 1). ⊎_elim (λ (f : b ≡ 0). rw (e, f) refl) (λ (f : b ≡ 1). rw (e, f) refl) (is_one b small'))
+    (is_one a small)
+
+min_not_bits : (a b : ℕ) → a < 2 → b < 2 → eqb (min a (1 - b)) 1 ≡ (eqb a 1 && not (eqb b 1))
+min_not_bits a b small small' =
+    ⊎_elim
+    (λ (e : a ≡ 0). ⊎_elim (λ (f : b ≡ 0). rw (e, f) refl) (λ (f : b ≡ 1). rw (e, f) refl) (is_one b small'))
+    (λ (e : a ≡ 1). ⊎_elim (λ (f : b ≡ 0). rw (e, f) refl) (λ (f : b ≡ 1). rw (e, f) refl) (is_one b small'))
+    (is_one a small)
+
+both_or : (l x y : Bool) → (l && (x || y)) ≡ ((l && x) || (l && y))
+both_or true x y = refl
+both_or false x y = refl
+
+both_not : (l x y : Bool) → (l && (x && not y)) ≡ ((l && x) && not (l && y))
+both_not true x y = refl
+both_not false x y = refl
+
+under : (l x y : Bool) → (l ≡ true → x ≡ y) → (l && x) ≡ (l && y)
+under true x y same = same refl
+under false x y same = refl
+
+pub holds_union : (a b k : ℕ) → holds (of_bits (bit_or a b)) k ≡ (holds (of_bits a) k || holds (of_bits b) k)
+holds_union a b k =
+    ap (λ x. nat_lt k 10 && eqb x 1) (bit_at_or a b k) ∙ ap (λ x. nat_lt k 10 && x) (max_bits (bit_at a k) (bit_at b k) (bit_at-lt a k) (bit_at-lt b k))
+    ∙ both_or (nat_lt k 10) (eqb (bit_at a k) 1) (eqb (bit_at b k) 1)
+
+pub holds_without : (a b k : ℕ) → b < 65536 → holds (of_bits (bit_and a (65535 - b))) k ≡ (holds (of_bits a) k && not (holds (of_bits b) k))
+holds_without a b k small =
+    under (nat_lt k 10) (eqb (bit_at (bit_and a (65535 - b)) k) 1) (eqb (bit_at a k) 1 && not (eqb (bit_at b k) 1))
+    (λ low.
+    let less = ltb-true k 10 low in
+    let turned : bit_at (65535 - b) k ≡ 1 - bit_at b k = bit_at_not w16 b k small (omega arith) in
+    ap (λ x. eqb x 1) (bit_at_and a (65535 - b) k ∙ ap (min (bit_at a k)) turned) ∙ min_not_bits (bit_at a k) (bit_at b k) (bit_at-lt a k) (bit_at-lt b k))
+    ∙ both_not (nat_lt k 10) (eqb (bit_at a k) 1) (eqb (bit_at b k) 1)
+
+apart : (a b : ℕ) → (a ≡ b → ⊥) → eqb a b ≡ false
+apart a b ne = elim (eqb a b) as (λ v. (v ≡ true → a ≡ b) → v ≡ false) [
+  | true ↦ λ tell. absurd (ne (tell refl))
+  | false ↦ λ tell. refl
+] (eqb-true a b)
+
+and_false : (b : Bool) → (b && false) ≡ false
+and_false true = refl
+and_false false = refl
+
+pub holds_none : (k : ℕ) → holds (of_bits 0) k ≡ false
+holds_none k = ap (λ x. nat_lt k 10 && eqb x 1) (bit_at-zero k) ∙ and_false (nat_lt k 10)
+
+pub holds_one : (k n : ℕ) → 1 ≤ k → k ≤ 9 → holds (of_bits (1 * 2 ^ k % 65536)) n ≡ (reported n && eqb k n)
+holds_one k n low high =
+    let most : 2 ^ k ≤ 2 ^ 9 = pow_mono high in
+    let whole : 1 * 2 ^ k % 65536 ≡ 2 ^ k = mod-eq_of_lt (let h : 1 * 2 ^ k < 65536 = omega (arith, most) in h) ∙ (let h : 1 * 2 ^ k ≡ 2 ^ k = omega arith in h) in
+    ap (λ x. nat_lt n 10 && eqb (bit_at x n) 1) whole
+    ∙ ⊎_elim
+    (λ (e : n ≡ k).
+    let bit : bit_at (2 ^ k) n ≡ 1 = ap (bit_at (2 ^ k)) e ∙ bit_at-pow_same k in
+    let below : nat_lt n 10 ≡ true = lt-ltb n 10 (omega arith) in
+    let some : nat_lt 0 n ≡ true = lt-ltb 0 n (omega arith) in
+    let same : eqb k n ≡ true = eq-eqb k n (sym e) in
+    rw (bit, below, some, same) refl)
+    (λ (ne : n ≡ k → ⊥).
+    let bit : bit_at (2 ^ k) n ≡ 0 = bit_at-pow_other k n ne in
+    let other : eqb k n ≡ false = apart k n (λ e. ne (sym e)) in
+    ap (λ x. nat_lt n 10 && eqb x 1) bit ∙ and_false (nat_lt n 10) ∙ sym (ap (λ x. reported n && x) other ∙ and_false (reported n)))
+    (cases_eq n k)
+
+pub reported_beyond : (k n : ℕ) → (k < 1) ⊎ (9 < k) → (reported n && eqb k n) ≡ false
+reported_beyond k n out =
+    ⊎_elim
+    (λ (e : n ≡ k).
+    ⊎_elim
+    (λ (low : k < 1). let none : nat_lt 0 n ≡ false = le-ltb 0 n (omega arith) in rw none refl)
+    (λ (high : 9 < k). let none : nat_lt n 10 ≡ false = le-ltb n 10 (omega arith) in ap (λ b. (nat_lt 0 n && b) && eqb k n) none ∙ ap (λ b. b && eqb k n) (and_false (nat_lt 0 n)))
+    out)
+    (λ (ne : n ≡ k → ⊥). ap (λ x. reported n && x) (apart k n (λ e. ne (sym e))) ∙ and_false (reported n))
+    (cases_eq n k)
+
+bit_true : (n k : ℕ) → eqb (bit_at n k) 1 ≡ true → bit_at n k ≡ 1
+bit_true n k h = eqb-true (bit_at n k) 1 h
+
+pub meet_in : (a b : ℕ) → a < 65536 → (bit_and (bit_and a b) 1023 ≡ 0 → ⊥) → (k : ℕ) × IsTrue (holds (of_bits a) k) × IsTrue (holds (of_bits b) k)
+meet_in a b small some =
+    let n = bit_and (bit_and a b) 1023 in
+    let most : n ≤ 1023 = and_le_r (bit_and a b) 1023 in
+    let found = bit_at-trailing_zeros w16 n (omega arith) (omega arith) in
+    let k = trailing_zeros w16 n in
+    let bit : bit_at n k ≡ 1 = found.1 in
+    let low : k < 10 = ⊎_elim (λ (lt : k < 10). lt) (λ (ge : 10 ≤ k). absurd (omega (arith, bit, bit_at_above n 10 k (omega arith) ge))) (cases_lt k 10) in
+    let whole = bit_at_and (bit_and a b) 1023 k in
+    let parts = bit_at_and a b k in
+    let one : bit_at a k ≡ 1 = omega (arith, bit, whole, parts, bit_at-lt a k) in
+    let other : bit_at b k ≡ 1 = omega (arith, bit, whole, parts, bit_at-lt b k) in
+    (k, and_from (nat_lt k 10) (eqb (bit_at a k) 1) (lt-ltb k 10 low) (eq-eqb _ _ one), and_from (nat_lt k 10) (eqb (bit_at b k) 1) (lt-ltb k 10 low) (eq-eqb _ _ other))
+
+pub in_both : (a b k : ℕ) → IsTrue (holds (of_bits a) k) → IsTrue (holds (of_bits b) k) → bit_and (bit_and a b) 1023 ≡ 0 → ⊥
+in_both a b k one other none =
+    let low = ltb-true k 10 (and_parts (nat_lt k 10) (eqb (bit_at a k) 1) one).0 in
+    let x = bit_true a k (and_parts (nat_lt k 10) (eqb (bit_at a k) 1) one).1 in
+    let y = bit_true b k (and_parts (nat_lt k 10) (eqb (bit_at b k) 1) other).1 in
+    let ones : bit_at 1023 k ≡ 1 = bit_at_ones 10 k low in
+    omega (arith, x, y, ones, bit_at_and (bit_and a b) 1023 k, bit_at_and a b k, ap (λ n. bit_at n k) none, bit_at-zero k)
+
+pub not_none : (n : ℕ) → IsTrue (not (eqb n 0)) → n ≡ 0 → ⊥
+not_none n h e = true≢false (sym h ∙ ap not (eq-eqb n 0 e))
+
+pub some_left : (n : ℕ) → (n ≡ 0 → ⊥) → IsTrue (not (eqb n 0))
+some_left n ne = ap not (apart n 0 ne)

@@ -1,0 +1,471 @@
+-- What is kept of a pass backwards, and how it comes down by a place.
+use Rattle.std.proofs.Common.{◌≡◌, ℕ, ◌+◌, ◌-◌, ◌*◌, ◌/◌, ◌^◌, ◌<◌, ◌≤◌, ◌↔◌, ◌⊎◌, ⊎_elim, length-set, mul-le-mul_left, mul-le-mul_right, Bool, true, false, List, length, Some, refl, sym, ap, ◌∙◌, subst, arith, true≢false, IsTrue}
+use Rattle.std.proofs.Math.Nat.{div-mul-le_self, lt-div-mul-add}
+use Rattle.std.proofs.Math.Bool.{beq}
+use Rattle.std.proofs.lemmas.List.{length-reverse}
+use Rattle.std.specs.Prelude.{min, not, reverse, slice_get, slice_index_or, slice_set}
+use Rattle.std.proofs.lemmas.List.{get_or-set_same, get_or-set_other}
+use Rattle.sedre.specs.Arena.{Written, IsArena}
+use Rattle.sedre.specs.Mirror.{seen}
+use Rattle.sedre.specs.declared.types.Node.{Node}
+use Rattle.sedmarks.specs.Matching.{takes}
+use Rattle.sedmarks.specs.declared.passes.Starts.{Starts}
+use Rattle.sedmarks.specs.Reach.{At, IsStart, one_start}
+use Rattle.sedmarks.specs.Search.{starts_to}
+use Rattle.sedmarks.specs.Places.{IsPlace}
+use Rattle.sedmarks.proofs.MirrorLemmas.{get-reverse}
+use Rattle.sedpass.specs.Regions.{IsLastIn, Opposite, Reaches, Meets}
+use Rattle.sedpass.specs.Prepared.{null_in}
+use Rattle.sedpass.specs.Rows.{bits, RowAt, LeadsTo, IsFirst, SameBytes, at_begin, at_end}
+use Rattle.sedmarks.specs.Words.{AgreeBelow, row_of}
+use Rattle.sedpass.specs.Kept.{starts_told, ends_told, RowKept, KeptAt, IsLive, KeptRoom, IsRegion, Passes, IsEdge, AllMarked, SameKept, EdgesFrom, IsKept}
+use Rattle.sedpass.specs.Table.{State, state_of, HasRow, LeadsOn, BeginsIn, IsTable, MayBegin, SameShape, AddsStates, IsOffset}
+use Rattle.sedpass.specs.declared.kept.Kept.{Kept}
+use Rattle.sedpass.specs.Rows.{nodes_of}
+use Rattle.std.proofs.lemmas.Bool.{cases_lt}
+use Rattle.sedpass.specs.declared.nodes.Prepared.{Prepared}
+use Rattle.sedpass.specs.declared.rows.Way.{Way}
+use Rattle.sedpass.specs.declared.table.Table.{Table}
+use Rattle.sedpass.specs.declared.nodes.Kind.{Kind}
+use Rattle.sedpass.proofs.FactLemmas.{null_tells}
+use Rattle.sedpass.proofs.LeaveLemmas.{last_inside, reaches_last}
+use Rattle.sedpass.proofs.RowLemmas.{behind_reaches, meet_rows, bits_agree, bits_here}
+use Rattle.sedre.specs.Steps.{Counted, TakesAtLeast}
+
+-- the starts of the mirrored pass are the places where its matches end
+pub told_opposite : (sweeps : Bool) (n end : ℕ) → end ≤ n → Opposite n (starts_told sweeps n end) (ends_told sweeps n end)
+told_opposite true n end within i d sum = (λ h. (omega arith, omega arith), λ h. (omega arith, omega arith))
+told_opposite false n end within i d sum = (λ h. (omega arith, omega arith), λ h. (omega arith, omega arith))
+
+pub told_last : (sweeps : Bool) (n end : ℕ) → end ≤ n → (ends_told sweeps n end).last ≤ n
+told_last true n end within = omega arith
+told_last false n end within = within
+
+-- a row of the pass tells which nodes are marked
+pub kept_reaches : (e : Written) (w : List ℕ) (mirrored sweeps keeps : Bool) (r end q x : ℕ) (entered ended : ℕ → Bool) → IsArena e.nodes → IsTrue mirrored → IsTrue keeps → q ≤ length w → end ≤ length w →
+    RowAt (seen mirrored e).nodes (reverse w) r (starts_told sweeps (length w) end) keeps (length w - q) entered ended →
+    IsTrue (ended x) ↔ Reaches e.nodes w r (ends_told sweeps (length w) end) x q
+kept_reaches e w true sweeps true r end q x entered ended arena _ _ there within row =
+    behind_reaches e w r x q (length w - q) (starts_told sweeps (length w) end) (ends_told sweeps (length w) end) entered ended arena (told_opposite sweeps (length w) end within) (told_last sweeps (length w) end within) (omega arith) row
+kept_reaches e w false sweeps keeps r end q x entered ended arena mirror _ there within row = absurd (true≢false (sym mirror))
+kept_reaches e w true sweeps false r end q x entered ended arena _ keep there within row = absurd (true≢false (sym keep))
+
+-- and with a row of a pass ahead whether the two meet
+pub kept_meets : (e : Written) (w : List ℕ) (mirrored sweeps keeps other : Bool) (r a i end q : ℕ) (front front_ended entered ended : ℕ → Bool) → IsArena e.nodes → IsTrue mirrored → IsTrue keeps → q ≤ length w → end ≤ length w →
+    RowAt e.nodes w a (one_start i) other q front front_ended →
+    RowAt (seen mirrored e).nodes (reverse w) r (starts_told sweeps (length w) end) keeps (length w - q) entered ended →
+    ((c : ℕ) × IsTrue (front c) × IsTrue (ended c)) ↔ Meets e.nodes w r (ends_told sweeps (length w) end) a (one_start i) q
+kept_meets e w true sweeps true other r a i end q front front_ended entered ended arena _ _ there within ahead row =
+    meet_rows e w r a q (length w - q) (one_start i) (starts_told sweeps (length w) end) (ends_told sweeps (length w) end) other front front_ended entered ended arena (told_opposite sweeps (length w) end within) (told_last sweeps (length w) end within) (omega arith) ahead row
+kept_meets e w false sweeps keeps other r a i end q front front_ended entered ended arena mirror _ there within ahead row = absurd (true≢false (sym mirror))
+kept_meets e w true sweeps false other r a i end q front front_ended entered ended arena _ keep there within ahead row = absurd (true≢false (sym keep))
+
+-- whether a place after the first of the pass is one of its starts
+told_start : (sweeps : Bool) (n end d : ℕ) → n < d + 1 + end → d < n → IsTrue sweeps ↔ IsStart (starts_told sweeps n end) (d + 1)
+told_start true n end d after within = (λ _. (omega arith, omega arith), λ _. refl)
+told_start false n end d after within = (λ h. absurd (true≢false (sym h)), λ h. absurd (omega arith))
+
+-- the row of the next place, seen from the text's end
+pub kept_step : (e : Written) (w : List ℕ) (mirrored sweeps keeps edge : Bool) (r end q byte : ℕ) (entered ended after after_ended : ℕ → Bool) →
+    q < end → end ≤ length w → slice_get w q ≡ Some byte → (IsTrue edge ↔ (q ≡ 0)) →
+    LeadsTo (seen mirrored e).nodes r keeps entered ended (Some byte) edge sweeps after after_ended →
+    RowAt (seen mirrored e).nodes (reverse w) r (starts_told sweeps (length w) end) keeps (length w - (q + 1)) entered ended →
+    RowAt (seen mirrored e).nodes (reverse w) r (starts_told sweeps (length w) end) keeps (length w - q) after after_ended
+kept_step e w mirrored sweeps keeps edge r end q byte entered ended after after_ended before within got last leads row =
+    let n = length w in
+    let d = n - (q + 1) in
+    let next : d + 1 ≡ n - q = omega arith in
+    let whole : length (reverse w) ≡ n = length-reverse w in
+    let read : slice_get (reverse w) d ≡ Some byte = get-reverse w q d byte (omega arith) got in
+    let bytes : SameBytes (seen mirrored e).nodes (slice_get (reverse w) d) (Some byte) = λ x members _. ap (λ b. takes b members) read in
+    let edges : IsTrue edge ↔ (d + 1 ≡ length (reverse w)) = (λ h. let at : q ≡ 0 = last.0 h in omega arith, λ h. last.1 (omega arith)) in
+    subst (λ p. RowAt (seen mirrored e).nodes (reverse w) r (starts_told sweeps (length w) end) keeps p after after_ended) next
+    (leads (reverse w) (starts_told sweeps n end) d bytes edges (told_start sweeps n end d (omega arith) (omega arith)) row)
+
+-- the row in which the pass begins
+pub kept_first : (e : Written) (w : List ℕ) (mirrored sweeps keeps : Bool) (r end : ℕ) (kind : Kind) (entered ended : ℕ → Bool) → IsTrue mirrored → end ≤ length w → (IsTrue sweeps → end ≡ length w) →
+    (IsTrue kind.begin ↔ (end ≡ 0)) → (IsTrue kind.end ↔ (end ≡ length w)) →
+    IsFirst (seen mirrored e).nodes r keeps (at_begin mirrored kind) (at_end mirrored kind) entered ended →
+    RowAt (seen mirrored e).nodes (reverse w) r (starts_told sweeps (length w) end) keeps (length w - end) entered ended
+kept_first e w false sweeps keeps r end kind entered ended mirror within whole begins ends first = absurd (true≢false (sym mirror))
+kept_first e w true false keeps r end kind entered ended _ within whole begins ends first =
+    let turned : length (reverse w) ≡ length w = length-reverse w in
+    let place : IsPlace (reverse w) (length w - end) kind.end kind.begin = (
+      (λ h. let at = ends.0 h in omega arith, λ h. ends.1 (omega arith)),
+      (λ h. let at = begins.0 h in omega arith, λ h. begins.1 (omega arith)),
+    ) in
+    first (reverse w) (one_start (length w - end)) place (omega arith)
+kept_first e w true true keeps r end kind entered ended _ within whole begins ends first =
+    let turned : length (reverse w) ≡ length w = length-reverse w in
+    let all : end ≡ length w = whole refl in
+    let none : length w - end ≡ 0 = omega arith in
+    let place : IsPlace (reverse w) 0 kind.end kind.begin = (
+      (λ h. refl, λ h. ends.1 all),
+      (λ h. let at = begins.0 h in omega arith, λ h. begins.1 (omega arith)),
+    ) in
+    subst (λ p. RowAt (seen true e).nodes (reverse w) r (starts_to 0 (length w)) keeps p entered ended) (sym none)
+    (first (reverse w) (starts_to 0 (length w)) place (omega arith))
+
+-- A state of a table and of what became of it.
+
+-- what was a place's state is it still, where the state stands as it stood
+pub live_kept : (p : Prepared) (w : List ℕ) (t after : Table) (root end : ℕ) (states : List ℕ) (q : ℕ) → after.way ≡ t.way → t.count ≤ after.count →
+    ((s : ℕ) → s < t.count → state_of (length p.expr.nodes) after s ≡ state_of (length p.expr.nodes) t s) → IsLive p w t root end states q → IsLive p w after root end states q
+live_kept p w t after root end states q way grows same live =
+    let s = slice_index_or states q 0 in
+    let low : s < t.count = live.0 in (
+      omega arith,
+      subst (λ v. KeptAt p w v root end q (state_of (length p.expr.nodes) after s)) (sym way)
+          (subst (λ a. KeptAt p w t.way root end q a) (sym (same s low)) live.1),
+    )
+
+-- the number that was kept last is a place's state
+pub live_set : (p : Prepared) (w : List ℕ) (t : Table) (root end : ℕ) (states : List ℕ) (q s : ℕ) → q < length states → s < t.count → KeptAt p w t.way root end q (state_of (length p.expr.nodes) t s) → IsLive p w t root end (slice_set states q s) q
+live_set p w t root end states q s inside there at =
+    let e : slice_index_or (slice_set states q s) q 0 ≡ s = get_or-set_same states q s 0 inside in
+    (rw e there, subst (λ v. KeptAt p w t.way root end q (state_of (length p.expr.nodes) t v)) (sym e) at)
+
+-- and those of other places are as they were
+pub live_other : (p : Prepared) (w : List ℕ) (t : Table) (root end : ℕ) (states : List ℕ) (place s q : ℕ) → place < q → IsLive p w t root end states q → IsLive p w t root end (slice_set states place s) q
+live_other p w t root end states place s q after live =
+    let e : slice_index_or (slice_set states place s) q 0 ≡ slice_index_or states q 0 = get_or-set_other states place q s 0 (λ e. omega arith) in
+    (rw e live.0, subst (λ v. KeptAt p w t.way root end q (state_of (length p.expr.nodes) t v)) (sym e) live.1)
+
+-- the state of the next place
+pub kept_down : (p : Prepared) (w : List ℕ) (way : Way) (root end q byte : ℕ) (edge : Bool) (a b : State) → q < end → end ≤ length w → slice_get w q ≡ Some byte → (IsTrue edge ↔ (q ≡ 0)) →
+    LeadsOn (seen way.mirrored p.expr).nodes way a byte edge b → KeptAt p w way root end (q + 1) a → KeptAt p w way root end q b
+kept_down p w way root end q byte edge a b before within got last leads at =
+    let leads-root : LeadsTo (seen way.mirrored p.expr).nodes root way.keeps a.entered a.ended (Some byte) edge way.sweeps b.entered b.ended =
+    subst (λ r. LeadsTo (seen way.mirrored p.expr).nodes r way.keeps a.entered a.ended (Some byte) edge way.sweeps b.entered b.ended) at.0 leads.1 in
+    (leads.0 ∙ at.0, kept_step p.expr w way.mirrored way.sweeps way.keeps edge root end q byte a.entered a.ended b.entered b.ended before within got last leads-root at.1)
+
+-- Going back by one byte.
+
+-- the room is as it was
+pub room_kept : (m n : ℕ) (t after : Table) (k other : Kept) → SameShape t after → length other.states.items ≡ length k.states.items → other.edges ≡ k.edges → KeptRoom m n t k → KeptRoom m n after other
+room_kept m n t after k other shape places edges room = record {
+  mirrored = subst (λ (v : Way). IsTrue v.mirrored) (sym shape.0) room.mirrored;
+  keeps = subst (λ (v : Way). IsTrue v.keeps) (sym shape.0) room.keeps;
+  places = rw places room.places;
+  blocks = λ b low. rw edges (room.blocks b (subst (λ r. b * (r - 1) ≤ n) shape.1 low));
+  marks = λ q low. subst (λ (rows : List (List Bool)). m ≤ length (row_of rows q)) (sym edges) (room.marks q (subst (λ (rows : List (List Bool)). q < length rows) edges low));
+}
+
+-- and so is the region
+pub region_kept : (p : Prepared) (w : List ℕ) (t after : Table) (k other : Kept) → SameShape t after → IsTable p after → length other.states.items ≡ length k.states.items → other.edges ≡ k.edges →
+    other.region.root ≡ k.region.root → other.region.end ≡ k.region.end → other.region.to ≤ k.region.end → IsRegion p w t k → IsRegion p w after other
+region_kept p w t after k other shape table places edges root end within region = record {
+  table = table;
+  room = room_kept (length p.expr.nodes) (length w) t after k other shape places edges region.room;
+  root = subst (λ v. MayBegin p v other.region.root) (sym shape.0) (subst (λ r. MayBegin p t.way r) (sym root) region.root);
+  whole = λ h. end ∙ region.whole (subst (λ (v : Way). IsTrue v.sweeps) shape.0 h);
+  inside = rw end region.inside;
+  within = rw end within;
+}
+
+-- the pass is at the next place
+pub passes_down : (p : Prepared) (w : List ℕ) (t after : Table) (k other : Kept) (place offset next byte : ℕ) (edge : Bool) →
+    Passes p w t k (place + 1) offset → IsTable p after → AddsStates (length p.expr.nodes) t after →
+    other.region.root ≡ k.region.root → other.region.end ≡ k.region.end → other.edges ≡ k.edges →
+    other.states.items ≡ slice_set k.states.items place (next / 2 ^ after.layout.shift) →
+    ((after.epoch ≡ t.epoch → ⊥) × (other.region.to ≡ place + 1)) ⊎ ((after.epoch ≡ t.epoch) × (other.region.to ≡ k.region.to)) →
+    IsOffset after next → slice_get w place ≡ Some byte → (IsTrue edge ↔ (place ≡ 0)) →
+    LeadsOn (nodes_of t.way p.expr) t.way (state_of (length p.expr.nodes) t (offset / 2 ^ t.layout.shift)) byte edge (state_of (length p.expr.nodes) after (next / 2 ^ after.layout.shift)) →
+    Passes p w after other place next
+passes_down p w t after k other place offset next byte edge old table adds root end edges states to there got last leads =
+    let m = length p.expr.nodes in
+    let s = next / 2 ^ after.layout.shift in
+    let low : place < k.region.end = (let h = old.within in omega arith) in
+    let inside : place < length k.states.items = (let h = old.region.room.places in let g = old.region.inside in omega arith) in
+    let places : length other.states.items ≡ length k.states.items = ap (λ xs. length xs) states ∙ length-set k.states.items place s in
+    let at : KeptAt p w t.way k.region.root k.region.end place (state_of m after s) =
+    kept_down p w t.way k.region.root k.region.end place byte edge (state_of m t (offset / 2 ^ t.layout.shift)) (state_of m after s) low old.region.inside got last leads old.at in
+    let now : KeptAt p w after.way k.region.root k.region.end place (state_of m after s) = subst (λ v. KeptAt p w v k.region.root k.region.end place (state_of m after s)) (sym adds.shape.0) at in
+    let here : IsLive p w after k.region.root k.region.end (slice_set k.states.items place s) place = live_set p w after k.region.root k.region.end k.states.items place s inside there.0 now in
+    let live : (q : ℕ) → place ≤ q → q < other.region.to → IsLive p w after k.region.root k.region.end (slice_set k.states.items place s) q =
+    ⊎_elim
+    (λ (h : (after.epoch ≡ t.epoch → ⊥) × (other.region.to ≡ place + 1)). λ q from before. let e : q ≡ place = (let g = h.1 in omega arith) in subst (λ x. IsLive p w after k.region.root k.region.end (slice_set k.states.items place s) x) (sym e) here)
+    (λ (h : (after.epoch ≡ t.epoch) × (other.region.to ≡ k.region.to)). λ q from before.
+    ⊎_elim
+    (λ (lt : place < q). live_other p w after k.region.root k.region.end k.states.items place s q lt
+    (live_kept p w t after k.region.root k.region.end k.states.items q adds.shape.0 (adds.grows h.0).0 (adds.kept h.0) (old.live q (omega arith) (let g = h.1 in omega arith))))
+    (λ (ge : q ≤ place). let e : q ≡ place = omega arith in subst (λ x. IsLive p w after k.region.root k.region.end (slice_set k.states.items place s) x) (sym e) here)
+    (cases_lt place q))
+    to in
+    let above : place < other.region.to = ⊎_elim (λ (h : (after.epoch ≡ t.epoch → ⊥) × (other.region.to ≡ place + 1)). let g = h.1 in omega arith) (λ (h : (after.epoch ≡ t.epoch) × (other.region.to ≡ k.region.to)). let g = h.1 in let f = old.above in omega arith) to in
+    let within : other.region.to ≤ k.region.end = ⊎_elim (λ (h : (after.epoch ≡ t.epoch → ⊥) × (other.region.to ≡ place + 1)). let g = h.1 in omega arith) (λ (h : (after.epoch ≡ t.epoch) × (other.region.to ≡ k.region.to)). let g = h.1 in let f = old.region.within in omega arith) to in
+    record {
+      region = region_kept p w t after k other adds.shape table places edges root end within old.region;
+      within = rw end (omega arith);
+      above = omega arith;
+      there = there;
+      at = subst (λ r. KeptAt p w after.way r other.region.end place (state_of m after s)) (sym root) (subst (λ e. KeptAt p w after.way k.region.root e place (state_of m after s)) (sym end) now);
+      live = λ q from before.
+          subst (λ r. IsLive p w after r other.region.end other.states.items q) (sym root) (subst (λ e. IsLive p w after k.region.root e other.states.items q) (sym end)
+          (subst (λ xs. IsLive p w after k.region.root k.region.end xs q) (sym states) (live q from before)));
+    }
+
+-- so many looks, and then others
+pub least_then : (s a b k n m : ℕ) → Counted s a k → TakesAtLeast a b n → k + n ≡ m → TakesAtLeast s b m
+unfolding TakesAtLeast Counted
+least_then s a b k n m one after is = omega (arith, one, after, is)
+
+-- The rows at the ends of blocks.
+
+-- a row was kept by copies
+row_copied : (m : ℕ) (row mark leaf : List Bool) → AgreeBelow m row mark → AgreeBelow m mark leaf → bits m row ≡ bits m leaf
+row_copied m row mark leaf one two = bits_agree m row mark one ∙ bits_agree m mark leaf two
+
+-- the block's edge is kept, and those of later blocks are as they were
+pub edges_more : (p : Prepared) (w : List ℕ) (way : Way) (root end width block : ℕ) (old mid new : List (List Bool)) (mark other leaf last : List Bool) → 1 ≤ width → 2 * block + 1 < length old → length mid ≡ length old →
+    AgreeBelow (length p.expr.nodes) (row_of mid (2 * block)) mark → AgreeBelow (length p.expr.nodes) mark leaf → ((q : ℕ) → q < length old → (q ≡ 2 * block → ⊥) → row_of mid q ≡ row_of old q) →
+    AgreeBelow (length p.expr.nodes) (row_of new (2 * block + 1)) other → AgreeBelow (length p.expr.nodes) other last → ((q : ℕ) → q < length mid → (q ≡ 2 * block + 1 → ⊥) → row_of new q ≡ row_of mid q) →
+    RowKept p w way root end (block * width + width) (bits (length p.expr.nodes) leaf) (bits (length p.expr.nodes) last) →
+    ((b : ℕ) → block * width + width < b * width + width → b * width + width < end → IsEdge p w way root end old width b) →
+    ((b : ℕ) → b * width + width < end → 2 * b + 1 < length old) →
+    (b : ℕ) → block * width < b * width + width → b * width + width < end → IsEdge p w way root end new width b
+edges_more p w way root end width block old mid new mark other leaf last some inside same one two kept three four as_was here later room b after before =
+    let m = length p.expr.nodes in
+    ⊎_elim
+    (λ (lt : block < b).
+    let up : block + 1 ≤ b = omega arith in
+    let far : block * width + width < b * width + width = (let h = mul-le-mul_left width up in omega (arith, h, some)) in
+    let there = room b before in
+    let first : row_of new (2 * b) ≡ row_of old (2 * b) = as_was (2 * b) (omega (arith, same)) (λ e. omega arith) ∙ kept (2 * b) (omega arith) (λ e. omega arith) in
+    let second : row_of new (2 * b + 1) ≡ row_of old (2 * b + 1) = as_was (2 * b + 1) (omega (arith, same)) (λ e. omega arith) ∙ kept (2 * b + 1) (omega arith) (λ e. omega arith) in
+    subst (λ r. RowKept p w way root end (b * width + width) (bits m r) (bits m (row_of new (2 * b + 1)))) (sym first)
+    (subst (λ r. RowKept p w way root end (b * width + width) (bits m (row_of old (2 * b))) (bits m r)) (sym second) (later b far before)))
+    (λ (ge : b ≤ block).
+    let e : b ≡ block =
+    ⊎_elim
+    (λ (lt : b < block). let up : b + 1 ≤ block = omega arith in let h = mul-le-mul_left width up in absurd (omega (arith, h, after)))
+    (λ (le : block ≤ b). omega arith)
+    (cases_lt b block) in
+    let first : bits m (row_of new (2 * block)) ≡ bits m leaf = ap (λ r. bits m r) (as_was (2 * block) (omega (arith, same)) (λ e. omega arith)) ∙ row_copied m (row_of mid (2 * block)) mark leaf one two in
+    let second : bits m (row_of new (2 * block + 1)) ≡ bits m last = row_copied m (row_of new (2 * block + 1)) other last three four in
+    subst (λ x. IsEdge p w way root end new width x) (sym e)
+    (subst (λ f. RowKept p w way root end (block * width + width) f (bits m (row_of new (2 * block + 1)))) (sym first)
+    (subst (λ f. RowKept p w way root end (block * width + width) (bits m leaf) f) (sym second) here)))
+    (cases_lt block b)
+
+-- Costs.
+
+-- a place less is paid
+pub down_cost : (c x place s t b : ℕ) → place ≡ x + 1 → t ≤ s + c → s + c * place ≤ b → t + c * x ≤ b
+down_cost c x place s t b e up most = let h : s + c * (x + 1) ≤ b = subst (λ v. s + c * v ≤ b) e most in omega (arith, h, up)
+
+-- the same region, over two calls
+pub same_kept : (a b c : Kept) → SameKept a b → SameKept b c → SameKept a c
+same_kept a b c one two = record { root = two.root ∙ one.root; end = two.end ∙ one.end; places = two.places ∙ one.places; edges = two.edges ∙ one.edges }
+
+pub same_shape : (a b c : Table) → SameShape a b → SameShape b c → SameShape a c
+same_shape a b c one two = (two.0 ∙ one.0, two.1 ∙ one.1, two.2 ∙ one.2)
+
+-- Blocks.
+
+-- a place where a block begins is the right end of that of the place before it
+pub block_right : (high w b : ℕ) → 0 < w → 0 < high → high ≡ b * w → high ≡ (high - 1) / w * w + w
+block_right high w b some above is =
+    let q = (high - 1) / w in
+    let from : q * w ≤ high - 1 = div-mul-le_self (high - 1) w in
+    let to : high - 1 < q * w + w = lt-div-mul-add some in
+    ⊎_elim
+    (λ (lt : q < b). let up : q + 1 ≤ b = omega arith in let h : (q + 1) * w ≤ b * w = mul-le-mul_right w up in omega (arith, h, from, to, is))
+    (λ (ge : b ≤ q). let h : b * w ≤ q * w = mul-le-mul_right w ge in absurd (omega (arith, h, from, is, above)))
+    (cases_lt q b)
+
+-- the edges of a table, as a pass left them
+pub edges_same : (p : Prepared) (w : List ℕ) (t after : Table) (k other : Kept) (place lower : ℕ) → SameShape t after → other.edges ≡ k.edges → other.region.root ≡ k.region.root → other.region.end ≡ k.region.end → place ≤ lower →
+    EdgesFrom p w t k place → EdgesFrom p w after other lower
+edges_same p w t after k other place lower shape edges root end up old b above before =
+    let width = after.room - 1 in
+    let from : place < b * width + width = omega (arith, up, above) in
+    let to : b * width + width < k.region.end = subst (λ e. b * width + width < e) end before in
+    subst (λ v. IsEdge p w v other.region.root other.region.end other.edges width b) (sym shape.0)
+    (subst (λ r. IsEdge p w t.way r other.region.end other.edges width b) (sym root)
+    (subst (λ e. IsEdge p w t.way k.region.root e other.edges width b) (sym end)
+    (subst (λ (rows : List (List Bool)). IsEdge p w t.way k.region.root k.region.end rows width b) (sym edges)
+    (subst (λ r. IsEdge p w t.way k.region.root k.region.end k.edges (r - 1) b) (sym shape.1)
+    (old b (subst (λ r. place < b * (r - 1) + (r - 1)) shape.1 from) (subst (λ r. b * (r - 1) + (r - 1) < k.region.end) shape.1 to))))))
+
+-- no block ends between the last one's beginning and the region's end
+pub edges_none : (p : Prepared) (w : List ℕ) (t : Table) (k : Kept) (block : ℕ) → k.region.end ≤ block * (t.room - 1) + (t.room - 1) → EdgesFrom p w t k (block * (t.room - 1))
+edges_none p w t k block short b above before =
+    let width = t.room - 1 in
+    ⊎_elim
+    (λ (lt : b < block). let up : b + 1 ≤ block = omega arith in let h : (b + 1) * width ≤ block * width = mul-le-mul_right width up in absurd (omega (arith, h, above)))
+    (λ (ge : block ≤ b). let h : block * width ≤ b * width = mul-le-mul_right width ge in absurd (omega (arith, h, short, before)))
+    (cases_lt b block)
+
+-- a block and its edge are paid
+pub block_cost : (m low high s a t : ℕ) → low < high → a ≤ s + 4 * m → t + 39 * m * low ≤ a + 39 * m * high → t + 43 * m * low ≤ s + 43 * m * high
+block_cost m low high s a t less edge pass =
+    let up : low + 1 ≤ high = omega arith in
+    let h : 4 * m * (low + 1) ≤ 4 * m * high = mul-le-mul_left (4 * m) up in
+    omega (arith, h, edge, pass)
+
+-- The whole region, and a block of it.
+
+-- a pass begins at the place
+pub passes_first : (p : Prepared) (w : List ℕ) (t after : Table) (k other : Kept) (place offset : ℕ) → IsRegion p w t k → SameShape t after → IsTable p after → other.states.items ≡ k.states.items → other.edges ≡ k.edges →
+    other.region.root ≡ k.region.root → other.region.end ≡ k.region.end → other.region.to ≡ place → place ≤ k.region.end → IsOffset after offset →
+    KeptAt p w after.way k.region.root k.region.end place (state_of (length p.expr.nodes) after (offset / 2 ^ after.layout.shift)) → Passes p w after other place offset
+passes_first p w t after k other place offset region shape table states edges root end to within there at =
+    let m = length p.expr.nodes in
+    record {
+      region = region_kept p w t after k other shape table (ap (λ xs. length xs) states) edges root end (rw to within) region;
+      within = rw end within;
+      above = omega (arith, to);
+      there = there;
+      at = subst (λ r. KeptAt p w after.way r other.region.end place (state_of m after (offset / 2 ^ after.layout.shift))) (sym root)
+          (subst (λ e. KeptAt p w after.way k.region.root e place (state_of m after (offset / 2 ^ after.layout.shift))) (sym end) at);
+      live = λ q from before. absurd (omega (arith, to, from, before));
+    }
+
+-- what a pass came down to is kept
+pub kept_passed : (p : Prepared) (w : List ℕ) (t : Table) (k other : Kept) (place offset : ℕ) → Passes p w t k place offset → EdgesFrom p w t k other.region.low → other.region.low ≤ place → other.region.from ≡ place →
+    other.states.items ≡ k.states.items → other.edges ≡ k.edges → other.region.root ≡ k.region.root → other.region.end ≡ k.region.end → other.region.to ≡ k.region.to → IsKept p w t other
+kept_passed p w t k other place offset passes kept low from states edges root end to =
+    let shape : SameShape t t = (refl, refl, refl) in
+    record {
+      region = region_kept p w t t k other shape passes.region.table (ap (λ xs. length xs) states) edges root end (rw to passes.region.within) passes.region;
+      low = omega (arith, low, from);
+      from = (let h = passes.within in omega (arith, from, end, h));
+      live = λ q above before.
+          subst (λ r. IsLive p w t r other.region.end other.states.items q) (sym root) (subst (λ e. IsLive p w t k.region.root e other.states.items q) (sym end)
+          (subst (λ xs. IsLive p w t k.region.root k.region.end xs q) (sym states) (passes.live q (omega (arith, from, above)) (omega (arith, to, before)))));
+      edges = edges_same p w t t k other other.region.low other.region.low shape edges root end (omega arith) kept;
+    }
+
+-- a region of so many places is paid
+pub make_cost : (m low d place end s a t : ℕ) → place ≡ low → end ≡ low + d → a ≤ s + 37 * m → t + 43 * m * place ≤ a + 43 * m * end → t ≤ s + (37 * m + 43 * m * d)
+make_cost m low d place end s a t at is first pass =
+    let h : t + 43 * m * low ≤ a + 43 * m * (low + d) = subst (λ e. t + 43 * m * low ≤ a + 43 * m * e) is (subst (λ x. t + 43 * m * x ≤ a + 43 * m * end) at pass) in
+    omega (arith, h, first)
+
+-- and a block that is made again
+pub again_cost : (m low d to s a t : ℕ) → 1 ≤ d → to ≡ low + d → a ≤ s + 41 * m → t + 39 * m * low ≤ a + 39 * m * to → t ≤ s + 80 * m * d
+again_cost m low d to s a t some is first pass =
+    let h : t + 39 * m * low ≤ a + 39 * m * (low + d) = subst (λ e. t + 39 * m * low ≤ a + 39 * m * e) is pass in
+    let g : 41 * m * 1 ≤ 41 * m * d = mul-le-mul_left (41 * m) some in
+    omega (arith, h, g, first)
+
+-- the state of the region's end
+pub first_at : (p : Prepared) (w : List ℕ) (t : Table) (k : Kept) (way : Way) (kind : Kind) (a : State) → IsRegion p w t k → way ≡ t.way →
+    (IsTrue kind.begin ↔ (k.region.end ≡ 0)) → (IsTrue kind.end ↔ (k.region.end ≡ length w)) → BeginsIn (nodes_of t.way p.expr) t.way k.region.root kind a →
+    KeptAt p w way k.region.root k.region.end k.region.end a
+first_at p w t k way kind a region same begins ends first =
+    subst (λ v. KeptAt p w v k.region.root k.region.end k.region.end a) (sym same)
+    (first.0, kept_first p.expr w t.way.mirrored t.way.sweeps t.way.keeps k.region.root k.region.end kind a.entered a.ended region.room.mirrored region.inside region.whole begins ends first.1)
+
+-- the state of a block's right end
+pub load_at : (p : Prepared) (w : List ℕ) (t : Table) (k : Kept) (way : Way) (block place : ℕ) (a : State) → EdgesFrom p w t k k.region.low → k.region.low < block * (t.room - 1) + (t.room - 1) →
+    place ≡ min k.region.end (block * (t.room - 1) + (t.room - 1)) → (place ≡ k.region.end → ⊥) → way ≡ t.way →
+    HasRow k.region.root (bits (length p.expr.nodes) (row_of k.edges (2 * block))) (bits (length p.expr.nodes) (row_of k.edges (2 * block + 1))) a → KeptAt p w way k.region.root k.region.end place a
+load_at p w t k way block place a edges some is other same row =
+    let width = t.room - 1 in
+    let root = k.region.root in
+    let end = k.region.end in
+    let at : place ≡ block * width + width = omega (arith, is, other) in
+    let before : block * width + width < end = omega (arith, is, other) in
+    subst (λ v. KeptAt p w v root end place a) (sym same) (
+      row.0,
+      subst (λ x. RowKept p w t.way root end x a.entered a.ended) (sym at)
+          (subst (λ f. RowKept p w t.way root end (block * width + width) f a.ended) (sym row.1)
+          (subst (λ f. RowKept p w t.way root end (block * width + width) (bits (length p.expr.nodes) (row_of k.edges (2 * block))) f) (sym row.2) (edges block some before))),
+    )
+
+-- What the marks tell.
+
+-- whether a node is marked at a place whose state is in the table
+pub kept_mark : (p : Prepared) (w : List ℕ) (t : Table) (k : Kept) (x q : ℕ) (mark : Bool) → IsKept p w t k → x < length p.expr.nodes → k.region.from ≤ q → q < k.region.to →
+    mark ≡ slice_index_or (row_of t.ends (slice_index_or k.states.items q 0)) x false → IsTrue mark ↔ Reaches p.expr.nodes w k.region.root (ends_told t.way.sweeps (length w) k.region.end) x q
+kept_mark p w t k x q mark kept inside above before is =
+    let m = length p.expr.nodes in
+    let region : IsRegion p w t k = kept.region in
+    let s = slice_index_or k.states.items q 0 in
+    let live : IsLive p w t k.region.root k.region.end k.states.items q = kept.live q above before in
+    let bit : bits m (row_of t.ends s) x ≡ mark = bits_here m (row_of t.ends s) x inside ∙ sym is in
+    let there : q ≤ length w = (let h = region.within in let g = region.inside in omega (arith, h, g, before)) in
+    subst (λ b. IsTrue b ↔ Reaches p.expr.nodes w k.region.root (ends_told t.way.sweeps (length w) k.region.end) x q) bit
+    (kept_reaches p.expr w t.way.mirrored t.way.sweeps t.way.keeps k.region.root k.region.end q x (bits m (row_of t.leaves s)) (bits m (row_of t.ends s)) region.table.expr.arena region.room.mirrored region.room.keeps there region.inside live.1.1)
+
+-- where its state stands
+pub kept_row : (p : Prepared) (w : List ℕ) (t : Table) (k : Kept) (q : ℕ) → IsKept p w t k → k.region.from ≤ q → q < k.region.to →
+    (slice_index_or k.states.items q 0 < length t.ends) × (length (row_of t.ends (slice_index_or k.states.items q 0)) ≡ length p.expr.nodes) × (q < length k.states.items)
+kept_row p w t k q kept above before =
+    let region : IsRegion p w t k = kept.region in
+    let live = (kept.live q above before).0 in
+    let most = region.table.room.count in
+    let rows = region.table.room.ends in (
+      omega (arith, live, most, rows),
+      region.table.room.end_marks (slice_index_or k.states.items q 0) (omega (arith, live, most)),
+      (let h = region.within in let g = region.inside in let f = region.room.places in omega (arith, h, g, f, before)),
+    )
+
+-- a mark that is as asked, and one that isn't
+pub as_asked : (A : Type 0) (mark asked : Bool) → beq mark asked ≡ true → (IsTrue mark ↔ A) → IsTrue asked ↔ A
+as_asked A true true same tells = tells
+as_asked A true false same tells = absurd (true≢false (sym same))
+as_asked A false true same tells = absurd (true≢false (sym same))
+as_asked A false false same tells = tells
+
+pub not_asked : (A : Type 0) (mark asked : Bool) → beq mark asked ≡ false → (IsTrue mark ↔ A) → IsTrue (not asked) ↔ A
+not_asked A true true other tells = absurd (true≢false other)
+not_asked A true false other tells = tells
+not_asked A false true other tells = tells
+not_asked A false false other tells = absurd (true≢false other)
+
+-- a place more was passed
+pub marked_on : (nodes : List Node) (w : List ℕ) (r x : ℕ) (t : Starts) (asked : Bool) (from place : ℕ) → AllMarked nodes w r t x asked from place → (IsTrue asked ↔ Reaches nodes w r t x place) → AllMarked nodes w r t x asked from (place + 1)
+marked_on nodes w r x t asked from place passed here q after before =
+    ⊎_elim (λ (lt : q < place). passed q after lt) (λ (ge : place ≤ q). let e : place ≡ q = omega arith in subst (λ y. IsTrue asked ↔ Reaches nodes w r t x y) e here) (cases_lt q place)
+
+-- and then further places
+pub marked_then : (nodes : List Node) (w : List ℕ) (r x : ℕ) (t : Starts) (asked : Bool) (from place to : ℕ) → AllMarked nodes w r t x asked from place → AllMarked nodes w r t x asked place to → AllMarked nodes w r t x asked from to
+marked_then nodes w r x t asked from place to passed more q after before =
+    ⊎_elim (λ (lt : q < place). passed q after lt) (λ (ge : place ≤ q). more q ge before) (cases_lt q place)
+
+-- a node that is last in the region, at its end
+pub null_spans : (p : Prepared) (w : List ℕ) (kind : Kind) (x place : ℕ) (null : Bool) → x < length p.expr.nodes → (IsTrue kind.begin ↔ (place ≡ 0)) → (IsTrue kind.end ↔ (place ≡ length w)) →
+    null ≡ null_in p.expr.nodes kind x → IsTrue null ↔ At p.expr.nodes w x place place
+null_spans p w kind x place null inside begins ends is =
+    subst (λ b. IsTrue b ↔ At p.expr.nodes w x place place) (sym is) (null_tells false p.expr kind w place (begins, ends) x inside)
+
+-- and before it
+pub mark_spans : (p : Prepared) (w : List ℕ) (t : Table) (k : Kept) (x q : ℕ) (mark : Bool) → IsKept p w t k → t.way.sweeps ≡ false → IsLastIn p.expr.nodes k.region.root x → k.region.from ≤ q → q < k.region.to →
+    mark ≡ slice_index_or (row_of t.ends (slice_index_or k.states.items q 0)) x false → IsTrue mark ↔ At p.expr.nodes w x q k.region.end
+mark_spans p w t k x q mark kept one last above before is =
+    let arena = kept.region.table.expr.arena in
+    let root = kept.region.root.0 in
+    let up = last_inside p.expr.nodes w k.region.root (one_start k.region.end) arena x last in
+    let tells : IsTrue mark ↔ Reaches p.expr.nodes w k.region.root (ends_told t.way.sweeps (length w) k.region.end) x q = kept_mark p w t k x q mark kept (omega (arith, root, up)) above before is in
+    let same : IsTrue mark ↔ Reaches p.expr.nodes w k.region.root (one_start k.region.end) x q =
+    subst (λ b. IsTrue mark ↔ Reaches p.expr.nodes w k.region.root (ends_told b (length w) k.region.end) x q) one tells in
+    let both = reaches_last p.expr.nodes w k.region.root k.region.end x q arena last in
+    (λ h. both.0 (same.0 h), λ h. same.1 (both.1 h))
+
+-- what is told of the region stays so over calls
+pub told_as : (P : ℕ → Starts → Type 0) (n : ℕ) (t after : Table) (k other : Kept) → SameShape t after → SameKept k other → P other.region.root (ends_told after.way.sweeps n other.region.end) → P k.region.root (ends_told t.way.sweeps n k.region.end)
+told_as P n t after k other shape same told =
+    subst (λ (v : Way). P k.region.root (ends_told v.sweeps n k.region.end)) shape.0
+    (subst (λ e. P k.region.root (ends_told after.way.sweeps n e)) same.end (subst (λ r. P r (ends_told after.way.sweeps n other.region.end)) same.root told))
+
+-- the same, where only the marks for its acts changed
+pub kept_same : (p : Prepared) (w : List ℕ) (t : Table) (k other : Kept) → other.region ≡ k.region → other.states.items ≡ k.states.items → other.edges ≡ k.edges → IsKept p w t k → IsKept p w t other
+kept_same p w t k other region states edges kept =
+    let root = ap (λ r. r.root) region in
+    let end = ap (λ r. r.end) region in
+    let to = ap (λ r. r.to) region in
+    let low = ap (λ r. r.low) region in
+    let from = ap (λ r. r.from) region in
+    let shape : SameShape t t = (refl, refl, refl) in
+    record {
+      region = region_kept p w t t k other shape kept.region.table (ap (λ xs. length xs) states) edges root end (rw to kept.region.within) kept.region;
+      low = (let h = kept.low in omega (arith, h, low, from));
+      from = (let h = kept.from in omega (arith, h, from, end));
+      live = λ q above before.
+          subst (λ r. IsLive p w t r other.region.end other.states.items q) (sym root) (subst (λ e. IsLive p w t k.region.root e other.states.items q) (sym end)
+          (subst (λ xs. IsLive p w t k.region.root k.region.end xs q) (sym states) (kept.live q (omega (arith, from, above)) (omega (arith, to, before)))));
+      edges = edges_same p w t t k other k.region.low other.region.low shape edges root end (omega (arith, low)) kept.edges;
+    }

@@ -1,0 +1,341 @@
+-- How a part is left, by what follows it in its node, and what a node is left to that nothing follows.
+use Rattle.std.proofs.Common.{◌≡◌, ℕ, ◌+◌, ◌-◌, ◌<◌, ◌≤◌, ◌⊎◌, ◌↔◌, Bool, true, false, ◌&&◌, ◌||◌, List, length, reverse, Some, refl, sym, ap, ◌∙◌, subst, inl, inr, ⊎_elim, arith}
+use Rattle.std.specs.Prelude.{slice_get, slice_index_or}
+use Rattle.std.proofs.lemmas.Bool.{and_parts, and_from, or_cases, or_left, or_right, cases_lt}
+use Rattle.sedre.specs.Arena.{Written, IsArena, IsPart, HasTwoParts, tree_at}
+use Rattle.sedre.specs.Mirror.{mirror_node, seen}
+use Rattle.sedre.proofs.MirrorLemmas.{seen-node, old_node}
+use Rattle.sedre.specs.declared.types.Node.{Node}
+use Rattle.sedre.specs.declared.types.NodeId.{NodeId}
+use Rattle.sedre.specs.declared.types.Node.TheVariants.{Empty, Set, Begin, End, Seq, Alt, Group, Star, Opt}
+use Rattle.sedmarks.specs.declared.passes.Starts.{Starts}
+use Rattle.sedmarks.specs.Spans.{no_copy}
+use Rattle.sedmarks.specs.Search.{starts_to}
+use Rattle.sedmarks.specs.Reach.{At, BeginsWith, IsStart, one_start, Enters, at_root, with_whole, after_left, again, Ends, TellNull, TellEnded, TellBegun}
+use Rattle.sedpass.specs.Regions.{EndsWith, Leaves, at_end, with_end, before_right, before_copies, Reaches, EndsAt, Opposite, TellEnds, TellReached, IsLastPart, IsLastIn, all_of, last_of}
+use Rattle.sedmarks.proofs.SpanLemmas.{Spans-forward}
+use Rattle.sedmarks.proofs.ReachLemmas.{close_at}
+use Rattle.sedmarks.proofs.MirrorLemmas.{At-mirror}
+
+-- how the part c of the node at y is left at i
+abbrev pub OutOf : List Node → List ℕ → ℕ → Starts → ℕ → ℕ → ℕ → Node → Type 0
+OutOf nodes w r t y c i (Seq a b) =
+    ((b.index ≡ c) × Leaves nodes w r t y i) ⊎ ((a.index ≡ c) × ((k : ℕ) × Leaves nodes w r t y k × At nodes w b.index i k))
+OutOf nodes w r t y c i (Alt a b) = Leaves nodes w r t y i
+OutOf nodes w r t y c i (Group k a) = Leaves nodes w r t y i
+OutOf nodes w r t y c i (Star a first) = (k : ℕ) × Leaves nodes w r t y k × At nodes w y i k
+OutOf nodes w r t y c i (Opt a first) = Leaves nodes w r t y i
+OutOf nodes w r t y c i Empty = ⊥
+OutOf nodes w r t y c i (Set s) = ⊥
+OutOf nodes w r t y c i Begin = ⊥
+OutOf nodes w r t y c i End = ⊥
+
+EndsWith-part : (node : Node) (c : ℕ) → EndsWith node c → IsPart node c
+EndsWith-part (Seq a b) c h = inr h
+EndsWith-part (Alt a b) c h = h
+EndsWith-part (Group k a) c h = h
+EndsWith-part (Star a first) c h = h
+EndsWith-part (Opt a first) c h = h
+EndsWith-part Empty c h = h
+EndsWith-part (Set s) c h = h
+EndsWith-part Begin c h = h
+EndsWith-part End c h = h
+
+IsLastPart-ends : (node : Node) (c : ℕ) → IsLastPart node c → EndsWith node c
+IsLastPart-ends (Seq a b) c h = h
+IsLastPart-ends (Alt a b) c h = h
+IsLastPart-ends (Group k a) c h = h
+IsLastPart-ends (Star a first) c h = absurd h
+IsLastPart-ends (Opt a first) c h = h
+IsLastPart-ends Empty c h = h
+IsLastPart-ends (Set s) c h = h
+IsLastPart-ends Begin c h = h
+IsLastPart-ends End c h = h
+
+module _ (nodes : List Node) (w : List ℕ) (r : ℕ) (t : Starts) (arena : IsArena nodes) where
+  -- a part that ends where its node does
+  OutOf-with_end : (y c i : ℕ) (node : Node) → slice_get nodes y ≡ Some node → EndsWith node c → Leaves nodes w r t y i → OutOf nodes w r t y c i node
+  OutOf-with_end y c i (Seq a b) is ends l = inl (ends, l)
+  OutOf-with_end y c i (Alt a b) is ends l = l
+  OutOf-with_end y c i (Group k a) is ends l = l
+  OutOf-with_end y c i (Star a first) is ends l = (i, l, close_at nodes w y (Star a first) arena is i i no_copy)
+  OutOf-with_end y c i (Opt a first) is ends l = l
+  OutOf-with_end y c i Empty is ends l = ends
+  OutOf-with_end y c i (Set s) is ends l = ends
+  OutOf-with_end y c i Begin is ends l = ends
+  OutOf-with_end y c i End is ends l = ends
+
+  -- two nodes with one part are one
+  one_node : (y z c : ℕ) (node other : Node) → slice_get nodes y ≡ Some node → slice_get nodes z ≡ Some other → IsPart node c → IsPart other c → (y ≡ z) × (node ≡ other)
+  one_node y z c node other is is' part part' =
+      let e : y ≡ z = arena.once y z c node other is is' part part' in
+      (e, let k : slice_get nodes y ≡ slice_get nodes z = ap (slice_get nodes) e in cc)
+
+  -- the same way out of another node with the part, which is this one
+  moved : (y z c i : ℕ) (node other : Node) → slice_get nodes y ≡ Some node → slice_get nodes z ≡ Some other → IsPart node c → IsPart other c → OutOf nodes w r t z c i other → OutOf nodes w r t y c i node
+  moved y z c i node other is is' part part' out =
+      let both = one_node z y c other node is' is part' part in
+      subst (λ v. OutOf nodes w r t v c i node) both.0 (subst (λ n. OutOf nodes w r t z c i n) both.1 out)
+
+  -- a part is left through its node alone
+  pub Leaves-part : (y : ℕ) → y ≤ r → (c i : ℕ) (node : Node) → slice_get nodes y ≡ Some node → IsPart node c → Leaves nodes w r t c i → OutOf nodes w r t y c i node
+  Leaves-part y le c i node is part (at_end _ _ last stop) =
+      let below : c < y = arena.below y c node is part in
+      absurd (omega arith)
+  Leaves-part y le c i node is part (with_end z _ _ other is' ends l) =
+      moved y z c i node other is is' part (EndsWith-part other c ends) (OutOf-with_end z c i other is' ends l)
+  Leaves-part y le c i node is part (before_right z _ _ k a b is' left l at) =
+      moved y z c i node (Seq a b) is is' part (inl left) (inr (left, (k, l, at)))
+  Leaves-part y le c i node is part (before_copies z _ _ k a first is' inner l at) =
+      moved y z c i node (Star a first) is is' part inner (k, l, at)
+
+  -- only r and nodes below it are left
+  pub Leaves-inside : (x i : ℕ) → Leaves nodes w r t x i → x ≤ r
+  Leaves-inside x i (at_end _ _ last stop) = omega arith
+  Leaves-inside x i (with_end z _ _ other is' ends l) =
+      let up = Leaves-inside z i l in
+      let below : x < z = arena.below z x other is' (EndsWith-part other x ends) in
+      omega arith
+  Leaves-inside x i (before_right z _ _ k a b is' left l at) =
+      let up = Leaves-inside z k l in
+      let below : x < z = arena.below z x (Seq a b) is' (inl left) in
+      omega arith
+  Leaves-inside x i (before_copies z _ _ k a first is' inner l at) =
+      let up = Leaves-inside z k l in
+      let below : x < z = arena.below z x (Star a first) is' inner in
+      omega arith
+
+  -- the node r is left at the ends alone
+  pub Leaves-root : (x i : ℕ) → x ≡ r → Leaves nodes w r t x i → IsStart t i
+  Leaves-root x i last (at_end _ _ _ stop) = stop
+  Leaves-root x i last (with_end z _ _ other is' ends l) =
+      let up = Leaves-inside z i l in
+      let below : x < z = arena.below z x other is' (EndsWith-part other x ends) in
+      absurd (omega arith)
+  Leaves-root x i last (before_right z _ _ k a b is' left l at) =
+      let up = Leaves-inside z k l in
+      let below : x < z = arena.below z x (Seq a b) is' (inl left) in
+      absurd (omega arith)
+  Leaves-root x i last (before_copies z _ _ k a first is' inner l at) =
+      let up = Leaves-inside z k l in
+      let below : x < z = arena.below z x (Star a first) is' inner in
+      absurd (omega arith)
+
+  -- nothing is left after the last end
+  pub Leaves-to : (x i : ℕ) → Leaves nodes w r t x i → i ≤ t.last
+  Leaves-to x i (at_end _ _ last stop) = omega arith
+  Leaves-to x i (with_end z _ _ other is' ends l) = Leaves-to z i l
+  Leaves-to x i (before_right z _ _ k a b is' left l at) =
+      let late = Leaves-to z k l in
+      let on = Spans-forward (tree_at nodes b.index) w i k at in
+      omega arith
+  Leaves-to x i (before_copies z _ _ k a first is' inner l at) =
+      let late = Leaves-to z k l in
+      let on = Spans-forward (tree_at nodes z) w i k at in
+      omega arith
+
+  -- a part that ends wherever its node does is left where the node is
+  OutOf-last : (y c i : ℕ) (node : Node) → HasTwoParts node → IsLastPart node c → OutOf nodes w r t y c i node → Leaves nodes w r t y i
+  OutOf-last y c i (Seq a b) two last (inl out) = out.1
+  OutOf-last y c i (Seq a b) two last (inr out) = absurd (two (out.0 ∙ sym last))
+  OutOf-last y c i (Alt a b) two last out = out
+  OutOf-last y c i (Group k a) two last out = out
+  OutOf-last y c i (Star a first) two last out = absurd last
+  OutOf-last y c i (Opt a first) two last out = out
+  OutOf-last y c i Empty two last out = absurd out
+  OutOf-last y c i (Set s) two last out = absurd out
+  OutOf-last y c i Begin two last out = absurd out
+  OutOf-last y c i End two last out = absurd out
+
+  pub last_inside : (x : ℕ) → IsLastIn nodes r x → x ≤ r
+  last_inside x (all_of _ same) = omega arith
+  last_inside x (last_of y _ node is last up) =
+      let top = last_inside y up in
+      let below : x < y = arena.below y x node is (EndsWith-part node x (IsLastPart-ends node x last)) in
+      omega arith
+
+  -- a node that nothing follows is left at the ends, and nowhere else
+  pub Leaves-last : (x i : ℕ) → IsLastIn nodes r x → IsStart t i → Leaves nodes w r t x i
+  Leaves-last x i (all_of _ same) stop = at_end x i same stop
+  Leaves-last x i (last_of y _ node is last up) stop = with_end y x i node is (IsLastPart-ends node x last) (Leaves-last y i up stop)
+
+  pub last-leaves : (x i : ℕ) → IsLastIn nodes r x → Leaves nodes w r t x i → IsStart t i
+  last-leaves x i (all_of _ same) l = Leaves-root x i same l
+  last-leaves x i (last_of y _ node is last up) l =
+      let part = EndsWith-part node x (IsLastPart-ends node x last) in
+      last-leaves y i up (OutOf-last y x i node (arena.distinct y node is) last (Leaves-part y (last_inside y up) x i node is part l))
+
+-- a node that is last in r is marked exactly where it matches up to one of the ends
+pub reaches_ends : (nodes : List Node) (w : List ℕ) (r x p : ℕ) (t : Starts) → IsArena nodes → IsLastIn nodes r x → Reaches nodes w r t x p ↔ ((k : ℕ) × IsStart t k × At nodes w x p k)
+reaches_ends nodes w r x p t arena last = (λ h. (h.0, last-leaves nodes w r t arena x h.0 last h.2, h.1), λ h. (h.0, h.2, Leaves-last nodes w r t arena x h.0 last h.1))
+
+pub reaches_last : (nodes : List Node) (w : List ℕ) (r j x p : ℕ) → IsArena nodes → IsLastIn nodes r x → Reaches nodes w r (one_start j) x p ↔ At nodes w x p j
+reaches_last nodes w r j x p arena last =
+    let both = reaches_ends nodes w r x p (one_start j) arena last in (
+      λ h.
+          let g = both.0 h in
+          let stop = g.1 in
+          let same : g.0 ≡ j = omega arith in
+          subst (λ v. At nodes w x p v) same g.2,
+      λ at. both.1 (j, (omega arith, omega arith), at),
+    )
+
+pub alt_looks : (nodes : List Node) (w : List ℕ) (r j x i : ℕ) (a b : NodeId) → IsArena nodes → IsLastIn nodes r x → slice_get nodes x ≡ Some (Alt a b) →
+    (Reaches nodes w r (one_start j) a.index i ↔ At nodes w a.index i j) × (Reaches nodes w r (one_start j) b.index i ↔ At nodes w b.index i j)
+alt_looks nodes w r j x i a b arena last is = (
+  reaches_last nodes w r j a.index i arena (last_of x a.index (Alt a b) is (inl refl) last),
+  reaches_last nodes w r j b.index i arena (last_of x b.index (Alt a b) is (inr refl) last),
+)
+
+pub right_looks : (nodes : List Node) (w : List ℕ) (r j x k : ℕ) (a b : NodeId) → IsArena nodes → IsLastIn nodes r x → slice_get nodes x ≡ Some (Seq a b) →
+    Reaches nodes w r (one_start j) b.index k ↔ At nodes w b.index k j
+right_looks nodes w r j x k a b arena last is = reaches_last nodes w r j b.index k arena (last_of x b.index (Seq a b) is refl last)
+
+-- a node ends with a byte or without
+pub ends_at : (nodes : List Node) (w : List ℕ) (r x q : ℕ) (s : Starts) → EndsAt nodes w r s x q ↔ (Ends nodes w r s x q ⊎ (Enters nodes w r s x q × At nodes w x q q))
+ends_at nodes w r x q s = (
+  λ h.
+      let on = Spans-forward (tree_at nodes x) w h.0 q h.2 in
+      ⊎_elim
+      (λ (lt : h.0 < q). inl (h.0, lt, h.1, h.2))
+      (λ (ge : q ≤ h.0).
+      let same : h.0 ≡ q = omega arith in
+      inr (subst (λ v. Enters nodes w r s x v) same h.1, subst (λ v. At nodes w x v q) same h.2))
+      (cases_lt h.0 q),
+  λ h. ⊎_elim
+      (λ (ends : Ends nodes w r s x q). (ends.0, ends.2, ends.3))
+      (λ (null : Enters nodes w r s x q × At nodes w x q q). (q, null.0, null.1))
+      h,
+)
+
+-- so the marks of today's passes tell it
+pub row_ends : (nodes : List Node) (w : List ℕ) (r q : ℕ) (s : Starts) (ended begun null row : List Bool) → TellEnded nodes w r s q ended → TellBegun nodes w r s q begun → TellNull nodes w r q null →
+    ((x : ℕ) → x < r + 1 → slice_index_or row x false ≡ (slice_index_or ended x false || (slice_index_or begun x false && slice_index_or null x false))) → TellEnds nodes w r s q row
+row_ends nodes w r q s ended begun null row ends begins nulls is x low =
+    let e = slice_index_or ended x false in
+    let b = slice_index_or begun x false in
+    let n = slice_index_or null x false in
+    let law = ends_at nodes w r x q s in (
+      λ h. law.1 (⊎_elim
+          (λ (l : e ≡ true). inl ((ends x low).0 l))
+          (λ (m : (b && n) ≡ true). let both = and_parts b n m in inr ((begins x low).0 both.0, (nulls x low).0 both.1))
+          (or_cases e (b && n) (sym (is x low) ∙ h))),
+      λ h. is x low ∙ ⊎_elim
+          (λ (l : Ends nodes w r s x q). or_left e (b && n) ((ends x low).1 l))
+          (λ (m : Enters nodes w r s x q × At nodes w x q q). or_right e (b && n) (and_from b n ((begins x low).1 m.0) ((nulls x low).1 m.1)))
+          (law.0 h),
+    )
+
+-- a part that begins where the mirrored node does ends where the node does
+begins-ends : (node : Node) (c : ℕ) → BeginsWith node c → EndsWith (mirror_node node) c
+begins-ends (Seq a b) c h = h
+begins-ends (Alt a b) c h = h
+begins-ends (Group k a) c h = h
+begins-ends (Star a first) c h = h
+begins-ends (Opt a first) c h = h
+begins-ends Empty c h = h
+begins-ends (Set s) c h = h
+begins-ends Begin c h = h
+begins-ends End c h = h
+
+ends-begins : (node : Node) (c : ℕ) → EndsWith node c → BeginsWith (mirror_node node) c
+ends-begins (Seq a b) c h = h
+ends-begins (Alt a b) c h = h
+ends-begins (Group k a) c h = h
+ends-begins (Star a first) c h = h
+ends-begins (Opt a first) c h = h
+ends-begins Empty c h = h
+ends-begins (Set s) c h = h
+ends-begins Begin c h = h
+ends-begins End c h = h
+
+twice : (node : Node) → mirror_node (mirror_node node) ≡ node
+twice (Seq a b) = refl
+twice (Alt a b) = refl
+twice (Group k a) = refl
+twice (Star a first) = refl
+twice (Opt a first) = refl
+twice Empty = refl
+twice (Set s) = refl
+twice Begin = refl
+twice End = refl
+
+-- the ends t of the expression are the starts s of the mirrored one
+module _ (e : Written) (w : List ℕ) (r : ℕ) (s t : Starts) (arena : IsArena e.nodes) (opposite : Opposite (length w) s t) (inside : t.last ≤ length w) where
+  -- the node as it is, of the mirrored one
+  unmirrored : (y : ℕ) (node : Node) → slice_get (seen true e).nodes y ≡ Some node → slice_get e.nodes y ≡ Some (mirror_node node)
+  unmirrored y node is =
+      let old = old_node e.nodes y node is in
+      old.1 ∙ ap (λ (n : Node). Some n) (sym (twice old.0) ∙ ap mirror_node old.2)
+
+  -- a way out is a way in from the other end
+  pub Leaves-mirror : (x i d : ℕ) → i + d ≡ length w → Leaves e.nodes w r t x i → Enters (seen true e).nodes (reverse w) r s x d
+  Leaves-mirror x i d sum (at_end _ _ last stop) = at_root x d last ((opposite i d sum).1 stop)
+  Leaves-mirror x i d sum (with_end y _ _ node is ends l) =
+      with_whole y x d (mirror_node node) (seen-node true e y node is) (ends-begins node x ends) (Leaves-mirror y i d sum l)
+  Leaves-mirror x i d sum (before_right y _ _ k a b is left l at) =
+      let top = Leaves-to e.nodes w r t arena y k l in
+      let g = length w - k in
+      let middle : k + g ≡ length w = omega arith in
+      after_left y x g d b a (seen-node true e y (Seq a b) is) left (Leaves-mirror y k g middle l)
+      ((At-mirror e (seen true e) w (reverse w) b.index i k d g refl refl sum middle).0 at)
+  Leaves-mirror x i d sum (before_copies y _ _ k a first is inner l at) =
+      let top = Leaves-to e.nodes w r t arena y k l in
+      let g = length w - k in
+      let middle : k + g ≡ length w = omega arith in
+      again y x g d a first (seen-node true e y (Star a first) is) inner (Leaves-mirror y k g middle l)
+      ((At-mirror e (seen true e) w (reverse w) y i k d g refl refl sum middle).0 at)
+
+  pub Leaves-unmirror : (x d i : ℕ) → i + d ≡ length w → Enters (seen true e).nodes (reverse w) r s x d → Leaves e.nodes w r t x i
+  Leaves-unmirror x d i sum (at_root _ _ last start) = at_end x i last ((opposite i d sum).0 start)
+  Leaves-unmirror x d i sum (with_whole y _ _ node is begins enters) =
+      with_end y x i (mirror_node node) (unmirrored y node is) (begins-ends node x begins) (Leaves-unmirror y d i sum enters)
+  Leaves-unmirror x d i sum (after_left y _ g _ a b is right enters at) =
+      let on = Spans-forward (tree_at (seen true e).nodes a.index) (reverse w) g d at in
+      let k = length w - g in
+      let middle : k + g ≡ length w = omega arith in
+      before_right y x i k b a (unmirrored y (Seq a b) is) right (Leaves-unmirror y g k middle enters)
+      ((At-mirror e (seen true e) w (reverse w) a.index i k d g refl refl sum middle).1 at)
+  Leaves-unmirror x d i sum (again y _ g _ a first is inner enters at) =
+      let on = Spans-forward (tree_at (seen true e).nodes y) (reverse w) g d at in
+      let k = length w - g in
+      let middle : k + g ≡ length w = omega arith in
+      before_copies y x i k a first (unmirrored y (Star a first) is) inner (Leaves-unmirror y g k middle enters)
+      ((At-mirror e (seen true e) w (reverse w) y i k d g refl refl sum middle).1 at)
+
+  -- so a mark is one of a pass of the mirrored expression over the text read from its end
+  pub reaches_mirror : (x p d : ℕ) → p + d ≡ length w → Reaches e.nodes w r t x p ↔ EndsAt (seen true e).nodes (reverse w) r s x d
+  reaches_mirror x p d sum = (
+    λ h.
+        let top = Leaves-to e.nodes w r t arena x h.0 h.2 in
+        let g = length w - h.0 in
+        let end : h.0 + g ≡ length w = omega arith in
+        (g, Leaves-mirror x h.0 g end h.2, (At-mirror e (seen true e) w (reverse w) x p h.0 d g refl refl sum end).0 h.1),
+    λ h.
+        let on = Spans-forward (tree_at (seen true e).nodes x) (reverse w) h.0 d h.2 in
+        let k = length w - h.0 in
+        let end : k + h.0 ≡ length w = omega arith in
+        (k, (At-mirror e (seen true e) w (reverse w) x p k d h.0 refl refl sum end).1 h.2, Leaves-unmirror x h.0 k end h.1),
+  )
+
+-- the marks of that pass tell what is marked
+tell_reached : (e : Written) (w : List ℕ) (r : ℕ) (s t : Starts) (p d : ℕ) (marks : List Bool) → IsArena e.nodes → Opposite (length w) s t → t.last ≤ length w → p + d ≡ length w →
+    TellEnds (seen true e).nodes (reverse w) r s d marks → TellReached e.nodes w r t p marks
+tell_reached e w r s t p d marks arena opposite inside sum tells x low =
+    let one = tells x low in
+    let same = reaches_mirror e w r s t arena opposite inside x p d sum in
+    (λ h. same.1 (one.0 h), λ reaches. one.1 (same.0 reaches))
+
+pub kept_one : (e : Written) (w : List ℕ) (r j b p d : ℕ) (marks : List Bool) → IsArena e.nodes → j + b ≡ length w → p + d ≡ length w →
+    TellEnds (seen true e).nodes (reverse w) r (one_start b) d marks → TellReached e.nodes w r (one_start j) p marks
+kept_one e w r j b p d marks arena end sum =
+    tell_reached e w r (one_start b) (one_start j) p d marks arena
+    (λ i c at. (λ (start : IsStart (one_start b) c). (omega arith, omega arith), λ (stop : IsStart (one_start j) i). (omega arith, omega arith)))
+    (omega arith) sum
+
+pub kept_all : (e : Written) (w : List ℕ) (r p d : ℕ) (marks : List Bool) → IsArena e.nodes → p + d ≡ length w →
+    TellEnds (seen true e).nodes (reverse w) r (starts_to 0 (length w)) d marks → TellReached e.nodes w r (starts_to 0 (length w)) p marks
+kept_all e w r p d marks arena sum =
+    tell_reached e w r (starts_to 0 (length w)) (starts_to 0 (length w)) p d marks arena
+    (λ i c at. (λ start. (omega arith, omega arith), λ stop. (omega arith, omega arith)))
+    (omega arith) sum

@@ -1,0 +1,78 @@
+-- Spans of one length, and the cuts and copies that it decides.
+use Rattle.std.proofs.Common.{◌≡◌, ℕ, ◌+◌, ◌-◌, ◌<◌, ◌≤◌, Bool, true, false, List, Option, Some, None, cond, eqb, refl, sym, ap, ◌∙◌, subst, ⊎_elim, arith}
+use Rattle.std.proofs.lemmas.Bool.{cases_lt, eqb-true}
+use Rattle.sedre.specs.Tree.{Tree, empty, set, begin, end, seq, alt, group, star, opt}
+use Rattle.sedmarks.specs.Spans.{Copies, no_copy, one_more, Spans}
+use Rattle.sedmarks.specs.Caps.{LastCut, LastCopy, only, then}
+use Rattle.sedpass.specs.Lengths.{sum_of, same_of, length_of, AllLong}
+use Rattle.sedmarks.proofs.SpanLemmas.{Copies-forward}
+
+-- the parts of a length that is known
+sum_parts : (first second : Option ℕ) (n : ℕ) → sum_of first second ≡ Some n → (m : ℕ) × (k : ℕ) × (first ≡ Some m) × (second ≡ Some k) × (n ≡ m + k)
+sum_parts None second n is = cc
+sum_parts (Some m) None n is = cc
+sum_parts (Some m) (Some k) n is = (m, k, refl, refl, cc)
+
+taken : (b : Bool) (m n : ℕ) → cond b (Some m) None ≡ Some n → (b ≡ true) × (m ≡ n)
+taken true m n is = (refl, cc)
+taken false m n is = cc
+
+same_parts : (first second : Option ℕ) (n : ℕ) → same_of first second ≡ Some n → (first ≡ Some n) × (second ≡ Some n)
+same_parts None second n is = cc
+same_parts (Some m) None n is = cc
+same_parts (Some m) (Some k) n is =
+    let same = taken (eqb m k) m n is in
+    let alike = eqb-true m k same.0 in
+    (ap (λ (v : ℕ). Some v) same.1, ap (λ (v : ℕ). Some v) (sym alike ∙ same.1))
+
+pub all_long : (e : Tree) (w : List ℕ) (n : ℕ) → length_of e ≡ Some n → (i j : ℕ) → Spans e w i j → j ≡ i + n
+all_long empty w n is i j s = let zero_long : 0 ≡ n = cc in omega arith
+all_long (set members) w n is i j s = let one_long : 1 ≡ n = cc in let next = s.3 in omega arith
+all_long begin w n is i j s = let zero_long : 0 ≡ n = cc in omega arith
+all_long end w n is i j s = let zero_long : 0 ≡ n = cc in omega arith
+all_long (seq a b) w n is i j s =
+    let parts = sum_parts (length_of a) (length_of b) n is in
+    let left = all_long a w parts.0 parts.2 i s.0 s.1 in
+    let right = all_long b w parts.1 parts.3 s.0 j s.2 in
+    let both = parts.4 in
+    omega arith
+all_long (alt a b) w n is i j s =
+    let parts = same_parts (length_of a) (length_of b) n is in
+    ⊎_elim (all_long a w n parts.0 i j) (all_long b w n parts.1 i j) s
+all_long (group k a) w n is i j s = all_long a w n is i j s
+all_long (star a first) w n is i j s = cc
+all_long (opt a first) w n is i j s = cc
+
+module _ (A B : ℕ → ℕ → Type 0) (i j n : ℕ) (some : (k : ℕ) × A i k × B k j) where
+  pub left_long : AllLong A n → LastCut A B i j (i + n)
+  left_long long =
+      let here : some.0 ≡ i + n = long i some.0 some.1 in
+      record {
+        left = subst (λ v. A i v) here some.1;
+        right = subst (λ v. B v j) here some.2;
+        greatest = λ l left right. let same = long i l left in omega arith;
+      }
+
+  pub right_long : AllLong B n → LastCut A B i j (j - n)
+  right_long long =
+      let end : j ≡ some.0 + n = long some.0 j some.2 in
+      let here : some.0 ≡ j - n = omega arith in
+      record {
+        left = subst (λ v. A i v) here some.1;
+        right = subst (λ v. B v j) here some.2;
+        greatest = λ l left right. let same : j ≡ l + n = long l j right in omega arith;
+      }
+
+-- of copies of one length the last one begins that much before the end
+pub copies_long : (R : ℕ → ℕ → Type 0) (j n : ℕ) → AllLong R n → (i : ℕ) → i < j → Copies R j i → LastCopy R j i (j - n)
+copies_long R j n long i lt no_copy = absurd (omega arith)
+copies_long R j n long i lt (one_more _ k up r rest) =
+    let next : k ≡ i + n = long i k r in
+    let within = Copies-forward R j k rest in
+    ⊎_elim
+    (λ (less : k < j). then i k (j - n) up less r rest (λ l low s c. let same : l ≡ i + n = long i l s in omega arith) (copies_long R j n long k less rest))
+    (λ (ge : j ≤ k).
+    let end : k ≡ j = omega arith in
+    let here : i ≡ j - n = omega arith in
+    subst (λ v. LastCopy R j i v) here (only i lt (subst (λ v. R i v) end r)))
+    (cases_lt k j)

@@ -1,0 +1,17 @@
+pub mod AheadLemmas
+pub mod ClassLemmas
+pub mod CountLemmas
+pub mod DecideLemmas
+pub mod FactLemmas
+pub mod ForwardLemmas
+pub mod GroupSetLemmas
+pub mod KeptLemmas
+pub mod LeaveLemmas
+pub mod LengthLemmas
+pub mod MeetingLemmas
+pub mod OverlayLemmas
+pub mod OwedLemmas
+pub mod RowLemmas
+pub mod SpineLemmas
+pub mod TableLemmas
+pub mod TurnLemmas

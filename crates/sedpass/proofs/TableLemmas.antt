@@ -1,0 +1,552 @@
+-- Tables of states.
+use Rattle.std.proofs.Common.{◌≡◌, ◌≢◌, ℕ, zero, suc, ◌+◌, ◌*◌, ◌/◌, ◌%◌, ◌^◌, ◌<◌, ◌≤◌, ◌⊎◌, ◌↔◌, Bool, true, false, ◌&&◌, ◌||◌, List, length, Option, Some, None, IsTrue, refl, sym, ap, ◌∙◌, subst, ⊎_elim, inl, inr, arith, mul-le-mul_left}
+use Rattle.std.specs.Prelude.{slice_index_or, slice_set, nat_lt, eqb, replicate}
+use Rattle.std.proofs.Math.Path.{fun_ext}
+use Rattle.std.proofs.Math.Nat.{pow-le-pow_right}
+use Rattle.std.proofs.lemmas.Bool.{cases_eq, cases_lt, cases_Bool, lt-ltb, le-ltb, both_ways}
+use Rattle.std.proofs.lemmas.List.{get_or-set_same, get_or-set_other}
+use Rattle.std.proofs.lemmas.Nat.{shl-shr, shl_whole, shl_below}
+use Rattle.sedre.specs.Arena.{Written, IsExpr}
+use Rattle.sedre.specs.Mirror.{mirror_node, seen}
+use Rattle.sedre.proofs.MirrorLemmas.{old_node}
+use Rattle.sedre.specs.declared.types.Node.{Node}
+use Rattle.sedre.specs.declared.types.Node.TheVariants.{Empty, Set, Begin, End, Seq, Alt, Group, Star, Opt}
+use Rattle.sedmarks.specs.Words.{AgreeBelow, row_of}
+use Rattle.sedpass.specs.Prepared.{AreClasses}
+use Rattle.sedpass.specs.Rows.{nodes_of, at_begin, at_end, bits, SameBytes, LeadsTo, IsFirst}
+use Rattle.sedpass.specs.Cells.{stops, code_of, ColumnAt, EdgeFits, IsLayout, IsColumn}
+use Rattle.sedpass.specs.Table.{State, state_of, IsTold, HasRow, LeadsOn, BeginsIn, Names, IsOffset, cell_of, LeadsBy, kind_number, beginning_at, beginning_of, MayBegin, HasRoom, IsTable, SameShape, AddsStates}
+use Rattle.sedpass.specs.declared.cells.Flags.{Flags}
+use Rattle.sedpass.specs.declared.cells.Layout.{Layout}
+use Rattle.sedpass.specs.declared.nodes.Kind.{Kind}
+use Rattle.sedpass.specs.declared.nodes.Prepared.{Prepared}
+use Rattle.sedpass.specs.declared.rows.Way.{Way}
+use Rattle.sedpass.specs.declared.table.Beginning.{Beginning}
+use Rattle.sedpass.specs.declared.table.Table.{Table}
+use Rattle.sedpass.proofs.RowLemmas.{class_row}
+
+-- Rows.
+
+pub bits_agree : (m : ℕ) (a b : List Bool) → AgreeBelow m a b → bits m a ≡ bits m b
+bits_agree m a b same = fun_ext (λ c.
+    ⊎_elim
+    (λ (lt : c < m). ap (λ v. nat_lt c m && v) (same c lt))
+    (λ (ge : m ≤ c). let none = le-ltb c m ge in ap (λ v. v && slice_index_or a c false) none ∙ sym (ap (λ v. v && slice_index_or b c false) none))
+    (cases_lt c m))
+
+pub bits_at : (m : ℕ) (a : List Bool) (c : ℕ) → c < m → bits m a c ≡ slice_index_or a c false
+bits_at m a c lt = ap (λ v. v && slice_index_or a c false) (lt-ltb c m lt)
+
+pub bits_clear : (m : ℕ) (a : List Bool) → ((c : ℕ) → c < m → slice_index_or a c false ≡ false) ↔ ((c : ℕ) → bits m a c ≡ false)
+bits_clear m a = (
+  λ none c. ⊎_elim
+      (λ (lt : c < m). bits_at m a c lt ∙ none c lt)
+      (λ (ge : m ≤ c). ap (λ v. v && slice_index_or a c false) (le-ltb c m ge))
+      (cases_lt c m),
+  λ none c lt. sym (bits_at m a c lt) ∙ none c,
+)
+
+abbrev pub state : ℕ → (ℕ → Bool) → (ℕ → Bool) → Flags → State
+state r e d f = record { root = r; entered = e; ended = d; flags = f }
+
+pub state_same : (r r' : ℕ) (e e' d d' : ℕ → Bool) (f f' : Flags) → r ≡ r' → e ≡ e' → d ≡ d' → f ≡ f' → state r e d f ≡ state r' e' d' f'
+state_same r r' e e' d d' f f' a b c g = ap (λ x. state x e d f) a ∙ ap (λ x. state r' x d f) b ∙ ap (λ x. state r' e' x f) c ∙ ap (λ x. state r' e' d' x) g
+
+-- Places of cells.
+
+pub shifted : (q n s : ℕ) → q < n → n ≤ 65535 → s ≤ 8 → (q * 2 ^ s) % 2 ^ 64 ≡ q * 2 ^ s
+shifted q n s lt few small = shl_whole q 16 s 64 (omega arith) (omega arith)
+
+pub few_offset : (q n s : ℕ) → q < n → n ≤ 65535 → s ≤ 8 → q * 2 ^ s < 2147483647
+few_offset q n s lt few small =
+    let below = shl_below q 16 s (omega arith) in
+    let two : 0 < 2 = omega arith in
+    let up : 16 + s ≤ 24 = omega arith in
+    let most : 2 ^ (16 + s) ≤ 2 ^ 24 = pow-le-pow_right two up in
+    omega (arith, below, most)
+
+pub cell_inside : (size q k n w len : ℕ) → q < n → k < w → w ≤ size → len ≡ n * size → q * size + k < len
+cell_inside size q k n w len lt small fits is =
+    let up : q + 1 ≤ n = omega arith in
+    omega (arith, mul-le-mul_left size up, is, small, fits)
+
+cells_apart : (size q k p j : ℕ) → k < size → j < size → q * size + k ≡ p * size + j → (q ≡ p) × (k ≡ j)
+cells_apart size q k p j small low same =
+    ⊎_elim
+    (λ (e : q ≡ p). (e, let f = ap (λ v. v * size) e in omega (arith, f, same)))
+    (λ (ne : q ≢ p).
+    ⊎_elim
+    (λ (less : q < p). let up : q + 1 ≤ p = omega arith in absurd (omega (arith, mul-le-mul_left size up, same, small)))
+    (λ (more : p ≤ q). let up : p + 1 ≤ q = omega (arith, ne) in absurd (omega (arith, mul-le-mul_left size up, same, low)))
+    (cases_lt q p))
+    (cases_eq q p)
+
+-- Columns.
+
+pub column_below : (columns width class k : ℕ) (anchors edge : Bool) (first : Option ℕ) → columns ≤ width → EdgeFits columns width anchors first → class < columns → ColumnAt first class edge k → k < width
+column_below columns width class k anchors false first low fits small is = omega arith
+column_below columns width class k anchors true None low fits small is = absurd is
+column_below columns width class k anchors true (Some f) low fits small is = let most = fits.0 in omega arith
+
+pub column_same : (columns width class other k : ℕ) (anchors edge edge' : Bool) (first : Option ℕ) → EdgeFits columns width anchors first → class < columns → other < columns →
+    ColumnAt first class edge k → ColumnAt first other edge' k → (other ≡ class) × ((edge' ≡ edge) ⊎ (anchors ≡ false))
+column_same columns width class other k anchors false false first fits small small' is is' = (omega arith, inl refl)
+column_same columns width class other k anchors true true None fits small small' is is' = absurd is
+column_same columns width class other k anchors true true (Some f) fits small small' is is' = (omega arith, inl refl)
+column_same columns width class other k anchors false true None fits small small' is is' = absurd is'
+column_same columns width class other k anchors false true (Some f) fits small small' is is' =
+    ⊎_elim
+    (λ (h : (f ≡ 0) × (anchors ≡ false)). let none = h.0 in (omega arith, inr h.1))
+    (λ (h : columns ≤ f). absurd (omega arith))
+    fits.1
+column_same columns width class other k anchors true false None fits small small' is is' = absurd is
+column_same columns width class other k anchors true false (Some f) fits small small' is is' =
+    ⊎_elim
+    (λ (h : (f ≡ 0) × (anchors ≡ false)). let none = h.0 in (omega arith, inr h.1))
+    (λ (h : columns ≤ f). absurd (omega arith))
+    fits.1
+
+-- Bytes of one class, however the expression is seen.
+
+mirror_twice : (node : Node) → mirror_node (mirror_node node) ≡ node
+mirror_twice Empty = refl
+mirror_twice (Set s) = refl
+mirror_twice Begin = refl
+mirror_twice End = refl
+mirror_twice (Seq a b) = refl
+mirror_twice (Alt a b) = refl
+mirror_twice (Group k a) = refl
+mirror_twice (Star a first) = refl
+mirror_twice (Opt a first) = refl
+
+pub seen_bytes : (mirrored : Bool) (e : Written) (a b : Option ℕ) → SameBytes e.nodes a b → SameBytes (seen mirrored e).nodes a b
+seen_bytes false e a b same = same
+seen_bytes true e a b same = λ x members is.
+    let old = old_node e.nodes x (Set members) is in
+    let set : old.0 ≡ Set members = sym (mirror_twice old.0) ∙ ap mirror_node old.2 in
+    same x members (old.1 ∙ ap (λ (z : Node). Some z) set)
+
+-- a state leads on by bytes of one class
+pub leads_same : (e : Written) (way : Way) (a b : State) (byte other : ℕ) (edge : Bool) → SameBytes e.nodes (Some other) (Some byte) → LeadsOn (nodes_of way e) way a byte edge b → LeadsOn (nodes_of way e) way a other edge b
+leads_same e way a b byte other edge same leads =
+    (leads.0, class_row (nodes_of way e) a.root way.keeps edge way.sweeps a.entered a.ended b.entered b.ended (Some byte) (Some other) (seen_bytes way.mirrored e (Some other) (Some byte) same) leads.1)
+
+-- Beginnings.
+
+-- the number tells the kind
+abbrev begin_in : ℕ → Bool
+begin_in n = eqb n 1 || eqb n 3
+
+abbrev end_in : ℕ → Bool
+end_in n = eqb n 2 || eqb n 3
+
+begin_is : (a b : Bool) → begin_in (kind_number a b) ≡ a
+begin_is false false = refl
+begin_is false true = refl
+begin_is true false = refl
+begin_is true true = refl
+
+end_is : (a b : Bool) → end_in (kind_number a b) ≡ b
+end_is false false = refl
+end_is false true = refl
+end_is true false = refl
+end_is true true = refl
+
+pub few_kinds : (a b : Bool) → kind_number a b < 4
+few_kinds false false = omega arith
+few_kinds false true = omega arith
+few_kinds true false = omega arith
+few_kinds true true = omega arith
+
+kind_same : (one other : Kind) → kind_number one.begin one.end ≡ kind_number other.begin other.end → one ≡ other
+kind_same one other e =
+    let b : one.begin ≡ other.begin = sym (begin_is one.begin one.end) ∙ ap begin_in e ∙ begin_is other.begin other.end in
+    let f : one.end ≡ other.end = sym (end_is one.begin one.end) ∙ ap end_in e ∙ end_is other.begin other.end in
+    ap (λ (x : Bool). let k : Kind = record { begin = x; end = one.end } in k) b ∙ ap (λ (x : Bool). let k : Kind = record { begin = other.begin; end = x } in k) f
+
+-- where another beginning is noted
+begin_apart : (sweeps : Bool) (root x other : ℕ) (kind kind' : Kind) → (IsTrue sweeps → x ≡ root) → (IsTrue sweeps → other ≡ root) → beginning_at sweeps x kind ≡ beginning_at sweeps other kind' → (x ≡ other) × (kind ≡ kind')
+begin_apart true root x other kind kind' one two e = (one refl ∙ sym (two refl), kind_same kind kind' e)
+begin_apart false root x other kind kind' one two e =
+    let a = few_kinds kind.begin kind.end in
+    let b = few_kinds kind'.begin kind'.end in
+    (omega (arith, a, b, e), kind_same kind kind' (omega (arith, a, b, e)))
+
+-- What the table names.
+
+abbrev code_by : Way → State → ℕ → ℕ → ℕ
+code_by way a shift q = code_of (stops way a.flags) (q * 2 ^ shift)
+
+pub names_map : (m : ℕ) (t : Table) (P Q : State → Type 0) (v : ℕ) → ((a : State) → P a → Q a) → Names m t P v → Names m t Q v
+names_map m t P Q v up n = record { to = n.to; there = n.there; code = n.code; is = up (state_of m t n.to) n.is }
+
+module _ (p : Prepared) (t t' : Table) (adds : AddsStates (length p.expr.nodes) t t') (epoch : t'.epoch ≡ t.epoch) where
+  abbrev m : ℕ
+  m = length p.expr.nodes
+
+  pub names_more : (P : State → Type 0) (v : ℕ) → Names m t P v → Names m t' P v
+  names_more P v n = record {
+    to = n.to;
+    there = (let up = (adds.grows epoch).0 in let low = n.there in omega arith);
+    code = n.code
+        ∙ ap (λ w. code_by w (state_of m t n.to) t.layout.shift n.to) (sym adds.shape.0)
+        ∙ ap (λ (l : Layout). code_by t'.way (state_of m t n.to) l.shift n.to) (sym adds.shape.2)
+        ∙ ap (λ a. code_by t'.way a t'.layout.shift n.to) (sym (adds.kept epoch n.to n.there));
+    is = subst P (sym (adds.kept epoch n.to n.there)) n.is;
+  }
+
+  -- a state of the old table is one of the new table
+  pub names_moved : (Q : Way → State → State → Type 0) (o v : ℕ) → o / 2 ^ t.layout.shift < t.count → Names m t' (Q t.way (state_of m t (o / 2 ^ t.layout.shift))) v → Names m t' (Q t'.way (state_of m t' (o / 2 ^ t'.layout.shift))) v
+  names_moved Q o v there n =
+      subst (λ (l : Layout). Names m t' (Q t'.way (state_of m t' (o / 2 ^ l.shift))) v) (sym adds.shape.2)
+      (subst (λ a. Names m t' (Q t'.way a) v) (sym (adds.kept epoch (o / 2 ^ t.layout.shift) there))
+      (subst (λ w. Names m t' (Q w (state_of m t (o / 2 ^ t.layout.shift))) v) (sym adds.shape.0) n))
+
+  leads_more : (q k : ℕ) → q < t.count → (b : State) → LeadsBy p t q k b → LeadsBy p t' q k b
+  leads_more q k there b leads byte edge small column =
+      subst (λ w. LeadsOn (nodes_of w p.expr) w (state_of m t' q) byte edge b) (sym adds.shape.0)
+      (subst (λ a. LeadsOn (nodes_of t.way p.expr) t.way a byte edge b) (sym (adds.kept epoch q there))
+      (leads byte edge small (subst (λ l. IsColumn l p.classes byte edge k) adds.shape.2 column)))
+
+  filled_more : (q k v : ℕ) → q < t.count → Names m t (LeadsBy p t q k) v → Names m t' (LeadsBy p t' q k) v
+  filled_more q k v there n = names_map m t' (LeadsBy p t q k) (LeadsBy p t' q k) v (leads_more q k there) (names_more (LeadsBy p t q k) v n)
+
+  entry_same : t'.beginnings ≡ t.beginnings → (i : ℕ) → beginning_of t' i ≡ beginning_of t i
+  entry_same same i = ap (λ b. slice_index_or {A = Beginning} b.items i (record { epoch = 0; code = 0 })) same
+
+  abbrev Begun : Table → Way → ℕ → Kind → Type 0
+  Begun u way root kind = MayBegin p way root → (beginning_of u (beginning_at way.sweeps root kind)).epoch ≡ u.epoch →
+      Names m u (BeginsIn (nodes_of way p.expr) way root kind) (beginning_of u (beginning_at way.sweeps root kind)).code
+
+  begun_at : (root : ℕ) (kind : Kind) → beginning_of t' (beginning_at t.way.sweeps root kind) ≡ beginning_of t (beginning_at t.way.sweeps root kind) → Begun t t.way root kind → Begun t' t.way root kind
+  begun_at root kind entry begun may is =
+      let i = beginning_at t.way.sweeps root kind in
+      subst (λ (b : Beginning). Names m t' (BeginsIn (nodes_of t.way p.expr) t.way root kind) b.code) (sym entry)
+      (names_more (BeginsIn (nodes_of t.way p.expr) t.way root kind) (beginning_of t i).code
+      (begun may (sym (ap (λ (b : Beginning). b.epoch) entry) ∙ is ∙ epoch)))
+
+  begun_more : (root : ℕ) (kind : Kind) → t'.beginnings ≡ t.beginnings → Begun t t.way root kind → Begun t' t'.way root kind
+  begun_more root kind same begun =
+      subst (λ w. Begun t' w root kind) (sym adds.shape.0)
+      (begun_at root kind (entry_same same (beginning_at t.way.sweeps root kind)) begun)
+
+  -- one more state, from which nothing is known yet
+  pub one_more : IsTable p t → HasRoom m t' → t'.count ≡ t.count + 1 → t'.beginnings ≡ t.beginnings →
+      ((q k : ℕ) → q < t.count → k < t.layout.width → cell_of t' q k ≡ cell_of t q k) → ((k : ℕ) → k < t.layout.width → cell_of t' t.count k ≡ 0) →
+      (state_of m t' t.count).root < m → IsTold (state_of m t' t.count) → IsTable p t'
+  one_more table room count begins before clear root told = record {
+    expr = table.expr;
+    room = room;
+    layout = subst (λ l. IsLayout m p.anchors l) (sym adds.shape.2) table.layout;
+    roots = λ q there. ⊎_elim
+        (λ (e : q ≡ t.count). subst (λ x. (state_of m t' x).root < m) (sym e) root)
+        (λ (ne : q ≢ t.count). let less : q < t.count = omega (arith, ne) in subst (λ (a : State). a.root < m) (sym (adds.kept epoch q less)) (table.roots q less))
+        (cases_eq q t.count);
+    told = λ q there. ⊎_elim
+        (λ (e : q ≡ t.count). subst (λ x. IsTold (state_of m t' x)) (sym e) told)
+        (λ (ne : q ≢ t.count). let less : q < t.count = omega (arith, ne) in subst (λ (a : State). IsTold a) (sym (adds.kept epoch q less)) (table.told q less))
+        (cases_eq q t.count);
+    filled = λ q k there column some.
+        let narrow : k < t.layout.width = subst (λ (l : Layout). k < l.width) adds.shape.2 column in
+        ⊎_elim
+        (λ (e : q ≡ t.count). let none = subst (λ x. cell_of t' x k ≡ 0) (sym e) (clear k narrow) in absurd (omega (arith, none, some)))
+        (λ (ne : q ≢ t.count).
+        let less : q < t.count = omega (arith, ne) in
+        let same = before q k less narrow in
+        subst (λ v. Names m t' (LeadsBy p t' q k) v) (sym same) (filled_more q k (cell_of t q k) less (table.filled q k less narrow (subst (λ v. 0 < v) same some))))
+        (cases_eq q t.count);
+    begun = λ root kind. begun_more root kind begins (table.begun root kind);
+    past = λ i. subst (λ n. (beginning_of t' i).epoch ≤ n) (sym epoch) (subst (λ (b : Beginning). b.epoch ≤ t.epoch) (sym (entry_same begins i)) (table.past i));
+  }
+
+  -- one more cell is filled
+  pub note_cell : IsTable p t → HasRoom m t' → t'.count ≡ t.count → t'.beginnings ≡ t.beginnings → AreClasses p.expr.nodes p.classes p.columns → (q k v byte : ℕ) (edge : Bool) →
+      q < t.count → byte < 256 → IsColumn t.layout p.classes byte edge k → t'.cells.items ≡ slice_set t.cells.items (q * 2 ^ t.layout.shift + k) v →
+      Names m t (LeadsOn (nodes_of t.way p.expr) t.way (state_of m t q) byte edge) v →
+      (p.anchors ≡ false → Names m t (λ b. (end : Bool) → LeadsOn (nodes_of t.way p.expr) t.way (state_of m t q) byte end b) v) →
+      IsTable p t'
+  note_cell table room count begins classes q k v byte edge there small column cells leads anywhere =
+      let size = 2 ^ t.layout.shift in
+      let wide = table.layout.fits in
+      let narrow : k < t.layout.width = column_below t.layout.columns t.layout.width (slice_index_or p.classes byte 0) k p.anchors edge t.layout.edge table.layout.columns table.layout.edge column.0 column.1 in
+      let inside : q * size + k < length t.cells.items = cell_inside size q k t.room t.layout.width (length t.cells.items) (let few = table.room.count in omega arith) narrow wide table.room.cells in
+      let other : (b : State) (o : ℕ) (end : Bool) → o < 256 → IsColumn t.layout p.classes o end k → ((end ≡ edge) ⊎ (p.anchors ≡ false) → LeadsOn (nodes_of t.way p.expr) t.way (state_of m t q) byte end b) →
+      LeadsOn (nodes_of t.way p.expr) t.way (state_of m t q) o end b =
+      (λ b o end low at from.
+      let one = column_same t.layout.columns t.layout.width (slice_index_or p.classes byte 0) (slice_index_or p.classes o 0) k p.anchors edge end t.layout.edge table.layout.edge column.0 at.0 column.1 at.1 in
+      leads_same p.expr t.way (state_of m t q) b byte o end (classes.alike o byte low small one.0) (from one.1)) in
+      let here : Names m t (LeadsBy p t q k) v =
+      ⊎_elim
+      (λ (is : p.anchors ≡ true).
+      names_map m t (LeadsOn (nodes_of t.way p.expr) t.way (state_of m t q) byte edge) (LeadsBy p t q k) v
+      (λ b on o end low at. other b o end low at (λ same.
+      ⊎_elim
+      (λ (e : end ≡ edge). subst (λ x. LeadsOn (nodes_of t.way p.expr) t.way (state_of m t q) byte x b) (sym e) on)
+      (λ (none : p.anchors ≡ false). absurd (both_ways p.anchors none is))
+      same)) leads)
+      (λ (none : p.anchors ≡ false).
+      names_map m t (λ b. (end : Bool) → LeadsOn (nodes_of t.way p.expr) t.way (state_of m t q) byte end b) (LeadsBy p t q k) v
+      (λ b on o end low at. other b o end low at (λ same. on end)) (anywhere none))
+      (cases_Bool p.anchors) in
+      record {
+        expr = table.expr;
+        room = room;
+        layout = subst (λ l. IsLayout m p.anchors l) (sym adds.shape.2) table.layout;
+        roots = λ x low. let less : x < t.count = omega arith in subst (λ (a : State). a.root < m) (sym (adds.kept epoch x less)) (table.roots x less);
+        told = λ x low. let less : x < t.count = omega arith in subst (λ (a : State). IsTold a) (sym (adds.kept epoch x less)) (table.told x less);
+        filled = λ x j low col some.
+            let less : x < t.count = omega arith in
+            let near : j < t.layout.width = subst (λ (l : Layout). j < l.width) adds.shape.2 col in
+            let place : cell_of t' x j ≡ slice_index_or t'.cells.items (x * size + j) 0 = ap (λ (l : Layout). slice_index_or t'.cells.items (x * 2 ^ l.shift + j) 0) adds.shape.2 in
+            ⊎_elim
+            (λ (e : x * size + j ≡ q * size + k).
+            let at = cells_apart size x j q k (omega arith) (omega arith) e in
+            let value : cell_of t' x j ≡ v = place ∙ ap (λ n. slice_index_or t'.cells.items n 0) e ∙ ap (λ l. slice_index_or l (q * size + k) 0) cells ∙ get_or-set_same t.cells.items (q * size + k) v 0 inside in
+            subst (λ n. Names m t' (LeadsBy p t' x j) n) (sym value)
+            (subst (λ n. Names m t' (LeadsBy p t' x n) v) (sym at.1) (subst (λ n. Names m t' (LeadsBy p t' n k) v) (sym at.0) (filled_more q k v there here))))
+            (λ (ne : x * size + j ≢ q * size + k).
+            let same : cell_of t' x j ≡ cell_of t x j = place ∙ ap (λ l. slice_index_or l (x * size + j) 0) cells ∙ get_or-set_other t.cells.items (q * size + k) (x * size + j) v 0 ne in
+            subst (λ n. Names m t' (LeadsBy p t' x j) n) (sym same) (filled_more x j (cell_of t x j) less (table.filled x j less near (subst (λ n. 0 < n) same some))))
+            (cases_eq (x * size + j) (q * size + k));
+        begun = λ root kind. begun_more root kind begins (table.begun root kind);
+        past = λ i. subst (λ n. (beginning_of t' i).epoch ≤ n) (sym epoch) (subst (λ (b : Beginning). b.epoch ≤ t.epoch) (sym (entry_same begins i)) (table.past i));
+      }
+
+  -- one more beginning is noted
+  pub note_beginning : IsTable p t → HasRoom m t' → t'.count ≡ t.count → t'.cells ≡ t.cells → (root code : ℕ) (kind : Kind) →
+      t'.beginnings.items ≡ slice_set t.beginnings.items (beginning_at t.way.sweeps root kind) (record { epoch = t.epoch; code = code }) →
+      MayBegin p t.way root → Names m t (BeginsIn (nodes_of t.way p.expr) t.way root kind) code → IsTable p t'
+  note_beginning table room count cells root code kind is may begins =
+      let none : Beginning = record { epoch = 0; code = 0 } in
+      let fresh : Beginning = record { epoch = t.epoch; code = code } in
+      let at = beginning_at t.way.sweeps root kind in
+      let inside : at < length t.beginnings.items = table.room.begins root kind may.0 in
+      let here : beginning_of t' at ≡ fresh = ap (λ l. slice_index_or l at none) is ∙ get_or-set_same t.beginnings.items at fresh none inside in
+      let apart : (i : ℕ) → i ≢ at → beginning_of t' i ≡ beginning_of t i = (λ i ne. ap (λ l. slice_index_or l i none) is ∙ get_or-set_other t.beginnings.items at i fresh none ne) in
+      record {
+        expr = table.expr;
+        room = room;
+        layout = subst (λ l. IsLayout m p.anchors l) (sym adds.shape.2) table.layout;
+        roots = λ q low. let less : q < t.count = omega arith in subst (λ (a : State). a.root < m) (sym (adds.kept epoch q less)) (table.roots q less);
+        told = λ q low. let less : q < t.count = omega arith in subst (λ (a : State). IsTold a) (sym (adds.kept epoch q less)) (table.told q less);
+        filled = λ q k low col some.
+            let less : q < t.count = omega arith in
+            let near : k < t.layout.width = subst (λ (l : Layout). k < l.width) adds.shape.2 col in
+            let same : cell_of t' q k ≡ cell_of t q k =
+            ap (λ (l : Layout). slice_index_or t'.cells.items (q * 2 ^ l.shift + k) 0) adds.shape.2 ∙ ap (λ c. slice_index_or c.items (q * 2 ^ t.layout.shift + k) 0) cells in
+            subst (λ v. Names m t' (LeadsBy p t' q k) v) (sym same) (filled_more q k (cell_of t q k) less (table.filled q k less near (subst (λ v. 0 < v) same some)));
+        begun = λ x other. subst (λ w. Begun t' w x other) (sym adds.shape.0) (λ may' now.
+            let i = beginning_at t.way.sweeps x other in
+            ⊎_elim
+            (λ (e : i ≡ at).
+            let one = begin_apart t.way.sweeps p.root x root other kind may'.1 may.1 e in
+            subst (λ n. Names m t' (BeginsIn (nodes_of t.way p.expr) t.way x other) n) (sym (ap (λ n. (beginning_of t' n).code) e ∙ ap (λ (b : Beginning). b.code) here))
+            (subst (λ n. Names m t' (BeginsIn (nodes_of t.way p.expr) t.way n other) code) (sym one.0)
+            (subst (λ n. Names m t' (BeginsIn (nodes_of t.way p.expr) t.way root n) code) (sym one.1) (names_more (BeginsIn (nodes_of t.way p.expr) t.way root kind) code begins))))
+            (λ (ne : i ≢ at). begun_at x other (apart i ne) (table.begun x other) may' now)
+            (cases_eq i at));
+        past = λ i. subst (λ n. (beginning_of t' i).epoch ≤ n) (sym epoch)
+            (⊎_elim
+            (λ (e : i ≡ at). let new = ap (λ n. (beginning_of t' n).epoch) e ∙ ap (λ (b : Beginning). b.epoch) here in omega (arith, new))
+            (λ (ne : i ≢ at). subst (λ (b : Beginning). b.epoch ≤ t.epoch) (sym (apart i ne)) (table.past i))
+            (cases_eq i at));
+      }
+
+-- a table without states
+pub no_states : (p : Prepared) (t t' : Table) → IsTable p t → HasRoom (length p.expr.nodes) t' → t'.layout ≡ t.layout → t'.count ≡ 0 → ((i : ℕ) → (beginning_of t' i).epoch < t'.epoch) → IsTable p t'
+no_states p t t' table room layout none past = record {
+  expr = table.expr;
+  room = room;
+  layout = subst (λ l. IsLayout (length p.expr.nodes) p.anchors l) (sym layout) table.layout;
+  roots = λ q low. absurd (omega arith);
+  told = λ q low. absurd (omega arith);
+  filled = λ q k low col some. absurd (omega arith);
+  begun = λ root kind may now. let before = past (beginning_at t'.way.sweeps root kind) in absurd (omega (arith, before, now));
+  past = λ i. let before = past i in omega (arith, before);
+}
+
+-- the same states
+pub adds_same : (m : ℕ) (t t' : Table) → SameShape t t' → t'.epoch ≡ t.epoch → t'.count ≡ t.count → ((q : ℕ) → state_of m t' q ≡ state_of m t q) → AddsStates m t t'
+adds_same m t t' shape epoch count same = record {
+  shape = shape;
+  grows = λ e. (omega arith, omega arith);
+  kept = λ e q low. same q;
+  full = λ room. epoch;
+  forgot = λ ne. absurd (ne epoch);
+}
+
+-- a new state
+module _ (m : ℕ) (t t' : Table) (root : ℕ) (leaves ends : List Bool) (flags : Flags) (there : t.count < t.room) (room : HasRoom m t) (shape : SameShape t t') (epoch : t'.epoch ≡ t.epoch) (count : t'.count ≡ t.count + 1)
+    (other_leaves : (q : ℕ) → q < length t.leaves → q ≢ t.count → row_of t'.leaves q ≡ row_of t.leaves q) (new_leaves : AgreeBelow m (row_of t'.leaves t.count) leaves)
+    (other_ends : (q : ℕ) → q < length t.ends → q ≢ t.count → row_of t'.ends q ≡ row_of t.ends q) (new_ends : AgreeBelow m (row_of t'.ends t.count) ends)
+    (roots : t'.roots.items ≡ slice_set t.roots.items t.count root) (all_flags : t'.flags.items ≡ slice_set t.flags.items t.count flags) where
+  abbrev none : Flags
+  none = record { ends = false; dead = false }
+
+  pub state_added : state_of m t' t.count ≡ state root (bits m leaves) (bits m ends) flags
+  state_added = state_same (slice_index_or t'.roots.items t.count 0) root (bits m (row_of t'.leaves t.count)) (bits m leaves) (bits m (row_of t'.ends t.count)) (bits m ends) (slice_index_or t'.flags.items t.count none) flags
+      (ap (λ l. slice_index_or l t.count 0) roots ∙ get_or-set_same t.roots.items t.count root 0 (omega (arith, room.roots)))
+      (bits_agree m (row_of t'.leaves t.count) leaves new_leaves)
+      (bits_agree m (row_of t'.ends t.count) ends new_ends)
+      (ap (λ l. slice_index_or l t.count none) all_flags ∙ get_or-set_same t.flags.items t.count flags none (omega (arith, room.flags)))
+
+  state_kept : (q : ℕ) → q < t.count → state_of m t' q ≡ state_of m t q
+  state_kept q low =
+      let ne : q ≢ t.count = λ e. omega arith in
+      state_same (slice_index_or t'.roots.items q 0) (slice_index_or t.roots.items q 0) (bits m (row_of t'.leaves q)) (bits m (row_of t.leaves q)) (bits m (row_of t'.ends q)) (bits m (row_of t.ends q)) (slice_index_or t'.flags.items q none) (slice_index_or t.flags.items q none)
+      (ap (λ l. slice_index_or l q 0) roots ∙ get_or-set_other t.roots.items t.count q root 0 ne)
+      (ap (bits m) (other_leaves q (omega (arith, room.leaves)) ne))
+      (ap (bits m) (other_ends q (omega (arith, room.ends)) ne))
+      (ap (λ l. slice_index_or l q none) all_flags ∙ get_or-set_other t.flags.items t.count q flags none ne)
+
+  pub state_adds : AddsStates m t t'
+  state_adds = record {
+    shape = shape;
+    grows = λ e. (omega arith, omega arith);
+    kept = λ e. state_kept;
+    full = λ few. epoch;
+    forgot = λ ne. absurd (ne epoch);
+  }
+
+-- the next state, as it was added to the table or found there
+module _ (p : Prepared) (t u : Table) (way : Way) (q root byte v : ℕ) (loaded leaves ends : List Bool) (same_root : root ≡ (state_of (length p.expr.nodes) t q).root) (same : AgreeBelow (length p.expr.nodes) loaded (row_of t.leaves q))
+    (n : Names (length p.expr.nodes) u (HasRow root (bits (length p.expr.nodes) leaves) (bits (length p.expr.nodes) ends)) v) where
+  abbrev Leads : Bool → Type 0
+  Leads edge = (before : ℕ → Bool) → LeadsTo (nodes_of way p.expr) root way.keeps (bits (length p.expr.nodes) loaded) before (Some byte) edge way.sweeps (bits (length p.expr.nodes) leaves) (bits (length p.expr.nodes) ends)
+
+  leads_state : (edge : Bool) → Leads edge → (b : State) → HasRow root (bits (length p.expr.nodes) leaves) (bits (length p.expr.nodes) ends) b → LeadsOn (nodes_of way p.expr) way (state_of (length p.expr.nodes) t q) byte edge b
+  leads_state edge leads b has =
+      let a = state_of (length p.expr.nodes) t q in (
+        has.0 ∙ same_root,
+        subst (λ x. LeadsTo (nodes_of way p.expr) a.root way.keeps a.entered a.ended (Some byte) edge way.sweeps b.entered x) (sym has.2)
+            (subst (λ x. LeadsTo (nodes_of way p.expr) a.root way.keeps a.entered a.ended (Some byte) edge way.sweeps x (bits (length p.expr.nodes) ends)) (sym has.1)
+            (subst (λ x. LeadsTo (nodes_of way p.expr) x way.keeps a.entered a.ended (Some byte) edge way.sweeps (bits (length p.expr.nodes) leaves) (bits (length p.expr.nodes) ends)) same_root
+            (subst (λ x. LeadsTo (nodes_of way p.expr) root way.keeps x a.ended (Some byte) edge way.sweeps (bits (length p.expr.nodes) leaves) (bits (length p.expr.nodes) ends)) (bits_agree (length p.expr.nodes) loaded (row_of t.leaves q) same)
+            (leads a.ended)))),
+      )
+
+  pub names_leads : (edge : Bool) → Leads edge → Names (length p.expr.nodes) u (LeadsOn (nodes_of way p.expr) way (state_of (length p.expr.nodes) t q) byte edge) v
+  names_leads edge leads = names_map (length p.expr.nodes) u (HasRow root (bits (length p.expr.nodes) leaves) (bits (length p.expr.nodes) ends)) (LeadsOn (nodes_of way p.expr) way (state_of (length p.expr.nodes) t q) byte edge) v (leads_state edge leads) n
+
+  pub names_anywhere : ((edge : Bool) → Leads edge) → Names (length p.expr.nodes) u (λ b. (edge : Bool) → LeadsOn (nodes_of way p.expr) way (state_of (length p.expr.nodes) t q) byte edge b) v
+  names_anywhere leads = names_map (length p.expr.nodes) u (HasRow root (bits (length p.expr.nodes) leaves) (bits (length p.expr.nodes) ends)) (λ b. (edge : Bool) → LeadsOn (nodes_of way p.expr) way (state_of (length p.expr.nodes) t q) byte edge b) v (λ b has edge. leads_state edge (leads edge) b has) n
+
+-- a first state
+pub names_first : (p : Prepared) (u : Table) (way : Way) (root v : ℕ) (kind : Kind) (leaves ends : List Bool) → Names (length p.expr.nodes) u (HasRow root (bits (length p.expr.nodes) leaves) (bits (length p.expr.nodes) ends)) v →
+    IsFirst (nodes_of way p.expr) root way.keeps (at_begin way.mirrored kind) (at_end way.mirrored kind) (bits (length p.expr.nodes) leaves) (bits (length p.expr.nodes) ends) → Names (length p.expr.nodes) u (BeginsIn (nodes_of way p.expr) way root kind) v
+names_first p u way root v kind leaves ends n first =
+    names_map (length p.expr.nodes) u (HasRow root (bits (length p.expr.nodes) leaves) (bits (length p.expr.nodes) ends)) (BeginsIn (nodes_of way p.expr) way root kind) v
+    (λ b has. (
+      has.0,
+      subst (λ x. IsFirst (nodes_of way p.expr) root way.keeps (at_begin way.mirrored kind) (at_end way.mirrored kind) b.entered x) (sym has.2)
+          (subst (λ x. IsFirst (nodes_of way p.expr) root way.keeps (at_begin way.mirrored kind) (at_end way.mirrored kind) x (bits (length p.expr.nodes) ends)) (sym has.1) first),
+    )) n
+
+-- What a code names.
+
+pub code_some : (b : Bool) (o v : ℕ) → v ≡ code_of b o → 0 < v
+code_some true o v is = omega arith
+code_some false o v is = omega arith
+
+module _ (p : Prepared) (t : Table) (table : IsTable p t) (P : State → Type 0) (v o : ℕ) (n : Names (length p.expr.nodes) t P v) (tells : (b : Bool) (u : ℕ) → u < 2147483647 → v ≡ code_of b u → o ≡ u) where
+  named : State
+  named = state_of (length p.expr.nodes) t n.to
+
+  small_offset : n.to * 2 ^ t.layout.shift < 2147483647
+  small_offset = few_offset n.to t.room t.layout.shift (let low = n.there in let most = table.room.count in omega arith) table.room.few table.layout.small
+
+  offset_is : o ≡ n.to * 2 ^ t.layout.shift
+  offset_is = tells (stops t.way (state_of (length p.expr.nodes) t n.to).flags) (n.to * 2 ^ t.layout.shift) small_offset n.code
+
+  back : o / 2 ^ t.layout.shift ≡ n.to
+  back = ap (λ x. x / 2 ^ t.layout.shift) offset_is ∙ shl-shr n.to t.layout.shift
+
+  pub names_offset : IsOffset t o
+  names_offset = (subst (λ x. x < t.count) (sym back) n.there, offset_is ∙ ap (λ x. x * 2 ^ t.layout.shift) (sym back))
+
+  pub names_state : P (state_of (length p.expr.nodes) t (o / 2 ^ t.layout.shift))
+  names_state = subst (λ x. P (state_of (length p.expr.nodes) t x)) (sym back) n.is
+
+  pub names_code : v ≡ code_of (stops t.way (state_of (length p.expr.nodes) t (o / 2 ^ t.layout.shift)).flags) o
+  names_code = n.code
+      ∙ ap (λ x. code_of (stops t.way (state_of (length p.expr.nodes) t x).flags) (n.to * 2 ^ t.layout.shift)) (sym back)
+      ∙ ap (λ x. code_of (stops t.way (state_of (length p.expr.nodes) t (o / 2 ^ t.layout.shift)).flags) x) (sym offset_is)
+
+  pub names_small : o < 2147483647
+  names_small = omega (arith, offset_is, small_offset)
+
+-- what stands in a cell
+module _ (p : Prepared) (t : Table) (table : IsTable p t) (offset byte k : ℕ) (edge : Bool) (at : IsOffset t offset) (column : IsColumn t.layout p.classes byte edge k) where
+  column_inside : k < t.layout.width
+  column_inside = column_below t.layout.columns t.layout.width (slice_index_or p.classes byte 0) k p.anchors edge t.layout.edge table.layout.columns table.layout.edge column.0 column.1
+
+  pub cell_there : offset + k < length t.cells.items
+  cell_there =
+      let low = at.0 in
+      let most = table.room.count in
+      let inside = cell_inside (2 ^ t.layout.shift) (offset / 2 ^ t.layout.shift) k t.room t.layout.width (length t.cells.items) (omega arith) column_inside table.layout.fits table.room.cells in
+      let e = at.1 in
+      omega (arith, inside, e)
+
+  pub known_cell : (v : ℕ) → byte < 256 → v ≡ slice_index_or t.cells.items (offset + k) 0 → 0 < v → Names (length p.expr.nodes) t (LeadsOn (nodes_of t.way p.expr) t.way (state_of (length p.expr.nodes) t (offset / 2 ^ t.layout.shift)) byte edge) v
+  known_cell v small is some =
+      let q = offset / 2 ^ t.layout.shift in
+      let same : v ≡ cell_of t q k = is ∙ ap (λ x. slice_index_or t.cells.items (x + k) 0) at.1 in
+      subst (λ x. Names (length p.expr.nodes) t (LeadsOn (nodes_of t.way p.expr) t.way (state_of (length p.expr.nodes) t q) byte edge) x) (sym same)
+      (names_map (length p.expr.nodes) t (LeadsBy p t q k) (LeadsOn (nodes_of t.way p.expr) t.way (state_of (length p.expr.nodes) t q) byte edge) (cell_of t q k) (λ b leads. leads byte edge small column)
+      (table.filled q k at.0 column_inside (subst (λ x. 0 < x) same some)))
+
+-- no beginning is noted at first
+none_noted : (items : List Beginning) (n : ℕ) → items ≡ replicate n (record { epoch = 0; code = 0 }) → (i : ℕ) → (slice_index_or items i (record { epoch = 0; code = 0 })).epoch ≡ 0
+none_noted items n is i = ap (λ (l : List Beginning). (slice_index_or l i (record { epoch = 0; code = 0 })).epoch) is ∙ same_all n i
+  where
+    same_all : (k j : ℕ) → (slice_index_or {A = Beginning} (replicate k (record { epoch = 0; code = 0 })) j (record { epoch = 0; code = 0 })).epoch ≡ 0
+    same_all zero j = refl
+    same_all (suc k) zero = refl
+    same_all (suc k) (suc j) = same_all k j
+
+pub new_table : (p : Prepared) (t : Table) → IsExpr p.expr.nodes p.expr.groups → HasRoom (length p.expr.nodes) t → IsLayout (length p.expr.nodes) p.anchors t.layout → t.count ≡ 0 → t.epoch ≡ 1 →
+    t.beginnings.items ≡ replicate (length t.beginnings.items) (record { epoch = 0; code = 0 }) → IsTable p t
+new_table p t expr room layout none first is =
+    let noted = none_noted t.beginnings.items (length t.beginnings.items) is in
+    record {
+      expr = expr;
+      room = room;
+      layout = layout;
+      roots = λ q low. absurd (omega arith);
+      told = λ q low. absurd (omega arith);
+      filled = λ q k low col some. absurd (omega arith);
+      begun = λ root kind may now. let zero = noted (beginning_at t.way.sweeps root kind) in absurd (omega (arith, zero, now));
+      past = λ i. let zero = noted i in omega (arith, zero);
+    }
+
+-- Steps from table to table.
+
+pub adds_then : (m : ℕ) (a b c : Table) → AddsStates m a b → AddsStates m b c → c.epoch ≡ b.epoch → c.count ≡ b.count → AddsStates m a c
+adds_then m a b c one two epoch count = record {
+  shape = (two.shape.0 ∙ one.shape.0, two.shape.1 ∙ one.shape.1, two.shape.2 ∙ one.shape.2);
+  grows = λ e. let g = one.grows (sym epoch ∙ e) in let up = g.0 in let most = g.1 in (omega arith, omega arith);
+  kept = λ e q low. let g = one.grows (sym epoch ∙ e) in let up = g.0 in two.kept epoch q (omega arith) ∙ one.kept (sym epoch ∙ e) q low;
+  full = λ room. epoch ∙ one.full room;
+  forgot = λ ne. let few = one.forgot (λ e. ne (epoch ∙ e)) in omega arith;
+}
+
+-- from an emptied table
+pub adds_first : (m : ℕ) (a b c : Table) → SameShape a b → a.count ≡ a.room → b.count ≡ 0 → (b.epoch ≡ a.epoch → ⊥) → AddsStates m b c → c.epoch ≡ b.epoch → AddsStates m a c
+adds_first m a b c shape full none other adds epoch = record {
+  shape = (adds.shape.0 ∙ shape.0, adds.shape.1 ∙ shape.1, adds.shape.2 ∙ shape.2);
+  grows = λ e. absurd (other (sym epoch ∙ e));
+  kept = λ e. absurd (other (sym epoch ∙ e));
+  full = λ room. absurd (omega arith);
+  forgot = λ ne. let few = (adds.grows epoch).1 in omega arith;
+}
+
+-- nothing happened
+pub adds_none : (m : ℕ) (t : Table) → AddsStates m t t
+adds_none m t = record {
+  shape = (refl, refl, refl);
+  grows = λ e. (omega arith, omega arith);
+  kept = λ e q low. refl;
+  full = λ room. refl;
+  forgot = λ ne. absurd (ne refl);
+}

@@ -1,0 +1,434 @@
+-- One look at a node after another, until all groups of a match are decided.
+use Rattle.std.proofs.Common.{◌≡◌, ℕ, zero, suc, ◌+◌, ◌<◌, ◌≤◌, ◌↔◌, Bool, true, false, List, [], ◌∷◌, ◌++◌, length, Option, None, Some, IsTrue, refl, sym, ap, ◌∙◌, subst, inl, inr, ⊎_elim, true≢false, arith}
+use Rattle.std.specs.Prelude.{slice_get, slice_set, slice_index_or, replicate}
+use Rattle.std.proofs.lemmas.Bool.{cases_Bool, cases_eq}
+use Rattle.std.proofs.lemmas.List.{get_or-set_other, set-get_or}
+use Rattle.sedre.specs.Tree.{Tree, empty, set, begin, end, seq, alt, group, star, opt, size}
+use Rattle.sedre.specs.Arena.{IsArena, tree_of, tree_at}
+use Rattle.sedre.specs.declared.types.Node.{Node}
+use Rattle.sedre.specs.declared.types.NodeId.{NodeId}
+use Rattle.sedre.specs.declared.types.Node.TheVariants.{Empty, Set, Begin, End, Seq, Alt, Group, Star, Opt}
+use Rattle.sedre.proofs.TreeLemmas.{tree_at-node}
+use Rattle.sedmarks.specs.Reach.{At, one_start}
+use Rattle.sedpass.specs.Regions.{Reaches, IsLastIn, last_of}
+use Rattle.sedmarks.specs.Caps.{LastCut, LastCopy, only, then}
+use Rattle.sedpass.specs.Overlay.{State, is_due, settle, drop_groups, Back, HasGroup, NoneDue, all_due}
+use Rattle.sedpass.specs.declared.groups.Task.{Task}
+use Rattle.sedpass.specs.declared.groups.Task.TheVariants.{Apart, Forget}
+use Rattle.sedmarks.specs.Work.{parts_of}
+use Rattle.sedpass.specs.Turns.{AreReady, weights, looks, IsTurn, IsHere, HasGroupAt, Blank, LeaveTurn, LeafTurn, SeqTurn, AltTurn, GroupTurn, StarTurn, OptTurn, EmptyTurn, SeqSpine, RunSpine, AltSpine, PartSpine, StarSpine, SeqParts, AltParts, StarParts, OptParts, TurnedLaw, ForgottenLaw, BeginLaw, RoomLaw, GroupsAtLaw, DropLaw, BlankLaw}
+use Rattle.sedmarks.proofs.ReachLemmas.{open_at, close_at}
+use Rattle.sedpass.proofs.LeaveLemmas.{alt_looks, reaches_last}
+use Rattle.sedpass.proofs.MeetingLemmas.{stops_at_cut, stops_at_copy, run_stops}
+use Rattle.sedmarks.proofs.SpanLemmas.{Spans-forward}
+use Rattle.sedmarks.proofs.WorkLemmas.{size-parts, size-pos}
+use Rattle.sedpass.proofs.OverlayLemmas.{left_due, make-state, touch-due, settle-due, settle-not, settle-is, drop-is, drop-not, left_due-stays, left_at_once, stays, back_report}
+
+-- what is due after groups were settled or dropped
+set_due : (k : ℕ) (v : Option (ℕ × ℕ)) (s : State) → (settle k v s).due ≡ slice_set s.due k false
+set_due k v s = ap (λ t. t.due) (settle-is k v s) ∙ touch-due k v s.due
+
+pub closed : (due : List Bool) (k : ℕ) → slice_index_or (slice_set due k false) k false ≡ false
+closed [] k = refl
+closed (b ∷ due) zero = refl
+closed (b ∷ due) (suc k) = closed due k
+
+set_same : (k : ℕ) (v : Option (ℕ × ℕ)) (s : State) → is_due (settle k v s) k ≡ false
+set_same k v s = ap (λ l. slice_index_or l k false) (set_due k v s) ∙ closed s.due k
+
+set_other : (k : ℕ) (v : Option (ℕ × ℕ)) (s : State) (n : ℕ) → (n ≡ k → ⊥) → is_due (settle k v s) n ≡ is_due s n
+set_other k v s n ne = ap (λ l. slice_index_or l n false) (set_due k v s) ∙ get_or-set_other s.due k n false false ne
+
+set_stays : (k : ℕ) (v : Option (ℕ × ℕ)) (s : State) (n : ℕ) → is_due s n ≡ false → is_due (settle k v s) n ≡ false
+set_stays k v s n is =
+    ⊎_elim
+    (λ (e : n ≡ k). subst (λ m. is_due (settle k v s) m ≡ false) (sym e) (set_same k v s))
+    (λ (ne : n ≡ k → ⊥). set_other k v s n ne ∙ is)
+    (cases_eq n k)
+
+drop_stays : (t : Tree) (s : State) (k : ℕ) → is_due s k ≡ false → is_due (drop_groups t s) k ≡ false
+drop_stays t s k is = ap (λ v. is_due v k) (drop-is t s) ∙ left_due-stays s.due _ k is
+
+drop_within : (t : Tree) (s : State) (k : ℕ) → HasGroup t k → is_due (drop_groups t s) k ≡ false
+drop_within empty s k has = absurd has
+drop_within (set members) s k has = absurd has
+drop_within begin s k has = absurd has
+drop_within end s k has = absurd has
+drop_within (seq a b) s k (inl has) = drop_stays b (drop_groups a s) k (drop_within a s k has)
+drop_within (seq a b) s k (inr has) = drop_within b (drop_groups a s) k has
+drop_within (alt a b) s k (inl has) = drop_stays b (drop_groups a s) k (drop_within a s k has)
+drop_within (alt a b) s k (inr has) = drop_within b (drop_groups a s) k has
+drop_within (group n a) s k (inl same) = drop_stays a (settle n None s) k (subst (λ m. is_due (settle n None s) m ≡ false) same (set_same n None s))
+drop_within (group n a) s k (inr has) = drop_within a (settle n None s) k has
+drop_within (star a first) s k has = drop_within a s k has
+drop_within (opt a first) s k has = drop_within a s k has
+
+drop_without : (t : Tree) (s : State) (k : ℕ) → (HasGroup t k → ⊥) → is_due (drop_groups t s) k ≡ is_due s k
+drop_without empty s k not = refl
+drop_without (set members) s k not = refl
+drop_without begin s k not = refl
+drop_without end s k not = refl
+drop_without (seq a b) s k not = drop_without b (drop_groups a s) k (λ h. not (inr h)) ∙ drop_without a s k (λ h. not (inl h))
+drop_without (alt a b) s k not = drop_without b (drop_groups a s) k (λ h. not (inr h)) ∙ drop_without a s k (λ h. not (inl h))
+drop_without (group n a) s k not = drop_without a (settle n None s) k (λ h. not (inr h)) ∙ set_other n None s k (λ e. not (inl (sym e)))
+drop_without (star a first) s k not = drop_without a s k not
+drop_without (opt a first) s k not = drop_without a s k not
+
+-- what is due has no span, before and after
+pub settle_blank : (k : ℕ) (v : Option (ℕ × ℕ)) (s : State) → Blank s → Blank (settle k v s)
+settle_blank k v s blank =
+    ⊎_elim
+    (λ (yes_due : is_due s k ≡ true). λ n is.
+    let ne : n ≡ k → ⊥ = λ e. true≢false (sym is ∙ subst (λ m. is_due (settle k v s) m ≡ false) (sym e) (set_same k v s)) in
+    ap (λ t. slice_index_or t.spans n None) (settle-due k v s yes_due) ∙ get_or-set_other s.spans k n v None ne
+    ∙ blank n (sym (set_other k v s n ne) ∙ is))
+    (λ (not_due : is_due s k ≡ false). subst Blank (sym (settle-not k v s not_due)) blank)
+    (cases_Bool (is_due s k))
+
+pub drop_blank : (t : Tree) (s : State) → Blank s → Blank (drop_groups t s)
+drop_blank empty s blank = blank
+drop_blank (set members) s blank = blank
+drop_blank begin s blank = blank
+drop_blank end s blank = blank
+drop_blank (seq a b) s blank = drop_blank b (drop_groups a s) (drop_blank a s blank)
+drop_blank (alt a b) s blank = drop_blank b (drop_groups a s) (drop_blank a s blank)
+drop_blank (group k a) s blank = drop_blank a (settle k None s) (settle_blank k None s blank)
+drop_blank (star a first) s blank = drop_blank a s blank
+drop_blank (opt a first) s blank = drop_blank a s blank
+
+pub none_there : (n k : ℕ) → slice_index_or {A = Option (ℕ × ℕ)} (replicate n None) k None ≡ None
+none_there zero k = refl
+none_there (suc n) zero = refl
+none_there (suc n) (suc k) = none_there n k
+
+start_blank : (i j : ℕ) → Blank (all_due i j)
+start_blank i j zero is = absurd (true≢false (sym is))
+start_blank i j (suc k) is = none_there 9 k
+
+pub blanks : BlankLaw
+blanks = (start_blank, settle_blank, drop_blank)
+
+set_spans : (k : ℕ) (s : State) → Blank s → (settle k None s).spans ≡ s.spans
+set_spans k s blank =
+    ⊎_elim
+    (λ (yes_due : is_due s k ≡ true). ap (λ t. t.spans) (settle-due k None s yes_due)
+    ∙ ap (λ v. slice_set s.spans k v) (sym (blank k yes_due)) ∙ set-get_or s.spans k None)
+    (λ (not_due : is_due s k ≡ false). ap (λ t. t.spans) (settle-not k None s not_due))
+    (cases_Bool (is_due s k))
+
+drop_spans : (t : Tree) (s : State) → Blank s → (drop_groups t s).spans ≡ s.spans
+drop_spans empty s blank = refl
+drop_spans (set members) s blank = refl
+drop_spans begin s blank = refl
+drop_spans end s blank = refl
+drop_spans (seq a b) s blank = drop_spans b (drop_groups a s) (drop_blank a s blank) ∙ drop_spans a s blank
+drop_spans (alt a b) s blank = drop_spans b (drop_groups a s) (drop_blank a s blank) ∙ drop_spans a s blank
+drop_spans (group k a) s blank = drop_spans a (settle k None s) (settle_blank k None s blank) ∙ set_spans k s blank
+drop_spans (star a first) s blank = drop_spans a s blank
+drop_spans (opt a first) s blank = drop_spans a s blank
+
+left_length : (due : List Bool) (d : List (Option (Option (ℕ × ℕ)))) → length (left_due due d) ≡ length due
+left_length due [] = refl
+left_length [] (x ∷ d) = refl
+left_length (b ∷ due) (None ∷ d) = ap (λ n. suc n) (left_length due d)
+left_length (b ∷ due) (Some v ∷ d) = ap (λ n. suc n) (left_length due d)
+
+pub same_bools : (xs ys : List Bool) → length xs ≡ length ys → ((k : ℕ) → slice_index_or xs k false ≡ slice_index_or ys k false) → xs ≡ ys
+same_bools [] [] long each = refl
+same_bools [] (y ∷ ys) long each = absurd (omega (arith, long))
+same_bools (x ∷ xs) [] long each = absurd (omega (arith, long))
+same_bools (x ∷ xs) (y ∷ ys) long each =
+    ap (λ b. b ∷ xs) (each 0) ∙ ap (λ l. y ∷ l) (same_bools xs ys (omega (arith, long)) (λ k. each (suc k)))
+
+pub same_bool : (b c : Bool) → (IsTrue b → IsTrue c) → (IsTrue c → IsTrue b) → b ≡ c
+same_bool true c to from = sym (to refl)
+same_bool false true to from = from refl
+same_bool false false to from = refl
+
+pub drop_as : DropLaw
+drop_as t s new blank same long tells =
+    make-state new.due (drop_groups t s).due new.spans (drop_groups t s).spans
+    (same_bools new.due (drop_groups t s).due
+    (long ∙ sym (ap (λ v. length v.due) (drop-is t s) ∙ left_length s.due _))
+    (λ k. same_bool (is_due new k) (is_due (drop_groups t s) k)
+    (λ h. let due = (tells k).0 h in drop_without t s k due.1 ∙ due.0)
+    (λ h. (tells k).1 (
+      ⊎_elim
+          (λ (yes_due : is_due s k ≡ true). yes_due)
+          (λ (not_due : is_due s k ≡ false). absurd (true≢false (sym h ∙ drop_stays t s k not_due)))
+          (cases_Bool (is_due s k)),
+      λ has. true≢false (sym h ∙ drop_within t s k has),
+    ))))
+    (same ∙ sym (drop_spans t s blank))
+
+pub groups_at : GroupsAtLaw
+groups_at nodes x k node arena is = by node is
+  where
+    by : (n : Node) → slice_get nodes x ≡ Some n → HasGroup (tree_at nodes x) k ↔ HasGroupAt nodes n k
+    by Empty is = rw (tree_at-node nodes x Empty arena is) (λ h. h, λ h. h)
+    by (Set s) is = rw (tree_at-node nodes x (Set s) arena is) (λ h. h, λ h. h)
+    by Begin is = rw (tree_at-node nodes x Begin arena is) (λ h. h, λ h. h)
+    by End is = rw (tree_at-node nodes x End arena is) (λ h. h, λ h. h)
+    by (Seq a b) is = rw (tree_at-node nodes x (Seq a b) arena is) (λ h. h, λ h. h)
+    by (Alt a b) is = rw (tree_at-node nodes x (Alt a b) arena is) (λ h. h, λ h. h)
+    by (Group n a) is = rw (tree_at-node nodes x (Group n a) arena is) (λ h. h, λ h. h)
+    by (Star a first) is = rw (tree_at-node nodes x (Star a first) arena is) (λ h. h, λ h. h)
+    by (Opt a first) is = rw (tree_at-node nodes x (Opt a first) arena is) (λ h. h, λ h. h)
+
+module _ (nodes : List Node) (w : List ℕ) (x i j : ℕ) (node : Node) (here : IsHere nodes w x i j node) where
+  close_back : (old new : State) → Back (tree_of (tree_at nodes) node) w i j old new → Back (tree_at nodes x) w i j old new
+  close_back old new back = subst (λ t. Back t w i j old new) (sym (tree_at-node nodes x node here.arena here.is)) back
+
+  -- nothing is left of the node
+  done_turn : (old new : State) → Back (tree_at nodes x) w i j old new → IsTurn nodes w x i j old new []
+  done_turn old new back = record {
+    run = λ rest f run. (new, back, run);
+    ready = tt;
+    within = tt;
+    less = omega (arith, size-pos (tree_at nodes x));
+    fewer = omega (arith, size-pos (tree_at nodes x));
+  }
+
+  -- what is in it is decided, and what is still due then is forgotten
+  inner_turn : (a : NodeId) (c : ℕ) (old new : State) → a.index < x → size (tree_at nodes x) ≡ 1 + (size (tree_at nodes a.index) + 0) → i ≤ c → c ≤ j → At nodes w a.index c j →
+      ((mid : State) → Back (tree_at nodes a.index) w c j new mid → Back (tree_of (tree_at nodes) node) w i j old (drop_groups (tree_at nodes a.index) mid)) →
+      IsTurn nodes w x i j old new (Apart a.index c j ∷ Forget a.index ∷ [])
+  inner_turn a c old new low long from up at go =
+      let inside = here.inside in
+      record {
+        run = λ rest f run. (drop_groups (tree_at nodes a.index) run.0, close_back old _ (go run.0 run.1), run.2);
+        ready = (omega arith, up, here.fits, at, (omega arith, tt));
+        within = (from, omega arith, tt);
+        less = omega (arith, long);
+        fewer = omega (arith, long);
+      }
+
+pub leave_turn : LeaveTurn
+leave_turn nodes w x i j node s here none = done_turn nodes w x i j node here s s (left_at_once (tree_at nodes x) w i j s none here.at)
+
+pub leaf_turn : LeafTurn
+leaf_turn nodes w x i j node s here leaf =
+    leave_turn nodes w x i j node s here (λ k has. absurd (without node leaf k ((groups_at nodes x k node here.arena here.is).0 has)))
+  where
+    without : (n : Node) → parts_of n ≡ [] → (k : ℕ) → HasGroupAt nodes n k → ⊥
+    without Empty leaf k has = has
+    without (Set members) leaf k has = has
+    without Begin leaf k has = has
+    without End leaf k has = has
+    without (Seq a b) leaf k has = cc
+    without (Alt a b) leaf k has = cc
+    without (Group n a) leaf k has = cc
+    without (Star a first) leaf k has = cc
+    without (Opt a first) leaf k has = cc
+
+seq_at : (nodes : List Node) (w : List ℕ) (x i k j : ℕ) (a b : NodeId) (s : State) → IsHere nodes w x i j (Seq a b) →
+    LastCut (At nodes w a.index) (At nodes w b.index) i j k →
+    IsTurn nodes w x i j s s (Apart b.index k j ∷ Apart a.index i k ∷ []) × (NoneDue (tree_at nodes a.index) s → IsTurn nodes w x i j s s (Apart b.index k j ∷ []))
+seq_at nodes w x i k j a b s here cut =
+    let low = here.arena.below x a.index (Seq a b) here.is (inl refl) in
+    let low' = here.arena.below x b.index (Seq a b) here.is (inr refl) in
+    let up = Spans-forward (tree_at nodes a.index) w i k cut.left in
+    let on = Spans-forward (tree_at nodes b.index) w k j cut.right in
+    let inside = here.inside in
+    let fits = here.fits in
+    let long = size-parts nodes here.arena x (Seq a b) here.is in (
+      record {
+        run = λ rest f run. (run.2.0, close_back nodes w x i j (Seq a b) here s run.2.0 (k, cut, (run.0, run.1, run.2.1)), run.2.2);
+        ready = (omega arith, on, fits, cut.right, (omega arith, up, omega arith, cut.left, tt));
+        within = (up, omega arith, (omega arith, on, tt));
+        less = omega (arith, long);
+        fewer = omega (arith, long);
+      },
+      λ none. record {
+        run = λ rest f run.
+            let left = left_at_once (tree_at nodes a.index) w i k run.0 (stays (tree_at nodes b.index) (tree_at nodes a.index) w k j s run.0 run.1 none) cut.left in
+            (run.0, close_back nodes w x i j (Seq a b) here s run.0 (k, cut, (run.0, run.1, left)), run.2);
+        ready = (omega arith, on, fits, cut.right, tt);
+        within = (up, omega arith, tt);
+        less = omega (arith, long);
+        fewer = omega (arith, long);
+      },
+    )
+
+pub seq_turn : SeqTurn
+seq_turn nodes w x i k j left right a b s here left_is right_is cut =
+    rw (left_is, right_is) (seq_at nodes w x i k j a b s here (rw (left_is, right_is) at cut))
+
+alt_at : (nodes : List Node) (w : List ℕ) (x i j : ℕ) (a b : NodeId) (s : State) → IsHere nodes w x i j (Alt a b) →
+    (At nodes w a.index i j → IsTurn nodes w x i j s s (Apart a.index i j ∷ [])) × ((At nodes w a.index i j → ⊥) → IsTurn nodes w x i j s s (Apart b.index i j ∷ []))
+alt_at nodes w x i j a b s here =
+    let low = here.arena.below x a.index (Alt a b) here.is (inl refl) in
+    let low' = here.arena.below x b.index (Alt a b) here.is (inr refl) in
+    let inside = here.inside in
+    let long = size-parts nodes here.arena x (Alt a b) here.is in (
+      λ at. record {
+        run = λ rest f run. (run.0, close_back nodes w x i j (Alt a b) here s run.0 (inl (at, run.1)), run.2);
+        ready = (omega arith, here.up, here.fits, at, tt);
+        within = (omega arith, omega arith, tt);
+        less = omega (arith, long);
+        fewer = omega (arith, long);
+      },
+      λ missing.
+          let at : At nodes w b.index i j = ⊎_elim (λ (l : At nodes w a.index i j). absurd (missing l)) (λ (r : At nodes w b.index i j). r) (open_at nodes w x (Alt a b) here.arena here.is i j here.at) in
+          record {
+            run = λ rest f run. (run.0, close_back nodes w x i j (Alt a b) here s run.0 (inr (missing, run.1)), run.2);
+            ready = (omega arith, here.up, here.fits, at, tt);
+            within = (omega arith, omega arith, tt);
+            less = omega (arith, long);
+            fewer = omega (arith, long);
+          },
+    )
+
+pub alt_turn : AltTurn
+alt_turn nodes w x i j left right a b s here left_is right_is = rw (left_is, right_is) (alt_at nodes w x i j a b s here)
+
+pub group_turn : GroupTurn
+group_turn nodes w x k i j part a s here part_is =
+    let low = here.arena.below x a.index (Group k a) here.is refl in
+    let set = settle k (Some (i, j)) s in
+    let inner = tree_at nodes a.index in
+    let at : At nodes w a.index i j = open_at nodes w x (Group k a) here.arena here.is i j here.at in
+    rw part_is (
+      inner_turn nodes w x i j (Group k a) here a i s set low (size-parts nodes here.arena x (Group k a) here.is) (omega arith) here.up at (λ mid back. (mid, back, refl)),
+      λ none.
+          let same : NoneDue inner set = λ n has. set_stays k (Some (i, j)) s n (none n has) in
+          done_turn nodes w x i j (Group k a) here s set
+          (close_back nodes w x i j (Group k a) here s set (set, left_at_once inner w i j set same at, sym (drop-not inner set same))),
+    )
+
+pub copy_spans : (R : ℕ → ℕ → Type 0) (j i c : ℕ) → LastCopy R j i c → (i ≤ c) × (c < j) × R c j
+copy_spans R j i c (only _ lt r) = (omega arith, lt, r)
+copy_spans R j i c (then _ k _ up low r rest most last) = let later = copy_spans R j k c last in (omega arith, later.1, later.2)
+
+star_at : (nodes : List Node) (w : List ℕ) (x i c j : ℕ) (a : NodeId) (first : Bool) (s : State) → IsHere nodes w x i j (Star a first) → i < j →
+    LastCopy (At nodes w a.index) j i c → IsTurn nodes w x i j s s (Apart a.index c j ∷ Forget a.index ∷ [])
+star_at nodes w x i c j a first s here lt last =
+    let low = here.arena.below x a.index (Star a first) here.is refl in
+    let copy = copy_spans (At nodes w a.index) j i c last in
+    inner_turn nodes w x i j (Star a first) here a c s s low (size-parts nodes here.arena x (Star a first) here.is) copy.0 (let less = copy.1 in omega arith) copy.2
+    (λ mid back. inl (lt, (c, last, (mid, back, refl))))
+
+pub star_turn : StarTurn
+star_turn nodes w x i c j part a first s here part_is lt last = rw part_is (star_at nodes w x i c j a first s here lt (rw part_is at last))
+
+pub opt_turn : OptTurn
+opt_turn nodes w x i j part a first s here part_is lt =
+    let low = here.arena.below x a.index (Opt a first) here.is refl in
+    let at : At nodes w a.index i j = ⊎_elim (λ (e : i ≡ j). absurd (omega arith)) (λ (r : At nodes w a.index i j). r) (open_at nodes w x (Opt a first) here.arena here.is i j here.at) in
+    rw part_is
+    (inner_turn nodes w x i j (Opt a first) here a i s s low (size-parts nodes here.arena x (Opt a first) here.is) (omega arith) here.up at (λ mid back. inl (lt, (mid, back, refl))))
+
+abbrev Empties : (nodes : List Node) (w : List ℕ) (x i j part : ℕ) (first : Bool) (s : State) → Type 0
+Empties nodes w x i j part first s =
+    ((IsTrue first × At nodes w part i i) → IsTurn nodes w x i j s s (Apart part i j ∷ Forget part ∷ []))
+    × (((IsTrue first × At nodes w part i i) → ⊥) → IsTurn nodes w x i j s s [])
+
+star_empty : (nodes : List Node) (w : List ℕ) (x i : ℕ) (a : NodeId) (first : Bool) (s : State) → IsHere nodes w x i i (Star a first) → Empties nodes w x i i a.index first s
+star_empty nodes w x i a first s here =
+    let low = here.arena.below x a.index (Star a first) here.is refl in (
+      λ h. inner_turn nodes w x i i (Star a first) here a i s s low (size-parts nodes here.arena x (Star a first) here.is) (omega arith) (omega arith) h.1
+          (λ mid back. inr (inl (refl, h.0, h.1, (mid, back, refl)))),
+      λ not. done_turn nodes w x i i (Star a first) here s s (close_back nodes w x i i (Star a first) here s s (inr (inr (refl, (λ is_first at. not (is_first, at), refl))))),
+    )
+
+opt_empty : (nodes : List Node) (w : List ℕ) (x i : ℕ) (a : NodeId) (first : Bool) (s : State) → IsHere nodes w x i i (Opt a first) → Empties nodes w x i i a.index first s
+opt_empty nodes w x i a first s here =
+    let low = here.arena.below x a.index (Opt a first) here.is refl in (
+      λ h. inner_turn nodes w x i i (Opt a first) here a i s s low (size-parts nodes here.arena x (Opt a first) here.is) (omega arith) (omega arith) h.1
+          (λ mid back. inr (inl (refl, h.0, h.1, (mid, back, refl)))),
+      λ not. done_turn nodes w x i i (Opt a first) here s s (close_back nodes w x i i (Opt a first) here s s (inr (inr (refl, (λ is_first at. not (is_first, at), refl))))),
+    )
+
+pub empty_turn : EmptyTurn
+empty_turn nodes w x i j part a first s (inl here) part_is le =
+    let up = here.up in
+    let same : i ≡ j = omega arith in
+    rw part_is (subst (λ v. Empties nodes w x i v a.index first s) same (star_empty nodes w x i a first s (subst (λ v. IsHere nodes w x i v (Star a first)) (sym same) here)))
+empty_turn nodes w x i j part a first s (inr here) part_is le =
+    let up = here.up in
+    let same : i ≡ j = omega arith in
+    rw part_is (subst (λ v. Empties nodes w x i v a.index first s) same (opt_empty nodes w x i a first s (subst (λ v. IsHere nodes w x i v (Opt a first)) (sym same) here)))
+
+pub seq_parts : SeqParts
+seq_parts nodes w x i j left right a b here left_is right_is =
+    let low = here.arena.below x a.index (Seq a b) here.is (inl refl) in
+    let low' = here.arena.below x b.index (Seq a b) here.is (inr refl) in
+    let inside = here.inside in
+    (omega arith, omega arith, rw (left_is, right_is) (open_at nodes w x (Seq a b) here.arena here.is i j here.at))
+
+pub alt_parts : AltParts
+alt_parts nodes w x i j left right a b here left_is right_is =
+    let low = here.arena.below x a.index (Alt a b) here.is (inl refl) in
+    let low' = here.arena.below x b.index (Alt a b) here.is (inr refl) in
+    let inside = here.inside in
+    (omega arith, omega arith, rw (left_is, right_is) (open_at nodes w x (Alt a b) here.arena here.is i j here.at))
+
+pub star_parts : StarParts
+star_parts nodes w x i j part a first here part_is =
+    let low = here.arena.below x a.index (Star a first) here.is refl in
+    let inside = here.inside in
+    (omega arith, rw part_is (open_at nodes w x (Star a first) here.arena here.is i j here.at))
+
+pub opt_parts : OptParts
+opt_parts nodes w x i j part a first here part_is =
+    let low = here.arena.below x a.index (Opt a first) here.is refl in
+    let inside = here.inside in
+    (omega arith, rw part_is (open_at nodes w x (Opt a first) here.arena here.is i j here.at))
+
+pub seq_spine : SeqSpine
+seq_spine nodes w r x i p j left right a b here left_is right_is last =
+    rw (left_is, right_is) (last_of x b.index (Seq a b) here.is refl last, λ stops. stops_at_cut nodes w r j x a b here.arena last here.is i p here.at stops)
+
+pub run_spine : RunSpine
+run_spine nodes w r x i p j c left right a b members here left_is right_is last run is_set runs =
+    rw (left_is, right_is) (run_stops nodes w r j x a b here.arena last here.is c members (rw left_is at run) is_set i p here.at runs)
+
+pub alt_spine : AltSpine
+alt_spine nodes w r x i j left right a b here left_is right_is last =
+    rw (left_is, right_is)
+    (last_of x a.index (Alt a b) here.is (inl refl) last, last_of x b.index (Alt a b) here.is (inr refl) last, (alt_looks nodes w r j x i a b here.arena last here.is).0)
+
+part_last : (nodes : List Node) (w : List ℕ) (r i j part : ℕ) → IsArena nodes → IsLastIn nodes r part → IsLastIn nodes r part × (Reaches nodes w r (one_start j) part i ↔ At nodes w part i j)
+part_last nodes w r i j part arena last = (last, reaches_last nodes w r j part i arena last)
+
+pub part_spine : PartSpine
+part_spine nodes w r x k i j part a first (inl here) part_is last = rw part_is (part_last nodes w r i j a.index here.arena (last_of x a.index (Group k a) here.is refl last))
+part_spine nodes w r x k i j part a first (inr here) part_is last = rw part_is (part_last nodes w r i j a.index here.arena (last_of x a.index (Opt a first) here.is refl last))
+
+pub star_spine : StarSpine
+star_spine nodes w r x i p j l part a first here part_is last copies lt stops =
+    let whole : At nodes w x l j = close_at nodes w x (Star a first) here.arena here.is l j (rw part_is at copies) in
+    rw part_is (stops_at_copy nodes w r j x a first here.arena last here.is l p whole lt (rw part_is at stops))
+
+ready-append : (nodes : List Node) (w : List ℕ) (xs ys : List Task) → AreReady nodes w xs → AreReady nodes w ys → AreReady nodes w (xs ++ ys)
+ready-append nodes w [] ys left right = right
+ready-append nodes w (Apart x i j ∷ xs) ys left right = (left.0, left.1, left.2, left.3, ready-append nodes w xs ys left.4 right)
+ready-append nodes w (Forget x ∷ xs) ys left right = (left.0, ready-append nodes w xs ys left.1 right)
+
+weights-append : (nodes : List Node) (xs ys : List Task) → weights nodes (xs ++ ys) ≡ weights nodes xs + weights nodes ys
+weights-append nodes [] ys = omega arith
+weights-append nodes (Apart x i j ∷ xs) ys = omega (arith, weights-append nodes xs ys)
+weights-append nodes (Forget x ∷ xs) ys = omega (arith, weights-append nodes xs ys)
+
+pub looks-append : (nodes : List Node) (xs ys : List Task) → looks nodes (xs ++ ys) ≡ looks nodes xs + looks nodes ys
+looks-append nodes [] ys = omega arith
+looks-append nodes (Apart x i j ∷ xs) ys = omega (arith, looks-append nodes xs ys)
+looks-append nodes (Forget x ∷ xs) ys = looks-append nodes xs ys
+
+pub turned : TurnedLaw
+turned nodes w x i j old new tasks rest turn ready = (
+  turn.run rest,
+  ready-append nodes w tasks rest turn.ready ready.4,
+  omega (arith, turn.less, weights-append nodes tasks rest),
+)
+
+pub forgotten : ForgottenLaw
+forgotten nodes w x old rest ready = (λ f run. run, ready.1, omega arith)
+
+pub begins : BeginLaw
+begins nodes w x i j old new start run = back_report (tree_at nodes x) w i j old new start (subst (Back (tree_at nodes x) w i j old) (sym run.2) run.1)
+
+pub room : RoomLaw
+room nodes [] = omega arith
+room nodes (Apart x i j ∷ tasks) = omega (arith, room nodes tasks, size-pos (tree_at nodes x))
+room nodes (Forget x ∷ tasks) = omega (arith, room nodes tasks)

@@ -1,0 +1,90 @@
+use Rattle.std.proofs.Common.{◌≡◌, ◌+◌, ◌-◌, ◌*◌, ◌<◌, ◌≤◌, List, [], ◌∷◌, ◌++◌, length, reverse, refl, sym, ap, ◌∙◌, subst, arith}
+use Rattle.std.proofs.lemmas.List.{nil_from_length, reverse-append}
+use Rattle.sedpass.specs.Decide.{nodes_in, text_in, told_of, undecided, found, turn_cost}
+use Rattle.sedpass.specs.Turns.{Runs, AreReady, AreShort, weights, looks}
+use Rattle.sedre.specs.Tree.{size}
+use Rattle.sedre.specs.Arena.{tree_at, tree}
+use Rattle.sedpass.specs.declared.groups.Task.{Task}
+use Rattle.sedpass.specs.declared.groups.Task.TheVariants.{Apart}
+use Rattle.sedpass.proofs.SpineLemmas.{decides, decides_due, first_paid, least_same, least_on}
+use Rattle.sedpass.proofs.DecideLemmas.{starts_due, starts_blank}
+use Rattle.sedpass.proofs.groups.decide.Goals as goal
+
+pub all-init : goal.all-init
+all-init c =
+    let s = c.args.subject in
+    let nodes = nodes_in s in
+    let w = text_in s in
+    let p = s.prepared.now in
+    let long = c.args.stop - c.args.start in
+    let first : Task = Apart p.root c.args.start c.args.stop in
+    let start = told_of c.args.due (undecided c.args.start c.args.stop) in
+    let items = c.push_reserved.new.self.items in
+    let begun : reverse items ≡ first ∷ [] = ap reverse (c.push_reserved.ensures.items ∙ ap (λ (xs : List Task). xs ++ (first ∷ [])) c.requires.tasks) in
+    let inside : p.root < length nodes = omega (arith, p.is_prepared.last) in
+    let small : size (tree_at nodes p.root) ≤ length nodes = omega (arith, c.nodes-nodes.ensures.expr.sizes p.root inside) in
+    let all : size (tree_at nodes p.root) + 0 ≤ length nodes = omega (arith, small) in
+    let paid = first_paid (length nodes) long (size (tree_at nodes p.root) + 0) all in
+    record {
+      desk = c.requires.desk;
+      told = record { blank = starts_blank c.args.start c.args.stop c.args.due c.requires.whole; whole = c.requires.whole };
+      room = omega arith;
+      ready = subst (AreReady nodes w) (sym begun) (inside, c.requires.order.0, c.requires.order.1, c.requires.spans, tt);
+      less = subst (λ ts. weights nodes ts ≤ 2 * length nodes) (sym begun) (omega (arith, small));
+      run = λ f run. subst (λ ts. Runs nodes w ts start f) begun run;
+      counts = least_same c.args.steps.now 1;
+      short = subst (AreShort long) (sym begun) (omega arith, tt);
+      cost = (omega arith, subst (λ ts. c.args.steps.now + turn_cost (length nodes) long * looks nodes ts ≤ c.args.steps.now + turn_cost (length nodes) long * length nodes) (sym begun) (omega (arith, paid)));
+    }
+
+pub all-smaller : goal.all-smaller
+all-smaller c =
+    let s = c.args.subject in
+    let nodes = nodes_in s in
+    let w = text_in s in
+    let old = c.pop.new.self.items in
+    let popped : reverse c.all.room.tasks.items ≡ c.in-Some.task ∷ reverse old = ap reverse c.in-Some.ensures.items ∙ reverse-append old (c.in-Some.task ∷ []) in
+    let less : weights nodes (reverse c.work.new.room.tasks.items) + 1 ≤ weights nodes (reverse c.all.room.tasks.items) = omega (arith, c.work.ensures.reduces.2, ap (weights nodes) popped) in
+    omega (arith, less)
+
+pub all-preserved : goal.all-preserved
+all-preserved c =
+    let s = c.args.subject in
+    let nodes = nodes_in s in
+    let w = text_in s in
+    let old = c.pop.new.self.items in
+    let popped : reverse c.all.room.tasks.items ≡ c.in-Some.task ∷ reverse old = ap reverse c.in-Some.ensures.items ∙ reverse-append old (c.in-Some.task ∷ []) in
+    let inv = c.all.invariant in
+    let m = length nodes in
+    let long = c.args.stop - c.args.start in
+    let less : weights nodes (reverse c.work.new.room.tasks.items) + 1 ≤ weights nodes (reverse c.all.room.tasks.items) = omega (arith, c.work.ensures.reduces.2, ap (weights nodes) popped) in
+    let spent = c.work.ensures.cost long (subst (AreShort long) popped inv.short) in
+    let before = subst (λ ts. c.all.steps + turn_cost m long * looks nodes ts ≤ c.args.steps.now + turn_cost m long * m) popped inv.cost.1 in
+    record {
+      desk = c.work.ensures.desk;
+      told = c.work.ensures.told;
+      room = omega (arith, inv.room, c.pop.ensures.capacity, c.work.ensures.room);
+      ready = c.work.ensures.reduces.1;
+      less = omega (arith, less, inv.less);
+      run = λ f run. inv.run f (subst (λ ts. Runs nodes w ts (told_of c.all.told.due c.all.told.spans) f) (sym popped) (c.work.ensures.reduces.0 f run));
+      counts = least_on c.args.steps.now c.all.steps c.work.new.steps 1 (found c.all.told.spans) (found c.work.new.told.spans) inv.counts c.work.ensures.counts;
+      short = spent.0;
+      cost = (omega (arith, inv.cost.0, spent.1.0), omega (arith, before, spent.1.1));
+    }
+
+pub returns-clause-report : goal.returns-clause-report
+returns-clause-report c = λ all.
+    let s = told_of c.all.told.due c.all.told.spans in
+    let empty : c.all.room.tasks.items ≡ [] = nil_from_length c.all.room.tasks.items (omega (arith, c.in_default.ensures.cases, c.all.room.tasks.ok)) in
+    let run = c.all.invariant.run s (subst (λ ts. Runs (nodes_in c.args.subject) (text_in c.args.subject) ts s s) (sym (ap reverse empty)) refl) in
+    let p = c.args.subject.prepared.now in
+    decides p.expr (text_in c.args.subject) p.root c.args.start c.args.stop (told_of c.args.due (undecided c.args.start c.args.stop)) s p.is_prepared.last
+    (starts_due (tree p.expr) c.args.start c.args.stop c.args.due c.requires.whole all) run
+
+pub returns-clause-due : goal.returns-clause-due
+returns-clause-due c = λ groups k report is.
+    let s = told_of c.all.told.due c.all.told.spans in
+    let empty : c.all.room.tasks.items ≡ [] = nil_from_length c.all.room.tasks.items (omega (arith, c.in_default.ensures.cases, c.all.room.tasks.ok)) in
+    let run = c.all.invariant.run s (subst (λ ts. Runs (nodes_in c.args.subject) (text_in c.args.subject) ts s s) (sym (ap reverse empty)) refl) in
+    let p = c.args.subject.prepared.now in
+    decides_due p.expr (text_in c.args.subject) p.root c.args.start c.args.stop k c.args.due s groups p.is_prepared.last c.requires.whole run report is

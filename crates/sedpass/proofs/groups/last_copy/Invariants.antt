@@ -1,0 +1,24 @@
+use Rattle.std.proofs.Common.{◌≡◌, ◌⊎◌, ◌-◌, ◌<◌, ◌≤◌, ℕ}
+use Rattle.sedmarks.specs.Caps.{LastCopy}
+use Rattle.sedre.specs.Steps.{TakesAtLeast}
+use Rattle.sedmarks.specs.Costs.{Pays}
+use Rattle.sedmarks.specs.Reach.{At}
+use Rattle.sedmarks.specs.Spans.{Copies}
+use Rattle.sedpass.specs.Decide.{nodes_in, text_in, EndsIn, IsDesk, due_in}
+use Rattle.sedpass.proofs.groups.last_copy.Given as goal
+
+abbrev pub invariant-copies : goal.invariant-copies
+invariant-copies l = record {
+  desk : IsDesk l.subject l.tables l.kept;
+  ends : EndsIn l.subject l.kept.region l.here;
+  within : l.end ≤ l.here.stop;
+  rest : Copies (At (nodes_in l.subject) (text_in l.subject) l.part) l.here.stop l.end;
+  walk : (c : ℕ) → ((l.end < l.here.stop) × LastCopy (At (nodes_in l.subject) (text_in l.subject) l.part) l.here.stop l.end c) ⊎ ((l.end ≡ l.here.stop) × (c ≡ l.copy)) →
+      LastCopy (At (nodes_in l.subject) (text_in l.subject) l.part) l.here.stop l.here.start c;
+  cost : Pays l.initial.steps l.steps (due_in l.subject l.initial.tables l.initial.kept.region l.here) (due_in l.subject l.tables l.kept.region (record l.here { start = l.end }));
+  low : l.here.start ≤ l.end;
+  counts : TakesAtLeast l.initial.steps l.steps (l.end - l.here.start);
+}
+
+abbrev pub decreases-copies : goal.decreases-copies
+decreases-copies l = l.here.stop - l.end

@@ -1,0 +1,27 @@
+use Rattle.std.proofs.Common.{refl, sym, subst, ◌+◌, ◌-◌, ◌*◌, length}
+use Rattle.std.proofs.lemmas.Option.{slice_get_within}
+use Rattle.sedmarks.specs.Costs.{Pays}
+use Rattle.sedpass.specs.Decide.{nodes_in}
+use Rattle.sedpass.specs.Kept.{owed}
+use Rattle.sedpass.proofs.DecideLemmas.{runs_to, desk_still}
+use Rattle.sedpass.proofs.groups.run_end.Goals as goal
+
+pub seek-requires-clause-x : goal.seek-requires-clause-x
+seek-requires-clause-x c = slice_get_within (nodes_in c.args.subject) c.args.leaf _ c.requires.leaf.1
+
+pub returns-clause-runs : goal.returns-clause-runs
+returns-clause-runs c =
+    runs_to _ _ _ _ _ _ _ c.args.tables.now.inside.way.sweeps c.requires.desk.one_end c.requires.arena c.requires.leaf c.seek.ensures.after c.seek.ensures.passed c.seek.ensures.found
+
+pub returns-clause-desk : goal.returns-clause-desk
+returns-clause-desk c =
+    let t = c.args.tables.now in
+    let desk = c.requires.desk in
+    desk_still c.args.subject t.inside t.ahead c.seek.new.table t.ahead c.seek.new.self c.seek.ensures.kept desk.ahead desk.one_end desk.forwards desk.one_start c.seek.ensures.shape (refl, refl, refl)
+
+pub returns-clause-cost : goal.returns-clause-cost
+returns-clause-cost c =
+    let m = length (nodes_in c.args.subject) in
+    let t = c.args.tables.now in
+    subst (λ room. Pays c.args.steps.now c.seek.new.steps (owed m (t.inside.room - 1) c.args.kept.now.region c.args.from + 2 * c.seek.result + 2) (owed m (room - 1) c.seek.new.self.region c.seek.result + 2 * c.args.from))
+    (sym c.seek.ensures.shape.1) c.seek.ensures.cost

@@ -1,0 +1,13 @@
+use Rattle.std.proofs.Common.{◌∷◌, ◌-◌, reverse, sym, subst}
+use Rattle.sedpass.specs.Decide.{nodes_in, found, IsSpent}
+use Rattle.sedre.specs.Steps.{TakesAtLeast}
+use Rattle.sedpass.proofs.SpineLemmas.{least_same}
+use Rattle.sedpass.proofs.groups.work.Goals as goal
+
+pub returns-in-Apart-clause-cost : goal.returns-in-Apart-clause-cost
+returns-in-Apart-clause-cost c =
+    subst (λ t. IsSpent (nodes_in c.args.subject) (t ∷ reverse c.args.room.now.tasks.items) (reverse c.spine.new.room.tasks.items) c.args.steps.now c.spine.new.steps) (sym c.in-Apart.is) c.spine.ensures.cost
+
+pub returns-in-Forget-clause-counts : goal.returns-in-Forget-clause-counts
+returns-in-Forget-clause-counts c =
+    subst (λ v. TakesAtLeast c.args.steps.now c.args.steps.now (found v - found c.args.told.now.spans)) (sym c.forget.ensures.spans) (least_same c.args.steps.now (found c.args.told.now.spans))

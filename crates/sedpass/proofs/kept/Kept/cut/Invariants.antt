@@ -1,0 +1,27 @@
+use Rattle.std.proofs.Common.{◌+◌, ◌-◌, ◌*◌, ◌≤◌}
+use Rattle.std.specs.Prelude.{length}
+use Rattle.sedre.specs.Steps.{TakesAtLeast}
+use Rattle.sedpass.specs.Table.{IsOffset, IsTable, SameShape}
+use Rattle.sedpass.specs.Kept.{Follows, IsKept, Meet, SameKept, owed}
+use Rattle.sedpass.proofs.kept.Kept.cut.Given as goal
+
+abbrev pub invariant-loop-place : goal.invariant-loop-place
+invariant-loop-place l = record {
+  above : l.from ≤ l.place;
+  below : l.place ≤ l.self.region.end;
+  kept : IsKept l.subject.prepared.now l.subject.text.now l.table l.self;
+  ahead : IsTable l.subject.prepared.now l.ahead;
+  shape : SameShape l.initial.table l.table;
+  ahead_shape : SameShape l.initial.ahead l.ahead;
+  same : SameKept l.initial.self l.self;
+  offset : IsOffset l.ahead l.offset;
+  follows : Follows l.subject.prepared.now l.subject.text.now l.ahead l.a l.from l.place l.offset;
+  meets : Meet l.subject.prepared.now l.subject.text.now l.initial.table l.initial.self l.a l.from l.from l.place;
+  grows : l.initial.steps ≤ l.steps;
+  cost : l.steps + owed (length l.subject.prepared.now.expr.nodes) (l.initial.table.room - 1) l.self.region l.place + 40 * length l.subject.prepared.now.expr.nodes * l.from
+      ≤ l.initial.steps + owed (length l.subject.prepared.now.expr.nodes) (l.initial.table.room - 1) l.initial.self.region l.from + 40 * length l.subject.prepared.now.expr.nodes * l.place;
+  counts : TakesAtLeast l.initial.steps l.steps (2 * (l.place - l.from));
+}
+
+abbrev pub decreases-loop-place : goal.decreases-loop-place
+decreases-loop-place l = l.self.region.end - l.place

@@ -1,0 +1,23 @@
+use Rattle.std.proofs.Common.{◌+◌, ◌-◌, ◌*◌, ◌/◌, ◌^◌, ◌<◌, subst, arith}
+use Rattle.std.specs.Prelude.{length}
+use Rattle.sedmarks.specs.Words.{AgreeBelow, row_of}
+use Rattle.sedpass.specs.Kept.{IsRegion}
+use Rattle.sedpass.proofs.KeptLemmas.{edges_more}
+use Rattle.sedpass.proofs.kept.Kept.keep_edge.Goals as goal
+
+pub returns-clause-edges : goal.returns-clause-edges
+returns-clause-edges c b after before =
+    let t = c.args.table.now in
+    let k = c.args.self.now in
+    let m = length c.args.subject.prepared.now.expr.nodes in
+    let region : IsRegion c.args.subject.prepared.now c.args.subject.text.now t k = c.requires.passes.region in
+    let q = c.args.offset / 2 ^ t.layout.shift in
+    let some = region.table.room.some in
+    let there : 2 * c.args.block + 1 < length k.edges = region.room.blocks c.args.block (let h = c.requires.passes.within in let g = region.inside in omega arith) in
+    edges_more c.args.subject.prepared.now c.args.subject.text.now t.way k.region.root k.region.end (t.room - 1) c.args.block k.edges c.store.new.self c.store-2.new.self c.load.new.marks c.load-2.new.marks (row_of t.leaves q) (row_of t.ends q)
+    (omega arith) there c.store.ensures.len (subst (λ n. AgreeBelow n (row_of c.store.new.self (2 * c.args.block)) c.load.new.marks) c.nodes-nodes.ensures.value c.store.ensures.same)
+    (subst (λ x. AgreeBelow m c.load.new.marks (row_of t.leaves x)) c.state_at-state.ensures (subst (λ n. AgreeBelow n c.load.new.marks (row_of t.leaves c.state_at-state.result)) c.nodes-nodes.ensures.value c.load.ensures.same))
+    (λ x low ne. c.store.ensures.other x low ne) (subst (λ n. AgreeBelow n (row_of c.store-2.new.self (2 * c.args.block + 1)) c.load-2.new.marks) c.nodes-nodes.ensures.value c.store-2.ensures.same)
+    (subst (λ x. AgreeBelow m c.load-2.new.marks (row_of t.ends x)) c.state_at-state.ensures (subst (λ n. AgreeBelow n c.load-2.new.marks (row_of t.ends c.state_at-state.result)) c.nodes-nodes.ensures.value c.load-2.ensures.same))
+    (λ x low ne. c.store-2.ensures.other x low ne) c.requires.passes.at.1 c.requires.edges
+    (λ x low. region.room.blocks x (let g = region.inside in omega arith)) b after before

@@ -1,0 +1,25 @@
+use Rattle.std.proofs.Common.{◌≡◌, ℕ, ◌+◌, ◌-◌, ◌*◌, ◌<◌, ◌≤◌}
+use Rattle.std.specs.Prelude.{length}
+use Rattle.sedre.specs.Steps.{TakesAtLeast}
+use Rattle.sedpass.specs.Table.{SameShape}
+use Rattle.sedpass.specs.Kept.{EdgesFrom, Passes, SameKept}
+use Rattle.sedpass.proofs.kept.Kept.make.Given as goal
+
+abbrev pub invariant-loop-place : goal.invariant-loop-place
+invariant-loop-place l = record {
+  order : l.low ≤ l.place;
+  below : l.place ≤ l.end;
+  end_is : l.self.region.end ≡ l.end;
+  passes : Passes l.subject.prepared.now l.subject.text.now l.table l.self l.place l.offset;
+  edges : EdgesFrom l.subject.prepared.now l.subject.text.now l.table l.self l.place;
+  right : l.low < l.place → l.place < l.end → (b : ℕ) × (l.place ≡ b * (l.table.room - 1));
+  shape : SameShape l.initial.table l.table;
+  same : SameKept l.initial.self l.self;
+  to : l.place < l.end → l.place < l.self.region.to;
+  grows : l.initial.steps ≤ l.steps;
+  cost : l.steps + 43 * length l.subject.prepared.now.expr.nodes * l.place ≤ l.initial.steps + 43 * length l.subject.prepared.now.expr.nodes * l.end;
+  counts : TakesAtLeast l.initial.steps l.steps (2 * (l.end - l.place));
+}
+
+abbrev pub decreases-loop-place : goal.decreases-loop-place
+decreases-loop-place l = l.place - l.low

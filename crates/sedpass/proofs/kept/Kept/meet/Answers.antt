@@ -1,0 +1,132 @@
+use Rattle.std.proofs.Common.{◌≡◌, ◌+◌, ◌<◌, ◌≤◌, refl, sym, ap, ◌∙◌, subst, true≢false, arith}
+use Rattle.std.specs.Prelude.{length, slice_index_or}
+use Rattle.std.proofs.lemmas.Bool.{eqb-true, eq-eqb}
+use Rattle.sedmarks.proofs.MarkLemmas.{default_same}
+use Rattle.sedpass.specs.Kept.{Follows, Meet}
+use Rattle.sedpass.proofs.AheadLemmas.{follows_next, meet_on, meet_read, place_cost}
+use Rattle.sedpass.proofs.CountLemmas.{least_none, least_both, least_since, least_up}
+use Rattle.sedpass.proofs.KeptLemmas.{kept_row, least_then, same_shape}
+use Rattle.sedpass.proofs.TableLemmas.{names_offset, names_state}
+use Rattle.sedpass.proofs.kept.Kept.meet.Goals as goal
+
+pub loop-place-init : goal.loop-place-init
+loop-place-init c = record {
+  above = omega arith;
+  below = (let h = c.requires.to in omega (arith, h));
+  region = refl;
+  states = refl;
+  edges = refl;
+  ahead = c.requires.ahead;
+  shape = (refl, refl, refl);
+  offset = c.requires.offset;
+  meets = λ a i low start follows. (follows, λ q after before. absurd (omega (arith, after, before)));
+  grows = omega arith;
+  cost = omega arith;
+  counts = least_none _ _ (omega arith);
+}
+
+pub meets-requires-clause-other_row : goal.meets-requires-clause-other_row
+meets-requires-clause-other_row c =
+    let p = c.args.subject.prepared.now in
+    let w = c.args.subject.text.now in
+    let t = c.args.table.now in
+    let k = c.args.self.now in
+    let old = c.loop-place.invariant in
+    let place = c.loop-place.place in
+    let above : k.region.from ≤ place = (let h = old.above in let g = c.requires.from in omega (arith, h, g)) in
+    let before : place < k.region.to = (let h = ap (λ r. r.to) old.region in let g = c.loop-place-test.true in omega (arith, h, g)) in
+    let row = kept_row p w t k place c.requires.kept above before in
+    let inside : place < length c.loop-place.self.states.items = subst (λ xs. place < length xs) (sym old.states) row.2 in
+    let is : c.index.result.now ≡ slice_index_or k.states.items place 0 = c.index.ensures ∙ default_same c.loop-place.self.states.items place c.index.result.now 0 inside ∙ ap (λ xs. slice_index_or xs place 0) old.states in
+    rw is row.0
+
+pub meets-requires-clause-there : goal.meets-requires-clause-there
+meets-requires-clause-there c =
+    let p = c.args.subject.prepared.now in
+    let w = c.args.subject.text.now in
+    let t = c.args.table.now in
+    let k = c.args.self.now in
+    let old = c.loop-place.invariant in
+    let place = c.loop-place.place in
+    let above : k.region.from ≤ place = (let h = old.above in let g = c.requires.from in omega (arith, h, g)) in
+    let before : place < k.region.to = (let h = ap (λ r. r.to) old.region in let g = c.loop-place-test.true in omega (arith, h, g)) in
+    let row = kept_row p w t k place c.requires.kept above before in
+    let inside : place < length c.loop-place.self.states.items = subst (λ xs. place < length xs) (sym old.states) row.2 in
+    let is : c.index.result.now ≡ slice_index_or k.states.items place 0 = c.index.ensures ∙ default_same c.loop-place.self.states.items place c.index.result.now 0 inside ∙ ap (λ xs. slice_index_or xs place 0) old.states in
+    let count = c.nodes-nodes.ensures.value in
+    rw is (omega (arith, row.1, count))
+
+pub returns-then-not-meets-clause-meets : goal.returns-then-not-meets-clause-meets
+returns-then-not-meets-clause-meets c a i low start follows =
+    let p = c.args.subject.prepared.now in
+    let w = c.args.subject.text.now in
+    let t = c.args.table.now in
+    let k = c.args.self.now in
+    let old = c.loop-place.invariant in
+    let place = c.loop-place.place in
+    let above : k.region.from ≤ place = (let h = old.above in let g = c.requires.from in omega (arith, h, g)) in
+    let before : place < k.region.to = (let h = ap (λ r. r.to) old.region in let g = c.loop-place-test.true in omega (arith, h, g)) in
+    let row = kept_row p w t k place c.requires.kept above before in
+    let inside : place < length c.loop-place.self.states.items = subst (λ xs. place < length xs) (sym old.states) row.2 in
+    let is : c.index.result.now ≡ slice_index_or k.states.items place 0 = c.index.ensures ∙ default_same c.loop-place.self.states.items place c.index.result.now 0 inside ∙ ap (λ xs. slice_index_or xs place 0) old.states in
+    let on = old.meets a i low start follows in
+    let read = meet_read p w t c.loop-place.ahead k a i place c.loop-place.offset c.nodes-nodes.result c.state_at.result c.index.result.now c.meets.result c.requires.kept above before on.0
+    c.nodes-nodes.ensures.value c.state_at.ensures is c.meets.ensures.meets in
+    (on.0, on.1, λ under met. true≢false (sym (read.1 met) ∙ c.if-not-meets.true))
+
+pub returns-then-not-meets-clause-counts : goal.returns-then-not-meets-clause-counts
+returns-then-not-meets-clause-counts c = least_up _ c.loop-place.steps _ _ c.loop-place.invariant.counts c.meets.ensures.cost.0
+
+pub loop-place-preserved : goal.loop-place-preserved
+loop-place-preserved c =
+    let p = c.args.subject.prepared.now in
+    let w = c.args.subject.text.now in
+    let t = c.args.table.now in
+    let k = c.args.self.now in
+    let old = c.loop-place.invariant in
+    let place = c.loop-place.place in
+    let above : k.region.from ≤ place = (let h = old.above in let g = c.requires.from in omega (arith, h, g)) in
+    let before : place < k.region.to = (let h = ap (λ r. r.to) old.region in let g = c.loop-place-test.true in omega (arith, h, g)) in
+    let row = kept_row p w t k place c.requires.kept above before in
+    let inside : place < length c.loop-place.self.states.items = subst (λ xs. place < length xs) (sym old.states) row.2 in
+    let is : c.index.result.now ≡ slice_index_or k.states.items place 0 = c.index.ensures ∙ default_same c.loop-place.self.states.items place c.index.result.now 0 inside ∙ ap (λ xs. slice_index_or xs place 0) old.states in
+    let m = length p.expr.nodes in
+    let next = c.next-code.ensures in
+    let some : 1 ≤ m = (let h = c.requires.kept.region.root.0 in omega (arith, h)) in
+    let count = c.nodes-nodes.ensures.value in
+    let last = c.len-length.ensures.is in
+    let front = ap (λ v. v.mirrored) old.shape.0 ∙ c.requires.forwards.0 in
+    let one = ap (λ v. v.sweeps) old.shape.0 ∙ c.requires.forwards.1 in
+    record {
+      above = (let h = old.above in omega (arith, h));
+      below = (let h = ap (λ r. r.to) old.region in omega (arith, h, before));
+      region = old.region;
+      states = old.states;
+      edges = old.edges;
+      ahead = next.table;
+      shape = same_shape c.args.ahead.now c.loop-place.ahead c.next-code.new.self old.shape next.adds.shape;
+      offset = names_offset p c.next-code.new.self next.table _ _ _ next.names c.offset_of-offset.ensures;
+      meets = λ a i low start follows.
+          let on = old.meets a i low start follows in
+          let read = meet_read p w t c.loop-place.ahead k a i place c.loop-place.offset c.nodes-nodes.result c.state_at.result c.index.result.now c.meets.result c.requires.kept above before on.0
+          c.nodes-nodes.ensures.value c.state_at.ensures is c.meets.ensures.meets in (
+            follows_next p w c.loop-place.ahead c.next-code.new.self a i place c.byte-byte.result c.loop-place.offset c.offset_of-offset.result _ front one next.adds.shape (let h = old.above in omega (arith, h, start)) c.byte-byte.ensures.byte
+                (λ h. eqb-true (place + 1) c.len-length.result h ∙ last, λ e. eq-eqb (place + 1) c.len-length.result (e ∙ sym last))
+                (names_state p c.next-code.new.self next.table _ _ _ next.names c.offset_of-offset.ensures) on.0,
+            meet_on p w t k a i c.args.from place on.1 (read.0 c.if-not-meets.false),
+          );
+      grows = (let h = old.grows in let g = c.meets.ensures.cost.0 in let f = c.byte-byte.ensures.cost.0 in let e = next.cost.0 in omega (arith, h, g, f, e));
+      cost = place_cost m c.args.from place c.loop-place.steps c.args.steps.now c.meets.new.steps c.byte-byte.new.steps c.next-code.new.steps some old.cost (let h = c.meets.ensures.cost.1 in omega (arith, h, count)) c.byte-byte.ensures.cost.1 next.cost.1;
+      counts = least_both _ c.loop-place.steps _ _ 2 _ old.counts
+          (least_since _ c.meets.new.steps _ _ c.meets.ensures.cost.0 (least_then _ c.byte-byte.new.steps _ 1 1 2 c.byte-byte.ensures.counts next.counts refl)) (let h = old.above in omega (arith, h));
+    }
+
+pub returns-clause-meets : goal.returns-clause-meets
+returns-clause-meets c a i low start follows =
+    let p = c.args.subject.prepared.now in
+    let w = c.args.subject.text.now in
+    let old = c.loop-place.invariant in
+    let to = ap (λ r. r.to) old.region in
+    let at : c.loop-place.place ≡ c.loop-place.self.region.to = (let h = old.below in let g = c.loop-place-test.false in omega (arith, h, g, to)) in
+    let on = old.meets a i low start follows in
+    (subst (λ y. Follows p w c.loop-place.ahead a i y c.loop-place.offset) at on.0, subst (λ y. Meet p w c.args.table.now c.args.self.now a i c.args.from y) at on.1, λ under met. absurd (omega (arith, under, to)))

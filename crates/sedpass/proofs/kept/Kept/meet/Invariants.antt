@@ -1,0 +1,23 @@
+use Rattle.std.proofs.Common.{◌≡◌, ℕ, ◌+◌, ◌-◌, ◌*◌, ◌≤◌}
+use Rattle.std.specs.Prelude.{length}
+use Rattle.sedre.specs.Steps.{TakesAtLeast}
+use Rattle.sedpass.specs.Table.{IsOffset, IsTable, SameShape}
+use Rattle.sedpass.specs.Kept.{Follows, Meet}
+use Rattle.sedpass.proofs.kept.Kept.meet.Given as goal
+
+abbrev pub invariant-loop-place : goal.invariant-loop-place
+invariant-loop-place l = record {
+  above : l.from ≤ l.place;
+  below : l.place ≤ l.self.region.to;
+  region : l.self.region ≡ l.initial.self.region;
+  states : l.self.states.items ≡ l.initial.self.states.items;
+  edges : l.self.edges ≡ l.initial.self.edges;
+  ahead : IsTable l.subject.prepared.now l.ahead;
+  shape : SameShape l.initial.ahead l.ahead;
+  offset : IsOffset l.ahead l.offset;
+  meets : (a i : ℕ) → a ≤ l.initial.self.region.root → i ≤ l.from → Follows l.subject.prepared.now l.subject.text.now l.initial.ahead a i l.from l.initial.offset →
+      Follows l.subject.prepared.now l.subject.text.now l.ahead a i l.place l.offset × Meet l.subject.prepared.now l.subject.text.now l.table l.initial.self a i l.from l.place;
+  grows : l.initial.steps ≤ l.steps;
+  cost : l.steps + 40 * length l.subject.prepared.now.expr.nodes * l.from ≤ l.initial.steps + 40 * length l.subject.prepared.now.expr.nodes * l.place;
+  counts : TakesAtLeast l.initial.steps l.steps (2 * (l.place - l.from));
+}

@@ -1,0 +1,24 @@
+use Rattle.std.proofs.Common.{◌≡◌, ◌+◌, ◌-◌, ◌*◌, ◌<◌, ◌≤◌}
+use Rattle.std.specs.Prelude.{length}
+use Rattle.sedre.specs.Steps.{TakesAtLeast}
+use Rattle.sedpass.specs.Table.{SameShape}
+use Rattle.sedpass.specs.Kept.{Passes, SameKept}
+use Rattle.sedpass.proofs.kept.Kept.pass.Given as goal
+
+abbrev pub invariant-loop-place : goal.invariant-loop-place
+invariant-loop-place l = record {
+  order : l.low ≤ l.place;
+  below : l.place ≤ l.high;
+  passes : Passes l.subject.prepared.now l.subject.text.now l.table l.self l.place l.offset;
+  shape : SameShape l.initial.table l.table;
+  same : SameKept l.initial.self l.self;
+  low_is : l.self.region.low ≡ l.initial.self.region.low;
+  from_is : l.self.region.from ≡ l.initial.self.region.from;
+  edges : l.self.edges ≡ l.initial.self.edges;
+  to : l.place < l.high → l.place < l.self.region.to;
+  steady : l.initial.table.count + (l.high - l.low) ≤ l.initial.table.room →
+      (l.self.region.to ≡ l.initial.self.region.to) × (l.table.count + (l.place - l.low) ≤ l.initial.table.room);
+  grows : l.initial.steps ≤ l.steps;
+  cost : l.steps + 39 * length l.subject.prepared.now.expr.nodes * l.place ≤ l.initial.steps + 39 * length l.subject.prepared.now.expr.nodes * l.high;
+  counts : TakesAtLeast l.initial.steps l.steps (2 * (l.high - l.place));
+}

@@ -1,0 +1,99 @@
+use Rattle.std.proofs.Common.{◌≡◌, ◌-◌, refl, subst, ◌↔◌, IsTrue, arith}
+use Rattle.std.specs.Prelude.{length, not}
+use Rattle.sedmarks.specs.Costs.{Pays}
+use Rattle.sedre.specs.Steps.{TakesAtLeast}
+use Rattle.sedpass.specs.Kept.{AllMarked, SameKept, ends_told, owed}
+use Rattle.sedpass.specs.Table.{SameShape}
+use Rattle.sedpass.proofs.CountLemmas.{least_none, least_both, least_since}
+use Rattle.sedpass.proofs.KeptLemmas.{marked_then, same_kept, same_shape, told_as}
+use Rattle.sedpass.specs.Regions.{Reaches}
+use Rattle.sedpass.proofs.OwedLemmas.{owed_falls, seek_at, seek_on}
+use Rattle.sedpass.proofs.kept.Kept.seek.Goals as goal
+
+pub loop-place-init : goal.loop-place-init
+loop-place-init c = record {
+  above = omega arith;
+  below = c.requires.from;
+  kept = c.requires.kept;
+  shape = (refl, refl, refl);
+  same = record { root = refl; end = refl; places = refl; edges = refl };
+  passed = λ q after before. absurd (omega arith);
+  grows = omega arith;
+  cost = omega arith;
+  counts = least_none _ _ (omega arith);
+}
+
+pub loop-place-preserved : goal.loop-place-preserved
+loop-place-preserved c =
+    let nodes = c.args.subject.prepared.now.expr.nodes in
+    let w = c.args.subject.text.now in
+    let m = length nodes in
+    let before = c.loop-place.invariant in
+    let ready = c.ready-to.ensures in
+    let seek = c.seek_in-found.ensures in
+    let up = ready.to.1 in
+    let is = ready.to.0 in
+    let at : c.seek_in-found.result ≡ c.ready-to.result = (let h = seek.within in let g = c.if-found-to.false in omega (arith, h, g, is)) in
+    let shape : SameShape c.args.table.now c.ready-to.new.table = same_shape c.args.table.now c.loop-place.table c.ready-to.new.table before.shape ready.shape in
+    let same : SameKept c.args.self.now c.ready-to.new.self = same_kept c.args.self.now c.loop-place.self c.ready-to.new.self before.same ready.same in
+    let more : AllMarked nodes w c.args.self.now.region.root (ends_told c.args.table.now.way.sweeps (length w) c.args.self.now.region.end) c.args.x (not c.args.marked) c.loop-place.place c.ready-to.result =
+    told_as (λ r t. AllMarked nodes w r t c.args.x (not c.args.marked) c.loop-place.place c.ready-to.result) (length w) c.args.table.now c.ready-to.new.table c.args.self.now c.ready-to.new.self shape same
+    (subst (λ y. AllMarked nodes w c.ready-to.new.self.region.root (ends_told c.ready-to.new.table.way.sweeps (length w) c.ready-to.new.self.region.end) c.args.x (not c.args.marked) c.loop-place.place y) at seek.passed) in
+    let paid = subst (λ r. Pays c.loop-place.steps c.ready-to.new.steps (owed m (r - 1) c.loop-place.self.region c.loop-place.place) (owed m (r - 1) c.ready-to.new.self.region c.loop-place.place)) before.shape.1 ready.cost in
+    let width = c.args.table.now.room - 1 in
+    record {
+      above = (let h = before.above in omega (arith, h, up));
+      below = (let h = ready.kept.region.within in omega (arith, h, is));
+      kept = ready.kept;
+      shape = shape;
+      same = same;
+      passed = marked_then nodes w c.args.self.now.region.root c.args.x (ends_told c.args.table.now.way.sweeps (length w) c.args.self.now.region.end) (not c.args.marked) c.args.from c.loop-place.place c.ready-to.result before.passed more;
+      grows = (let h = before.grows in let g = ready.cost.0 in let f = seek.cost.0 in omega (arith, h, g, f));
+      cost = seek_on (owed m width c.args.self.now.region c.args.from) (owed m width c.loop-place.self.region c.loop-place.place) (owed m width c.ready-to.new.self.region c.loop-place.place)
+          (owed m width c.ready-to.new.self.region c.ready-to.result) c.loop-place.steps c.args.steps.now c.ready-to.new.steps c.seek_in-found.new.steps c.args.from c.loop-place.place c.ready-to.result
+          before.cost paid.1 (let h = seek.cost.1 in omega (arith, h, at)) (owed_falls m width c.ready-to.new.self.region c.loop-place.place c.ready-to.result (omega (arith, up))) up;
+      counts = least_both _ c.loop-place.steps _ _ (c.ready-to.result - c.loop-place.place) _ before.counts
+          (least_since _ c.ready-to.new.steps _ _ ready.cost.0 (subst (λ y. TakesAtLeast c.ready-to.new.steps c.seek_in-found.new.steps (y - c.loop-place.place)) at seek.counts)) (let h = before.above in omega (arith, h, up));
+    }
+
+pub returns-then-found-to-clause-passed : goal.returns-then-found-to-clause-passed
+returns-then-found-to-clause-passed c =
+    let nodes = c.args.subject.prepared.now.expr.nodes in
+    let w = c.args.subject.text.now in
+    let before = c.loop-place.invariant in
+    let ready = c.ready-to.ensures in
+    let found = c.seek_in-found.result in
+    marked_then nodes w c.args.self.now.region.root c.args.x (ends_told c.args.table.now.way.sweeps (length w) c.args.self.now.region.end) (not c.args.marked) c.args.from c.loop-place.place found before.passed
+    (told_as (λ r t. AllMarked nodes w r t c.args.x (not c.args.marked) c.loop-place.place found) (length w) c.args.table.now c.ready-to.new.table c.args.self.now c.ready-to.new.self
+    (same_shape c.args.table.now c.loop-place.table c.ready-to.new.table before.shape ready.shape) (same_kept c.args.self.now c.loop-place.self c.ready-to.new.self before.same ready.same) c.seek_in-found.ensures.passed)
+
+pub returns-then-found-to-clause-found : goal.returns-then-found-to-clause-found
+returns-then-found-to-clause-found c below =
+    let nodes = c.args.subject.prepared.now.expr.nodes in
+    let w = c.args.subject.text.now in
+    let before = c.loop-place.invariant in
+    let ready = c.ready-to.ensures in
+    let found = c.seek_in-found.result in
+    told_as (λ r t. IsTrue c.args.marked ↔ Reaches nodes w r t c.args.x found) (length w) c.args.table.now c.ready-to.new.table c.args.self.now c.ready-to.new.self
+    (same_shape c.args.table.now c.loop-place.table c.ready-to.new.table before.shape ready.shape) (same_kept c.args.self.now c.loop-place.self c.ready-to.new.self before.same ready.same)
+    (c.seek_in-found.ensures.found (let h = c.if-found-to.true in let g = ready.to.0 in omega (arith, h, g)))
+
+pub returns-then-found-to-clause-cost : goal.returns-then-found-to-clause-cost
+returns-then-found-to-clause-cost c =
+    let m = length c.args.subject.prepared.now.expr.nodes in
+    let before = c.loop-place.invariant in
+    let ready = c.ready-to.ensures in
+    let seek = c.seek_in-found.ensures in
+    let found = c.seek_in-found.result in
+    let width = c.args.table.now.room - 1 in
+    let paid = subst (λ r. Pays c.loop-place.steps c.ready-to.new.steps (owed m (r - 1) c.loop-place.self.region c.loop-place.place) (owed m (r - 1) c.ready-to.new.self.region c.loop-place.place)) before.shape.1 ready.cost in (
+      (let h = before.grows in let g = ready.cost.0 in let f = seek.cost.0 in omega (arith, h, g, f)),
+      seek_at (owed m width c.args.self.now.region c.args.from) (owed m width c.loop-place.self.region c.loop-place.place) (owed m width c.ready-to.new.self.region c.loop-place.place)
+          (owed m width c.ready-to.new.self.region found) c.loop-place.steps c.args.steps.now c.ready-to.new.steps c.seek_in-found.new.steps c.args.from c.loop-place.place found
+          before.cost paid.1 seek.cost.1 (owed_falls m width c.ready-to.new.self.region c.loop-place.place found seek.after) seek.after,
+    )
+
+pub returns-then-found-to-clause-counts : goal.returns-then-found-to-clause-counts
+returns-then-found-to-clause-counts c =
+    least_both _ c.loop-place.steps _ _ (c.seek_in-found.result - c.loop-place.place) _ c.loop-place.invariant.counts
+    (least_since _ c.ready-to.new.steps _ _ c.ready-to.ensures.cost.0 c.seek_in-found.ensures.counts) (let h = c.loop-place.invariant.above in let g = c.seek_in-found.ensures.after in omega (arith, h, g))

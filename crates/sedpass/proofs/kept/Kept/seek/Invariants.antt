@@ -1,0 +1,24 @@
+use Rattle.std.proofs.Common.{◌+◌, ◌-◌, ◌*◌, ◌≤◌}
+use Rattle.std.specs.Prelude.{length, not}
+use Rattle.sedre.specs.Steps.{TakesAtLeast}
+use Rattle.sedpass.specs.Table.{SameShape}
+use Rattle.sedpass.specs.Kept.{AllMarked, IsKept, SameKept, ends_told, owed}
+use Rattle.sedpass.proofs.kept.Kept.seek.Given as goal
+
+abbrev pub invariant-loop-place : goal.invariant-loop-place
+invariant-loop-place l = record {
+  above : l.from ≤ l.place;
+  below : l.place ≤ l.self.region.end;
+  kept : IsKept l.subject.prepared.now l.subject.text.now l.table l.self;
+  shape : SameShape l.initial.table l.table;
+  same : SameKept l.initial.self l.self;
+  passed : AllMarked l.subject.prepared.now.expr.nodes l.subject.text.now l.initial.self.region.root
+      (ends_told l.initial.table.way.sweeps (length l.subject.text.now) l.initial.self.region.end) l.x (not l.marked) l.from l.place;
+  grows : l.initial.steps ≤ l.steps;
+  cost : l.steps + owed (length l.subject.prepared.now.expr.nodes) (l.initial.table.room - 1) l.self.region l.place + 2 * l.from
+      ≤ l.initial.steps + owed (length l.subject.prepared.now.expr.nodes) (l.initial.table.room - 1) l.initial.self.region l.from + 2 * l.place;
+  counts : TakesAtLeast l.initial.steps l.steps (l.place - l.from);
+}
+
+abbrev pub decreases-loop-place : goal.decreases-loop-place
+decreases-loop-place l = l.self.region.end - l.place

@@ -1,0 +1,83 @@
+use Rattle.std.proofs.Common.{◌≡◌, ◌↔◌, false, ◌∙◌, subst, IsTrue, arith}
+use Rattle.std.specs.Prelude.{length, not, slice_index_or}
+use Rattle.sedmarks.proofs.MarkLemmas.{default_same}
+use Rattle.sedmarks.specs.Words.{row_of}
+use Rattle.sedpass.specs.Kept.{ends_told}
+use Rattle.sedpass.specs.Regions.{Reaches}
+use Rattle.sedpass.proofs.CountLemmas.{least_none, least_both, least_counted, least_up}
+use Rattle.sedpass.proofs.KeptLemmas.{as_asked, kept_mark, kept_row, marked_on, not_asked}
+use Rattle.sedpass.proofs.kept.Kept.seek_in.Goals as goal
+
+pub loop-place-init : goal.loop-place-init
+loop-place-init c = record {
+  above = omega arith;
+  below = (let h = c.requires.to in omega (arith, h));
+  passed = λ q after before. absurd (omega arith);
+  grows = omega arith;
+  cost = omega arith;
+  counts = least_none _ _ (omega arith);
+}
+
+pub get-requires-clause-row : goal.get-requires-clause-row
+get-requires-clause-row c =
+    let above = c.loop-place.invariant.above in
+    let from = c.requires.from in
+    let row = kept_row c.args.subject.prepared.now c.args.subject.text.now c.args.table.now c.args.self.now c.loop-place.place c.requires.kept (omega (arith, above, from)) c.loop-place-test.true in
+    let is : c.index.result.now ≡ slice_index_or c.args.self.now.states.items c.loop-place.place 0 = c.index.ensures ∙ default_same c.args.self.now.states.items c.loop-place.place c.index.result.now 0 row.2 in
+    rw is row.0
+
+pub get-requires-clause-inside : goal.get-requires-clause-inside
+get-requires-clause-inside c =
+    let above = c.loop-place.invariant.above in
+    let from = c.requires.from in
+    let row = kept_row c.args.subject.prepared.now c.args.subject.text.now c.args.table.now c.args.self.now c.loop-place.place c.requires.kept (omega (arith, above, from)) c.loop-place-test.true in
+    let is : c.index.result.now ≡ slice_index_or c.args.self.now.states.items c.loop-place.place 0 = c.index.ensures ∙ default_same c.args.self.now.states.items c.loop-place.place c.index.result.now 0 row.2 in
+    let x = c.requires.x in
+    rw is (omega (arith, row.1, x))
+
+pub returns-then-get-marked-clause-found : goal.returns-then-get-marked-clause-found
+returns-then-get-marked-clause-found c before =
+    let p = c.args.subject.prepared.now in
+    let w = c.args.subject.text.now in
+    let t = c.args.table.now in
+    let k = c.args.self.now in
+    let above = c.loop-place.invariant.above in
+    let from = c.requires.from in
+    let row = kept_row p w t k c.loop-place.place c.requires.kept (omega (arith, above, from)) before in
+    let is : c.index.result.now ≡ slice_index_or k.states.items c.loop-place.place 0 = c.index.ensures ∙ default_same k.states.items c.loop-place.place c.index.result.now 0 row.2 in
+    let mark : c.get.result ≡ slice_index_or (row_of t.ends (slice_index_or k.states.items c.loop-place.place 0)) c.args.x false = subst (λ s. c.get.result ≡ slice_index_or (row_of t.ends s) c.args.x false) is c.get.ensures.mark in
+    as_asked (Reaches p.expr.nodes w k.region.root (ends_told t.way.sweeps (length w) k.region.end) c.args.x c.loop-place.place) c.get.result c.args.marked c.if-get-marked.true
+    (kept_mark p w t k c.args.x c.loop-place.place c.get.result c.requires.kept c.requires.x (omega (arith, above, from)) before mark)
+
+pub returns-then-get-marked-clause-counts : goal.returns-then-get-marked-clause-counts
+returns-then-get-marked-clause-counts c = least_up _ c.loop-place.steps _ _ c.loop-place.invariant.counts c.get.ensures.cost.0
+
+pub loop-place-preserved : goal.loop-place-preserved
+loop-place-preserved c =
+    let p = c.args.subject.prepared.now in
+    let w = c.args.subject.text.now in
+    let t = c.args.table.now in
+    let k = c.args.self.now in
+    let old = c.loop-place.invariant in
+    let above = old.above in
+    let from = c.requires.from in
+    let before = c.loop-place-test.true in
+    let row = kept_row p w t k c.loop-place.place c.requires.kept (omega (arith, above, from)) before in
+    let is : c.index.result.now ≡ slice_index_or k.states.items c.loop-place.place 0 = c.index.ensures ∙ default_same k.states.items c.loop-place.place c.index.result.now 0 row.2 in
+    let mark : c.get.result ≡ slice_index_or (row_of t.ends (slice_index_or k.states.items c.loop-place.place 0)) c.args.x false = subst (λ s. c.get.result ≡ slice_index_or (row_of t.ends s) c.args.x false) is c.get.ensures.mark in
+    let here : IsTrue (not c.args.marked) ↔ Reaches p.expr.nodes w k.region.root (ends_told t.way.sweeps (length w) k.region.end) c.args.x c.loop-place.place =
+    not_asked (Reaches p.expr.nodes w k.region.root (ends_told t.way.sweeps (length w) k.region.end) c.args.x c.loop-place.place) c.get.result c.args.marked c.if-get-marked.false
+    (kept_mark p w t k c.args.x c.loop-place.place c.get.result c.requires.kept c.requires.x (omega (arith, above, from)) before mark) in
+    record {
+      above = omega (arith, above);
+      below = omega (arith, before);
+      passed = marked_on p.expr.nodes w k.region.root c.args.x (ends_told t.way.sweeps (length w) k.region.end) (not c.args.marked) c.args.from c.loop-place.place old.passed here;
+      grows = (let h = old.grows in let g = c.get.ensures.cost.0 in omega (arith, h, g));
+      cost = (let h = old.cost in let g = c.get.ensures.cost.1 in omega (arith, h, g));
+      counts = least_both _ _ _ _ 1 _ old.counts (least_counted _ _ 1 c.get.ensures.counts) (omega (arith, above));
+    }
+
+pub returns-clause-passed : goal.returns-clause-passed
+returns-clause-passed c q after before =
+    let h = c.loop-place-test.false in
+    c.loop-place.invariant.passed q after (omega (arith, before, h))

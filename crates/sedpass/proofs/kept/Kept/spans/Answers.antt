@@ -1,0 +1,68 @@
+use Rattle.std.proofs.Common.{◌≡◌, ◌<◌, ◌↔◌, sym, ap, ◌∙◌, subst, IsTrue, arith}
+use Rattle.std.specs.Prelude.{false, slice_index_or}
+use Rattle.sedmarks.proofs.MarkLemmas.{default_same}
+use Rattle.sedmarks.specs.Reach.{At, one_start}
+use Rattle.sedmarks.specs.Words.{row_of}
+use Rattle.sedpass.specs.Regions.{IsLastIn}
+use Rattle.sedpass.proofs.LeaveLemmas.{last_inside}
+use Rattle.sedpass.proofs.CountLemmas.{least_counted, least_since}
+use Rattle.sedpass.proofs.KeptLemmas.{kept_row, mark_spans, null_spans}
+use Rattle.sedpass.proofs.kept.Kept.spans.Goals as goal
+
+pub null_at-requires : goal.null_at-requires
+null_at-requires c =
+    let root = c.requires.kept.region.root.0 in
+    let up = last_inside c.args.subject.prepared.now.expr.nodes c.args.subject.text.now c.args.self.now.region.root (one_start 0) c.requires.kept.region.table.expr.arena c.args.x c.requires.last in
+    record { inside = omega (arith, root, up) }
+
+pub returns-then-place-self-clause-spans : goal.returns-then-place-self-clause-spans
+returns-then-place-self-clause-spans c =
+    let w = c.args.subject.text.now in
+    let nodes = c.args.subject.prepared.now.expr.nodes in
+    let root = c.requires.kept.region.root.0 in
+    let up = last_inside nodes w c.args.self.now.region.root (one_start 0) c.requires.kept.region.table.expr.arena c.args.x c.requires.last in
+    let kind = c.kind_of-kind.result in
+    let null = null_spans c.args.subject.prepared.now w kind c.args.x c.args.place c.null_at.result (omega (arith, root, up)) c.kind_of-kind.ensures.begin
+    (subst (λ n. IsTrue kind.end ↔ (c.args.place ≡ n)) c.len.ensures.is c.kind_of-kind.ensures.end) c.null_at.ensures.null in
+    subst (λ e. IsTrue c.null_at.result ↔ At nodes w c.args.x c.args.place e) c.if-place-self.true null
+
+pub returns-then-place-self-clause-counts : goal.returns-then-place-self-clause-counts
+returns-then-place-self-clause-counts c = least_counted _ _ 1 c.null_at.ensures.counts
+
+pub get-requires-clause-row : goal.get-requires-clause-row
+get-requires-clause-row c =
+    let above = c.ready.ensures.from in
+    let to = c.ready.ensures.to in
+    let row = kept_row c.args.subject.prepared.now c.args.subject.text.now c.ready.new.table c.ready.new.self c.args.place c.ready.ensures.kept above (omega (arith, to.0, to.1)) in
+    let is : c.index.result.now ≡ slice_index_or c.ready.new.self.states.items c.args.place 0 = c.index.ensures ∙ default_same c.ready.new.self.states.items c.args.place c.index.result.now 0 row.2 in
+    rw is row.0
+
+pub get-requires-clause-inside : goal.get-requires-clause-inside
+get-requires-clause-inside c =
+    let above = c.ready.ensures.from in
+    let to = c.ready.ensures.to in
+    let row = kept_row c.args.subject.prepared.now c.args.subject.text.now c.ready.new.table c.ready.new.self c.args.place c.ready.ensures.kept above (omega (arith, to.0, to.1)) in
+    let is : c.index.result.now ≡ slice_index_or c.ready.new.self.states.items c.args.place 0 = c.index.ensures ∙ default_same c.ready.new.self.states.items c.args.place c.index.result.now 0 row.2 in
+    let root = c.requires.kept.region.root.0 in
+    let up = last_inside c.args.subject.prepared.now.expr.nodes c.args.subject.text.now c.args.self.now.region.root (one_start 0) c.requires.kept.region.table.expr.arena c.args.x c.requires.last in
+    rw is (omega (arith, row.1, root, up))
+
+pub returns-clause-spans : goal.returns-clause-spans
+returns-clause-spans c =
+    let p = c.args.subject.prepared.now in
+    let w = c.args.subject.text.now in
+    let k = c.ready.new.self in
+    let t = c.ready.new.table in
+    let above = c.ready.ensures.from in
+    let to = c.ready.ensures.to in
+    let before : c.args.place < k.region.to = omega (arith, to.0, to.1) in
+    let row = kept_row p w t k c.args.place c.ready.ensures.kept above before in
+    let is : c.index.result.now ≡ slice_index_or k.states.items c.args.place 0 = c.index.ensures ∙ default_same k.states.items c.args.place c.index.result.now 0 row.2 in
+    let mark : c.get.result ≡ slice_index_or (row_of t.ends (slice_index_or k.states.items c.args.place 0)) c.args.x false = subst (λ s. c.get.result ≡ slice_index_or (row_of t.ends s) c.args.x false) is c.get.ensures.mark in
+    let one : t.way.sweeps ≡ false = ap (λ v. v.sweeps) c.ready.ensures.shape.0 ∙ c.requires.sweeps in
+    let last : IsLastIn p.expr.nodes k.region.root c.args.x = subst (λ r. IsLastIn p.expr.nodes r c.args.x) (sym c.ready.ensures.same.root) c.requires.last in
+    subst (λ e. IsTrue c.get.result ↔ At p.expr.nodes w c.args.x c.args.place e) c.ready.ensures.same.end
+    (mark_spans p w t k c.args.x c.args.place c.get.result c.ready.ensures.kept one last above before mark)
+
+pub returns-clause-counts : goal.returns-clause-counts
+returns-clause-counts c = least_since _ c.ready.new.steps _ _ c.ready.ensures.cost.0 (least_counted _ _ 1 c.get.ensures.counts)

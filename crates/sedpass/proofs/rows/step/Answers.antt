@@ -1,0 +1,36 @@
+use Rattle.std.proofs.Common.{◌+◌, Some, length, ◌∙◌, sym, arith, true≢false}
+use Rattle.std.specs.Prelude.{false}
+use Rattle.sedre.proofs.MirrorLemmas.{seen-length}
+use Rattle.sedmarks.specs.Places.{IsPlace}
+use Rattle.sedpass.specs.Rows.{nodes_of, at_begin, at_end, TellTook}
+use Rattle.sedpass.proofs.CountLemmas.{least_both}
+use Rattle.sedpass.proofs.FactLemmas.{null_tells, null_anywhere}
+use Rattle.sedpass.proofs.RowLemmas.{took_bits}
+use Rattle.sedpass.proofs.rows.step.Goals as goal
+
+pub returns-clause-leads : goal.returns-clause-leads
+returns-clause-leads c before w s p bytes is_end is_start row =
+    let e = c.args.prepared.now.expr in
+    let way = c.args.way in
+    let kind = c.edge_kind-kind.result in
+    let begin = c.edge_kind-kind.ensures.begin in
+    let end = c.edge_kind-kind.ensures.end in
+    let there : IsPlace w (p + 1) (at_begin way.mirrored kind) (at_end way.mirrored kind) =
+    ((λ h. absurd (true≢false (sym h ∙ begin)), λ none. absurd (omega arith)), (λ h. is_end.0 (sym end ∙ h), λ at. end ∙ is_end.1 at)) in
+    let nulls = null_tells way.mirrored e kind w (p + 1) there in
+    let told : TellTook (nodes_of way e) w c.args.root s (p + 1) (Some c.args.byte) c.args.work.now.leaves =
+    took_bits (nodes_of way e) w c.args.root p s way.keeps (length e.nodes) c.args.work.now.leaves before (Some c.args.byte) (seen-length way.mirrored e) bytes row in
+    c.descend.ensures.row w s (p + 1) nulls (c.ascend.ensures.ended w s (p + 1) nulls told) is_start
+
+pub returns-clause-anywhere : goal.returns-clause-anywhere
+returns-clause-anywhere c none end before w s p bytes is_end is_start row =
+    let e = c.args.prepared.now.expr in
+    let way = c.args.way in
+    let there : IsPlace w (p + 1) false end = ((λ h. absurd (true≢false (sym h)), λ at. absurd (omega arith)), is_end) in
+    let nulls = null_anywhere way.mirrored e c.edge_kind-kind.result (c.args.prepared.now.is_prepared.anywhere none) w (p + 1) false end there in
+    let told : TellTook (nodes_of way e) w c.args.root s (p + 1) (Some c.args.byte) c.args.work.now.leaves =
+    took_bits (nodes_of way e) w c.args.root p s way.keeps (length e.nodes) c.args.work.now.leaves before (Some c.args.byte) (seen-length way.mirrored e) bytes row in
+    c.descend.ensures.row w s (p + 1) nulls (c.ascend.ensures.ended w s (p + 1) nulls told) is_start
+
+pub returns-clause-counts : goal.returns-clause-counts
+returns-clause-counts c = least_both c.args.steps.now c.ascend.new.steps c.descend.new.steps _ _ _ c.ascend.ensures.counts c.descend.ensures.counts (omega arith)

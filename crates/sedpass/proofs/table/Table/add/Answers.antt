@@ -1,0 +1,147 @@
+use Rattle.std.proofs.Common.{◌≡◌, ℕ, ◌+◌, ◌*◌, ◌%◌, ◌^◌, ◌<◌, ◌∙◌, ◌↔◌, length, length-set, mul-le-mul_left, ◌≤◌, IsTrue, refl, sym, ap, subst, arith}
+use Rattle.std.specs.Prelude.{slice_index_or, false}
+use Rattle.std.specs.Vec.{with_item}
+use Rattle.sedmarks.specs.Words.{AgreeBelow, row_of}
+use Rattle.sedpass.specs.Cells.{stops, code_of}
+use Rattle.sedpass.specs.Rows.{bits}
+use Rattle.sedpass.specs.Table.{State, IsTold, HasRow, AddsStates, HasRoom, cell_of}
+use Rattle.sedpass.specs.declared.cells.Flags.{Flags}
+use Rattle.sedpass.specs.declared.table.Table.{Table}
+use Rattle.sedpass.proofs.TableLemmas.{shifted, few_offset, cell_inside, bits_at, bits_clear, state, state_added, state_adds, one_more}
+use Rattle.sedpass.proofs.table.Table.add.Goals as goal
+
+pub overflow_shl-offset : goal.overflow_shl-offset
+overflow_shl-offset c = omega (arith, c.requires.table.layout.small)
+
+pub clear_cells-requires : goal.clear_cells-requires
+clear_cells-requires c =
+    let T = c.args.self.now in
+    let t = c.requires.table in
+    let place = shifted T.count T.room T.layout.shift c.requires.room t.room.few t.layout.small in
+    let up : T.count + 1 ≤ T.room = omega (arith, c.requires.room) in
+    let all = mul-le-mul_left (2 ^ T.layout.shift) up in
+    omega (arith, place, all, t.room.cells, t.layout.fits, T.cells.ok)
+
+pub code_of-requires : goal.code_of-requires
+code_of-requires c =
+    let T = c.args.self.now in
+    let t = c.requires.table in
+    omega (arith, shifted T.count T.room T.layout.shift c.requires.room t.room.few t.layout.small, few_offset T.count T.room T.layout.shift c.requires.room t.room.few t.layout.small)
+
+pub returns-clause-table : goal.returns-clause-table
+returns-clause-table c =
+    let T = c.args.self.now in
+    let t = c.requires.table in
+    let m = length c.args.prepared.now.expr.nodes in
+    let L = c.args.work.now.leaves in
+    let E = c.args.work.now.ends in
+    let flags : Flags = record { ends = c.get.result; dead = c.is_clear.result } in
+    let N : Table = record {
+      way = T.way;
+      room = T.room;
+      layout = T.layout;
+      count = T.count + 1;
+      epoch = T.epoch;
+      leaves = c.store.new.self;
+      ends = c.store-2.new.self;
+      roots = with_item T.roots T.count c.args.root;
+      flags = with_item T.flags T.count flags;
+      cells = c.clear_cells.new.cells;
+      index = with_item T.index c.args.slot (record { epoch = T.epoch % 65536; state = T.count });
+      beginnings = T.beginnings;
+    } in
+    let nodes = c.nodes-nodes.ensures.value in
+    let leaves : AgreeBelow m (row_of c.store.new.self T.count) L = subst (λ n. AgreeBelow n (row_of c.store.new.self T.count) L) nodes c.store.ensures.same in
+    let ends : AgreeBelow m (row_of c.store-2.new.self T.count) E = subst (λ n. AgreeBelow n (row_of c.store-2.new.self T.count) E) nodes c.store-2.ensures.same in
+    let adds : AddsStates m T N = state_adds m T N c.args.root L E flags c.requires.room t.room (refl, refl, refl) refl refl c.store.ensures.other leaves c.store-2.ensures.other ends refl refl in
+    let added = state_added m T N c.args.root L E flags c.requires.room t.room (refl, refl, refl) refl refl c.store.ensures.other leaves c.store-2.ensures.other ends refl refl in
+    let room : HasRoom m N = record {
+      count = omega (arith, c.requires.room);
+      some = t.room.some;
+      few = t.room.few;
+      leaves = c.store.ensures.len ∙ t.room.leaves;
+      ends = c.store-2.ensures.len ∙ t.room.ends;
+      leaf_marks = λ q lt. c.store.ensures.lens q (omega (arith, lt, t.room.leaves)) ∙ t.room.leaf_marks q lt;
+      end_marks = λ q lt. c.store-2.ensures.lens q (omega (arith, lt, t.room.ends)) ∙ t.room.end_marks q lt;
+      roots = length-set T.roots.items T.count c.args.root ∙ t.room.roots;
+      flags = length-set T.flags.items T.count flags ∙ t.room.flags;
+      cells = c.clear_cells.ensures.len ∙ t.room.cells;
+      index = omega (arith, length-set T.index.items c.args.slot (record { epoch = T.epoch % 65536; state = T.count }), t.room.index);
+      short = t.room.short;
+      begins = t.room.begins;
+    } in
+    let size = 2 ^ T.layout.shift in
+    let place = shifted T.count T.room T.layout.shift c.requires.room t.room.few t.layout.small in
+    let before : (q k : ℕ) → q < T.count → k < T.layout.width → cell_of N q k ≡ cell_of T q k =
+    (λ q k lt low. c.clear_cells.ensures.before (q * size + k) (let inside = cell_inside size q k T.count T.layout.width (T.count * size) lt low t.layout.fits refl in omega (arith, inside, place))) in
+    let clear : (k : ℕ) → k < T.layout.width → cell_of N T.count k ≡ 0 =
+    (λ k low. subst (λ x. slice_index_or c.clear_cells.new.cells.items (x + k) 0 ≡ 0) place (c.clear_cells.ensures.clear k low)) in
+    let dead : IsTrue c.is_clear.result ↔ ((k : ℕ) → k < m → slice_index_or L k false ≡ false) =
+    subst (λ n. IsTrue c.is_clear.result ↔ ((k : ℕ) → k < n → slice_index_or L k false ≡ false)) nodes c.is_clear.ensures.clear in
+    let law = bits_clear m L in
+    let told : IsTold (state c.args.root (bits m L) (bits m E) flags) = (c.get.ensures.mark ∙ sym (bits_at m E c.args.root c.requires.root), (λ h. law.0 (dead.0 h), λ h. dead.1 (law.1 h))) in
+    one_more c.args.prepared.now T N adds refl t room refl refl before clear
+    (subst (λ (a : State). a.root < m) (sym added) c.requires.root)
+    (subst (λ (a : State). IsTold a) (sym added) told)
+
+pub returns-clause-adds : goal.returns-clause-adds
+returns-clause-adds c =
+    let T = c.args.self.now in
+    let t = c.requires.table in
+    let m = length c.args.prepared.now.expr.nodes in
+    let L = c.args.work.now.leaves in
+    let E = c.args.work.now.ends in
+    let flags : Flags = record { ends = c.get.result; dead = c.is_clear.result } in
+    let N : Table = record {
+      way = T.way;
+      room = T.room;
+      layout = T.layout;
+      count = T.count + 1;
+      epoch = T.epoch;
+      leaves = c.store.new.self;
+      ends = c.store-2.new.self;
+      roots = with_item T.roots T.count c.args.root;
+      flags = with_item T.flags T.count flags;
+      cells = c.clear_cells.new.cells;
+      index = with_item T.index c.args.slot (record { epoch = T.epoch % 65536; state = T.count });
+      beginnings = T.beginnings;
+    } in
+    let nodes = c.nodes-nodes.ensures.value in
+    let leaves : AgreeBelow m (row_of c.store.new.self T.count) L = subst (λ n. AgreeBelow n (row_of c.store.new.self T.count) L) nodes c.store.ensures.same in
+    let ends : AgreeBelow m (row_of c.store-2.new.self T.count) E = subst (λ n. AgreeBelow n (row_of c.store-2.new.self T.count) E) nodes c.store-2.ensures.same in
+    state_adds m T N c.args.root L E flags c.requires.room t.room (refl, refl, refl) refl refl c.store.ensures.other leaves c.store-2.ensures.other ends refl refl
+
+pub returns-clause-names : goal.returns-clause-names
+returns-clause-names c =
+    let T = c.args.self.now in
+    let t = c.requires.table in
+    let m = length c.args.prepared.now.expr.nodes in
+    let L = c.args.work.now.leaves in
+    let E = c.args.work.now.ends in
+    let flags : Flags = record { ends = c.get.result; dead = c.is_clear.result } in
+    let N : Table = record {
+      way = T.way;
+      room = T.room;
+      layout = T.layout;
+      count = T.count + 1;
+      epoch = T.epoch;
+      leaves = c.store.new.self;
+      ends = c.store-2.new.self;
+      roots = with_item T.roots T.count c.args.root;
+      flags = with_item T.flags T.count flags;
+      cells = c.clear_cells.new.cells;
+      index = with_item T.index c.args.slot (record { epoch = T.epoch % 65536; state = T.count });
+      beginnings = T.beginnings;
+    } in
+    let nodes = c.nodes-nodes.ensures.value in
+    let leaves : AgreeBelow m (row_of c.store.new.self T.count) L = subst (λ n. AgreeBelow n (row_of c.store.new.self T.count) L) nodes c.store.ensures.same in
+    let ends : AgreeBelow m (row_of c.store-2.new.self T.count) E = subst (λ n. AgreeBelow n (row_of c.store-2.new.self T.count) E) nodes c.store-2.ensures.same in
+    let added = state_added m T N c.args.root L E flags c.requires.room t.room (refl, refl, refl) refl refl c.store.ensures.other leaves c.store-2.ensures.other ends refl refl in
+    let place = shifted T.count T.room T.layout.shift c.requires.room t.room.few t.layout.small in
+    record {
+      to = T.count;
+      there = omega arith;
+      code = c.code_of.ensures ∙ ap (λ b. code_of b (T.count * 2 ^ T.layout.shift % 2 ^ 64)) c.stops.ensures ∙ ap (λ x. code_of (stops T.way flags) x) place
+          ∙ ap (λ (a : State). code_of (stops T.way a.flags) (T.count * 2 ^ T.layout.shift)) (sym added);
+      is = subst (λ (a : State). HasRow c.args.root (bits m L) (bits m E) a) (sym added) (refl, refl, refl);
+    }

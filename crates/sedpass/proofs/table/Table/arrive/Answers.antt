@@ -1,0 +1,51 @@
+use Rattle.std.proofs.Common.{◌*◌, ◌/◌, ◌^◌, ◌<◌, ◌∙◌, false, length, ap, inl, inr, arith}
+use Rattle.std.specs.Prelude.{slice_index_or}
+use Rattle.sedmarks.proofs.MarkLemmas.{default_same}
+use Rattle.sedpass.specs.Cells.{stops}
+use Rattle.sedpass.specs.Table.{state_of}
+use Rattle.sedpass.proofs.TableLemmas.{code_some, names_offset}
+use Rattle.sedpass.proofs.ForwardLemmas.{arrive_plain, arrive_low}
+use Rattle.sedpass.proofs.table.Table.arrive.Goals as goal
+
+pub offset_of-offset-requires : goal.offset_of-offset-requires
+offset_of-offset-requires c =
+    let T = c.args.self.now in
+    code_some (stops T.way (state_of (length c.args.prepared.now.expr.nodes) T c.requires.code.to).flags) (c.requires.code.to * 2 ^ T.layout.shift) c.args.code c.requires.code.code
+
+pub index-flags-requires : goal.index-flags-requires
+index-flags-requires c =
+    let at = names_offset c.args.prepared.now c.args.self.now c.requires.table (λ a. Unit {0}) c.args.code c.offset_of-offset.result c.requires.code c.offset_of-offset.ensures in
+    omega (arith, at.0, c.state_at.ensures, c.requires.table.room.count, c.requires.table.room.flags)
+
+pub returns-then-code-ge-PLAIN-clause-offset : goal.returns-then-code-ge-PLAIN-clause-offset
+returns-then-code-ge-PLAIN-clause-offset c = names_offset c.args.prepared.now c.args.self.now c.requires.table (λ a. Unit {0}) c.args.code c.offset_of-offset.result c.requires.code c.offset_of-offset.ensures
+
+pub returns-then-code-ge-PLAIN-clause-passes : goal.returns-then-code-ge-PLAIN-clause-passes
+returns-then-code-ge-PLAIN-clause-passes c keeps start after within names last =
+    arrive_plain c.args.prepared.now c.args.self.now c.args.text.now start c.args.place c.args.code c.offset_of-offset.result c.args.end c.requires.table keeps after within c.offset_of-offset.ensures names last c.if-code-ge-PLAIN.true
+
+pub returns-then-self-clause-offset : goal.returns-then-self-clause-offset
+returns-then-self-clause-offset c = names_offset c.args.prepared.now c.args.self.now c.requires.table (λ a. Unit {0}) c.args.code c.offset_of-offset.result c.requires.code c.offset_of-offset.ensures
+
+pub returns-then-self-clause-passes : goal.returns-then-self-clause-passes
+returns-then-self-clause-passes c keeps start after within names last =
+    let T = c.args.self.now in
+    let at = names_offset c.args.prepared.now T c.requires.table (λ a. Unit {0}) c.args.code c.offset_of-offset.result c.requires.code c.offset_of-offset.ensures in
+    let inside : c.offset_of-offset.result / 2 ^ T.layout.shift < length T.flags.items = omega (arith, at.0, c.requires.table.room.count, c.requires.table.room.flags) in
+    let flags = c.index-flags.ensures ∙ ap (λ x. slice_index_or T.flags.items x c.index-flags.result.now) c.state_at.ensures
+    ∙ default_same T.flags.items (c.offset_of-offset.result / 2 ^ T.layout.shift) c.index-flags.result.now (record { ends = false; dead = false }) inside in
+    arrive_low c.args.prepared.now T c.args.text.now start c.args.place c.args.code c.offset_of-offset.result c.args.end c.requires.table keeps after within c.offset_of-offset.ensures names last
+    c.index-flags.result.now c.last_end.result T.way.sweeps c.if-code-ge-PLAIN.false flags c.last_end.ensures.here c.last_end.ensures.before (λ h. inl h)
+
+pub returns-else-self-clause-offset : goal.returns-else-self-clause-offset
+returns-else-self-clause-offset c = names_offset c.args.prepared.now c.args.self.now c.requires.table (λ a. Unit {0}) c.args.code c.offset_of-offset.result c.requires.code c.offset_of-offset.ensures
+
+pub returns-else-self-clause-passes : goal.returns-else-self-clause-passes
+returns-else-self-clause-passes c keeps start after within names last =
+    let T = c.args.self.now in
+    let at = names_offset c.args.prepared.now T c.requires.table (λ a. Unit {0}) c.args.code c.offset_of-offset.result c.requires.code c.offset_of-offset.ensures in
+    let inside : c.offset_of-offset.result / 2 ^ T.layout.shift < length T.flags.items = omega (arith, at.0, c.requires.table.room.count, c.requires.table.room.flags) in
+    let flags = c.index-flags.ensures ∙ ap (λ x. slice_index_or T.flags.items x c.index-flags.result.now) c.state_at.ensures
+    ∙ default_same T.flags.items (c.offset_of-offset.result / 2 ^ T.layout.shift) c.index-flags.result.now (record { ends = false; dead = false }) inside in
+    arrive_low c.args.prepared.now T c.args.text.now start c.args.place c.args.code c.offset_of-offset.result c.args.end c.requires.table keeps after within c.offset_of-offset.ensures names last
+    c.index-flags.result.now c.last_end.result c.index-flags.result.now.dead c.if-code-ge-PLAIN.false flags c.last_end.ensures.here c.last_end.ensures.before (λ h. inr (c.if-self.false, h))

@@ -1,0 +1,27 @@
+use Rattle.std.proofs.Common.{◌+◌, ◌*◌, ◌∙◌, length, refl, subst, arith}
+use Rattle.sedre.specs.Steps.{TakesAtLeast}
+use Rattle.sedmarks.specs.Words.{AgreeBelow, row_of}
+use Rattle.sedmarks.proofs.StepLemmas.{least_own, counted_twice}
+use Rattle.sedpass.specs.Rows.{bits}
+use Rattle.sedpass.specs.Table.{HasRow}
+use Rattle.sedpass.proofs.CountLemmas.{least_up}
+use Rattle.sedpass.proofs.TableLemmas.{bits_agree, names_map}
+use Rattle.sedpass.proofs.table.Table.load.Goals as goal
+
+pub returns-clause-names : goal.returns-clause-names
+returns-clause-names c =
+    let m = length c.args.prepared.now.expr.nodes in
+    let row = 2 * c.args.row in
+    let nodes = c.nodes-nodes.ensures.value in
+    let leaves : AgreeBelow m c.load.new.marks (row_of c.args.edges.now row) = subst (λ n. AgreeBelow n c.load.new.marks (row_of c.args.edges.now row)) nodes c.load.ensures.same in
+    let ends : AgreeBelow m c.load-2.new.marks (row_of c.args.edges.now (row + 1)) = subst (λ n. AgreeBelow n c.load-2.new.marks (row_of c.args.edges.now (row + 1))) nodes c.load-2.ensures.same in
+    names_map m c.intern.new.self (HasRow c.args.root (bits m c.load.new.marks) (bits m c.load-2.new.marks)) (HasRow c.args.root (bits m (row_of c.args.edges.now row)) (bits m (row_of c.args.edges.now (row + 1)))) c.intern.result
+    (λ a has. (has.0, has.1 ∙ bits_agree m c.load.new.marks (row_of c.args.edges.now row) leaves, has.2 ∙ bits_agree m c.load-2.new.marks (row_of c.args.edges.now (row + 1)) ends))
+    c.intern.ensures.names
+
+pub returns-clause-counts : goal.returns-clause-counts
+returns-clause-counts c =
+    let m = length c.args.prepared.now.expr.nodes in
+    let n = c.nodes-nodes.result in
+    let twice = least_own c.args.steps.now c.load-2.new.steps (2 * n) (2 * n) (omega arith) (counted_twice c.args.steps.now c.load.new.steps c.load-2.new.steps n n n refl refl c.load.ensures.counts c.load-2.ensures.counts) in
+    least_up c.args.steps.now c.load-2.new.steps c.intern.new.steps (2 * m) (subst (λ x. TakesAtLeast c.args.steps.now c.load-2.new.steps (2 * x)) c.nodes-nodes.ensures.value twice) c.intern.ensures.cost.0

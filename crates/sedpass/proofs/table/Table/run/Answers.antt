@@ -1,0 +1,80 @@
+use Rattle.std.proofs.Common.{◌≡◌, ◌+◌, ◌-◌, ◌*◌, ◌∙◌, false, length, sym, ap, subst, inl, inr, arith}
+use Rattle.std.proofs.lemmas.Bool.{not-false}
+use Rattle.sedpass.specs.Rows.{nodes_of}
+use Rattle.sedpass.specs.Table.{BeginsIn, Names}
+use Rattle.sedpass.specs.Forwards.{Arrives}
+use Rattle.sedpass.specs.declared.rows.Way.{Way}
+use Rattle.sedpass.proofs.CountLemmas.{least_both, least_fewer}
+use Rattle.sedpass.proofs.TableLemmas.{names_map}
+use Rattle.sedpass.proofs.ForwardLemmas.{arrives_first, none_before, pass_end, run_longest, run_found}
+use Rattle.sedpass.proofs.table.Table.run.Goals as goal
+
+pub loop-at-init : goal.loop-at-init
+loop-at-init c =
+    let p = c.args.prepared.now in
+    let m = length p.expr.nodes in
+    let T = c.args.self.now in
+    let S = c.first-code.new.self in
+    let w = c.args.text.now in
+    let from = c.args.from in
+    let way = c.first-code.ensures.adds.shape.0 in
+    let kind = c.kind_of-kind.result in
+    let here = c.arrive-at.ensures.place in
+    let end = c.kind_of-kind.ensures.end in
+    let is = c.len.ensures.is in
+    let names = subst (λ (x : Way). Names m S (Arrives p x w from from) c.first-code.result) (sym way)
+    (names_map m S (BeginsIn (nodes_of T.way p.expr) T.way p.root kind) (Arrives p T.way w from from) c.first-code.result
+    (λ a begins. arrives_first p T.way w from kind a c.requires.forwards c.requires.from c.kind_of-kind.ensures.begin ((λ h. end.0 h ∙ is), (λ e. end.1 (e ∙ sym is))) begins) c.first-code.ensures.names) in
+    let cost = c.first-code.ensures.cost in
+    record {
+      table = c.first-code.ensures.table;
+      shape = c.first-code.ensures.adds.shape;
+      offset = c.arrive-at.ensures.offset;
+      passes = c.arrive-at.ensures.passes (subst (λ (x : Way). x.keeps ≡ false) (sym way) c.requires.keeps) from (omega arith) c.requires.from names (none_before p S.way w from);
+      grown = cost.0;
+      cost = omega (arith, cost, ap (λ x. 40 * m * (x + 1)) here);
+      counts = least_fewer c.args.steps.now c.first-code.new.steps 1 (2 * (c.arrive-at.result.place - from)) (omega (arith, here)) c.first-code.ensures.counts;
+    }
+
+pub loop-at-preserved : goal.loop-at-preserved
+loop-at-preserved c =
+    let i = c.loop-at.invariant in
+    let go = c.go_on-at.ensures in
+    let after = i.passes.after in
+    let before = i.cost in
+    let grown = i.grown in
+    let cost = go.cost in
+    let moved = go.after in
+    record {
+      table = go.table;
+      shape = (go.shape.0 ∙ i.shape.0, go.shape.1 ∙ i.shape.1, go.shape.2 ∙ i.shape.2);
+      offset = go.offset;
+      passes = go.passes (subst (λ (x : Way). x.keeps ≡ false) (sym i.shape.0) c.requires.keeps) c.args.from i.passes;
+      grown = omega (arith, grown, cost);
+      cost = omega (arith, before, cost);
+      counts = least_both c.args.steps.now c.loop-at.steps c.go_on-at.new.steps (2 * (c.loop-at.at.place - c.args.from)) (2 * (c.go_on-at.result.place - c.loop-at.at.place)) (2 * (c.go_on-at.result.place - c.args.from)) i.counts go.counts (omega (arith, after, moved));
+    }
+
+pub returns-else-at-len-clause-longest : goal.returns-else-at-len-clause-longest
+returns-else-at-len-clause-longest c single =
+    let i = c.loop-at.invariant in
+    run_longest c.args.prepared.now c.args.self.now.way c.loop-at.self.way c.args.text.now c.args.from c.loop-at.at.end i.shape.0 c.requires.forwards
+    (pass_end c.args.prepared.now c.loop-at.self c.args.text.now c.args.from c.loop-at.at c.requires.from i.passes (inr (omega (arith, c.if-at-len.false, c.len-in-loop-at.ensures.is)))) single
+
+pub returns-else-at-len-clause-found : goal.returns-else-at-len-clause-found
+returns-else-at-len-clause-found c sweeps =
+    let i = c.loop-at.invariant in
+    run_found c.args.prepared.now c.args.self.now.way c.loop-at.self.way c.args.text.now c.args.from c.loop-at.at.end i.shape.0 c.requires.forwards
+    (pass_end c.args.prepared.now c.loop-at.self c.args.text.now c.args.from c.loop-at.at c.requires.from i.passes (inr (omega (arith, c.if-at-len.false, c.len-in-loop-at.ensures.is)))) c.requires.from sweeps
+
+pub returns-after-loop-at-clause-longest : goal.returns-after-loop-at-clause-longest
+returns-after-loop-at-clause-longest c single =
+    let i = c.loop-at.invariant in
+    run_longest c.args.prepared.now c.args.self.now.way c.loop-at.self.way c.args.text.now c.args.from c.loop-at.at.end i.shape.0 c.requires.forwards
+    (pass_end c.args.prepared.now c.loop-at.self c.args.text.now c.args.from c.loop-at.at c.requires.from i.passes (inl (not-false c.loop-at.at.over c.loop-at-test.false))) single
+
+pub returns-after-loop-at-clause-found : goal.returns-after-loop-at-clause-found
+returns-after-loop-at-clause-found c sweeps =
+    let i = c.loop-at.invariant in
+    run_found c.args.prepared.now c.args.self.now.way c.loop-at.self.way c.args.text.now c.args.from c.loop-at.at.end i.shape.0 c.requires.forwards
+    (pass_end c.args.prepared.now c.loop-at.self c.args.text.now c.args.from c.loop-at.at c.requires.from i.passes (inl (not-false c.loop-at.at.over c.loop-at-test.false))) c.requires.from sweeps

@@ -1,0 +1,38 @@
+-- Private to the proofs: no contract that `sedmatch` makes public cites what stands here.
+-- Codes of states, and where the cells of a state stand.
+use Rattle.std.specs.Prelude.{◌≡◌, ℕ, ◌+◌, ◌*◌, ◌^◌, ◌<◌, ◌≤◌, ◌⊎◌, Bool, true, false, not, ◌&&◌, ◌||◌, List, slice_index_or, Option, Some, None}
+use Rattle.sedpass.specs.declared.rows.Way.{Way}
+use Rattle.sedpass.specs.declared.cells.Flags.{Flags}
+use Rattle.sedpass.specs.declared.cells.Layout.{Layout}
+
+-- whether a pass stops to look at a state: its root ends, or no match that began goes on (where the ends are kept, only this)
+abbrev pub stops : Way → Flags → Bool
+stops way flags = (not way.keeps && (flags.ends || (flags.dead && not way.sweeps))) || (way.keeps && flags.dead)
+
+-- the number that names the state whose cells begin there: so those at which a pass stops are the low ones
+abbrev pub code_of : Bool → ℕ → ℕ
+code_of true offset = offset + 1
+code_of false offset = 2147483648 + offset
+
+-- the column of a class of bytes, at the text's edge or not
+abbrev pub ColumnAt : Option ℕ → ℕ → Bool → ℕ → Type 0
+ColumnAt edge class false k = k ≡ class
+ColumnAt None class true k = ⊥
+ColumnAt (Some first) class true k = k ≡ first + class
+
+-- where the edge's columns begin: with the others if places are all of one kind, else after them
+abbrev pub EdgeFits : ℕ → ℕ → Bool → Option ℕ → Type 0
+EdgeFits columns width anchors None = Unit {0}
+EdgeFits columns width anchors (Some first) = (first + columns ≤ width) × (((first ≡ 0) × (anchors ≡ false)) ⊎ (columns ≤ first))
+
+-- the cells of m nodes' states are few, and have room
+pub record IsLayout (m : ℕ) (anchors : Bool) (layout : Layout) : Type 0 where
+  pub few : layout.width ≤ 2 * m
+  pub columns : layout.columns ≤ layout.width
+  pub edge : EdgeFits layout.columns layout.width anchors layout.edge
+  pub small : layout.shift ≤ 8
+  pub fits : layout.width ≤ 2 ^ layout.shift
+
+-- the column is the byte's
+abbrev pub IsColumn : Layout → List ℕ → ℕ → Bool → ℕ → Type 0
+IsColumn layout classes byte edge k = (slice_index_or classes byte 0 < layout.columns) × ColumnAt layout.edge (slice_index_or classes byte 0) edge k

@@ -1,0 +1,166 @@
+-- Private to the proofs: no contract that the engine sees cites what stands here.
+-- What is told of a match's groups while they are decided from its end, and what that costs.
+use Rattle.std.specs.Prelude.{◌≡◌, ℕ, ◌+◌, ◌-◌, ◌*◌, ◌<◌, ◌≤◌, Bool, false, replicate, IsTrue, List, [], ◌∷◌, reverse, length, slice_get, IfSome, Option, None, Some}
+use Rattle.sedre.specs.Arena.{tree_at}
+use Rattle.sedre.specs.declared.types.Node.{Node}
+use Rattle.sedre.specs.declared.types.NodeId.{NodeId}
+use Rattle.sedre.specs.declared.types.Node.TheVariants.{Set, Seq, Alt, Star}
+use Rattle.sedre.specs.Steps.{TakesAtLeast}
+use Rattle.sedre.specs.Tree.{Tree}
+use Rattle.sedmarks.specs.Caps.{Groups}
+use Rattle.sedmarks.specs.Costs.{Pays}
+use Rattle.sedpass.specs.Groups.{holds}
+use Rattle.sedpass.specs.Kept.{IsKept, KeptRoom, owed}
+use Rattle.sedpass.specs.Lengths.{length_of}
+use Rattle.sedpass.specs.Overlay.{State, state_of, HasGroup}
+use Rattle.sedpass.specs.Regions.{IsLastIn}
+use Rattle.sedpass.specs.Table.{IsTable}
+use Rattle.sedpass.specs.Turns.{Blank, IsHere, IsTurn, AreReady, AreShort, looks, tasks_of}
+use Rattle.sedpass.specs.declared.group_set.GroupSet.{GroupSet}
+use Rattle.sedpass.specs.declared.groups.GroupTables.{GroupTables}
+use Rattle.sedpass.specs.declared.groups.Matched.{Matched}
+use Rattle.sedpass.specs.declared.groups.Task.{Task}
+use Rattle.sedpass.specs.declared.groups.Task.TheVariants.{Apart}
+use Rattle.sedpass.specs.declared.groups.Then.{Then}
+use Rattle.sedpass.specs.declared.groups.Then.TheVariants.{Done, One, Two}
+use Rattle.sedpass.specs.declared.groups.Told.{Told}
+use Rattle.sedpass.specs.declared.kept.Kept.{Kept}
+use Rattle.sedpass.specs.declared.kept.Region.{Region}
+use Rattle.sedpass.specs.declared.kept.Subject.{Subject}
+
+-- the nodes of the expression, and the text
+abbrev pub nodes_in : Subject → List Node
+nodes_in s = s.prepared.now.expr.nodes
+
+abbrev pub text_in : Subject → List ℕ
+text_in s = s.text.now
+
+-- which of the entries 0 to 9 are in the set
+abbrev pub flags_of : GroupSet → List Bool
+flags_of s = holds s 0 ∷ holds s 1 ∷ holds s 2 ∷ holds s 3 ∷ holds s 4 ∷ holds s 5 ∷ holds s 6 ∷ holds s 7 ∷ holds s 8 ∷ holds s 9 ∷ []
+
+-- which groups are due, and the spans of those that aren't
+abbrev pub told_of : GroupSet → Groups → State
+told_of due spans = state_of (flags_of due) spans
+
+-- what is due has no span so far, and the whole match isn't due
+pub record IsTold (t : Told) : Type 0 where
+  pub blank : Blank (told_of t.due t.spans)
+  pub whole : holds t.due 0 ≡ false
+
+-- how many entries have a span
+abbrev pub found : Groups → ℕ
+found [] = 0
+found (None ∷ g) = found g
+found (Some span ∷ g) = 1 + found g
+
+-- the groups of a match before they are decided: entry 0 is the whole match, and no other has a span
+abbrev pub undecided : ℕ → ℕ → Groups
+undecided start stop = Some (start, stop) ∷ replicate 9 None
+
+-- all groups of the expression that are reported are in the set
+abbrev pub HasAll : GroupSet → Tree → Type 0
+HasAll due e = (k : ℕ) → 1 ≤ k → k < 10 → HasGroup e k → IsTrue (holds due k)
+
+-- the match is there, and what its node is
+abbrev pub Stands : Subject → Matched → Node → Type 0
+Stands s here node = IsHere (nodes_in s) (text_in s) here.node here.start here.stop node
+
+-- the match of a repetition of the node a is there
+abbrev pub Repeats : Subject → Matched → NodeId → Type 0
+Repeats s here a = (first : Bool) × Stands s here (Star a first)
+
+-- the node is last in the region, and its match ends where the region does
+abbrev pub EndsIn : Subject → Region → Matched → Type 0
+EndsIn s r here = IsLastIn (nodes_in s) r.root here.node × (here.stop ≡ r.end)
+
+-- both tables serve the expression: the kept one for passes back from one end, the other for passes forwards from one start
+pub record HasDesk (s : Subject) (tables : GroupTables) (kept : Kept) : Type 0 where
+  pub inside : IsTable s.prepared.now tables.inside
+  pub places : KeptRoom (length s.prepared.now.expr.nodes) (length s.text.now) tables.inside kept
+  pub one_end : tables.inside.way.sweeps ≡ false
+  pub ahead : IsTable s.prepared.now tables.ahead
+  pub forwards : tables.ahead.way.mirrored ≡ false
+  pub one_start : tables.ahead.way.sweeps ≡ false
+
+-- and the region is kept
+pub record IsDesk (s : Subject) (tables : GroupTables) (kept : Kept) : Type 0 where
+  pub region : IsKept s.prepared.now s.text.now tables.inside kept
+  pub one_end : tables.inside.way.sweeps ≡ false
+  pub ahead : IsTable s.prepared.now tables.ahead
+  pub forwards : tables.ahead.way.mirrored ≡ false
+  pub one_start : tables.ahead.way.sweeps ≡ false
+
+-- which match comes first in place of a node
+abbrev pub next_of : Then → Option Matched
+next_of Done = None
+next_of (One next) = Some next
+next_of (Two next later) = Some next
+
+-- it goes on in the region
+abbrev pub GoesOn : Subject → Region → Option Matched → Type 0
+GoesOn s r None = Unit {0}
+GoesOn s r (Some next) = EndsIn s r next
+
+-- the match is there, within the text
+abbrev pub IsMatch : Subject → Matched → Type 0
+IsMatch s here = AreReady (nodes_in s) (text_in s) (Apart here.node here.start here.stop ∷ [])
+
+-- the node is looked at: what comes in its place
+abbrev pub Turns : Subject → Matched → State → State → Then → Type 0
+Turns s here old new then = IsTurn (nodes_in s) (text_in s) here.node here.start here.stop old new (tasks_of then)
+
+-- the matches of the node have no length that is known
+abbrev pub IsOpen : List Node → ℕ → Type 0
+IsOpen nodes x = length_of (tree_at nodes x) ≡ None
+
+-- the looks that a node takes at least, by its kind: at each byte that it passes, where no length decides it, and at an alternative
+abbrev pub LooksAt : Subject → Matched → Node → Option Matched → ℕ → ℕ → Type 0
+LooksAt s here (Seq a b) next before after =
+    IsOpen (nodes_in s) a.index → IsOpen (nodes_in s) b.index → IfSome next (λ p. TakesAtLeast before after (p.start - here.start))
+LooksAt s here (Alt a b) next before after = TakesAtLeast before after 1
+LooksAt s here (Star a first) next before after = IsOpen (nodes_in s) a.index → TakesAtLeast before after (here.stop - here.start)
+LooksAt s here node next before after = Unit {0}
+
+-- the tasks that wait, and before them one match
+abbrev pub waiting : Option Matched → List Task → List Task
+waiting None stack = reverse stack
+waiting (Some p) stack = Apart p.node p.start p.stop ∷ reverse stack
+
+-- the node is a set
+abbrev pub IsSetAt : List Node → ℕ → Type 0
+IsSetAt nodes x = (members : List Bool) × (slice_get nodes x ≡ Some (Set members))
+
+-- the steps that looks into a region from a place on may take
+abbrev pub owed_in : Subject → GroupTables → Region → ℕ → ℕ
+owed_in s tables r place = owed (length (nodes_in s)) (tables.inside.room - 1) r place
+
+-- those for a match from its start on, and with them passes ahead over it: a part of it after each byte at most
+abbrev pub due_in : Subject → GroupTables → Region → Matched → ℕ
+due_in s tables r here = owed_in s tables r here.start + 120 * length (nodes_in s) * (here.stop - here.start)
+
+-- those of a whole region of so many bytes
+abbrev pub region_cost : ℕ → ℕ → ℕ
+region_cost m long = 124 * m * (long + 1) + 120 * m * long
+
+-- those of a node: looks at it, and a region that begins there
+abbrev pub turn_cost : ℕ → ℕ → ℕ
+turn_cost m long = region_cost m long + 100 * m
+
+-- of which the kind of node may take these, for a match
+abbrev pub kind_cost : Subject → Matched → ℕ
+kind_cost s here = region_cost (length (nodes_in s)) (here.stop - here.start) + 90 * length (nodes_in s)
+
+-- what is to be paid after a look: where nothing goes on, a region of so many bytes is saved
+abbrev pub due_after : Subject → GroupTables → Region → ℕ → Option Matched → ℕ
+due_after s tables r long None = region_cost (length (nodes_in s)) long
+due_after s tables r long (Some p) = due_in s tables r p
+
+-- how many bytes the match has
+abbrev pub long_of : Matched → ℕ
+long_of here = here.stop - here.start
+
+-- the tasks are done as far as those left, and each node looked at is paid, where none matches more than so many bytes
+abbrev pub IsSpent : List Node → List Task → List Task → ℕ → ℕ → Type 0
+IsSpent nodes old new before after =
+    (long : ℕ) → AreShort long old → AreShort long new × Pays before after (turn_cost (length nodes) long * looks nodes old) (turn_cost (length nodes) long * looks nodes new)

@@ -1,0 +1,43 @@
+-- Private to the proofs: no contract that `sedmatch` makes public cites what stands here.
+-- Passes for the whole expression in which the root's ends alone are kept.
+use Rattle.std.specs.Prelude.{◌≡◌, ℕ, ◌+◌, ◌/◌, ◌^◌, ◌<◌, ◌≤◌, Bool, true, false, List, length, Option, Some, None, IsTrue}
+use Rattle.sedre.specs.declared.types.Node.{Node}
+use Rattle.sedmarks.specs.declared.passes.Starts.{Starts}
+use Rattle.sedmarks.specs.Reach.{SomeSpan}
+use Rattle.sedpass.specs.Rows.{nodes_of}
+use Rattle.sedpass.specs.Table.{State, state_of, StateAt}
+use Rattle.sedpass.specs.declared.nodes.Prepared.{Prepared}
+use Rattle.sedpass.specs.declared.rows.Way.{Way}
+use Rattle.sedpass.specs.declared.table.Table.{Table}
+use Rattle.sedpass.specs.declared.forwards.Passed.{Passed}
+
+-- the starts of a pass from a place: this place, or in a sweep each from it on
+abbrev pub starts_of : Bool → ℕ → List ℕ → Starts
+starts_of true from w = record { first = from; last = length w }
+starts_of false from w = record { first = from; last = from }
+
+-- the last place below n at which a match from one of the starts ends; None: none ends there
+abbrev pub LastBelow : List Node → List ℕ → ℕ → Starts → ℕ → Option ℕ → Type 0
+LastBelow nodes w r s n None = (k : ℕ) → k < n → SomeSpan nodes w r s k → ⊥
+LastBelow nodes w r s n (Some j) = SomeSpan nodes w r s j × ((k : ℕ) → k < n → SomeSpan nodes w r s k → k ≤ j)
+
+-- the last place of all, or in a sweep some place
+abbrev pub IsEnd : Bool → List Node → List ℕ → ℕ → Starts → Option ℕ → Type 0
+IsEnd sweeps nodes w r s None = (k : ℕ) → SomeSpan nodes w r s k → ⊥
+IsEnd sweeps nodes w r s (Some j) = SomeSpan nodes w r s j × (sweeps ≡ false → (k : ℕ) → SomeSpan nodes w r s k → k ≤ j)
+
+-- the state is that of the place, in a pass from `start` for the whole expression
+abbrev pub Arrives : Prepared → Way → List ℕ → ℕ → ℕ → State → Type 0
+Arrives p way w start place a = (a.root ≡ p.root) × StateAt (nodes_of way p.expr) w (starts_of way.sweeps start w) way.keeps place a
+
+-- the end is the last below the place, in such a pass
+abbrev pub EndsBelow : Prepared → Way → List ℕ → ℕ → ℕ → Option ℕ → Type 0
+EndsBelow p way w start place end = LastBelow (nodes_of way p.expr) w p.root (starts_of way.sweeps start w) place end
+
+-- a pass from `start` is at a place: its state there, the last end so far, and whether it needn't go on
+pub record PassIs (p : Prepared) (t : Table) (w : List ℕ) (start : ℕ) (at : Passed) : Type 0 where
+  pub after : start ≤ at.place
+  pub within : at.place ≤ length w
+  pub state : Arrives p t.way w start at.place (state_of (length p.expr.nodes) t (at.offset / 2 ^ t.layout.shift))
+  pub last : EndsBelow p t.way w start (at.place + 1) at.end
+  pub over : IsTrue at.over → IsEnd t.way.sweeps (nodes_of t.way p.expr) w p.root (starts_of t.way.sweeps start w) at.end

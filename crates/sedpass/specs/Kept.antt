@@ -1,0 +1,133 @@
+-- Private to the proofs: no contract that `sedmatch` makes public cites what stands here.
+-- What is kept of a pass backwards over a region, and what looks into it may cost.
+use Rattle.std.specs.Prelude.{◌≡◌, ℕ, ◌+◌, ◌-◌, ◌*◌, ◌/◌, ◌^◌, ◌<◌, ◌≤◌, ◌↔◌, max, nat_le, nat_lt, ◌&&◌, Bool, true, false, if◌then◌else◌, List, length, reverse, slice_index_or, IsTrue}
+use Rattle.sedre.specs.declared.types.Node.{Node}
+use Rattle.sedmarks.specs.declared.passes.Starts.{Starts}
+use Rattle.sedmarks.specs.Search.{starts_to}
+use Rattle.sedmarks.specs.Reach.{one_start}
+use Rattle.sedmarks.specs.Words.{row_of}
+use Rattle.sedpass.specs.Regions.{Reaches, Meets}
+use Rattle.sedpass.specs.Rows.{nodes_of, bits, RowAt}
+use Rattle.sedpass.specs.Table.{State, state_of, StateAt, IsOffset, IsTable, MayBegin}
+use Rattle.sedpass.specs.declared.nodes.Prepared.{Prepared}
+use Rattle.sedpass.specs.declared.rows.Way.{Way}
+use Rattle.sedpass.specs.declared.table.Table.{Table}
+use Rattle.sedpass.specs.declared.kept.Region.{Region}
+use Rattle.sedpass.specs.declared.kept.Kept.{Kept}
+
+-- What it tells.
+
+-- the places where matches end that a kept pass tells of: in a sweep all up to the end n of the text, else the region's end alone
+abbrev pub ends_told : Bool → ℕ → ℕ → Starts
+ends_told true n end = starts_to 0 n
+ends_told false n end = one_start end
+
+-- these places as the starts of the mirrored pass, counted from the text's end
+abbrev pub starts_told : Bool → ℕ → ℕ → Starts
+starts_told true n end = starts_to 0 n
+starts_told false n end = one_start (n - end)
+
+-- the row is that of the place in the pass, seen from the text's end
+abbrev pub RowKept : Prepared → List ℕ → Way → (root end place : ℕ) → (ℕ → Bool) → (ℕ → Bool) → Type 0
+RowKept p w way root end place entered ended =
+    RowAt (nodes_of way p.expr) (reverse w) root (starts_told way.sweeps (length w) end) way.keeps (length w - place) entered ended
+
+-- the state is that of the place in the pass
+abbrev pub KeptAt : Prepared → List ℕ → Way → (root end place : ℕ) → State → Type 0
+KeptAt p w way root end place a = (a.root ≡ root) × RowKept p w way root end place a.entered a.ended
+
+-- of the places from one up to another: the node x is marked, or isn't, as asked
+abbrev pub AllMarked : List Node → List ℕ → ℕ → Starts → ℕ → Bool → ℕ → ℕ → Type 0
+AllMarked nodes w r t x marked from to = (q : ℕ) → from ≤ q → q < to → IsTrue marked ↔ Reaches nodes w r t x q
+
+-- a pass over a from i and the kept one meet at each place before p, and not at p
+abbrev pub CeasesAt : List Node → List ℕ → ℕ → Starts → ℕ → ℕ → ℕ → Type 0
+CeasesAt nodes w r t a i p =
+    (i ≤ p) × ((q : ℕ) → i ≤ q → q < p → Meets nodes w r t a (one_start i) q) × (Meets nodes w r t a (one_start i) p → ⊥)
+
+-- What holds of it.
+
+-- the number kept for a place is that of a state which is the place's
+abbrev pub IsLive : Prepared → List ℕ → Table → (root end : ℕ) → List ℕ → ℕ → Type 0
+IsLive p w t root end states q =
+    (slice_index_or states q 0 < t.count) × KeptAt p w t.way root end q (state_of (length p.expr.nodes) t (slice_index_or states q 0))
+
+-- the rows kept for a block are that of its right end
+abbrev pub IsEdge : Prepared → List ℕ → Way → (root end : ℕ) → List (List Bool) → (width b : ℕ) → Type 0
+IsEdge p w way root end edges width b =
+    RowKept p w way root end (b * width + width) (bits (length p.expr.nodes) (row_of edges (2 * b))) (bits (length p.expr.nodes) (row_of edges (2 * b + 1)))
+
+-- there is room for a text of n bytes, cut into blocks of one place less than the table has room for states
+pub record KeptRoom (m n : ℕ) (t : Table) (k : Kept) : Type 0 where
+  pub mirrored : IsTrue t.way.mirrored
+  pub keeps : IsTrue t.way.keeps
+  pub places : n < length k.states.items
+  pub blocks : (b : ℕ) → b * (t.room - 1) ≤ n → 2 * b + 1 < length k.edges
+  pub marks : (q : ℕ) → q < length k.edges → m ≤ length (row_of k.edges q)
+
+-- a pass over the region may be made
+pub record IsRegion (p : Prepared) (w : List ℕ) (t : Table) (k : Kept) : Type 0 where
+  pub table : IsTable p t
+  pub room : KeptRoom (length p.expr.nodes) (length w) t k
+  pub root : MayBegin p t.way k.region.root
+  pub whole : IsTrue t.way.sweeps → k.region.end ≡ length w
+  pub inside : k.region.end ≤ length w
+  pub within : k.region.to ≤ k.region.end
+
+-- the edges of the blocks that end after a place are kept
+abbrev pub EdgesFrom : Prepared → List ℕ → Table → Kept → ℕ → Type 0
+EdgesFrom p w t k place = (b : ℕ) → place < b * (t.room - 1) + (t.room - 1) → b * (t.room - 1) + (t.room - 1) < k.region.end →
+    IsEdge p w t.way k.region.root k.region.end k.edges (t.room - 1) b
+
+-- the states of the places from one up to `to` are in the table
+abbrev pub LiveFrom : Prepared → List ℕ → Table → Kept → ℕ → Type 0
+LiveFrom p w t k place = (q : ℕ) → place ≤ q → q < k.region.to → IsLive p w t k.region.root k.region.end k.states.items q
+
+-- a pass over the region came down to the place, in the state whose cells begin at the offset
+pub record Passes (p : Prepared) (w : List ℕ) (t : Table) (k : Kept) (place offset : ℕ) : Type 0 where
+  pub region : IsRegion p w t k
+  pub within : place ≤ k.region.end
+  pub above : place ≤ k.region.to
+  pub there : IsOffset t offset
+  pub at : KeptAt p w t.way k.region.root k.region.end place (state_of (length p.expr.nodes) t (offset / 2 ^ t.layout.shift))
+  pub live : LiveFrom p w t k place
+
+-- what is kept of the region is right
+pub record IsKept (p : Prepared) (w : List ℕ) (t : Table) (k : Kept) : Type 0 where
+  pub region : IsRegion p w t k
+  pub low : k.region.low ≤ k.region.from
+  pub from : k.region.from ≤ k.region.end
+  pub live : LiveFrom p w t k k.region.from
+  pub edges : EdgesFrom p w t k k.region.low
+
+-- the region is the same, and so is the room
+pub record SameKept (old new : Kept) : Type 0 where
+  pub root : new.region.root ≡ old.region.root
+  pub end : new.region.end ≡ old.region.end
+  pub places : length new.states.items ≡ length old.states.items
+  pub edges : length new.edges ≡ length old.edges
+
+-- What a pass ahead over a node a from the place i is beside it: in the state whose cells begin at the offset.
+abbrev pub Follows : Prepared → List ℕ → Table → ℕ → ℕ → ℕ → ℕ → Type 0
+Follows p w t a i place offset =
+    let q = state_of (length p.expr.nodes) t (offset / 2 ^ t.layout.shift) in
+    (q.root ≡ a) × StateAt p.expr.nodes w (one_start i) t.way.keeps place q
+
+-- the two meet at each place from one up to another
+abbrev pub Meet : Prepared → List ℕ → Table → Kept → ℕ → ℕ → ℕ → ℕ → Type 0
+Meet p w t k a i from to = (q : ℕ) → from ≤ q → q < to →
+    Meets p.expr.nodes w k.region.root (ends_told t.way.sweeps (length w) k.region.end) a (one_start i) q
+
+-- What it may cost.
+
+-- the first place from one on of which the state isn't in the table
+abbrev pub due_place : Region → ℕ → ℕ
+due_place r place = if nat_le r.from place && nat_lt place r.to then r.to else place
+
+-- where the states begin that may have to be made again for looks from a place on, in blocks of a width
+abbrev pub due_from : ℕ → Region → ℕ → ℕ
+due_from width r place = if nat_lt (due_place r place) r.end then max r.low (due_place r place / width * width) else r.end
+
+-- the steps that looks into the region from a place on may take: to make what isn't made yet, and each block once again
+abbrev pub owed : ℕ → ℕ → Region → ℕ → ℕ
+owed m width r place = if nat_lt place r.low then 37 * m + 123 * m * (r.end - place) else 80 * m * (r.end - due_from width r place)

@@ -1,0 +1,13 @@
+pub mod Cells
+pub mod Classes
+pub mod Decide
+pub mod Forwards
+pub mod Groups
+pub mod Kept
+pub mod Lengths
+pub mod Overlay
+pub mod Prepared
+pub mod Regions
+pub mod Rows
+pub mod Table
+pub mod Turns

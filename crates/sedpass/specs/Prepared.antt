@@ -1,0 +1,87 @@
+-- Private to the proofs: no contract that `sedmatch` makes public cites what stands here.
+-- What is told of an expression once: facts of each node, and classes of bytes.
+use Rattle.std.specs.Prelude.{◌≡◌, ℕ, ◌+◌, ◌-◌, ◌≤◌, ◌<◌, Bool, true, false, ◌&&◌, ◌||◌, List, length, slice_get, slice_index_or, cond, Option, Some, None, IfSome}
+use Rattle.sedre.specs.Tree.{Tree, set, begin, end, seq, alt, group, star, size}
+use Rattle.sedre.specs.Arena.{Written, tree_at}
+use Rattle.sedre.specs.declared.types.Node.{Node}
+use Rattle.sedpass.specs.Groups.{reported, holds, has_group}
+use Rattle.sedpass.specs.Lengths.{length_of}
+use Rattle.sedpass.specs.Rows.{SameBytes}
+use Rattle.sedpass.specs.declared.nodes.Facts.{Facts}
+use Rattle.sedpass.specs.declared.nodes.Kind.{Kind}
+use Rattle.sedpass.specs.declared.nodes.Null.{Null}
+
+-- the expression matches the null string at a place that is the text's beginning, or isn't, and its end, or isn't
+abbrev pub nullable : Bool → Bool → Tree → Bool
+nullable first last (set members) = false
+nullable first last begin = first
+nullable first last end = last
+nullable first last (seq a b) = nullable first last a && nullable first last b
+nullable first last (alt a b) = nullable first last a || nullable first last b
+nullable first last (group k a) = nullable first last a
+nullable first last other = true
+
+-- the node matches the null string at places of the kind
+abbrev pub null_in : List Node → Kind → ℕ → Bool
+null_in nodes kind x = nullable kind.begin kind.end (tree_at nodes x)
+
+-- what is told of null strings at places of a kind
+abbrev pub null_at : Null → Bool → Bool → Bool
+null_at null true true = null.both
+null_at null true false = null.begin
+null_at null false true = null.end
+null_at null false false = null.inside
+
+-- the expression is one byte of a set
+abbrev pub is_set : Tree → Bool
+is_set (set members) = true
+is_set other = false
+
+-- the part that is a set, if the expression repeats one, in groups or not; x is the index of its last node
+abbrev pub run_of : Tree → ℕ → Option ℕ
+run_of (group k a) x = run_of a (x - 1)
+run_of (star a first) x = cond (is_set a) (Some (x - 1)) None
+run_of other x = None
+
+-- what is told of a node: the tree there, and its index
+pub record IsFacts (t : Tree) (x : ℕ) (facts : Facts) : Type 0 where
+  pub low : facts.low + size t ≡ x + 1
+  pub null : (first last : Bool) → null_at facts.null first last ≡ nullable first last t
+  pub groups : (k : ℕ) → holds facts.groups k ≡ (reported k && has_group t k)
+  pub long : facts.length ≡ length_of t
+  pub run : facts.run ≡ run_of t x
+
+-- the same of all nodes
+abbrev pub AreFacts : List Node → List Facts → Type 0
+AreFacts nodes facts = (x : ℕ) (here : Facts) → slice_get facts x ≡ Some here → IsFacts (tree_at nodes x) x here
+
+-- what is told of a node without parts
+pub record IsLeaf (x : ℕ) (nulls : Null) (n : ℕ) (facts : Facts) : Type 0 where
+  pub low : facts.low ≡ x
+  pub null : facts.null ≡ nulls
+  pub groups : (k : ℕ) → holds facts.groups k ≡ false
+  pub long : facts.length ≡ Some n
+  pub run : facts.run ≡ None
+
+-- the length, if one is known, is no more than an expression has nodes
+abbrev pub IsShort : Option ℕ → Type 0
+IsShort long = IfSome long (λ n. n ≤ 65536)
+
+-- null strings are matched at places of each kind, or at none
+abbrev pub IsOfEachKind : Null → Type 0
+IsOfEachKind null = (first last : Bool) → null_at null first last ≡ null_at null false false
+
+-- bytes of one class are in the same sets
+pub record AreClasses (nodes : List Node) (classes : List ℕ) (columns : ℕ) : Type 0 where
+  pub some : 1 ≤ columns
+  pub few : columns ≤ 256
+  pub below : (byte : ℕ) → byte < 256 → slice_index_or classes byte 0 < columns
+  pub alike : (one other : ℕ) → one < 256 → other < 256 → slice_index_or classes one 0 ≡ slice_index_or classes other 0 → SameBytes nodes (Some one) (Some other)
+
+-- what is told of an expression
+pub record IsPrepared (e : Written) (root : ℕ) (told : List Facts) (of : List ℕ) (columns : ℕ) (anchors : Bool) : Type 0 where
+  pub last : root + 1 ≡ length e.nodes
+  pub all : length told ≡ length e.nodes
+  pub facts : AreFacts e.nodes told
+  pub classes : AreClasses e.nodes of columns
+  pub anywhere : anchors ≡ false → (x : ℕ) (first last : Bool) → x < length e.nodes → nullable first last (tree_at e.nodes x) ≡ nullable false false (tree_at e.nodes x)

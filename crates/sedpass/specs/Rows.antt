@@ -1,0 +1,158 @@
+-- Private to the proofs: no contract that `sedmatch` makes public cites what stands here.
+-- What a state of a pass tells of a place, how it follows from what the leaves took, and that it decides the next.
+use Rattle.std.specs.Prelude.{◌≡◌, ℕ, ◌+◌, ◌≤◌, ◌<◌, ◌⊎◌, ◌↔◌, Bool, true, false, ◌&&◌, ◌||◌, List, length, slice_get, slice_index_or, Option, Some, IsTrue, nat_lt}
+use Rattle.sedre.specs.Arena.{Written, IsPart}
+use Rattle.sedre.specs.Mirror.{seen}
+use Rattle.sedre.specs.declared.types.Node.{Node}
+use Rattle.sedre.specs.declared.types.Node.TheVariants.{Empty, Set, Begin, End, Seq, Alt, Group, Star, Opt}
+use Rattle.sedmarks.specs.declared.passes.Starts.{Starts}
+use Rattle.sedmarks.specs.Matching.{takes}
+use Rattle.sedmarks.specs.Places.{IsPlace}
+use Rattle.sedmarks.specs.Reach.{At, IsStart, Enters, PartFrom}
+use Rattle.sedpass.specs.Regions.{EndsAt}
+use Rattle.sedpass.specs.declared.nodes.Kind.{Kind}
+use Rattle.sedpass.specs.declared.rows.Way.{Way}
+
+-- the nodes that a pass of the way sees
+abbrev pub nodes_of : Way → Written → List Node
+nodes_of way e = (seen way.mirrored e).nodes
+
+-- whether places of the kind are the beginning, and the end, of the text as a pass sees it, mirrored or not
+abbrev pub at_begin : Bool → Kind → Bool
+at_begin true kind = kind.end
+at_begin false kind = kind.begin
+
+abbrev pub at_end : Bool → Kind → Bool
+at_end true kind = kind.begin
+at_end false kind = kind.end
+
+-- the first m of the marks
+abbrev pub bits : ℕ → List Bool → ℕ → Bool
+bits m marks c = nat_lt c m && slice_index_or marks c false
+
+-- How a node's marks at a place follow from those of others.
+
+-- the leaf could begin one byte before the place, and its set has that byte
+abbrev pub Took : List Node → List ℕ → ℕ → Starts → ℕ → ℕ → List Bool → Type 0
+Took nodes w r s j x members = (i : ℕ) × (i + 1 ≡ j) × Enters nodes w r s x i × IsTrue (takes (slice_get w i) members)
+
+-- whether the node is null, by whether its parts are
+abbrev pub NullBy : Type 0 → Type 0 → (ℕ → Type 0) → Node → Type 0
+NullBy begin end null Empty = Unit {0}
+NullBy begin end null (Set members) = ⊥
+NullBy begin end null Begin = begin
+NullBy begin end null End = end
+NullBy begin end null (Seq a b) = null a.index × null b.index
+NullBy begin end null (Alt a b) = null a.index ⊎ null b.index
+NullBy begin end null (Group k a) = null a.index
+NullBy begin end null (Star a first) = Unit {0}
+NullBy begin end null (Opt a first) = Unit {0}
+
+-- whether the node ends with a byte, by whether its parts do (a leaf: whether it took the byte)
+abbrev pub EndsBy : (List Bool → Type 0) → (ℕ → Type 0) → (ℕ → Type 0) → Node → Type 0
+EndsBy took null ended Empty = ⊥
+EndsBy took null ended (Set members) = took members
+EndsBy took null ended Begin = ⊥
+EndsBy took null ended End = ⊥
+EndsBy took null ended (Seq a b) = ended b.index ⊎ (ended a.index × null b.index)
+EndsBy took null ended (Alt a b) = ended a.index ⊎ ended b.index
+EndsBy took null ended (Group k a) = ended a.index
+EndsBy took null ended (Star a first) = ended a.index
+EndsBy took null ended (Opt a first) = ended a.index
+
+-- whether the part c of the node is entered, by whether the node is, and which of its parts ended
+abbrev pub EntersBy : Type 0 → (ℕ → Type 0) → (ℕ → Type 0) → ℕ → Node → Type 0
+EntersBy here null ended c Empty = ⊥
+EntersBy here null ended c (Set members) = ⊥
+EntersBy here null ended c Begin = ⊥
+EntersBy here null ended c End = ⊥
+EntersBy here null ended c (Seq a b) = ((a.index ≡ c) × here) ⊎ ((b.index ≡ c) × (ended a.index ⊎ (here × null a.index)))
+EntersBy here null ended c (Alt a b) = here
+EntersBy here null ended c (Group k a) = here
+EntersBy here null ended c (Star a first) = here ⊎ ended a.index
+EntersBy here null ended c (Opt a first) = here
+
+-- What a row decides.
+
+-- the byte at p and the one at q are in the same sets
+abbrev pub SameBytes : List Node → Option ℕ → Option ℕ → Type 0
+SameBytes nodes a b = (x : ℕ) (members : List Bool) → slice_get nodes x ≡ Some (Set members) → takes a members ≡ takes b members
+
+-- the place p of w and the place q of v are of one kind: null strings are the same at both
+abbrev pub SameKind : List ℕ → ℕ → List ℕ → ℕ → Type 0
+SameKind w p v q = ((p ≡ 0) ↔ (q ≡ 0)) × ((p ≡ length w) ↔ (q ≡ length v))
+
+-- the leaves entered at p, in a pass over w from s, are those entered at q, in a pass over v from t
+abbrev pub SameLeaves : List Node → ℕ → List ℕ → Starts → ℕ → List ℕ → Starts → ℕ → Type 0
+SameLeaves nodes r w s p v t q = (c : ℕ) (members : List Bool) → slice_get nodes c ≡ Some (Set members) → Enters nodes w r s c p ↔ Enters nodes v r t c q
+
+-- no leaf is entered at the place
+abbrev pub NoneEntered : List Node → List ℕ → ℕ → Starts → ℕ → Type 0
+NoneEntered nodes w r s p = (c : ℕ) (members : List Bool) → slice_get nodes c ≡ Some (Set members) → Enters nodes w r s c p → ⊥
+
+-- What the loops of `close` keep.
+
+-- x is the node r or stands in it
+pub data InTree (nodes : List Node) (r : ℕ) : ℕ → Type 0 where
+  is_tree : (x : ℕ) → x ≡ r → InTree nodes r x
+  part_of : (y c : ℕ) (node : Node) → slice_get nodes y ≡ Some node → IsPart node c → InTree nodes r y → InTree nodes r c
+
+-- the nodes in r are those from low to r
+abbrev pub IsRange : List Node → ℕ → ℕ → Type 0
+IsRange nodes low r = (c : ℕ) → ((low ≤ c) × (c ≤ r)) ↔ InTree nodes r c
+
+-- c is a node in r below n
+abbrev pub TreeBelow : List Node → ℕ → ℕ → ℕ → Type 0
+TreeBelow nodes r n c = InTree nodes r c × (c < n)
+
+-- c is r, or a node in r and a part of one from y on
+abbrev pub TreeFrom : List Node → ℕ → ℕ → ℕ → Type 0
+TreeFrom nodes r y c = InTree nodes r c × PartFrom nodes r y c
+
+-- null tells which nodes are null at the place
+abbrev pub AreNull : List Node → List ℕ → ℕ → (ℕ → Bool) → Type 0
+AreNull nodes w p null = (c : ℕ) → c < length nodes → IsTrue (null c) ↔ At nodes w c p p
+
+-- the marks tell, with the byte that came, which leaves in r took it
+abbrev pub TellTook : List Node → List ℕ → ℕ → Starts → ℕ → Option ℕ → List Bool → Type 0
+TellTook nodes w r s p byte marks = (c : ℕ) (members : List Bool) → InTree nodes r c → slice_get nodes c ≡ Some (Set members) →
+    IsTrue (slice_index_or marks c false && takes byte members) ↔ Took nodes w r s p c members
+
+-- the mark of a node that ends with a byte (of a leaf: whether it took the byte)
+abbrev pub ended_by : Bool → (ℕ → Bool) → (ℕ → Bool) → Node → Bool
+ended_by took null ended (Set members) = took
+ended_by took null ended (Seq a b) = ended b.index || (ended a.index && null b.index)
+ended_by took null ended (Alt a b) = ended a.index || ended b.index
+ended_by took null ended (Group k a) = ended a.index
+ended_by took null ended (Star a first) = ended a.index
+ended_by took null ended (Opt a first) = ended a.index
+ended_by took null ended other = false
+
+-- how many marks are looked at for that: the leaf's, and those of its parts
+abbrev pub leaf_looks : Node → ℕ
+leaf_looks (Set members) = 1
+leaf_looks other = 0
+
+abbrev pub part_looks : Node → ℕ
+part_looks (Seq a b) = 3
+part_looks (Alt a b) = 2
+part_looks other = 1
+
+-- the row of the place: which leaves are entered there, and which nodes have ended (of all in r where it keeps them, else r alone)
+pub record RowAt (nodes : List Node) (w : List ℕ) (r : ℕ) (s : Starts) (keeps : Bool) (p : ℕ) (entered ended : ℕ → Bool) : Type 0 where
+  pub leaves : (c : ℕ) → IsTrue (entered c) ↔ ((members : List Bool) × (slice_get nodes c ≡ Some (Set members)) × Enters nodes w r s c p)
+  pub ends : (c : ℕ) → IsTrue (ended c) ↔ ((IsTrue keeps ⊎ (c ≡ r)) × EndsAt nodes w r s c p)
+
+-- the same of the nodes from y on alone
+pub record RowFrom (nodes : List Node) (w : List ℕ) (r : ℕ) (s : Starts) (keeps : Bool) (p y : ℕ) (entered ended : ℕ → Bool) : Type 0 where
+  pub leaves : (c : ℕ) → IsTrue (entered c) ↔ ((y ≤ c) × ((members : List Bool) × (slice_get nodes c ≡ Some (Set members)) × Enters nodes w r s c p))
+  pub ends : (c : ℕ) → IsTrue (ended c) ↔ ((y ≤ c) × ((IsTrue keeps ⊎ (c ≡ r)) × EndsAt nodes w r s c p))
+
+-- from one row this byte leads to the other, at a place that is the text's end or not, and a start or not
+abbrev pub LeadsTo : List Node → ℕ → Bool → (ℕ → Bool) → (ℕ → Bool) → Option ℕ → Bool → Bool → (ℕ → Bool) → (ℕ → Bool) → Type 0
+LeadsTo nodes r keeps entered ended byte end start after after_ended = (w : List ℕ) (s : Starts) (p : ℕ) → SameBytes nodes (slice_get w p) byte →
+    (IsTrue end ↔ (p + 1 ≡ length w)) → (IsTrue start ↔ IsStart s (p + 1)) → RowAt nodes w r s keeps p entered ended → RowAt nodes w r s keeps (p + 1) after after_ended
+
+-- a pass from a place of the kind begins with the row
+abbrev pub IsFirst : List Node → ℕ → Bool → Bool → Bool → (ℕ → Bool) → (ℕ → Bool) → Type 0
+IsFirst nodes r keeps begin end entered ended = (w : List ℕ) (s : Starts) → IsPlace w s.first begin end → s.first ≤ s.last → RowAt nodes w r s keeps s.first entered ended

@@ -1,0 +1,139 @@
+-- Private to the proofs: no contract that `sedmatch` makes public cites what stands here.
+-- A table of the passes of one way: its states, its cells, and the codes by which they name states.
+use Rattle.std.specs.Prelude.{◌≡◌, ℕ, ◌+◌, ◌*◌, ◌/◌, ◌^◌, ◌<◌, ◌≤◌, ◌↔◌, Bool, true, false, List, length, slice_index_or, Some, IsTrue}
+use Rattle.sedre.specs.Arena.{IsExpr}
+use Rattle.sedre.specs.declared.types.Node.{Node}
+use Rattle.sedmarks.specs.declared.passes.Starts.{Starts}
+use Rattle.sedmarks.specs.Words.{row_of}
+use Rattle.sedpass.specs.Rows.{nodes_of, at_begin, at_end, bits, RowAt, LeadsTo, IsFirst}
+use Rattle.sedpass.specs.declared.nodes.Kind.{Kind}
+use Rattle.sedpass.specs.declared.nodes.Prepared.{Prepared}
+use Rattle.sedpass.specs.declared.rows.Way.{Way}
+use Rattle.sedpass.specs.declared.cells.Flags.{Flags}
+use Rattle.sedpass.specs.Cells.{stops, code_of, IsLayout, IsColumn}
+use Rattle.sedpass.specs.declared.table.Beginning.{Beginning}
+use Rattle.sedpass.specs.declared.table.Table.{Table}
+
+-- States.
+
+-- the root of a pass, the row of a place in it, and what is told of the row
+pub record State : Type 0 where
+  pub root : ℕ
+  pub entered : ℕ → Bool
+  pub ended : ℕ → Bool
+  pub flags : Flags
+
+-- the state of a table with this number, for m nodes
+abbrev pub state_of : ℕ → Table → ℕ → State
+state_of m t q = record {
+  root = slice_index_or t.roots.items q 0;
+  entered = bits m (row_of t.leaves q);
+  ended = bits m (row_of t.ends q);
+  flags = slice_index_or t.flags.items q (record { ends = false; dead = false });
+}
+
+-- the flags tell whether the root ends, and whether no leaf is entered
+abbrev pub IsTold : State → Type 0
+IsTold a = (a.flags.ends ≡ a.ended a.root) × (IsTrue a.flags.dead ↔ ((c : ℕ) → a.entered c ≡ false))
+
+-- the state has this root and row
+abbrev pub HasRow : ℕ → (ℕ → Bool) → (ℕ → Bool) → State → Type 0
+HasRow root entered ended a = (a.root ≡ root) × (a.entered ≡ entered) × (a.ended ≡ ended)
+
+-- the state's row is that of the place
+abbrev pub StateAt : List Node → List ℕ → Starts → Bool → ℕ → State → Type 0
+StateAt nodes w s keeps p a = RowAt nodes w a.root s keeps p a.entered a.ended
+
+-- this byte leads from the one state to the other, where the text's edge comes after it, or doesn't
+abbrev pub LeadsOn : List Node → Way → State → ℕ → Bool → State → Type 0
+LeadsOn nodes way a byte edge b = (b.root ≡ a.root) × LeadsTo nodes a.root way.keeps a.entered a.ended (Some byte) edge way.sweeps b.entered b.ended
+
+-- a pass for the root begins in the state, at places of the kind
+abbrev pub BeginsIn : List Node → Way → ℕ → Kind → State → Type 0
+BeginsIn nodes way root kind a = (a.root ≡ root) × IsFirst nodes root way.keeps (at_begin way.mirrored kind) (at_end way.mirrored kind) a.entered a.ended
+
+-- Codes.
+
+-- the number is the code of a state of the table of which P holds
+pub record Names (m : ℕ) (t : Table) (P : State → Type 0) (v : ℕ) : Type 0 where
+  pub to : ℕ
+  pub there : to < t.count
+  pub code : v ≡ code_of (stops t.way (state_of m t to).flags) (to * 2 ^ t.layout.shift)
+  pub is : P (state_of m t to)
+
+-- the cells of a state begin at the offset
+abbrev pub IsOffset : Table → ℕ → Type 0
+IsOffset t offset = (offset / 2 ^ t.layout.shift < t.count) × (offset ≡ offset / 2 ^ t.layout.shift * 2 ^ t.layout.shift)
+
+-- Cells.
+
+-- what stands in the cell of a state and a column
+abbrev pub cell_of : Table → ℕ → ℕ → ℕ
+cell_of t q k = slice_index_or t.cells.items (q * 2 ^ t.layout.shift + k) 0
+
+-- each byte of the column leads from the state of number q to this one
+abbrev pub LeadsBy : Prepared → Table → ℕ → ℕ → State → Type 0
+LeadsBy p t q k b = (byte : ℕ) (edge : Bool) → byte < 256 → IsColumn t.layout p.classes byte edge k →
+    LeadsOn (nodes_of t.way p.expr) t.way (state_of (length p.expr.nodes) t q) byte edge b
+
+-- Beginnings.
+
+abbrev pub kind_number : Bool → Bool → ℕ
+kind_number false false = 0
+kind_number true false = 1
+kind_number false true = 2
+kind_number true true = 3
+
+-- where a beginning is noted; in a sweep it is always one of the whole expression
+abbrev pub beginning_at : Bool → ℕ → Kind → ℕ
+beginning_at true root kind = kind_number kind.begin kind.end
+beginning_at false root kind = 4 * root + kind_number kind.begin kind.end
+
+abbrev pub beginning_of : Table → ℕ → Beginning
+beginning_of t i = slice_index_or t.beginnings.items i (record { epoch = 0; code = 0 })
+
+-- passes for the node may begin: for any, but in a sweep for the root of the expression alone
+abbrev pub MayBegin : Prepared → Way → ℕ → Type 0
+MayBegin p way root = (root < length p.expr.nodes) × (IsTrue way.sweeps → root ≡ p.root)
+
+-- Tables.
+
+-- all that a table has is there
+pub record HasRoom (m : ℕ) (t : Table) : Type 0 where
+  pub count : t.count ≤ t.room
+  pub some : 2 ≤ t.room
+  pub few : t.room ≤ 65535
+  pub leaves : length t.leaves ≡ t.room
+  pub ends : length t.ends ≡ t.room
+  pub leaf_marks : (q : ℕ) → q < t.room → length (row_of t.leaves q) ≡ m
+  pub end_marks : (q : ℕ) → q < t.room → length (row_of t.ends q) ≡ m
+  pub roots : length t.roots.items ≡ t.room
+  pub flags : length t.flags.items ≡ t.room
+  pub cells : length t.cells.items ≡ t.room * 2 ^ t.layout.shift
+  pub index : 2 ≤ length t.index.items
+  pub short : length t.beginnings.items ≤ 4 * m
+  pub begins : (root : ℕ) (kind : Kind) → root < m → beginning_at t.way.sweeps root kind < length t.beginnings.items
+
+-- what a table says is right for the expression: of each state, each filled cell, and each beginning of this epoch
+pub record IsTable (p : Prepared) (t : Table) : Type 0 where
+  pub expr : IsExpr p.expr.nodes p.expr.groups
+  pub room : HasRoom (length p.expr.nodes) t
+  pub layout : IsLayout (length p.expr.nodes) p.anchors t.layout
+  pub roots : (q : ℕ) → q < t.count → (state_of (length p.expr.nodes) t q).root < length p.expr.nodes
+  pub told : (q : ℕ) → q < t.count → IsTold (state_of (length p.expr.nodes) t q)
+  pub filled : (q k : ℕ) → q < t.count → k < t.layout.width → 0 < cell_of t q k → Names (length p.expr.nodes) t (LeadsBy p t q k) (cell_of t q k)
+  pub begun : (root : ℕ) (kind : Kind) → MayBegin p t.way root → (beginning_of t (beginning_at t.way.sweeps root kind)).epoch ≡ t.epoch →
+      Names (length p.expr.nodes) t (BeginsIn (nodes_of t.way p.expr) t.way root kind) (beginning_of t (beginning_at t.way.sweeps root kind)).code
+  pub past : (i : ℕ) → (beginning_of t i).epoch ≤ t.epoch
+
+-- what never changes
+abbrev pub SameShape : Table → Table → Type 0
+SameShape old new = (new.way ≡ old.way) × (new.room ≡ old.room) × (new.layout ≡ old.layout)
+
+-- a state was added at most, and those before stand as they were; or, in another epoch, all were forgotten before, as the table was full
+pub record AddsStates (m : ℕ) (old new : Table) : Type 0 where
+  pub shape : SameShape old new
+  pub grows : new.epoch ≡ old.epoch → (old.count ≤ new.count) × (new.count ≤ old.count + 1)
+  pub kept : new.epoch ≡ old.epoch → (q : ℕ) → q < old.count → state_of m new q ≡ state_of m old q
+  pub full : old.count < old.room → new.epoch ≡ old.epoch
+  pub forgot : (new.epoch ≡ old.epoch → ⊥) → new.count ≤ 1

@@ -1,0 +1,145 @@
+//! How a table names its states by codes, and lays out their cells.
+ghost use Rattle.std.specs.Prelude.{◌≡◌, ℕ, Bool, false, ◌+◌, ◌*◌, ◌^◌, ◌<◌, ◌≤◌, length, slice_index_or, IfSome, vec_len};
+ghost use Rattle.sedre.specs.Steps.{Takes};
+ghost use Rattle.sedpass.specs.Cells.{stops, code_of, IsLayout, ColumnAt};
+
+use crate::nodes::Prepared;
+use crate::rows::Way;
+use sedre::Steps;
+
+/// The least code of a state at which no pass stops to look.
+pub const PLAIN: u32 = 2147483648;
+
+/// How many cells a state has at most for each node of the expression.
+const CELLS_A_NODE: usize = 2;
+
+/// How many cells a state has at most.
+const MOST_CELLS: usize = 256;
+
+/// What is told of a state.
+#[derive(Clone, Copy)]
+pub struct Flags {
+    /// The root of its pass ends there.
+    pub ends: bool,
+    /// No leaf is entered there.
+    pub dead: bool,
+}
+
+/// How the cells of a state are laid out.
+#[derive(Clone, Copy)]
+pub struct Layout {
+    /// How many classes of bytes have cells; what a byte of another one leads to is found out anew each time.
+    pub columns: usize,
+    /// Where the cells begin for a byte after which the text's edge comes; None: it is found out anew each time.
+    pub edge: Option<usize>,
+    /// How many cells a state has.
+    pub width: usize,
+    /// The cells of a state begin at its number times this power of two.
+    pub shift: u32,
+}
+
+/// Whether a pass stops to look at a state.
+#[inline(always)]
+pub fn stops(way: Way, flags: Flags) -> bool
+    ensures { result ≡ stops way flags }
+{
+    if way.keeps {
+        flags.dead
+    } else {
+        flags.ends || (flags.dead && !way.sweeps)
+    }
+}
+
+/// The code of the state whose cells begin at a place.
+#[inline(always)]
+pub fn code_of(stops: bool, offset: usize) -> u32
+    requires { offset < 2147483647 }
+    ensures { result ≡ code_of stops offset }
+{
+    if stops {
+        offset as u32 + 1
+    } else {
+        PLAIN + offset as u32
+    }
+}
+
+/// Where the cells of the state with this code begin.
+#[inline(always)]
+pub fn offset_of(code: u32) -> usize
+    requires { 0 < code }
+    ensures { (stops : Bool) (offset : ℕ) → offset < 2147483647 → code ≡ code_of stops offset → result ≡ offset }
+{
+    if code >= PLAIN {
+        (code - PLAIN) as usize
+    } else {
+        (code - 1) as usize
+    }
+}
+
+/// The power of two that is no smaller.
+fn shift_for(width: usize) -> u32
+    requires { width ≤ 256 }
+    ensures small { result ≤ 8 }
+    ensures fits { width ≤ 2 ^ result }
+{
+    for shift in 0..8u32 {
+        if width <= (1usize << shift) {
+            return shift;
+        }
+    }
+    8
+}
+
+impl Layout {
+    /// The cells of a state for an expression: few for each node, so that a new state costs little.
+    pub fn new(prepared: &Prepared) -> Layout
+        ensures { IsLayout (length prepared.now.expr.nodes) prepared.now.anchors result }
+    {
+        let most = MOST_CELLS.min(CELLS_A_NODE * prepared.nodes());
+        let columns = prepared.columns.min(most);
+        let (edge, width) = if !prepared.anchors {
+            (Some(0), columns)
+        } else if columns <= most / 2 {
+            (Some(columns), 2 * columns)
+        } else {
+            (None, columns)
+        };
+        Layout {
+            columns,
+            edge,
+            width,
+            shift: shift_for(width),
+        }
+    }
+
+    /// The column of a class of bytes, if its cells are kept. `edge` says whether the text's edge comes after the byte.
+    #[inline(always)]
+    pub fn column(self, class: usize, edge: bool) -> Option<usize>
+        ensures { IfSome result (λ k. (class < self.columns) × ColumnAt self.edge class edge k) }
+    {
+        if class >= self.columns {
+            return None;
+        }
+        if !edge {
+            return Some(class);
+        }
+        match self.edge {
+            Some(first) => first.checked_add(class),
+            None => None,
+        }
+    }
+}
+
+/// Clears the cells from a place on. Counts a look for each.
+pub fn clear_cells(cells: &mut Vec<u32>, from: usize, count: usize, steps: &mut Steps)
+    requires inside { from + count ≤ vec_len cells.old }
+    ensures len { length cells.new.items ≡ length cells.old.items }
+    ensures clear { (k : ℕ) → k < count → slice_index_or cells.new.items (from + k) 0 ≡ 0 }
+    ensures before { (k : ℕ) → k < from → slice_index_or cells.new.items k 0 ≡ slice_index_or cells.old.items k 0 }
+    ensures cost { Takes steps.old steps.new count }
+{
+    steps.add(count);
+    for k in 0..count {
+        cells[from + k] = 0;
+    }
+}

@@ -1,0 +1,210 @@
+//! Passes for the whole expression, which stop as soon as no later place matters.
+ghost use Rattle.std.specs.Prelude.{◌≡◌, ℕ, true, false, ◌+◌, ◌-◌, ◌*◌, ◌/◌, ◌^◌, ◌<◌, ◌≤◌, ◌↔◌, length, min, Some, IsTrue, is_some};
+ghost use Rattle.sedmarks.specs.Costs.{Pays};
+ghost use Rattle.sedmarks.specs.Reach.{Longest};
+ghost use Rattle.sedmarks.specs.Spans.{SomeFound};
+ghost use Rattle.sedre.specs.Arena.{tree};
+ghost use Rattle.sedre.specs.Steps.{Takes, TakesAtLeast};
+ghost use Rattle.sedpass.specs.Rows.{nodes_of};
+ghost use Rattle.sedpass.specs.Table.{state_of, LeadsOn, Names, IsOffset, IsTable, SameShape};
+ghost use Rattle.sedpass.specs.Forwards.{Arrives, EndsBelow, PassIs};
+
+use crate::cells::{PLAIN, offset_of};
+use crate::nodes::{Prepared, kind_of};
+use crate::rows::Work;
+use crate::table::Table;
+use sedmarks::counted::{Bytes, Tally};
+use sedre::Steps;
+
+/// Where a pass is.
+#[derive(Clone, Copy)]
+pub struct Passed {
+    /// Where its state's cells begin.
+    pub offset: usize,
+    /// The place.
+    pub place: usize,
+    /// The last place at which its root ended.
+    pub end: Option<usize>,
+    /// Whether it needn't go on.
+    pub over: bool,
+}
+
+/// The last end, where the root ends at this place or doesn't.
+#[inline(always)]
+fn last_end(ends: bool, place: usize, before: Option<usize>) -> Option<usize>
+    ensures here { IsTrue ends → result ≡ Some place }
+    ensures before { ends ≡ false → result ≡ before }
+{
+    if ends { Some(place) } else { before }
+}
+
+impl Table {
+    /// The pass at a place whose state has this code. `end` is the last end before it.
+    #[inline(always)]
+    fn arrive(
+        &self,
+        prepared: &Prepared,
+        text: &Bytes,
+        code: u32,
+        place: usize,
+        end: Option<usize>,
+    ) -> Passed
+        requires table { IsTable prepared.now self.now }
+        requires code { Names (length prepared.now.expr.nodes) self.now (λ a. Unit {0}) code }
+        ensures place { result.place ≡ place }
+        ensures offset { IsOffset self.now result.offset }
+        ensures passes { self.now.way.keeps ≡ false → (start : ℕ) → start ≤ place → place ≤ length text.now →
+            Names (length prepared.now.expr.nodes) self.now (Arrives prepared.now self.now.way text.now start place) code →
+            EndsBelow prepared.now self.now.way text.now start place end →
+            PassIs prepared.now self.now text.now start result }
+    {
+        let offset = offset_of(code);
+        if code >= PLAIN {
+            return Passed {
+                offset,
+                place,
+                end,
+                over: false,
+            };
+        }
+        let flags = self.flags[self.state_at(offset)];
+        Passed {
+            offset,
+            place,
+            end: last_end(flags.ends, place, end),
+            over: self.way.sweeps || flags.dead,
+        }
+    }
+
+    /// Follows filled cells up to a place: as far as they are filled, or to where the pass needn't go on.
+    fn follow(
+        &self,
+        prepared: &Prepared,
+        text: &Bytes,
+        from: Passed,
+        to: usize,
+        steps: &mut Steps,
+    ) -> Passed
+        requires table { IsTable prepared.now self.now }
+        requires offset { IsOffset self.now from.offset }
+        requires over { from.over ≡ false }
+        requires order { from.place ≤ to }
+        requires to { to < length text.now }
+        ensures offset { IsOffset self.now result.offset }
+        ensures after { from.place ≤ result.place }
+        ensures within { result.place ≤ to }
+        ensures moved { IsTrue result.over → from.place < result.place }
+        ensures passes { self.now.way.keeps ≡ false → (start : ℕ) → PassIs prepared.now self.now text.now start from → PassIs prepared.now self.now text.now start result }
+        ensures cost { Pays steps.old steps.new (2 * min (result.place + 1) to) (2 * from.place) }
+        ensures counts { TakesAtLeast steps.old steps.new (2 * (result.place - from.place)) }
+    {
+        let mut bytes = Tally::new();
+        let mut at = from;
+        for place in from.place..to {
+            let byte = text.tallied(place, &mut bytes);
+            let cell = self.known(prepared, at.offset, byte, false);
+            if cell == 0 {
+                break;
+            }
+            at = self.arrive(prepared, text, cell, place + 1, at.end);
+            if at.over {
+                break;
+            }
+        }
+        steps.add(bytes.count());
+        steps.add(bytes.count());
+        at
+    }
+
+    /// The code of the state after a state and a byte: at the text's edge, or where the cell is known to be empty.
+    #[inline(always)]
+    fn step_on(
+        &mut self,
+        prepared: &Prepared,
+        offset: usize,
+        byte: u8,
+        edge: bool,
+        work: &mut Work,
+        steps: &mut Steps,
+    ) -> u32
+        requires table { IsTable prepared.now self.old }
+        requires offset { IsOffset self.old offset }
+        ensures table { IsTable prepared.now self.new }
+        ensures shape { SameShape self.old self.new }
+        ensures names { Names (length prepared.now.expr.nodes) self.new (LeadsOn (nodes_of self.old.way prepared.now.expr) self.old.way
+            (state_of (length prepared.now.expr.nodes) self.old (offset / 2 ^ self.old.layout.shift)) byte edge) result }
+        ensures cost { Takes steps.old steps.new (38 * length prepared.now.expr.nodes) }
+        ensures inside { edge ≡ false → Takes steps.old steps.new (37 * length prepared.now.expr.nodes) }
+        ensures counts { TakesAtLeast steps.old steps.new 1 }
+    {
+        if edge {
+            self.next(prepared, offset, byte, edge, work, steps)
+        } else {
+            self.fill(prepared, offset, byte, edge, work, steps)
+        }
+    }
+
+    /// Goes on to the next place whose state the cells don't tell, or to where the pass needn't go on.
+    fn go_on(
+        &mut self,
+        prepared: &Prepared,
+        text: &Bytes,
+        from: Passed,
+        work: &mut Work,
+        steps: &mut Steps,
+    ) -> Passed
+        requires table { IsTable prepared.now self.old }
+        requires offset { IsOffset self.old from.offset }
+        requires over { from.over ≡ false }
+        requires inside { from.place < length text.now }
+        ensures table { IsTable prepared.now self.new }
+        ensures shape { SameShape self.old self.new }
+        ensures offset { IsOffset self.new result.offset }
+        ensures after { from.place < result.place }
+        ensures within { result.place ≤ length text.now }
+        ensures passes { self.old.way.keeps ≡ false → (start : ℕ) → PassIs prepared.now self.old text.now start from → PassIs prepared.now self.new text.now start result }
+        ensures cost { Pays steps.old steps.new (40 * length prepared.now.expr.nodes * result.place) (40 * length prepared.now.expr.nodes * from.place) }
+        ensures counts { TakesAtLeast steps.old steps.new (2 * (result.place - from.place)) }
+    {
+        let last = text.len() - 1;
+        let at = self.follow(prepared, text, from, last, steps);
+        if at.over {
+            return at;
+        }
+        let byte = text.byte(at.place, steps);
+        let code = self.step_on(prepared, at.offset, byte, at.place == last, work, steps);
+        self.arrive(prepared, text, code, at.place + 1, at.end)
+    }
+
+    /// Passes from a place until no match that began there can end later; in a sweep, over all places from there on, until
+    /// some match ends. `end` of the result is the longest match, or tells whether there is one, wherever the pass stopped.
+    pub fn run(
+        &mut self,
+        prepared: &Prepared,
+        text: &Bytes,
+        from: usize,
+        work: &mut Work,
+        steps: &mut Steps,
+    ) -> Passed
+        requires table { IsTable prepared.now self.old }
+        requires forwards { self.old.way.mirrored ≡ false }
+        requires keeps { self.old.way.keeps ≡ false }
+        requires from { from ≤ length text.now }
+        ensures table { IsTable prepared.now self.new }
+        ensures shape { SameShape self.old self.new }
+        ensures after { from ≤ result.place }
+        ensures within { result.place ≤ length text.now }
+        ensures longest { self.old.way.sweeps ≡ false → Longest (tree prepared.now.expr) text.now from result.end }
+        ensures found { IsTrue self.old.way.sweeps → IsTrue (is_some result.end) ↔ SomeFound (tree prepared.now.expr) text.now from }
+        ensures cost { Pays steps.old steps.new (40 * length prepared.now.expr.nodes * (result.place + 1)) (40 * length prepared.now.expr.nodes * from) }
+        ensures counts { TakesAtLeast steps.old steps.new (2 * (result.place - from)) }
+    {
+        let kind = kind_of(from, text.len());
+        let code = self.first(prepared, prepared.root, kind, work, steps);
+        let mut at = self.arrive(prepared, text, code, from, None);
+        while !at.over && at.place < text.len() {
+            at = self.go_on(prepared, text, at, work, steps);
+        }
+        at
+    }
+}

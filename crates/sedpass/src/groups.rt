@@ -1,0 +1,622 @@
+//! Which span each group of a match has, decided from the match's end: what is written first stands.
+//!
+//! A spine goes from a node to what ends where the node does, in one region of the kept pass, and writes the groups that
+//! are due. What stands left of it waits as a task.
+ghost use Rattle.std.specs.Prelude.{◌≡◌, ℕ, false, [], ◌∷◌, ◌++◌, reverse, ◌+◌, ◌-◌, ◌*◌, ◌<◌, ◌≤◌, ◌↔◌, length, IsTrue, Option, Some, None, IfSome, slice_index_or, vec_len, vec_capacity, slice_get};
+ghost use Rattle.sedre.specs.Arena.{IsArena, tree_at, tree};
+ghost use Rattle.sedre.specs.Steps.{Takes, TakesAtLeast};
+ghost use Rattle.sedpass.specs.Regions.{StopsAt, RunsTo, IsRunOf};
+ghost use Rattle.sedre.specs.declared.types.Node.{Node};
+ghost use Rattle.sedre.specs.declared.types.Node.TheVariants.{Seq, Alt, Star, Opt};
+ghost use Rattle.sedmarks.specs.Caps.{Groups, LastCut, LastCopy, IsReport};
+ghost use Rattle.sedmarks.specs.Costs.{Pays};
+ghost use Rattle.sedmarks.specs.Places.{InOrder};
+ghost use Rattle.sedmarks.specs.Reach.{At};
+ghost use Rattle.sedpass.specs.Decide.{found, HasAll, nodes_in, text_in, told_of, IsTold, Stands, Repeats, EndsIn, GoesOn, IsDesk, IsMatch, Turns, waiting, long_of, kind_cost, IsOpen, LooksAt, next_of, owed_in, IsSetAt, due_in, due_after, turn_cost, HasDesk, IsSpent};
+ghost use Rattle.sedpass.specs.Overlay.{State, settle, drop_groups, NoneDue};
+ghost use Rattle.sedpass.specs.Prepared.{IsFacts};
+ghost use Rattle.sedpass.specs.Turns.{AreReady, Reduces, weights, looks, tasks_of};
+ghost use Rattle.sedpass.specs.Kept.{SameKept};
+ghost use Rattle.sedpass.specs.Groups.{holds};
+ghost use Rattle.sedpass.specs.declared.groups.GroupTables.{GroupTables};
+ghost use Rattle.sedpass.specs.declared.kept.Region.{Region};
+
+use crate::group_set::GroupSet;
+use crate::kept::{Kept, Subject};
+use crate::nodes::{Facts, Prepared, kind_of};
+use crate::table::Table;
+use sedre::{Node, NodeId, Steps};
+
+/// The spans of the groups; entry 0 is the whole match.
+pub type Spans = [Option<(usize, usize)>; 10];
+
+/// A node, and the span that it matches.
+#[derive(Clone, Copy)]
+pub struct Matched {
+    /// The node.
+    pub node: usize,
+    /// Where its match begins.
+    pub start: usize,
+    /// Where it ends.
+    pub stop: usize,
+}
+
+/// One thing that is still to do.
+#[derive(Clone, Copy)]
+pub enum Task {
+    /// Decide the groups of a node on a span, in a region of its own.
+    Apart(usize, usize, usize),
+    /// What is still due of a node's groups has no span.
+    Forget(usize),
+}
+
+/// What comes in place of a node that was looked at.
+#[derive(Clone, Copy)]
+pub enum Then {
+    /// Nothing.
+    Done,
+    /// A match in the same region.
+    One(Matched),
+    /// Such a match, and a task after it.
+    Two(Matched, Task),
+}
+
+/// The tables by which groups are decided.
+#[derive(Drop)]
+pub struct GroupTables {
+    /// Forwards from one start.
+    pub ahead: Table,
+    /// Backwards from a region's end, the states of its places kept.
+    pub inside: Table,
+}
+
+/// What is told of the groups so far.
+#[derive(Clone, Copy)]
+pub struct Told {
+    /// The groups for which nothing was written yet.
+    pub due: GroupSet,
+    /// What was written.
+    pub spans: Spans,
+}
+
+/// Room to decide groups in.
+#[derive(Drop)]
+pub struct GroupRoom {
+    /// The region.
+    pub kept: Kept,
+    /// The tasks that wait, the next one last.
+    pub tasks: Vec<Task>,
+}
+
+/// What is told of a node.
+fn facts_at(prepared: &Prepared, x: usize) -> Facts
+    requires { x < length prepared.now.expr.nodes }
+    ensures { IsFacts (tree_at prepared.now.expr.nodes x) x result }
+{
+    prepared.facts[x]
+}
+
+/// Whether a group of a node is due.
+fn is_due(prepared: &Prepared, x: usize, due: GroupSet) -> bool
+    requires inside { x < length prepared.now.expr.nodes }
+    requires whole { holds due 0 ≡ false }
+    ensures { result ≡ false → (spans : Groups) → NoneDue (tree_at prepared.now.expr.nodes x) (told_of due spans) }
+{
+    facts_at(prepared, x).groups.meets(due)
+}
+
+/// Gives a group its span, if it is due.
+fn settle_group(told: &mut Told, k: usize, span: (usize, usize))
+    requires { IsTold told.old }
+    ensures told { IsTold told.new }
+    ensures state { told_of told.new.due told.new.spans ≡ settle k (Some span) (told_of told.old.due told.old.spans) }
+    ensures few { found told.new.spans ≤ found told.old.spans + 1 }
+{
+    if told.due.has(k) {
+        told.due = told.due.without(GroupSet::one(k));
+        told.spans[k] = Some(span);
+    }
+}
+
+/// What is still due of a node's groups has no span.
+fn forget(prepared: &Prepared, told: &mut Told, x: usize)
+    requires inside { x < length prepared.now.expr.nodes }
+    requires told { IsTold told.old }
+    ensures told { IsTold told.new }
+    ensures spans { told.new.spans ≡ told.old.spans }
+    ensures state { told_of told.new.due told.new.spans ≡ drop_groups (tree_at prepared.now.expr.nodes x) (told_of told.old.due told.old.spans) }
+{
+    told.due = told.due.without(facts_at(prepared, x).groups);
+}
+
+/// Where a pass over a node from a place and the kept one cease to meet.
+fn meeting_end(
+    subject: Subject,
+    tables: &mut GroupTables,
+    kept: &mut Kept,
+    node: usize,
+    from: usize,
+    steps: &mut Steps,
+) -> usize
+    requires node { node ≤ kept.old.region.root }
+    requires from { from ≤ kept.old.region.end }
+    requires desk { IsDesk subject tables.old kept.old }
+    ensures stops { StopsAt (nodes_in subject.entry) (text_in subject.entry) kept.old.region.root kept.old.region.end node from result }
+    ensures within { result ≤ kept.old.region.end }
+    ensures same { SameKept kept.old kept.new }
+    ensures desk { IsDesk subject.entry tables.new kept.new }
+    ensures cost { Pays steps.old steps.new (owed_in subject.entry tables.old kept.old.region from + 40 * length (nodes_in subject.entry) * (result + 2))
+        (owed_in subject.entry tables.new kept.new.region result + 40 * length (nodes_in subject.entry) * from) }
+    ensures counts { TakesAtLeast steps.old steps.new (2 * (result - from) + 1) }
+{
+    kept.cut(
+        subject,
+        &mut tables.inside,
+        &mut tables.ahead,
+        node,
+        from,
+        steps,
+    )
+}
+
+/// Where a run of the set at a leaf ends.
+fn run_end(
+    subject: Subject,
+    tables: &mut GroupTables,
+    kept: &mut Kept,
+    leaf: usize,
+    from: usize,
+    steps: &mut Steps,
+) -> usize
+    requires arena { IsArena (nodes_in subject) }
+    requires leaf { IsSetAt (nodes_in subject) leaf }
+    requires from { from ≤ kept.old.region.end }
+    requires desk { IsDesk subject tables.old kept.old }
+    ensures runs { RunsTo (nodes_in subject.entry) (text_in subject.entry) kept.old.region.root kept.old.region.end leaf from result }
+    ensures within { result ≤ kept.old.region.end }
+    ensures same { SameKept kept.old kept.new }
+    ensures desk { IsDesk subject.entry tables.new kept.new }
+    ensures cost { Pays steps.old steps.new (owed_in subject.entry tables.old kept.old.region from + 2 * result + 2) (owed_in subject.entry tables.new kept.new.region result + 2 * from) }
+    ensures counts { TakesAtLeast steps.old steps.new (result - from) }
+{
+    kept.seek(subject, &mut tables.inside, leaf, from, false, steps)
+}
+
+/// Where the last copy of a repetition begins.
+fn last_copy(
+    subject: Subject,
+    tables: &mut GroupTables,
+    kept: &mut Kept,
+    here: Matched,
+    a: NodeId,
+    steps: &mut Steps,
+) -> usize
+    requires here { Repeats subject here a }
+    requires some { here.start < here.stop }
+    requires ends { EndsIn subject kept.old.region here }
+    requires desk { IsDesk subject tables.old kept.old }
+    ensures copy { LastCopy (At (nodes_in subject.entry) (text_in subject.entry) a.index) here.stop here.start result }
+    ensures desk { IsDesk subject.entry tables.new kept.new }
+    ensures cost { Takes steps.old steps.new (due_in subject.entry tables.old kept.old.region here) }
+    ensures counts { IsOpen (nodes_in subject.entry) a.index → TakesAtLeast steps.old steps.new (here.stop - here.start) }
+{
+    let part = a.index();
+    if let Some(length) = facts_at(subject.prepared, part).length {
+        return here.stop - length;
+    }
+    let mut copy = here.start;
+    let mut end = here.start;
+    'copies: while end < here.stop {
+        copy = end;
+        end = meeting_end(subject, tables, kept, part, copy, steps);
+    }
+    copy
+}
+
+/// Where a concatenation is cut, if the length of a part decides it.
+fn fixed_cut(subject: Subject, here: Matched, left: usize, right: usize) -> Option<usize>
+    requires left { left < length (nodes_in subject) }
+    requires right { right < length (nodes_in subject) }
+    requires fits { here.stop ≤ length (text_in subject) }
+    requires parts { (k : ℕ) × At (nodes_in subject) (text_in subject) left here.start k × At (nodes_in subject) (text_in subject) right k here.stop }
+    ensures cut { IfSome result (λ k. LastCut (At (nodes_in subject.entry) (text_in subject.entry) left) (At (nodes_in subject.entry) (text_in subject.entry) right) here.start here.stop k) }
+    ensures open { IsOpen (nodes_in subject.entry) left → IsOpen (nodes_in subject.entry) right → IfSome result (λ k. k ≡ here.start) }
+{
+    if here.start == here.stop {
+        return Some(here.start);
+    }
+    if let Some(length) = facts_at(subject.prepared, left).length {
+        return Some(subject.text.after(here.start, length));
+    }
+    if let Some(length) = facts_at(subject.prepared, right).length {
+        return Some(here.stop - length);
+    }
+    None
+}
+
+/// The set that a node repeats, if it repeats one.
+fn run_at(prepared: &Prepared, x: usize) -> Option<usize>
+    requires { x < length prepared.now.expr.nodes }
+    ensures { IfSome result (λ c. IsRunOf prepared.now.expr.nodes c x × IsSetAt prepared.now.expr.nodes c) }
+{
+    // What always holds of an expression is told with the number of its nodes.
+    let _nodes = prepared.nodes();
+    facts_at(prepared, x).run
+}
+
+/// Where a concatenation is cut: the greatest place at which its left part ends and from which its right part matches.
+fn last_cut(
+    subject: Subject,
+    tables: &mut GroupTables,
+    kept: &mut Kept,
+    here: Matched,
+    a: NodeId,
+    b: NodeId,
+    steps: &mut Steps,
+) -> usize
+    requires here { Stands subject here (Seq a b) }
+    requires ends { EndsIn subject kept.old.region here }
+    requires desk { IsDesk subject tables.old kept.old }
+    ensures cut { LastCut (At (nodes_in subject.entry) (text_in subject.entry) a.index) (At (nodes_in subject.entry) (text_in subject.entry) b.index) here.start here.stop result }
+    ensures same { SameKept kept.old kept.new }
+    ensures desk { IsDesk subject.entry tables.new kept.new }
+    ensures cost { Pays steps.old steps.new (due_in subject.entry tables.old kept.old.region here + 90 * length (nodes_in subject.entry))
+        (due_in subject.entry tables.new kept.new.region (record here { start = result })) }
+    ensures counts { IsOpen (nodes_in subject.entry) a.index → IsOpen (nodes_in subject.entry) b.index → TakesAtLeast steps.old steps.new (result - here.start) }
+{
+    let (left, right) = (a.index(), b.index());
+    if let Some(cut) = fixed_cut(subject, here, left, right) {
+        return cut;
+    }
+    if let Some(leaf) = run_at(subject.prepared, left) {
+        return run_end(subject, tables, kept, leaf, here.start, steps);
+    }
+    meeting_end(subject, tables, kept, left, here.start, steps)
+}
+
+/// Whether a repetition that matches the null string at a place takes one empty copy of its part.
+fn has_empty_copy(
+    subject: Subject,
+    part: usize,
+    first: bool,
+    place: usize,
+    steps: &mut Steps,
+) -> bool
+    requires part { part < length (nodes_in subject) }
+    requires place { place ≤ length (text_in subject) }
+    ensures copy { IsTrue result ↔ (IsTrue first × At (nodes_in subject.entry) (text_in subject.entry) part place place) }
+    ensures cost { Takes steps.old steps.new 1 }
+{
+    first
+        && subject
+            .prepared
+            .null_at(part, kind_of(place, subject.text.len()), steps)
+}
+
+/// What comes in place of a concatenation: its right part, and then the left one, if a group of it is due.
+fn turn_seq(
+    subject: Subject,
+    tables: &mut GroupTables,
+    kept: &mut Kept,
+    due: GroupSet,
+    here: Matched,
+    parts: (NodeId, NodeId),
+    steps: &mut Steps,
+) -> Then
+    requires here { Stands subject here (Seq parts.0 parts.1) }
+    requires whole { holds due 0 ≡ false }
+    requires ends { EndsIn subject kept.old.region here }
+    requires desk { IsDesk subject tables.old kept.old }
+    ensures turn { (spans : Groups) → Turns subject.entry here (told_of due spans) (told_of due spans) result }
+    ensures goes { GoesOn subject.entry kept.new.region (next_of result) }
+    ensures desk { IsDesk subject.entry tables.new kept.new }
+    ensures cost { Pays steps.old steps.new (due_in subject.entry tables.old kept.old.region here + kind_cost subject.entry here)
+        (due_after subject.entry tables.new kept.new.region (long_of here) (next_of result)) }
+    ensures looks { LooksAt subject.entry here (Seq parts.0 parts.1) (next_of result) steps.old steps.new }
+{
+    let (a, b) = parts;
+    let (left, right) = (a.index(), b.index());
+    let cut = last_cut(subject, tables, kept, here, a, b, steps);
+    let next = Matched {
+        node: right,
+        start: cut,
+        stop: here.stop,
+    };
+    if is_due(subject.prepared, left, due) {
+        Then::Two(next, Task::Apart(left, here.start, cut))
+    } else {
+        Then::One(next)
+    }
+}
+
+/// What comes in place of an alternation: the left alternative, if it matches, and else the right one.
+fn turn_alt(
+    subject: Subject,
+    tables: &mut GroupTables,
+    kept: &mut Kept,
+    here: Matched,
+    a: NodeId,
+    b: NodeId,
+    steps: &mut Steps,
+) -> Then
+    requires here { Stands subject here (Alt a b) }
+    requires ends { EndsIn subject kept.old.region here }
+    requires desk { IsDesk subject tables.old kept.old }
+    ensures turn { (s : State) → Turns subject.entry here s s result }
+    ensures goes { GoesOn subject.entry kept.new.region (next_of result) }
+    ensures desk { IsDesk subject.entry tables.new kept.new }
+    ensures cost { Pays steps.old steps.new (due_in subject.entry tables.old kept.old.region here + kind_cost subject.entry here)
+        (due_after subject.entry tables.new kept.new.region (long_of here) (next_of result)) }
+    ensures looks { LooksAt subject.entry here (Alt a b) (next_of result) steps.old steps.new }
+{
+    let (left, right) = (a.index(), b.index());
+    let spans = kept.spans(subject, &mut tables.inside, left, here.start, steps);
+    if spans {
+        Then::One(Matched { node: left, ..here })
+    } else {
+        Then::One(Matched {
+            node: right,
+            ..here
+        })
+    }
+}
+
+/// What comes in place of any number of copies: the last one, in a region of its own.
+fn turn_star(
+    subject: Subject,
+    tables: &mut GroupTables,
+    kept: &mut Kept,
+    here: Matched,
+    a: NodeId,
+    first: bool,
+    steps: &mut Steps,
+) -> Then
+    requires here { Stands subject here (Star a first) }
+    requires ends { EndsIn subject kept.old.region here }
+    requires desk { IsDesk subject tables.old kept.old }
+    ensures turn { (s : State) → Turns subject.entry here s s result }
+    ensures goes { GoesOn subject.entry kept.new.region (next_of result) }
+    ensures desk { IsDesk subject.entry tables.new kept.new }
+    ensures cost { Pays steps.old steps.new (due_in subject.entry tables.old kept.old.region here + kind_cost subject.entry here)
+        (due_after subject.entry tables.new kept.new.region (long_of here) (next_of result)) }
+    ensures looks { LooksAt subject.entry here (Star a first) (next_of result) steps.old steps.new }
+{
+    let part = a.index();
+    if here.start < here.stop {
+        let copy = last_copy(subject, tables, kept, here, a, steps);
+        kept.begin(subject, &tables.inside, part, here.stop);
+        let next = Matched {
+            node: part,
+            start: copy,
+            stop: here.stop,
+        };
+        Then::Two(next, Task::Forget(part))
+    } else if has_empty_copy(subject, part, first, here.start, steps) {
+        kept.begin(subject, &tables.inside, part, here.stop);
+        Then::Two(Matched { node: part, ..here }, Task::Forget(part))
+    } else {
+        Then::Done
+    }
+}
+
+/// What comes in place of one copy or none.
+fn turn_opt(subject: Subject, here: Matched, a: NodeId, first: bool, steps: &mut Steps) -> Then
+    requires here { Stands subject here (Opt a first) }
+    ensures turn { (s : State) → Turns subject.entry here s s result }
+    ensures goes { (r : Region) → EndsIn subject.entry r here → GoesOn subject.entry r (next_of result) }
+    ensures cost { (tables : GroupTables) (r : Region) → Pays steps.old steps.new (due_in subject.entry tables r here + kind_cost subject.entry here)
+        (due_after subject.entry tables r (long_of here) (next_of result)) }
+{
+    let part = a.index();
+    if here.start < here.stop {
+        Then::Two(Matched { node: part, ..here }, Task::Forget(part))
+    } else if has_empty_copy(subject, part, first, here.start, steps) {
+        Then::Two(Matched { node: part, ..here }, Task::Forget(part))
+    } else {
+        Then::Done
+    }
+}
+
+/// What comes in place of a node of this kind.
+fn turn_node(
+    subject: Subject,
+    tables: &mut GroupTables,
+    kept: &mut Kept,
+    told: &mut Told,
+    here: Matched,
+    node: &Node,
+    steps: &mut Steps,
+) -> Then
+    requires here { Stands subject here node.now }
+    requires ends { EndsIn subject kept.old.region here }
+    requires desk { IsDesk subject tables.old kept.old }
+    requires told { IsTold told.old }
+    ensures turn { Turns subject.entry here (told_of told.old.due told.old.spans) (told_of told.new.due told.new.spans) result }
+    ensures goes { GoesOn subject.entry kept.new.region (next_of result) }
+    ensures desk { IsDesk subject.entry tables.new kept.new }
+    ensures told { IsTold told.new }
+    ensures few { found told.new.spans ≤ found told.old.spans + 1 }
+    ensures cost { Pays steps.old steps.new (due_in subject.entry tables.old kept.old.region here + kind_cost subject.entry here)
+        (due_after subject.entry tables.new kept.new.region (long_of here) (next_of result)) }
+    ensures looks { LooksAt subject.entry here node.now (next_of result) steps.old steps.new }
+{
+    match node {
+        Node::Empty => Then::Done,
+        Node::Set(_) => Then::Done,
+        Node::Begin => Then::Done,
+        Node::End => Then::Done,
+        Node::Seq(a, b) => turn_seq(subject, tables, kept, told.due, here, (*a, *b), steps),
+        Node::Alt(a, b) => turn_alt(subject, tables, kept, here, *a, *b, steps),
+        Node::Group(k, a) => {
+            settle_group(told, *k, (here.start, here.stop));
+            let part = a.index();
+            Then::Two(Matched { node: part, ..here }, Task::Forget(part))
+        }
+        Node::Star(a, first) => turn_star(subject, tables, kept, here, *a, *first, steps),
+        Node::Opt(a, first) => turn_opt(subject, here, *a, *first, steps),
+    }
+}
+
+/// What comes in place of a match: nothing, unless a group in it is due.
+fn turn(
+    subject: Subject,
+    tables: &mut GroupTables,
+    kept: &mut Kept,
+    told: &mut Told,
+    here: Matched,
+    steps: &mut Steps,
+) -> Then
+    requires arena { IsArena (nodes_in subject) }
+    requires there { IsMatch subject here }
+    requires ends { EndsIn subject kept.old.region here }
+    requires desk { IsDesk subject tables.old kept.old }
+    requires told { IsTold told.old }
+    ensures turn { Turns subject.entry here (told_of told.old.due told.old.spans) (told_of told.new.due told.new.spans) result }
+    ensures goes { GoesOn subject.entry kept.new.region (next_of result) }
+    ensures desk { IsDesk subject.entry tables.new kept.new }
+    ensures told { IsTold told.new }
+    ensures cost { Pays steps.old steps.new (due_in subject.entry tables.old kept.old.region here + turn_cost (length (nodes_in subject.entry)) (long_of here))
+        (due_after subject.entry tables.new kept.new.region (long_of here) (next_of result)) }
+    ensures counts { TakesAtLeast steps.old steps.new (found told.new.spans - found told.old.spans) }
+    ensures looks { (node : Node) → slice_get (nodes_in subject.entry) here.node ≡ Some node → (NoneDue (tree_at (nodes_in subject.entry) here.node) (told_of told.old.due told.old.spans) → ⊥) →
+        LooksAt subject.entry here node (next_of result) steps.old steps.new }
+{
+    if is_due(subject.prepared, here.node, told.due) {
+        let node = subject.prepared.look(here.node, false, steps);
+        turn_node(subject, tables, kept, told, here, &node, steps)
+    } else {
+        Then::Done
+    }
+}
+
+/// Lets the task wait that comes after the match, and gives the match.
+fn put(then: Then, tasks: &mut Vec<Task>) -> Option<Matched>
+    requires { vec_len tasks.old + 1 ≤ vec_capacity tasks.old }
+    ensures first { result ≡ next_of then }
+    ensures items { waiting result tasks.new.items ≡ tasks_of then ++ reverse tasks.old.items }
+    ensures room { vec_capacity tasks.old ≤ vec_capacity tasks.new }
+{
+    match then {
+        Then::Done => None,
+        Then::One(next) => Some(next),
+        Then::Two(next, later) => {
+            tasks.push_reserved(later);
+            Some(next)
+        }
+    }
+}
+
+/// Goes from a match to what ends where it does, and writes the groups that are due there.
+fn spine(
+    subject: Subject,
+    tables: &mut GroupTables,
+    room: &mut GroupRoom,
+    told: &mut Told,
+    here: Matched,
+    steps: &mut Steps,
+)
+    requires arena { IsArena (nodes_in subject) }
+    requires ready { AreReady (nodes_in subject) (text_in subject) (waiting (Some here) room.old.tasks.items) }
+    requires room { weights (nodes_in subject) (waiting (Some here) room.old.tasks.items) ≤ vec_capacity room.old.tasks }
+    requires desk { HasDesk subject tables.old room.old.kept }
+    requires told { IsTold told.old }
+    ensures room { vec_capacity room.old.tasks ≤ vec_capacity room.new.tasks }
+    ensures desk { HasDesk subject.entry tables.new room.new.kept }
+    ensures told { IsTold told.new }
+    ensures reduces { Reduces (nodes_in subject.entry) (text_in subject.entry) (waiting (Some here) room.old.tasks.items) (told_of told.old.due told.old.spans)
+        (reverse room.new.tasks.items) (told_of told.new.due told.new.spans) }
+    ensures cost { IsSpent (nodes_in subject.entry) (waiting (Some here) room.old.tasks.items) (reverse room.new.tasks.items) steps.old steps.new }
+    ensures counts { TakesAtLeast steps.old steps.new (found told.new.spans - found told.old.spans) }
+{
+    room.kept
+        .begin(subject, &tables.inside, here.node, here.stop);
+    let mut at = Some(here);
+    'nodes: while let Some(next) = at {
+        let then = turn(subject, tables, &mut room.kept, told, next, steps);
+        at = put(then, &mut room.tasks);
+    }
+}
+
+/// Does one task.
+fn work(
+    subject: Subject,
+    tables: &mut GroupTables,
+    room: &mut GroupRoom,
+    told: &mut Told,
+    task: Task,
+    steps: &mut Steps,
+)
+    requires arena { IsArena (nodes_in subject) }
+    requires ready { AreReady (nodes_in subject) (text_in subject) (task ∷ reverse room.old.tasks.items) }
+    requires room { weights (nodes_in subject) (task ∷ reverse room.old.tasks.items) ≤ vec_capacity room.old.tasks }
+    requires desk { HasDesk subject tables.old room.old.kept }
+    requires told { IsTold told.old }
+    ensures room { vec_capacity room.old.tasks ≤ vec_capacity room.new.tasks }
+    ensures desk { HasDesk subject.entry tables.new room.new.kept }
+    ensures told { IsTold told.new }
+    ensures reduces { Reduces (nodes_in subject.entry) (text_in subject.entry) (task ∷ reverse room.old.tasks.items) (told_of told.old.due told.old.spans)
+        (reverse room.new.tasks.items) (told_of told.new.due told.new.spans) }
+    ensures cost { IsSpent (nodes_in subject.entry) (task ∷ reverse room.old.tasks.items) (reverse room.new.tasks.items) steps.old steps.new }
+    ensures counts { TakesAtLeast steps.old steps.new (found told.new.spans - found told.old.spans) }
+{
+    match task {
+        Task::Forget(x) => forget(subject.prepared, told, x),
+        Task::Apart(node, start, stop) => {
+            spine(
+                subject,
+                tables,
+                room,
+                told,
+                Matched { node, start, stop },
+                steps,
+            )
+        }
+    }
+}
+
+/// The groups of the whole expression.
+pub fn all_groups(prepared: &Prepared) -> GroupSet
+    ensures whole { holds result 0 ≡ false }
+    ensures all { HasAll result (tree prepared.now.expr) }
+{
+    facts_at(prepared, prepared.root).groups
+}
+
+/// The groups of the match `start..stop` of the whole expression, of those that are asked for: `due` are some of them, or
+/// [`all_groups`].
+pub fn decide(
+    subject: Subject,
+    tables: &mut GroupTables,
+    room: &mut GroupRoom,
+    due: GroupSet,
+    start: usize,
+    stop: usize,
+    steps: &mut Steps,
+) -> Spans
+    requires whole { holds due 0 ≡ false }
+    requires order { InOrder start stop (length (text_in subject)) }
+    requires spans { At (nodes_in subject) (text_in subject) subject.prepared.now.root start stop }
+    requires tasks { room.old.tasks.items ≡ [] }
+    requires room { 2 * length (nodes_in subject) ≤ vec_capacity room.old.tasks }
+    requires desk { HasDesk subject tables.old room.old.kept }
+    ensures report { HasAll due (tree subject.entry.prepared.now.expr) → IsReport (tree subject.entry.prepared.now.expr) (text_in subject.entry) start stop result }
+    ensures due { (groups : Groups) (k : ℕ) → IsReport (tree subject.entry.prepared.now.expr) (text_in subject.entry) start stop groups → IsTrue (holds due k) →
+        slice_index_or result k None ≡ slice_index_or groups k None }
+    ensures tasks { room.new.tasks.items ≡ [] }
+    ensures room { vec_capacity room.old.tasks ≤ vec_capacity room.new.tasks }
+    ensures desk { HasDesk subject.entry tables.new room.new.kept }
+    ensures cost { let m = length (nodes_in subject.entry) in Takes steps.old steps.new (244 * m * m * (stop - start + 1)) }
+    ensures counts { TakesAtLeast steps.old steps.new (found result - 1) }
+{
+    // What always holds of an expression is told with the number of its nodes.
+    let _nodes = subject.prepared.nodes();
+    let mut spans = [None; 10];
+    spans[0] = Some((start, stop));
+    let mut told = Told { due, spans };
+    room.tasks
+        .push_reserved(Task::Apart(subject.prepared.root, start, stop));
+    'all: while let Some(task) = room.tasks.pop() {
+        work(subject, tables, room, &mut told, task, steps);
+    }
+    told.spans
+}

@@ -1,0 +1,612 @@
+//! A pass backwards over a region, of which the state at each place is kept: two bytes a place.
+//!
+//! The region is cut into blocks, and the table has room for one state more than a block has places. The row at each block's
+//! right end is kept too. Where the states of a block are gone, since the table was emptied after it was made, it is made again.
+ghost use Rattle.std.specs.Prelude.{◌≡◌, ℕ, Bool, true, false, not, min, max, ◌+◌, ◌-◌, ◌*◌, ◌/◌, ◌^◌, ◌<◌, ◌≤◌, ◌↔◌, length, slice_index_or, IfOk, IsTrue};
+ghost use Rattle.sedmarks.specs.Costs.{Pays};
+ghost use Rattle.sedmarks.specs.Reach.{At, one_start};
+ghost use Rattle.sedmarks.specs.Words.{row_of};
+ghost use Rattle.sedre.specs.Steps.{Takes, TakesAtLeast};
+ghost use Rattle.sedpass.specs.Regions.{IsLastIn, Meets, Reaches};
+ghost use Rattle.sedpass.specs.Rows.{nodes_of};
+ghost use Rattle.sedpass.specs.Table.{AddsStates, IsOffset, IsTable, MayBegin, SameShape, StateAt, state_of};
+ghost use Rattle.sedpass.specs.Kept.{AllMarked, CeasesAt, EdgesFrom, Follows, IsKept, IsRegion, KeptAt, KeptRoom, Meet, Passes, SameKept, ends_told, owed};
+
+use crate::cells::offset_of;
+use crate::nodes::{Prepared, kind_of};
+use crate::rows::Work;
+use crate::table::Table;
+use sedmarks::counted::{Rows, Text};
+use sedre::Steps;
+use std::alloc::{AllocError, Global};
+
+/// An expression, and the text that is searched.
+#[derive(Clone, Copy)]
+pub struct Subject<'a> {
+    /// The expression.
+    pub prepared: &'a Prepared,
+    /// The text.
+    pub text: &'a Text<'a>,
+}
+
+/// The places from which a node is matched up to an end, and of which of them the states are known.
+#[derive(Clone, Copy)]
+pub struct Region {
+    /// The node.
+    pub root: usize,
+    /// The place where its matches end.
+    pub end: usize,
+    /// The states from this place up to the end were made.
+    pub low: usize,
+    /// Those from this place on are in the table,
+    pub from: usize,
+    /// up to, but not including, this one.
+    pub to: usize,
+}
+
+/// What is kept of a pass backwards over a region of one text.
+#[derive(Drop)]
+pub struct Kept {
+    /// The region.
+    pub region: Region,
+    /// For each place the number of its state.
+    pub states: Vec<u16>,
+    /// For each block the row at its right end: the leaves entered, and then the nodes that end there.
+    pub edges: Rows,
+    /// Marks for the acts of the pass.
+    pub work: Work,
+}
+
+impl Kept {
+    /// Room for texts of at most `max_text` bytes, which are cut into at most `blocks` blocks, and expressions of `nodes` nodes.
+    /// Fails only where a request for memory was refused.
+    pub fn new(
+        alloc: Global,
+        max_text: usize,
+        blocks: usize,
+        nodes: usize,
+    ) -> Result<Kept, AllocError>
+        requires text { max_text ≤ 2 ^ 30 }
+        requires blocks { blocks ≤ 32768 }
+        requires nodes { nodes ≤ 65536 }
+        ensures places { IfOk result (λ k. length k.states.items ≡ max_text + 1) }
+        ensures edges { IfOk result (λ k. length k.edges ≡ 2 * blocks) }
+        ensures marks { IfOk result (λ k. (q : ℕ) → q < length k.edges → length (row_of k.edges q) ≡ nodes) }
+    {
+        Ok(Kept {
+            region: Region {
+                root: 0,
+                end: 0,
+                low: 0,
+                from: 0,
+                to: 0,
+            },
+            states: vec![in alloc; 0; max_text + 1]?,
+            edges: Rows::new(alloc, 2 * blocks, nodes)?,
+            work: Work::new(alloc)?,
+        })
+    }
+
+    /// Begins a region, of which nothing is kept yet.
+    #[inline(always)]
+    pub fn begin(&mut self, subject: Subject, table: &Table, root: usize, end: usize)
+        requires table { IsTable subject.prepared.now table.now }
+        requires room { KeptRoom (length subject.prepared.now.expr.nodes) (length subject.text.now) table.now self.old }
+        requires root { MayBegin subject.prepared.now table.now.way root }
+        requires whole { IsTrue table.now.way.sweeps → end ≡ length subject.text.now }
+        requires end { end ≤ length subject.text.now }
+        ensures kept { IsKept subject.entry.prepared.now subject.entry.text.now table.now self.new }
+        ensures root { self.new.region.root ≡ root }
+        ensures end { self.new.region.end ≡ end }
+        ensures places { length self.new.states.items ≡ length self.old.states.items }
+        ensures edges { length self.new.edges ≡ length self.old.edges }
+        ensures owed { (i : ℕ) → i ≤ end → owed (length subject.entry.prepared.now.expr.nodes) (table.now.room - 1) self.new.region i
+            ≤ 124 * length subject.entry.prepared.now.expr.nodes * (end - i + 1) }
+    {
+        self.region = Region {
+            root,
+            end,
+            low: end,
+            from: end,
+            to: end,
+        };
+    }
+
+    /// Goes back over the byte before a place above 0, and keeps the state that it comes to; gives where its cells begin.
+    #[inline(always)]
+    fn go_back(
+        &mut self,
+        subject: Subject,
+        table: &mut Table,
+        place: usize,
+        offset: usize,
+        steps: &mut Steps,
+    ) -> usize
+        requires passes { Passes subject.prepared.now subject.text.now table.old self.old (place + 1) offset }
+        ensures passes { Passes subject.entry.prepared.now subject.entry.text.now table.new self.new place result }
+        ensures shape { SameShape table.old table.new }
+        ensures same { SameKept self.old self.new }
+        ensures low { self.new.region.low ≡ self.old.region.low }
+        ensures from { self.new.region.from ≡ self.old.region.from }
+        ensures edges { self.new.edges ≡ self.old.edges }
+        ensures to { place < self.new.region.to }
+        ensures steady { table.old.count < table.old.room → (self.new.region.to ≡ self.old.region.to) × (table.new.count ≤ table.old.count + 1) }
+        ensures cost { Takes steps.old steps.new (39 * length subject.entry.prepared.now.expr.nodes) }
+        ensures counts { TakesAtLeast steps.old steps.new 2 }
+    {
+        let byte = subject.text.byte(place, steps);
+        let epoch = table.epoch;
+        let code = table.next(
+            subject.prepared,
+            offset,
+            byte,
+            place == 0,
+            &mut self.work,
+            steps,
+        );
+        let next = offset_of(code);
+        self.states[place] = table.state_at(next) as u16;
+        if table.epoch != epoch {
+            self.region.to = place + 1;
+        }
+        next
+    }
+
+    /// Goes back from a place to another, and keeps the states; gives where the last one's cells begin.
+    fn pass(
+        &mut self,
+        subject: Subject,
+        table: &mut Table,
+        low: usize,
+        high: usize,
+        offset: usize,
+        steps: &mut Steps,
+    ) -> usize
+        requires passes { Passes subject.prepared.now subject.text.now table.old self.old high offset }
+        requires order { low < high }
+        ensures passes { Passes subject.entry.prepared.now subject.entry.text.now table.new self.new low result }
+        ensures shape { SameShape table.old table.new }
+        ensures same { SameKept self.old self.new }
+        ensures low { self.new.region.low ≡ self.old.region.low }
+        ensures from { self.new.region.from ≡ self.old.region.from }
+        ensures edges { self.new.edges ≡ self.old.edges }
+        ensures to { low < self.new.region.to }
+        ensures steady { table.old.count + (high - low) ≤ table.old.room → self.new.region.to ≡ self.old.region.to }
+        ensures cost { Pays steps.old steps.new (39 * length subject.entry.prepared.now.expr.nodes * high) (39 * length subject.entry.prepared.now.expr.nodes * low) }
+        ensures counts { TakesAtLeast steps.old steps.new (2 * (high - low)) }
+    {
+        let mut offset = offset;
+        for place in (low..high).rev() {
+            offset = self.go_back(subject, table, place, offset, steps);
+        }
+        offset
+    }
+
+    /// Keeps the row of a state as that of the right end of a block.
+    fn keep_edge(
+        &mut self,
+        subject: Subject,
+        table: &Table,
+        block: usize,
+        offset: usize,
+        steps: &mut Steps,
+    )
+        requires passes { Passes subject.prepared.now subject.text.now table.now self.old (block * (table.now.room - 1) + (table.now.room - 1)) offset }
+        requires edges { EdgesFrom subject.prepared.now subject.text.now table.now self.old (block * (table.now.room - 1) + (table.now.room - 1)) }
+        ensures passes { Passes subject.entry.prepared.now subject.entry.text.now table.now self.new (block * (table.now.room - 1) + (table.now.room - 1)) offset }
+        ensures edges { EdgesFrom subject.entry.prepared.now subject.entry.text.now table.now self.new (block * (table.now.room - 1)) }
+        ensures same { SameKept self.old self.new }
+        ensures region { self.new.region ≡ self.old.region }
+        ensures cost { Takes steps.old steps.new (4 * length subject.entry.prepared.now.expr.nodes) }
+    {
+        let nodes = subject.prepared.nodes();
+        let state = table.state_at(offset);
+        table
+            .leaves
+            .load(state, &mut self.work.leaves, nodes, steps);
+        table.ends.load(state, &mut self.work.ends, nodes, steps);
+        self.edges.store(2 * block, &self.work.leaves, nodes, steps);
+        self.edges
+            .store(2 * block + 1, &self.work.ends, nodes, steps);
+    }
+
+    /// Keeps the row of a state as that of the right end of a block, unless the region ends there.
+    fn keep_right(
+        &mut self,
+        subject: Subject,
+        table: &Table,
+        block: usize,
+        place: usize,
+        offset: usize,
+        steps: &mut Steps,
+    )
+        requires passes { Passes subject.prepared.now subject.text.now table.now self.old place offset }
+        requires edges { EdgesFrom subject.prepared.now subject.text.now table.now self.old place }
+        requires right { place < self.old.region.end → place ≡ block * (table.now.room - 1) + (table.now.room - 1) }
+        requires within { place ≤ block * (table.now.room - 1) + (table.now.room - 1) }
+        ensures passes { Passes subject.entry.prepared.now subject.entry.text.now table.now self.new place offset }
+        ensures edges { EdgesFrom subject.entry.prepared.now subject.entry.text.now table.now self.new (block * (table.now.room - 1)) }
+        ensures same { SameKept self.old self.new }
+        ensures region { self.new.region ≡ self.old.region }
+        ensures cost { Takes steps.old steps.new (4 * length subject.entry.prepared.now.expr.nodes) }
+    {
+        if place < self.region.end {
+            self.keep_edge(subject, table, block, offset, steps);
+        }
+    }
+
+    /// Keeps the states of a block, from the place `high` down to `low` or to the block's beginning; gives this place, and where
+    /// its state's cells begin.
+    fn make_block(
+        &mut self,
+        subject: Subject,
+        table: &mut Table,
+        low: usize,
+        high: usize,
+        offset: usize,
+        steps: &mut Steps,
+    ) -> (usize, usize)
+        requires passes { Passes subject.prepared.now subject.text.now table.old self.old high offset }
+        requires edges { EdgesFrom subject.prepared.now subject.text.now table.old self.old high }
+        requires order { low < high }
+        requires right { high < self.old.region.end → (b : ℕ) × (high ≡ b * (table.old.room - 1)) }
+        ensures passes { Passes subject.entry.prepared.now subject.entry.text.now table.new self.new result.0 result.1 }
+        ensures edges { EdgesFrom subject.entry.prepared.now subject.entry.text.now table.new self.new result.0 }
+        ensures down { (low ≤ result.0) × (result.0 < high) }
+        ensures right { low < result.0 → (b : ℕ) × (result.0 ≡ b * (table.new.room - 1)) }
+        ensures shape { SameShape table.old table.new }
+        ensures same { SameKept self.old self.new }
+        ensures to { result.0 < self.new.region.to }
+        ensures cost { Pays steps.old steps.new (43 * length subject.entry.prepared.now.expr.nodes * high) (43 * length subject.entry.prepared.now.expr.nodes * result.0) }
+        ensures counts { TakesAtLeast steps.old steps.new (2 * (high - result.0)) }
+    {
+        let width = table.room - 1;
+        let block = (high - 1) / width;
+        self.keep_right(subject, table, block, high, offset, steps);
+        let least = low.max(block * width);
+        let next = self.pass(subject, table, least, high, offset, steps);
+        (least, next)
+    }
+
+    /// The state of the region's end; gives where its cells begin.
+    fn last_state(&mut self, subject: Subject, table: &mut Table, steps: &mut Steps) -> usize
+        requires region { IsRegion subject.prepared.now subject.text.now table.old self.old }
+        ensures table { IsTable subject.entry.prepared.now table.new }
+        ensures adds { AddsStates (length subject.entry.prepared.now.expr.nodes) table.old table.new }
+        ensures region { self.new.region ≡ self.old.region }
+        ensures edges { self.new.edges ≡ self.old.edges }
+        ensures states { self.new.states.items ≡ self.old.states.items }
+        ensures there { IsOffset table.new result }
+        ensures at { KeptAt subject.entry.prepared.now subject.entry.text.now table.new.way self.old.region.root self.old.region.end self.old.region.end
+            (state_of (length subject.entry.prepared.now.expr.nodes) table.new (result / 2 ^ table.new.layout.shift)) }
+        ensures cost { Takes steps.old steps.new (37 * length subject.entry.prepared.now.expr.nodes) }
+        ensures counts { TakesAtLeast steps.old steps.new 1 }
+    {
+        let root = self.region.root;
+        let kind = kind_of(self.region.end, subject.text.len());
+        let code = table.first(subject.prepared, root, kind, &mut self.work, steps);
+        offset_of(code)
+    }
+
+    /// Keeps the region's states from its end down to a place.
+    #[inline(never)]
+    fn make(&mut self, subject: Subject, table: &mut Table, low: usize, steps: &mut Steps)
+        requires kept { IsKept subject.prepared.now subject.text.now table.old self.old }
+        requires low { low < self.old.region.end }
+        ensures kept { IsKept subject.entry.prepared.now subject.entry.text.now table.new self.new }
+        ensures shape { SameShape table.old table.new }
+        ensures same { SameKept self.old self.new }
+        ensures low { self.new.region.low ≡ low }
+        ensures from { self.new.region.from ≡ low }
+        ensures to { low < self.new.region.to }
+        ensures cost { let m = length subject.entry.prepared.now.expr.nodes in
+            Takes steps.old steps.new (37 * m + 43 * m * (self.old.region.end - low)) }
+        ensures counts { TakesAtLeast steps.old steps.new (2 * (self.old.region.end - low)) }
+    {
+        let end = self.region.end;
+        let mut offset = self.last_state(subject, table, steps);
+        self.region.to = end;
+        let mut place = end;
+        while place > low {
+            let (reached, next) = self.make_block(subject, table, low, place, offset, steps);
+            place = reached;
+            offset = next;
+        }
+        self.region.low = low;
+        self.region.from = low;
+    }
+
+    /// Empties the table but for the state of a block's right end; gives where its cells begin.
+    fn right_end(
+        &mut self,
+        subject: Subject,
+        table: &mut Table,
+        block: usize,
+        place: usize,
+        steps: &mut Steps,
+    ) -> usize
+        requires region { IsRegion subject.prepared.now subject.text.now table.old self.old }
+        requires edges { EdgesFrom subject.prepared.now subject.text.now table.old self.old self.old.region.low }
+        requires some { self.old.region.low < block * (table.old.room - 1) + (table.old.room - 1) }
+        requires place { place ≡ min self.old.region.end (block * (table.old.room - 1) + (table.old.room - 1)) }
+        ensures table { IsTable subject.entry.prepared.now table.new }
+        ensures shape { SameShape table.old table.new }
+        ensures region { self.new.region ≡ self.old.region }
+        ensures edges { self.new.edges ≡ self.old.edges }
+        ensures states { self.new.states.items ≡ self.old.states.items }
+        ensures there { IsOffset table.new result }
+        ensures at { KeptAt subject.entry.prepared.now subject.entry.text.now table.new.way self.old.region.root self.old.region.end place
+            (state_of (length subject.entry.prepared.now.expr.nodes) table.new (result / 2 ^ table.new.layout.shift)) }
+        ensures one { table.new.count ≤ 1 }
+        ensures cost { Takes steps.old steps.new (41 * length subject.entry.prepared.now.expr.nodes) }
+    {
+        table.empty(subject.prepared, steps);
+        if place == self.region.end {
+            return self.last_state(subject, table, steps);
+        }
+        let root = self.region.root;
+        let code = table.load(
+            subject.prepared,
+            root,
+            block,
+            &self.edges,
+            &mut self.work,
+            steps,
+        );
+        offset_of(code)
+    }
+
+    /// Makes the block of a place again, in an emptied table.
+    #[inline(never)]
+    fn remake(&mut self, subject: Subject, table: &mut Table, place: usize, steps: &mut Steps)
+        requires kept { IsKept subject.prepared.now subject.text.now table.old self.old }
+        requires low { self.old.region.low ≤ place }
+        requires place { place < self.old.region.end }
+        ensures kept { IsKept subject.entry.prepared.now subject.entry.text.now table.new self.new }
+        ensures shape { SameShape table.old table.new }
+        ensures same { SameKept self.old self.new }
+        ensures low { self.new.region.low ≡ self.old.region.low }
+        ensures from { self.new.region.from ≡ max self.old.region.low (place / (table.old.room - 1) * (table.old.room - 1)) }
+        ensures to { self.new.region.to ≡ min self.old.region.end (place / (table.old.room - 1) * (table.old.room - 1) + (table.old.room - 1)) }
+        ensures cost { let m = length subject.entry.prepared.now.expr.nodes in
+            Takes steps.old steps.new (80 * m * (self.new.region.to - self.new.region.from)) }
+    {
+        let width = table.room - 1;
+        let block = place / width;
+        let to = self.region.end.min(block * width + width);
+        let low = self.region.low.max(block * width);
+        let offset = self.right_end(subject, table, block, to, steps);
+        self.region.from = low;
+        self.region.to = to;
+        self.pass(subject, table, low, to, offset, steps);
+    }
+
+    /// Sees to it that the states of a place below the region's end, and of those up to the end of its block, are in the table;
+    /// gives the place before which they are.
+    #[inline(always)]
+    fn ready(
+        &mut self,
+        subject: Subject,
+        table: &mut Table,
+        place: usize,
+        steps: &mut Steps,
+    ) -> usize
+        requires kept { IsKept subject.prepared.now subject.text.now table.old self.old }
+        requires place { place < self.old.region.end }
+        ensures kept { IsKept subject.entry.prepared.now subject.entry.text.now table.new self.new }
+        ensures shape { SameShape table.old table.new }
+        ensures same { SameKept self.old self.new }
+        ensures from { self.new.region.from ≤ place }
+        ensures to { (result ≡ self.new.region.to) × (place < result) }
+        ensures cost { let m = length subject.entry.prepared.now.expr.nodes in let width = table.old.room - 1 in
+            Pays steps.old steps.new (owed m width self.old.region place) (owed m width self.new.region place) }
+    {
+        if place < self.region.low {
+            self.make(subject, table, place, steps);
+        } else if place < self.region.from || self.region.to <= place {
+            self.remake(subject, table, place, steps);
+        }
+        self.region.to
+    }
+
+    /// Whether a node x that is last in the region matches from a place up to the region's end.
+    pub fn spans(
+        &mut self,
+        subject: Subject,
+        table: &mut Table,
+        x: usize,
+        place: usize,
+        steps: &mut Steps,
+    ) -> bool
+        requires kept { IsKept subject.prepared.now subject.text.now table.old self.old }
+        requires sweeps { table.old.way.sweeps ≡ false }
+        requires last { IsLastIn subject.prepared.now.expr.nodes self.old.region.root x }
+        requires place { place ≤ self.old.region.end }
+        ensures kept { IsKept subject.entry.prepared.now subject.entry.text.now table.new self.new }
+        ensures shape { SameShape table.old table.new }
+        ensures same { SameKept self.old self.new }
+        ensures spans { IsTrue result ↔ At subject.entry.prepared.now.expr.nodes subject.entry.text.now x place self.old.region.end }
+        ensures cost { let m = length subject.entry.prepared.now.expr.nodes in let width = table.old.room - 1 in
+            Pays steps.old steps.new (owed m width self.old.region place + 2) (owed m width self.new.region place) }
+        ensures counts { TakesAtLeast steps.old steps.new 1 }
+    {
+        if place == self.region.end {
+            let kind = kind_of(place, subject.text.len());
+            return subject.prepared.null_at(x, kind, steps);
+        }
+        self.ready(subject, table, place, steps);
+        table.ends.get(self.states[place] as usize, x, steps)
+    }
+
+    /// The first place from one on at which the node x is marked, or isn't, as asked; the region's end where there is none
+    /// before it.
+    pub fn seek(
+        &mut self,
+        subject: Subject,
+        table: &mut Table,
+        x: usize,
+        from: usize,
+        marked: bool,
+        steps: &mut Steps,
+    ) -> usize
+        requires kept { IsKept subject.prepared.now subject.text.now table.old self.old }
+        requires x { x < length subject.prepared.now.expr.nodes }
+        requires from { from ≤ self.old.region.end }
+        ensures kept { IsKept subject.entry.prepared.now subject.entry.text.now table.new self.new }
+        ensures shape { SameShape table.old table.new }
+        ensures same { SameKept self.old self.new }
+        ensures after { from ≤ result }
+        ensures within { result ≤ self.old.region.end }
+        ensures passed { AllMarked subject.entry.prepared.now.expr.nodes subject.entry.text.now self.old.region.root
+            (ends_told table.old.way.sweeps (length subject.entry.text.now) self.old.region.end) x (not marked) from result }
+        ensures found { result < self.old.region.end → IsTrue marked ↔ Reaches subject.entry.prepared.now.expr.nodes subject.entry.text.now self.old.region.root
+            (ends_told table.old.way.sweeps (length subject.entry.text.now) self.old.region.end) x result }
+        ensures cost { let m = length subject.entry.prepared.now.expr.nodes in let width = table.old.room - 1 in
+            Pays steps.old steps.new (owed m width self.old.region from + 2 * result + 2) (owed m width self.new.region result + 2 * from) }
+        ensures counts { TakesAtLeast steps.old steps.new (result - from) }
+    {
+        let mut place = from;
+        while place < self.region.end {
+            let to = self.ready(subject, table, place, steps);
+            let found = self.seek_in(subject, table, x, place, marked, steps);
+            if found < to {
+                return found;
+            }
+            place = to;
+        }
+        place
+    }
+
+    /// The same among the places whose states are in the table.
+    fn seek_in(
+        &self,
+        subject: Subject,
+        table: &Table,
+        x: usize,
+        from: usize,
+        marked: bool,
+        steps: &mut Steps,
+    ) -> usize
+        requires kept { IsKept subject.prepared.now subject.text.now table.now self.now }
+        requires x { x < length subject.prepared.now.expr.nodes }
+        requires from { self.now.region.from ≤ from }
+        requires to { from < self.now.region.to }
+        ensures after { from ≤ result }
+        ensures within { result ≤ self.now.region.to }
+        ensures passed { AllMarked subject.entry.prepared.now.expr.nodes subject.entry.text.now self.now.region.root
+            (ends_told table.now.way.sweeps (length subject.entry.text.now) self.now.region.end) x (not marked) from result }
+        ensures found { result < self.now.region.to → IsTrue marked ↔ Reaches subject.entry.prepared.now.expr.nodes subject.entry.text.now self.now.region.root
+            (ends_told table.now.way.sweeps (length subject.entry.text.now) self.now.region.end) x result }
+        ensures cost { Pays steps.old steps.new (result + 1) from }
+        ensures counts { TakesAtLeast steps.old steps.new (result - from) }
+    {
+        for place in from..self.region.to {
+            if table.ends.get(self.states[place] as usize, x, steps) == marked {
+                return place;
+            }
+        }
+        self.region.to
+    }
+
+    /// Where a pass over `a` from a place and the kept one cease to meet: the greatest end of a match of `a` from there from
+    /// which the region's rest still matches.
+    pub fn cut(
+        &mut self,
+        subject: Subject,
+        table: &mut Table,
+        ahead: &mut Table,
+        a: usize,
+        from: usize,
+        steps: &mut Steps,
+    ) -> usize
+        requires kept { IsKept subject.prepared.now subject.text.now table.old self.old }
+        requires ahead { IsTable subject.prepared.now ahead.old }
+        requires forwards { (ahead.old.way.mirrored ≡ false) × (ahead.old.way.sweeps ≡ false) }
+        requires a { a ≤ self.old.region.root }
+        requires from { from ≤ self.old.region.end }
+        ensures kept { IsKept subject.entry.prepared.now subject.entry.text.now table.new self.new }
+        ensures ahead { IsTable subject.entry.prepared.now ahead.new }
+        ensures shape { SameShape table.old table.new × SameShape ahead.old ahead.new }
+        ensures same { SameKept self.old self.new }
+        ensures within { result ≤ self.old.region.end }
+        ensures ceases { CeasesAt subject.entry.prepared.now.expr.nodes subject.entry.text.now self.old.region.root
+            (ends_told table.old.way.sweeps (length subject.entry.text.now) self.old.region.end) a from result }
+        ensures cost { let m = length subject.entry.prepared.now.expr.nodes in let width = table.old.room - 1 in
+            Pays steps.old steps.new (owed m width self.old.region from + 40 * m * (result + 2)) (owed m width self.new.region result + 40 * m * from) }
+        ensures counts { TakesAtLeast steps.old steps.new (2 * (result - from) + 1) }
+    {
+        let kind = kind_of(from, subject.text.len());
+        let code = ahead.first(subject.prepared, a, kind, &mut self.work, steps);
+        let mut offset = offset_of(code);
+        let mut place = from;
+        while place < self.region.end {
+            let to = self.ready(subject, table, place, steps);
+            let (reached, next) = self.meet(subject, table, ahead, offset, place, steps);
+            place = reached;
+            offset = next;
+            if place < to {
+                return place;
+            }
+        }
+        place
+    }
+
+    /// Follows the pass ahead from a place, in the state whose cells begin at the offset, as long as it meets the kept one, among
+    /// the places whose states are in the table; gives where it stopped, and where its state's cells begin.
+    fn meet(
+        &mut self,
+        subject: Subject,
+        table: &Table,
+        ahead: &mut Table,
+        offset: usize,
+        from: usize,
+        steps: &mut Steps,
+    ) -> (usize, usize)
+        requires kept { IsKept subject.prepared.now subject.text.now table.now self.old }
+        requires ahead { IsTable subject.prepared.now ahead.old }
+        requires forwards { (ahead.old.way.mirrored ≡ false) × (ahead.old.way.sweeps ≡ false) }
+        requires offset { IsOffset ahead.old offset }
+        requires from { self.old.region.from ≤ from }
+        requires to { from < self.old.region.to }
+        ensures kept { IsKept subject.entry.prepared.now subject.entry.text.now table.now self.new }
+        ensures ahead { IsTable subject.entry.prepared.now ahead.new }
+        ensures shape { SameShape ahead.old ahead.new }
+        ensures region { self.new.region ≡ self.old.region }
+        ensures same { SameKept self.old self.new }
+        ensures offset { IsOffset ahead.new result.1 }
+        ensures after { from ≤ result.0 }
+        ensures within { result.0 ≤ self.old.region.to }
+        ensures meets { (a i : ℕ) → a ≤ self.old.region.root → i ≤ from → Follows subject.entry.prepared.now subject.entry.text.now ahead.old a i from offset →
+            Follows subject.entry.prepared.now subject.entry.text.now ahead.new a i result.0 result.1
+            × Meet subject.entry.prepared.now subject.entry.text.now table.now self.old a i from result.0
+            × (result.0 < self.old.region.to → Meets subject.entry.prepared.now.expr.nodes subject.entry.text.now self.old.region.root
+            (ends_told table.now.way.sweeps (length subject.entry.text.now) self.old.region.end) a (one_start i) result.0 → ⊥) }
+        ensures cost { let m = length subject.entry.prepared.now.expr.nodes in Pays steps.old steps.new (40 * m * result.0 + m) (40 * m * from) }
+        ensures whole { let m = length subject.entry.prepared.now.expr.nodes in result.0 ≡ self.old.region.to → Pays steps.old steps.new (40 * m * result.0) (40 * m * from) }
+        ensures counts { TakesAtLeast steps.old steps.new (2 * (result.0 - from)) }
+    {
+        let length = subject.text.len();
+        let nodes = subject.prepared.nodes();
+        let mut offset = offset;
+        for place in from..self.region.to {
+            let behind = self.states[place] as usize;
+            if !ahead
+                .leaves
+                .meets(ahead.state_at(offset), &table.ends, behind, nodes, steps)
+            {
+                return (place, offset);
+            }
+            let byte = subject.text.byte(place, steps);
+            let code = ahead.next(
+                subject.prepared,
+                offset,
+                byte,
+                place + 1 == length,
+                &mut self.work,
+                steps,
+            );
+            offset = offset_of(code);
+        }
+        (self.region.to, offset)
+    }
+}

@@ -1,0 +1,296 @@
+//! The one act of the matcher: from the row of a place and the byte after it to the row of the next place.
+//!
+//! The row of a place tells which leaves are entered there, in a match from one of the pass's starts, and which nodes
+//! ended there. The leaves entered decide, with the byte, the next row.
+ghost use Rattle.std.specs.Prelude.{◌≡◌, ℕ, List, Bool, false, ◌+◌, ◌*◌, ◌<◌, ◌≤◌, ◌↔◌, ◌&&◌, ◌||◌, eqb};
+ghost use Rattle.std.specs.Prelude.{length, Some, slice_index_or, IsTrue};
+ghost use Rattle.sedre.specs.Arena.{tree_at};
+ghost use Rattle.sedre.specs.Packed.{PartsBelow};
+ghost use Rattle.sedre.specs.Tree.{size};
+ghost use Rattle.sedre.specs.Steps.{Takes, TakesAtLeast};
+ghost use Rattle.sedre.specs.declared.types.Node.TheVariants.{Set};
+ghost use Rattle.sedmarks.specs.Matching.{takes};
+ghost use Rattle.sedmarks.specs.PartMarks.{enter_parts};
+ghost use Rattle.sedmarks.specs.Places.{takes_any};
+ghost use Rattle.sedmarks.specs.Reach.{IsStart, Ends, Marked};
+ghost use Rattle.sedpass.specs.Prepared.{null_in};
+ghost use Rattle.sedpass.specs.Rows.{nodes_of, at_begin, at_end, bits, LeadsTo, IsFirst, RowAt};
+ghost use Rattle.sedpass.specs.Rows.{InTree, AreNull, TellTook, ended_by, leaf_looks, part_looks};
+
+use crate::nodes::{Kind, Prepared};
+use sedmarks::counted::NodeMarks;
+use sedmarks::passes::{Starts, takes_byte};
+use sedre::{Node, Steps};
+use std::alloc::{AllocError, Global};
+
+/// In which way a pass goes.
+#[derive(Clone, Copy)]
+pub struct Way {
+    /// From the text's end, over the mirrored expression.
+    pub mirrored: bool,
+    /// Every place is a start, not the first alone.
+    pub sweeps: bool,
+    /// A row keeps the ends of all nodes, not those of the root alone.
+    pub keeps: bool,
+}
+
+/// The marks that acts work on.
+#[derive(Drop)]
+pub struct Work {
+    /// The nodes that begin at the place.
+    entered: NodeMarks,
+    /// The nodes that end at the place after at least one byte.
+    ended: NodeMarks,
+    /// Of the row: the leaves entered.
+    pub leaves: NodeMarks,
+    /// Of the row: the nodes that end at the place, after a byte or as null strings.
+    pub ends: NodeMarks,
+}
+
+impl Work {
+    /// Marks that acts work on. Fails only where a request for memory was refused.
+    pub fn new(alloc: Global) -> Result<Work, AllocError> {
+        Ok(Work {
+            entered: NodeMarks::new(alloc)?,
+            ended: NodeMarks::new(alloc)?,
+            leaves: NodeMarks::new(alloc)?,
+            ends: NodeMarks::new(alloc)?,
+        })
+    }
+}
+
+/// Whether the node x is a leaf that was entered and took the byte that came, if one did.
+#[inline(always)]
+fn took(node: &Node, x: usize, byte: Option<u8>, leaves: &NodeMarks, steps: &mut Steps) -> bool
+    requires { x < 65536 }
+    ensures took { (members : List Bool) → node.now ≡ Set members → result ≡ (slice_index_or leaves.now x false && takes byte members) }
+    ensures cost { Takes steps.old steps.new (leaf_looks node.now) }
+{
+    match node {
+        Node::Set(set) => leaves.get(x, steps) && takes_byte(set, byte),
+        _ => false,
+    }
+}
+
+/// Whether a node ends here after at least one byte, given the marks of its parts; a leaf if it took the byte.
+#[inline(always)]
+fn ends_here(
+    prepared: &Prepared,
+    node: &Node,
+    took: bool,
+    kind: Kind,
+    ended: &NodeMarks,
+    steps: &mut Steps,
+) -> bool
+    requires parts { PartsBelow (length prepared.now.expr.nodes) node.now }
+    requires few { length prepared.now.expr.nodes ≤ 65536 }
+    ensures mark { result ≡ ended_by took (null_in prepared.now.expr.nodes kind) (λ c. slice_index_or ended.now c false) node.now }
+    ensures cost { Takes steps.old steps.new (part_looks node.now) }
+{
+    match node {
+        Node::Empty | Node::Begin | Node::End => false,
+        Node::Set(_) => took,
+        Node::Seq(a, b) => {
+            ended.get(b.index(), steps)
+                || (ended.get(a.index(), steps) && prepared.null_at(b.index(), kind, steps))
+        }
+        Node::Alt(a, b) => ended.get(a.index(), steps) || ended.get(b.index(), steps),
+        Node::Group(_, a) => ended.get(a.index(), steps),
+        Node::Star(a, _) => ended.get(a.index(), steps),
+        Node::Opt(a, _) => ended.get(a.index(), steps),
+    }
+}
+
+/// Marks where the parts of a node begin, given whether it begins here itself.
+#[inline(always)]
+fn enter(
+    prepared: &Prepared,
+    node: &Node,
+    here: bool,
+    kind: Kind,
+    ended: &NodeMarks,
+    entered: &mut NodeMarks,
+    steps: &mut Steps,
+)
+    requires parts { PartsBelow (length prepared.now.expr.nodes) node.now }
+    requires few { length prepared.now.expr.nodes ≤ 65536 }
+    ensures marks { entered.new ≡ enter_parts here (null_in prepared.now.expr.nodes kind) (λ c. slice_index_or ended.now c false) node.now entered.old }
+    ensures cost { Takes steps.old steps.new 4 }
+{
+    match node {
+        Node::Empty | Node::Begin | Node::End | Node::Set(_) => {}
+        Node::Seq(a, b) => {
+            entered.set(a.index(), here, steps);
+            let next = ended.get(a.index(), steps)
+                || (here && prepared.null_at(a.index(), kind, steps));
+            entered.set(b.index(), next, steps);
+        }
+        Node::Alt(a, b) => {
+            entered.set(a.index(), here, steps);
+            entered.set(b.index(), here, steps);
+        }
+        Node::Group(_, a) | Node::Opt(a, _) => entered.set(a.index(), here, steps),
+        Node::Star(a, _) => {
+            let next = here || ended.get(a.index(), steps);
+            entered.set(a.index(), next, steps);
+        }
+    }
+}
+
+/// Whether the leaf is entered.
+#[inline(always)]
+fn leaf_bit(node: &Node, here: bool) -> bool
+    ensures { result ≡ (takes_any node.now && here) }
+{
+    match node {
+        Node::Set(_) => here,
+        _ => false,
+    }
+}
+
+/// Whether a node has ended, if the row keeps it.
+#[inline(always)]
+fn end_bit(kept: bool, end: bool, here: bool, null: bool) -> bool
+    ensures { result ≡ (kept && (end || (here && null))) }
+{
+    kept && (end || (here && null))
+}
+
+/// Whether a row keeps the end of a node.
+#[inline(always)]
+fn keeps_end(way: Way, x: usize, root: usize) -> bool
+    ensures { result ≡ (way.keeps || eqb x root) }
+{
+    way.keeps || x == root
+}
+
+/// From the lowest node up: which nodes end here after at least one byte. `byte` is the one that came, if one did; the row
+/// is that of the place before it.
+fn ascend(
+    prepared: &Prepared,
+    way: Way,
+    root: usize,
+    byte: Option<u8>,
+    kind: Kind,
+    work: &mut Work,
+    steps: &mut Steps,
+)
+    requires root { root < length prepared.now.expr.nodes }
+    ensures ended { (w : List ℕ) (s : Starts) (place : ℕ) → AreNull (nodes_of way prepared.now.expr) w place (null_in prepared.now.expr.nodes kind) →
+        TellTook (nodes_of way prepared.now.expr) w root s place byte work.old.leaves →
+        Marked work.new.ended (InTree (nodes_of way prepared.now.expr) root) (λ c. Ends (nodes_of way prepared.now.expr) w root s c place) }
+    ensures cost { Takes steps.old steps.new (5 * length prepared.now.expr.nodes) }
+    ensures counts { TakesAtLeast steps.old steps.new (2 * size (tree_at prepared.now.expr.nodes root)) }
+{
+    let low = prepared.low(root);
+    for x in low..root + 1 {
+        let node = prepared.look(x, way.mirrored, steps);
+        let took = took(&node, x, byte, &work.leaves, steps);
+        let here = ends_here(prepared, &node, took, kind, &work.ended, steps);
+        work.ended.set(x, here, steps);
+    }
+}
+
+/// From the root down: the row of this place. `first` says whether the root begins here.
+fn descend(
+    prepared: &Prepared,
+    way: Way,
+    root: usize,
+    first: bool,
+    kind: Kind,
+    work: &mut Work,
+    steps: &mut Steps,
+)
+    requires root { root < length prepared.now.expr.nodes }
+    ensures row { (w : List ℕ) (s : Starts) (place : ℕ) → AreNull (nodes_of way prepared.now.expr) w place (null_in prepared.now.expr.nodes kind) →
+        Marked work.old.ended (InTree (nodes_of way prepared.now.expr) root) (λ c. Ends (nodes_of way prepared.now.expr) w root s c place) →
+        (IsTrue first ↔ IsStart s place) →
+        RowAt (nodes_of way prepared.now.expr) w root s way.keeps place
+        (bits (length prepared.now.expr.nodes) work.new.leaves) (bits (length prepared.now.expr.nodes) work.new.ends) }
+    ensures cost { Takes steps.old steps.new (12 * length prepared.now.expr.nodes + 1) }
+    ensures counts { TakesAtLeast steps.old steps.new (2 * length prepared.now.expr.nodes + 6 * size (tree_at prepared.now.expr.nodes root)) }
+{
+    let nodes = prepared.nodes();
+    let low = prepared.low(root);
+    work.leaves.clear(nodes, steps);
+    work.ends.clear(nodes, steps);
+    work.entered.set(root, first, steps);
+    for x in (low..root + 1).rev() {
+        let here = work.entered.get(x, steps);
+        let end = work.ended.get(x, steps);
+        let null = prepared.null_at(x, kind, steps);
+        let node = prepared.look(x, way.mirrored, steps);
+        enter(
+            prepared,
+            &node,
+            here,
+            kind,
+            &work.ended,
+            &mut work.entered,
+            steps,
+        );
+        let leaf = leaf_bit(&node, here);
+        work.leaves.set(x, leaf, steps);
+        let kept = end_bit(keeps_end(way, x, root), end, here, null);
+        work.ends.set(x, kept, steps);
+    }
+}
+
+/// The kind of a place after a byte: it is not where a pass begins, mirrored or not, and maybe where it ends.
+#[inline(always)]
+fn edge_kind(mirrored: bool, edge: bool) -> Kind
+    ensures begin { at_begin mirrored result ≡ false }
+    ensures end { at_end mirrored result ≡ edge }
+{
+    Kind {
+        begin: edge && mirrored,
+        end: edge && !mirrored,
+    }
+}
+
+/// Makes the row after the row and a byte. `edge` says whether the text's edge comes after the byte.
+pub fn step(
+    prepared: &Prepared,
+    way: Way,
+    root: usize,
+    byte: u8,
+    edge: bool,
+    work: &mut Work,
+    steps: &mut Steps,
+)
+    requires root { root < length prepared.now.expr.nodes }
+    ensures leads { (before : ℕ → Bool) → LeadsTo (nodes_of way prepared.now.expr) root way.keeps
+        (bits (length prepared.now.expr.nodes) work.old.leaves) before (Some byte) edge way.sweeps
+        (bits (length prepared.now.expr.nodes) work.new.leaves) (bits (length prepared.now.expr.nodes) work.new.ends) }
+    // Where no node is null at places of one kind alone, it is the row at the text's edge and before it.
+    ensures anywhere { prepared.now.anchors ≡ false → (end : Bool) (before : ℕ → Bool) → LeadsTo (nodes_of way prepared.now.expr) root way.keeps
+        (bits (length prepared.now.expr.nodes) work.old.leaves) before (Some byte) end way.sweeps
+        (bits (length prepared.now.expr.nodes) work.new.leaves) (bits (length prepared.now.expr.nodes) work.new.ends) }
+    ensures cost { Takes steps.old steps.new (17 * length prepared.now.expr.nodes + 1) }
+    ensures counts { TakesAtLeast steps.old steps.new
+        (8 * size (tree_at prepared.now.expr.nodes root) + 2 * length prepared.now.expr.nodes) }
+{
+    let kind = edge_kind(way.mirrored, edge);
+    ascend(prepared, way, root, Some(byte), kind, work, steps);
+    descend(prepared, way, root, way.sweeps, kind, work, steps);
+}
+
+/// Makes the row in which a pass for a root begins, at a place of a kind.
+pub fn first(
+    prepared: &Prepared,
+    way: Way,
+    root: usize,
+    kind: Kind,
+    work: &mut Work,
+    steps: &mut Steps,
+)
+    requires root { root < length prepared.now.expr.nodes }
+    ensures first { IsFirst (nodes_of way prepared.now.expr) root way.keeps (at_begin way.mirrored kind) (at_end way.mirrored kind)
+        (bits (length prepared.now.expr.nodes) work.new.leaves) (bits (length prepared.now.expr.nodes) work.new.ends) }
+    ensures cost { Takes steps.old steps.new (17 * length prepared.now.expr.nodes + 1) }
+    ensures counts { TakesAtLeast steps.old steps.new
+        (8 * size (tree_at prepared.now.expr.nodes root) + 2 * length prepared.now.expr.nodes) }
+{
+    ascend(prepared, way, root, None, kind, work, steps);
+    descend(prepared, way, root, true, kind, work, steps);
+}

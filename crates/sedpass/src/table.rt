@@ -1,0 +1,490 @@
+//! A pass as a lazy table: of its states, and of the state to which each byte leads from each.
+//!
+//! A state is the row of a place and the root of its pass, so one table serves all regions of an expression. A cell is
+//! filled when it is first asked for, by one act. A full table is emptied, and the pass goes on: so an unlucky text costs
+//! an act and a state for each byte, never more.
+ghost use Rattle.std.specs.Prelude.{◌≡◌, ℕ, Bool, false, ◌+◌, ◌*◌, ◌/◌, ◌^◌, ◌<◌, ◌≤◌, length, slice_index_or, IfOk, IfSome, vec_len};
+ghost use Rattle.sedmarks.specs.Words.{row_of};
+ghost use Rattle.sedre.specs.Steps.{Takes, TakesAtLeast};
+ghost use Rattle.sedpass.specs.Rows.{nodes_of, bits};
+ghost use Rattle.sedpass.specs.Cells.{stops, code_of};
+ghost use Rattle.sedpass.specs.declared.nodes.Kind.{Kind};
+ghost use Rattle.sedpass.specs.Table.{state_of, HasRow, LeadsOn, BeginsIn, Names, IsOffset, beginning_at, MayBegin, IsTable, SameShape, AddsStates};
+
+use crate::cells::{Flags, Layout, clear_cells, code_of, stops};
+use crate::nodes::{Kind, Prepared};
+use crate::rows::{Way, Work, first, step};
+use sedmarks::counted::Rows;
+use sedre::Steps;
+use std::alloc::{AllocError, Global};
+
+/// What is known of where a pass begins: in which epoch of the table, and the code of the state.
+#[derive(Clone, Copy)]
+pub struct Beginning {
+    pub epoch: u32,
+    pub code: u32,
+}
+
+/// A slot of the index: a state, and the low half of the epoch in which it was noted. A wrong slot costs a state, never an
+/// answer, since rows are compared.
+#[derive(Clone, Copy)]
+struct Slot {
+    epoch: u16,
+    state: u16,
+}
+
+/// A lazy table of the passes of one way over one expression.
+#[derive(Drop)]
+pub struct Table {
+    /// The way of its passes.
+    pub way: Way,
+    /// How many states it has room for.
+    pub room: usize,
+    /// How the cells of a state are laid out.
+    pub layout: Layout,
+    /// How many states there are.
+    pub count: usize,
+    /// Changes where the table is emptied.
+    pub epoch: u32,
+    /// For each state the leaves entered.
+    pub leaves: Rows,
+    /// For each state the nodes that end there.
+    pub ends: Rows,
+    /// For each state the root of its pass.
+    pub roots: Vec<usize>,
+    /// For each state what is told of it.
+    pub flags: Vec<Flags>,
+    /// For each state and column the code of the state that comes next, or 0 where it isn't known yet.
+    pub cells: Vec<u32>,
+    index: Vec<Slot>,
+    /// For each root and kind of place where a pass begins.
+    pub beginnings: Vec<Beginning>,
+}
+
+/// Forgets all beginnings. Counts a look for each.
+fn forget_beginnings(beginnings: &mut Vec<Beginning>, steps: &mut Steps)
+    ensures len { length beginnings.new.items ≡ length beginnings.old.items }
+    ensures none { (i : ℕ) → (slice_index_or beginnings.new.items i (record { epoch = 0; code = 0 })).epoch ≡ 0 }
+    ensures cost { Takes steps.old steps.new (length beginnings.old.items) }
+{
+    steps.add(beginnings.len());
+    for k in 0..beginnings.len() {
+        beginnings[k] = Beginning { epoch: 0, code: 0 };
+    }
+}
+
+/// How many beginnings are noted: for each node those at each kind of place, in a sweep for the whole expression alone.
+fn count_beginnings(sweeps: bool, nodes: usize) -> usize
+    requires some { 0 < nodes }
+    requires few { nodes ≤ 65536 }
+    ensures short { result ≤ 4 * nodes }
+    ensures begins { (root : ℕ) (kind : Kind) → root < nodes → beginning_at sweeps root kind < result }
+{
+    if sweeps { 4 } else { 4 * nodes }
+}
+
+impl Table {
+    /// An empty table with room for so many states. Fails only where a request for memory was refused.
+    pub fn new(
+        alloc: Global,
+        prepared: &Prepared,
+        way: Way,
+        room: usize,
+    ) -> Result<Table, AllocError>
+        requires some { 2 ≤ room }
+        requires few { room ≤ 65535 }
+        ensures table { IfOk result (λ t. IsTable prepared.now t) }
+        ensures way { IfOk result (λ t. t.way ≡ way) }
+        ensures room { IfOk result (λ t. t.room ≡ room) }
+    {
+        let nodes = prepared.nodes();
+        let layout = Layout::new(prepared);
+        Ok(Table {
+            way,
+            room,
+            layout,
+            count: 0,
+            epoch: 1,
+            leaves: Rows::new(alloc, room, nodes)?,
+            ends: Rows::new(alloc, room, nodes)?,
+            roots: vec![in alloc; 0; room]?,
+            flags: vec![in alloc; Flags {
+                ends: false,
+                dead: false
+            }; room]?,
+            cells: vec![in alloc; 0; room << layout.shift]?,
+            // An odd number and one: by a power of two only a digest's last bits would count.
+            index: vec![in alloc; Slot { epoch: 0, state: 0 }; 2 * room + 2]?,
+            beginnings: vec![in alloc; Beginning { epoch: 0, code: 0 }; count_beginnings(
+                way.sweeps, nodes
+            )]?,
+        })
+    }
+
+    /// Forgets all states.
+    pub fn empty(&mut self, prepared: &Prepared, steps: &mut Steps)
+        requires table { IsTable prepared.now self.old }
+        ensures table { IsTable prepared.now self.new }
+        ensures none { self.new.count ≡ 0 }
+        ensures epoch { self.new.epoch ≡ self.old.epoch → ⊥ }
+        ensures shape { SameShape self.old self.new }
+        ensures index { self.new.index ≡ self.old.index }
+        ensures cost { Takes steps.old steps.new (4 * length prepared.now.expr.nodes) }
+    {
+        self.count = 0;
+        if self.epoch < u32::MAX {
+            self.epoch += 1;
+        } else {
+            forget_beginnings(&mut self.beginnings, steps);
+            self.epoch = 1;
+        }
+    }
+
+    /// The number of the state whose cells begin at a place.
+    #[inline(always)]
+    pub fn state_at(&self, offset: usize) -> usize
+        requires { self.now.layout.shift ≤ 8 }
+        ensures { result ≡ offset / 2 ^ self.now.layout.shift }
+    {
+        offset >> self.layout.shift
+    }
+
+    /// The code of a state.
+    #[inline(always)]
+    fn code(&self, prepared: &Prepared, state: usize) -> u32
+        requires table { IsTable prepared.now self.now }
+        requires state { state < self.now.count }
+        ensures { result ≡ code_of (stops self.now.way (state_of (length prepared.now.expr.nodes) self.now state).flags) (state * 2 ^ self.now.layout.shift) }
+    {
+        code_of(
+            stops(self.way, self.flags[state]),
+            state << self.layout.shift,
+        )
+    }
+
+    /// The slot of the index, or the one before it, where a state with this root and row is noted, if there is one.
+    fn slot_of(&self, nodes: usize, root: usize, work: &Work, steps: &mut Steps) -> usize
+        requires nodes { nodes ≤ 65536 }
+        requires slots { 2 ≤ vec_len self.now.index }
+        ensures slot { result + 1 < vec_len self.now.index }
+        ensures cost { Takes steps.old steps.new (2 * nodes) }
+        ensures counts { TakesAtLeast steps.old steps.new (2 * nodes) }
+    {
+        let digest = work.leaves.digest(nodes, steps)
+            ^ work.ends.digest(nodes, steps).rotate_left(32);
+        ((digest ^ root as u64) % (self.index.len() - 1) as u64) as usize
+    }
+
+    /// Whether a slot of the index notes a state.
+    fn notes(&self, slot: usize) -> bool
+        requires { slot < vec_len self.now.index }
+    {
+        let noted = self.index[slot];
+        noted.epoch == (self.epoch % 65536) as u16 && (noted.state as usize) < self.count
+    }
+
+    /// The state that a slot notes, if it has this root and the row of the marks.
+    fn noted(
+        &self,
+        prepared: &Prepared,
+        root: usize,
+        slot: usize,
+        work: &Work,
+        steps: &mut Steps,
+    ) -> Option<usize>
+        requires table { IsTable prepared.now self.now }
+        requires slot { slot < vec_len self.now.index }
+        ensures there { IfSome result (λ q. q < self.now.count) }
+        ensures has { IfSome result (λ q. HasRow root (bits (length prepared.now.expr.nodes) work.now.leaves)
+            (bits (length prepared.now.expr.nodes) work.now.ends) (state_of (length prepared.now.expr.nodes) self.now q)) }
+        ensures cost { Takes steps.old steps.new (2 * length prepared.now.expr.nodes + 1) }
+    {
+        steps.add(1);
+        let nodes = prepared.nodes();
+        let state = self.index[slot].state as usize;
+        if self.notes(slot)
+            && state < self.count
+            && self.roots[state] == root
+            && self.leaves.same(state, &work.leaves, nodes, steps)
+            && self.ends.same(state, &work.ends, nodes, steps)
+        {
+            Some(state)
+        } else {
+            None
+        }
+    }
+
+    /// Adds a state with this root and row. There is room.
+    fn add(
+        &mut self,
+        prepared: &Prepared,
+        root: usize,
+        slot: usize,
+        work: &Work,
+        steps: &mut Steps,
+    ) -> u32
+        requires table { IsTable prepared.now self.old }
+        requires room { self.old.count < self.old.room }
+        requires root { root < length prepared.now.expr.nodes }
+        requires slot { slot < vec_len self.old.index }
+        ensures table { IsTable prepared.now self.new }
+        ensures adds { AddsStates (length prepared.now.expr.nodes) self.old self.new }
+        ensures epoch { self.new.epoch ≡ self.old.epoch }
+        ensures count { self.new.count ≡ self.old.count + 1 }
+        ensures names { Names (length prepared.now.expr.nodes) self.new (HasRow root (bits (length prepared.now.expr.nodes) work.now.leaves)
+            (bits (length prepared.now.expr.nodes) work.now.ends)) result }
+        ensures cost { Takes steps.old steps.new (5 * length prepared.now.expr.nodes + 1) }
+    {
+        let nodes = prepared.nodes();
+        let state = self.count;
+        let offset = state << self.layout.shift;
+        self.leaves.store(state, &work.leaves, nodes, steps);
+        self.ends.store(state, &work.ends, nodes, steps);
+        self.roots[state] = root;
+        let flags = Flags {
+            ends: work.ends.get(root, steps),
+            dead: work.leaves.is_clear(nodes, steps),
+        };
+        self.flags[state] = flags;
+        clear_cells(&mut self.cells, offset, self.layout.width, steps);
+        self.index[slot] = Slot {
+            epoch: (self.epoch % 65536) as u16,
+            state: state as u16,
+        };
+        self.count = state + 1;
+        code_of(stops(self.way, flags), offset)
+    }
+
+    /// The code of a state with this root and row, if it is found.
+    fn find(
+        &self,
+        prepared: &Prepared,
+        root: usize,
+        slot: usize,
+        work: &Work,
+        steps: &mut Steps,
+    ) -> Option<usize>
+        requires table { IsTable prepared.now self.now }
+        requires slot { slot + 1 < vec_len self.now.index }
+        ensures there { IfSome result (λ q. q < self.now.count) }
+        ensures has { IfSome result (λ q. HasRow root (bits (length prepared.now.expr.nodes) work.now.leaves)
+            (bits (length prepared.now.expr.nodes) work.now.ends) (state_of (length prepared.now.expr.nodes) self.now q)) }
+        ensures cost { Takes steps.old steps.new (4 * length prepared.now.expr.nodes + 2) }
+    {
+        match self.noted(prepared, root, slot, work, steps) {
+            Some(state) => Some(state),
+            None => self.noted(prepared, root, slot + 1, work, steps),
+        }
+    }
+
+    /// The code of the state with this root and row, which is added unless it is found; a full table is emptied before.
+    fn intern(&mut self, prepared: &Prepared, root: usize, work: &Work, steps: &mut Steps) -> u32
+        requires table { IsTable prepared.now self.old }
+        requires root { root < length prepared.now.expr.nodes }
+        ensures table { IsTable prepared.now self.new }
+        ensures adds { AddsStates (length prepared.now.expr.nodes) self.old self.new }
+        ensures names { Names (length prepared.now.expr.nodes) self.new (HasRow root (bits (length prepared.now.expr.nodes) work.now.leaves)
+            (bits (length prepared.now.expr.nodes) work.now.ends)) result }
+        ensures cost { Takes steps.old steps.new (15 * length prepared.now.expr.nodes + 3) }
+        ensures counts { TakesAtLeast steps.old steps.new (2 * length prepared.now.expr.nodes) }
+    {
+        let slot = self.slot_of(prepared.nodes(), root, work, steps);
+        if let Some(state) = self.find(prepared, root, slot, work, steps) {
+            return self.code(prepared, state);
+        }
+        if self.count == self.room {
+            self.empty(prepared, steps);
+        }
+        let at = if self.notes(slot) { slot + 1 } else { slot };
+        self.add(prepared, root, at, work, steps)
+    }
+
+    /// Notes in its cell which state comes after a state and a byte.
+    fn note_next(&mut self, prepared: &Prepared, offset: usize, byte: u8, edge: bool, next: u32)
+        requires table { IsTable prepared.now self.old }
+        requires offset { IsOffset self.old offset }
+        requires leads { Names (length prepared.now.expr.nodes) self.old (LeadsOn (nodes_of self.old.way prepared.now.expr) self.old.way
+            (state_of (length prepared.now.expr.nodes) self.old (offset / 2 ^ self.old.layout.shift)) byte edge) next }
+        requires anywhere { prepared.now.anchors ≡ false → Names (length prepared.now.expr.nodes) self.old (λ b. (end : Bool) → LeadsOn (nodes_of self.old.way prepared.now.expr) self.old.way
+            (state_of (length prepared.now.expr.nodes) self.old (offset / 2 ^ self.old.layout.shift)) byte end b) next }
+        ensures table { IsTable prepared.now self.new }
+        ensures adds { AddsStates (length prepared.now.expr.nodes) self.old self.new }
+        ensures epoch { self.new.epoch ≡ self.old.epoch }
+        ensures count { self.new.count ≡ self.old.count }
+    {
+        let class = prepared.classes[byte as usize] as usize;
+        if let Some(column) = self.layout.column(class, edge) {
+            self.cells[offset + column] = next;
+        }
+    }
+
+    /// Makes the state after a state and a byte, and fills its cell unless the table was emptied for it.
+    #[inline(never)]
+    pub fn fill(
+        &mut self,
+        prepared: &Prepared,
+        offset: usize,
+        byte: u8,
+        edge: bool,
+        work: &mut Work,
+        steps: &mut Steps,
+    ) -> u32
+        requires table { IsTable prepared.now self.old }
+        requires offset { IsOffset self.old offset }
+        ensures table { IsTable prepared.now self.new }
+        ensures adds { AddsStates (length prepared.now.expr.nodes) self.old self.new }
+        ensures names { Names (length prepared.now.expr.nodes) self.new (LeadsOn (nodes_of self.old.way prepared.now.expr) self.old.way
+            (state_of (length prepared.now.expr.nodes) self.old (offset / 2 ^ self.old.layout.shift)) byte edge) result }
+        ensures cost { Takes steps.old steps.new (37 * length prepared.now.expr.nodes) }
+        ensures counts { TakesAtLeast steps.old steps.new (length prepared.now.expr.nodes) }
+    {
+        let state = self.state_at(offset);
+        let root = self.roots[state];
+        self.leaves
+            .load(state, &mut work.leaves, prepared.nodes(), steps);
+        step(prepared, self.way, root, byte, edge, work, steps);
+        let epoch = self.epoch;
+        let next = self.intern(prepared, root, work, steps);
+        if self.epoch == epoch {
+            self.note_next(prepared, offset, byte, edge, next);
+        }
+        next
+    }
+
+    /// What stands in the cell of a state and a byte; 0 where it isn't kept.
+    #[inline(always)]
+    pub fn known(&self, prepared: &Prepared, offset: usize, byte: u8, edge: bool) -> u32
+        requires table { IsTable prepared.now self.now }
+        requires offset { IsOffset self.now offset }
+        ensures { 0 < result → Names (length prepared.now.expr.nodes) self.now (LeadsOn (nodes_of self.now.way prepared.now.expr) self.now.way
+            (state_of (length prepared.now.expr.nodes) self.now (offset / 2 ^ self.now.layout.shift)) byte edge) result }
+    {
+        let class = prepared.classes[byte as usize] as usize;
+        match self.layout.column(class, edge) {
+            Some(column) => self.cells[offset + column],
+            None => 0,
+        }
+    }
+
+    /// The code of the state after the state whose cells begin at `offset`, and a byte. `edge` says whether the text's edge
+    /// comes after the byte.
+    #[inline(always)]
+    pub fn next(
+        &mut self,
+        prepared: &Prepared,
+        offset: usize,
+        byte: u8,
+        edge: bool,
+        work: &mut Work,
+        steps: &mut Steps,
+    ) -> u32
+        requires table { IsTable prepared.now self.old }
+        requires offset { IsOffset self.old offset }
+        ensures table { IsTable prepared.now self.new }
+        ensures adds { AddsStates (length prepared.now.expr.nodes) self.old self.new }
+        ensures names { Names (length prepared.now.expr.nodes) self.new (LeadsOn (nodes_of self.old.way prepared.now.expr) self.old.way
+            (state_of (length prepared.now.expr.nodes) self.old (offset / 2 ^ self.old.layout.shift)) byte edge) result }
+        ensures cost { Takes steps.old steps.new (38 * length prepared.now.expr.nodes) }
+        ensures counts { TakesAtLeast steps.old steps.new 1 }
+    {
+        steps.add(1);
+        let cell = self.known(prepared, offset, byte, edge);
+        if cell != 0 {
+            return cell;
+        }
+        self.fill(prepared, offset, byte, edge, work, steps)
+    }
+
+    /// Where a beginning is noted.
+    #[inline(always)]
+    fn beginning_at(&self, root: usize, kind: Kind) -> usize
+        requires { root ≤ 65536 }
+        ensures { result ≡ beginning_at self.now.way.sweeps root kind }
+    {
+        let k = usize::from(kind.begin) + 2 * usize::from(kind.end);
+        if self.way.sweeps { k } else { 4 * root + k }
+    }
+
+    /// Makes the state in which a pass for a root begins, at a place of a kind, and notes it.
+    #[inline(never)]
+    fn begin(
+        &mut self,
+        prepared: &Prepared,
+        root: usize,
+        kind: Kind,
+        work: &mut Work,
+        steps: &mut Steps,
+    ) -> u32
+        requires table { IsTable prepared.now self.old }
+        requires root { MayBegin prepared.now self.old.way root }
+        ensures table { IsTable prepared.now self.new }
+        ensures adds { AddsStates (length prepared.now.expr.nodes) self.old self.new }
+        ensures names { Names (length prepared.now.expr.nodes) self.new (BeginsIn (nodes_of self.old.way prepared.now.expr) self.old.way root kind) result }
+        ensures cost { Takes steps.old steps.new (36 * length prepared.now.expr.nodes) }
+    {
+        first(prepared, self.way, root, kind, work, steps);
+        let code = self.intern(prepared, root, work, steps);
+        let at = self.beginning_at(root, kind);
+        self.beginnings[at] = Beginning {
+            epoch: self.epoch,
+            code,
+        };
+        code
+    }
+
+    /// The code of the state in which a pass for a root begins, at a place of a kind. In a sweep the root is that of the
+    /// expression.
+    pub fn first(
+        &mut self,
+        prepared: &Prepared,
+        root: usize,
+        kind: Kind,
+        work: &mut Work,
+        steps: &mut Steps,
+    ) -> u32
+        requires table { IsTable prepared.now self.old }
+        requires root { MayBegin prepared.now self.old.way root }
+        ensures table { IsTable prepared.now self.new }
+        ensures adds { AddsStates (length prepared.now.expr.nodes) self.old self.new }
+        ensures names { Names (length prepared.now.expr.nodes) self.new (BeginsIn (nodes_of self.old.way prepared.now.expr) self.old.way root kind) result }
+        ensures cost { Takes steps.old steps.new (37 * length prepared.now.expr.nodes) }
+        ensures counts { TakesAtLeast steps.old steps.new 1 }
+    {
+        steps.add(1);
+        let known = self.beginnings[self.beginning_at(root, kind)];
+        if known.epoch == self.epoch {
+            return known.code;
+        }
+        self.begin(prepared, root, kind, work, steps)
+    }
+
+    /// The code of the state with this root and a row that was kept: the leaves entered stand in the row `2 * row` of the
+    /// edges, and the nodes that end in the one after it.
+    pub fn load(
+        &mut self,
+        prepared: &Prepared,
+        root: usize,
+        row: usize,
+        edges: &Rows,
+        work: &mut Work,
+        steps: &mut Steps,
+    ) -> u32
+        requires table { IsTable prepared.now self.old }
+        requires root { root < length prepared.now.expr.nodes }
+        requires row { 2 * row + 1 < length edges.now }
+        requires leaf_marks { length prepared.now.expr.nodes ≤ length (row_of edges.now (2 * row)) }
+        requires end_marks { length prepared.now.expr.nodes ≤ length (row_of edges.now (2 * row + 1)) }
+        ensures table { IsTable prepared.now self.new }
+        ensures adds { AddsStates (length prepared.now.expr.nodes) self.old self.new }
+        ensures names { Names (length prepared.now.expr.nodes) self.new (HasRow root (bits (length prepared.now.expr.nodes) (row_of edges.now (2 * row)))
+            (bits (length prepared.now.expr.nodes) (row_of edges.now (2 * row + 1)))) result }
+        ensures cost { Takes steps.old steps.new (20 * length prepared.now.expr.nodes) }
+        ensures counts { TakesAtLeast steps.old steps.new (2 * length prepared.now.expr.nodes) }
+    {
+        let nodes = prepared.nodes();
+        let _rows = edges.len();
+        edges.load(2 * row, &mut work.leaves, nodes, steps);
+        edges.load(2 * row + 1, &mut work.ends, nodes, steps);
+        self.intern(prepared, root, work, steps)
+    }
+}
