@@ -115,7 +115,7 @@ follows_first p w t after a i offset kind front way begins ends first =
 -- What it costs.
 
 -- a place with its look at two rows, its byte, and its act
-pub place_cost : (m from place s a b c d : ℕ) → 1 ≤ m → s + 40 * m * from ≤ a + 40 * m * place → b ≤ s + m → c ≤ b + 1 → d ≤ c + 38 * m → d + 40 * m * from ≤ a + 40 * m * (place + 1)
+pub place_cost : (m from place s a b c d : ℕ) → 1 ≤ m → s + 36 * m * from ≤ a + 36 * m * place → b ≤ s + m → c ≤ b + 1 → d ≤ c + 34 * m → d + 36 * m * from ≤ a + 36 * m * (place + 1)
 place_cost m from place s a b c d some before one two three = omega (arith, some, before, one, two, three)
 
 -- the same, as it is read

@@ -6,6 +6,7 @@ use Rattle.std.proofs.lemmas.Bool.{and_parts, and_from, or_cases, or_left, or_ri
 use Rattle.std.proofs.lemmas.Bool.Decides.{eqb_tells}
 use Rattle.std.proofs.lemmas.List.{get_or-set_other, length-set}
 use Rattle.std.proofs.Math.Dec.{ltb}
+use Rattle.std.proofs.Math.Nat.{mul-le-mul_right}
 use Rattle.sedre.specs.Tree.{Tree, empty, set, begin, end, seq, alt, group, star, opt}
 use Rattle.sedre.specs.Arena.{Written, IsExpr, IsPart, AreRanges, tree_at, tree}
 use Rattle.sedre.specs.declared.types.Node.{Node}
@@ -18,7 +19,7 @@ use Rattle.sedmarks.specs.Reach.{At, one_start}
 use Rattle.sedre.specs.Arena.{IsArena}
 use Rattle.sedmarks.specs.Spans.{Spans, Copies, no_copy}
 use Rattle.sedmarks.proofs.SpanLemmas.{Spans-forward}
-use Rattle.sedpass.specs.Decide.{found, undecided, HasAll, flags_of, told_of, nodes_in, EndsIn, IsDesk, HasDesk, IsSetAt, region_cost}
+use Rattle.sedpass.specs.Decide.{found, undecided, HasAll, flags_of, told_of, nodes_in, EndsIn, IsDesk, HasDesk, IsSetAt, owed_in}
 use Rattle.sedpass.specs.Kept.{AllMarked, CeasesAt, IsKept, SameKept, ends_told}
 use Rattle.sedpass.specs.Regions.{IsLastIn, all_of, Reaches, StopsAt, RunsTo, IsRunOf, repeated, in_group}
 use Rattle.sedpass.specs.Table.{IsTable, SameShape, MayBegin}
@@ -29,6 +30,7 @@ use Rattle.sedpass.specs.declared.kept.Region.{Region}
 use Rattle.sedpass.specs.declared.kept.Subject.{Subject}
 use Rattle.sedpass.specs.declared.table.Table.{Table}
 use Rattle.sedpass.proofs.LeaveLemmas.{last_inside}
+use Rattle.sedpass.proofs.OwedLemmas.{owed_small}
 use Rattle.sedpass.proofs.LengthLemmas.{all_long, copies_long}
 use Rattle.sedpass.proofs.MeetingLemmas.{set_early}
 use Rattle.sedpass.specs.Groups.{reported, holds, has_group}
@@ -409,55 +411,50 @@ unfolding TakesAtLeast
 least_no_byte s t i j up none = omega (arith, up, none)
 
 -- Costs.
-part_pays : (m s t o o' i e d : ℕ) → t + (o' + 40 * m * i) ≤ s + (o + 40 * m * (i + e + 2)) → t + (o' + 120 * m * d) ≤ s + (o + 120 * m * (e + d) + 90 * m)
-part_pays m s t o o' i e d pays = omega (arith, pays)
+
+-- looks into a region from where the match begins that ends with it
+pub owed_here : (s : Subject) (tables : GroupTables) (r : Region) (here : Matched) → EndsIn s r here → owed_in s tables r here.start ≤ 100 * length (nodes_in s) * (here.stop - here.start)
+owed_here s tables r here ends =
+    subst (λ v. owed_in s tables r here.start ≤ 100 * length (nodes_in s) * (v - here.start)) (sym ends.1) (owed_small (length (nodes_in s)) (tables.inside.room - 1) r here.start)
+
+pub not_empty : (i j : ℕ) → i ≤ j → (i ≡ j → ⊥) → i < j
+not_empty i j up other = ⊎_elim (λ (e : i ≡ j). absurd (other e)) (λ (ne : i ≡ j → ⊥). omega (arith, up, ne)) (cases_eq i j)
+
+meet_long : (m s t o o' i k long : ℕ) → 1 ≤ long → k ≤ i + long → o ≤ 100 * m * long → t + (o' + 36 * m * i) ≤ s + (o + 36 * m * (k + 1)) → t ≤ s + 172 * m * long
+meet_long m s t o o' i k long some on owed_is pays =
+    let far : k + 1 ≤ i + long + 1 = omega arith in
+    omega (arith, owed_is, pays, mul-le-mul_left (36 * m) far, mul-le-mul_left (36 * m) some)
 
 -- a pass ahead up to a place
-pub cut_pays : (m s t o o' i k j : ℕ) → i ≤ k → k ≤ j → t + (o' + 40 * m * i) ≤ s + (o + 40 * m * (k + 2)) → t + (o' + 120 * m * (j - k)) ≤ s + (o + 120 * m * (j - i) + 90 * m)
-cut_pays m s t o o' i k j up on pays =
-    let whole : i + (k - i) ≡ k = omega arith in
-    let rest : (k - i) + (j - k) ≡ j - i = omega arith in
-    subst (λ v. t + (o' + 120 * m * (j - k)) ≤ s + (o + 120 * m * v + 90 * m)) rest
-    (part_pays m s t o o' i (k - i) (j - k) (subst (λ v. t + (o' + 40 * m * i) ≤ s + (o + 40 * m * (v + 2))) (sym whole) pays))
+pub meet_paid : (m s t o o' i k j : ℕ) → i < j → k ≤ j → o ≤ 100 * m * (j - i) → t + (o' + 36 * m * i) ≤ s + (o + 36 * m * (k + 1)) → t ≤ s + 172 * m * (j - i)
+meet_paid m s t o o' i k j some on owed_is pays = meet_long m s t o o' i k (j - i) (omega arith) (omega arith) owed_is pays
 
-copy_part : (m s t o o' i e d : ℕ) → t + (o' + 40 * m * i) ≤ s + (o + 40 * m * (i + (1 + e) + 2)) → t + (o' + 120 * m * d) ≤ s + (o + 120 * m * ((1 + e) + d))
+run_long : (m s t o o' i k long : ℕ) → 1 ≤ m → 1 ≤ long → k ≤ i + long → o ≤ 100 * m * long → t + (o' + 2 * i) ≤ s + (o + 2 * k + 2) → t ≤ s + 172 * m * long
+run_long m s t o o' i k long some more on owed_is pays =
+    let each : 1 * long ≤ m * long = mul-le-mul_right long some in
+    omega (arith, owed_is, pays, on, more, each)
+
+-- looks at a run
+pub run_paid : (m s t o o' i k j : ℕ) → 1 ≤ m → i < j → k ≤ j → o ≤ 100 * m * (j - i) → t + (o' + 2 * i) ≤ s + (o + 2 * k + 2) → t ≤ s + 172 * m * (j - i)
+run_paid m s t o o' i k j some more on owed_is pays = run_long m s t o o' i k (j - i) some (omega arith) (omega arith) owed_is pays
+
+copy_part : (m s t o o' i e d : ℕ) → t + (o' + 36 * m * i) ≤ s + (o + 36 * m * (i + (1 + e) + 1)) → t + (o' + 72 * m * d) ≤ s + (o + 72 * m * ((1 + e) + d))
 copy_part m s t o o' i e d pays = omega (arith, pays)
 
 -- a pass over a copy of at least one byte
-pub copy_pays : (m s t o o' i k j : ℕ) → i < k → k ≤ j → t + (o' + 40 * m * i) ≤ s + (o + 40 * m * (k + 2)) → t + (o' + 120 * m * (j - k)) ≤ s + (o + 120 * m * (j - i))
+pub copy_pays : (m s t o o' i k j : ℕ) → i < k → k ≤ j → t + (o' + 36 * m * i) ≤ s + (o + 36 * m * (k + 1)) → t + (o' + 72 * m * (j - k)) ≤ s + (o + 72 * m * (j - i))
 copy_pays m s t o o' i k j up on pays =
     let whole : i + (1 + (k - (i + 1))) ≡ k = omega arith in
     let rest : (1 + (k - (i + 1))) + (j - k) ≡ j - i = omega arith in
-    subst (λ v. t + (o' + 120 * m * (j - k)) ≤ s + (o + 120 * m * v)) rest
-    (copy_part m s t o o' i (k - (i + 1)) (j - k) (subst (λ v. t + (o' + 40 * m * i) ≤ s + (o + 40 * m * (v + 2))) (sym whole) pays))
+    subst (λ v. t + (o' + 72 * m * (j - k)) ≤ s + (o + 72 * m * v)) rest
+    (copy_part m s t o o' i (k - (i + 1)) (j - k) (subst (λ v. t + (o' + 36 * m * i) ≤ s + (o + 36 * m * (v + 1))) (sym whole) pays))
 
-run_part : (m s t o o' i e d : ℕ) → t + (o' + 2 * i) ≤ s + (o + 2 * (i + e) + 2) → t + (o' + 120 * (1 + m) * d) ≤ s + (o + 120 * (1 + m) * (e + d) + 90 * (1 + m))
-run_part m s t o o' i e d pays = omega (arith, pays)
-
--- looks at a run
-pub run_pays : (m s t o o' i k j : ℕ) → 1 ≤ m → i ≤ k → k ≤ j → t + (o' + 2 * i) ≤ s + (o + 2 * k + 2) → t + (o' + 120 * m * (j - k)) ≤ s + (o + 120 * m * (j - i) + 90 * m)
-run_pays m s t o o' i k j some up on pays =
-    let whole : i + (k - i) ≡ k = omega arith in
-    let rest : (k - i) + (j - k) ≡ j - i = omega arith in
-    let above : 1 + (m - 1) ≡ m = omega arith in
-    subst (λ v. t + (o' + 120 * v * (j - k)) ≤ s + (o + 120 * v * (j - i) + 90 * v)) above
-    (subst (λ v. t + (o' + 120 * (1 + (m - 1)) * (j - k)) ≤ s + (o + 120 * (1 + (m - 1)) * v + 90 * (1 + (m - 1)))) rest
-    (run_part (m - 1) s t o o' i (k - i) (j - k) (subst (λ v. t + (o' + 2 * i) ≤ s + (o + 2 * v + 2)) (sym whole) pays)))
-
--- no look at all
-pub fixed_pays : (m s o o' i k j : ℕ) → i ≤ k → o' ≤ o → s + (o' + 120 * m * (j - k)) ≤ s + (o + 120 * m * (j - i) + 90 * m)
-fixed_pays m s o o' i k j up falls =
-    let less : j - k ≤ j - i = omega arith in
-    omega (arith, falls, mul-le-mul_left (120 * m) less)
+-- a look at one place
+pub look_paid : (m s t o o' long : ℕ) → o ≤ 100 * m * long → t + o' ≤ s + (o + 1) → t ≤ s + (172 * m * long + 1)
+look_paid m s t o o' long owed_is pays = omega (arith, owed_is, pays)
 
 -- if a run is told
 pub run_told : (nodes : List Node) (groups x : ℕ) (facts : Facts) (run : Option ℕ) → IsExpr nodes groups → x < length nodes → IsFacts (tree_at nodes x) x facts → facts.run ≡ run →
     IfSome run (λ c. IsRunOf nodes c x × IsSetAt nodes c)
 run_told nodes groups x facts None expr inside is told = tt
 run_told nodes groups x facts (Some c) expr inside is told = run_found nodes groups x c facts expr inside is told
-
--- a region for a part of a match
-pub region_pays : (m o i k j : ℕ) → i ≤ k → k ≤ j → o ≤ 124 * m * (j - k + 1) → o + 120 * m * (j - k) ≤ region_cost m (j - i)
-region_pays m o i k j up on owed_is =
-    let less : j - k ≤ j - i = omega arith in
-    omega (arith, owed_is, mul-le-mul_left (124 * m) less, mul-le-mul_left (120 * m) less)

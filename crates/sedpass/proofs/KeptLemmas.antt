@@ -298,7 +298,7 @@ edges_none p w t k block short b above before =
     (cases_lt b block)
 
 -- a block and its edge are paid
-pub block_cost : (m low high s a t : ℕ) → low < high → a ≤ s + 4 * m → t + 39 * m * low ≤ a + 39 * m * high → t + 43 * m * low ≤ s + 43 * m * high
+pub block_cost : (m low high s a t : ℕ) → low < high → a ≤ s + 4 * m → t + 35 * m * low ≤ a + 35 * m * high → t + 39 * m * low ≤ s + 39 * m * high
 block_cost m low high s a t less edge pass =
     let up : low + 1 ≤ high = omega arith in
     let h : 4 * m * (low + 1) ≤ 4 * m * high = mul-le-mul_left (4 * m) up in
@@ -338,17 +338,10 @@ kept_passed p w t k other place offset passes kept low from states edges root en
     }
 
 -- a region of so many places is paid
-pub make_cost : (m low d place end s a t : ℕ) → place ≡ low → end ≡ low + d → a ≤ s + 37 * m → t + 43 * m * place ≤ a + 43 * m * end → t ≤ s + (37 * m + 43 * m * d)
+pub make_cost : (m low d place end s a t : ℕ) → place ≡ low → end ≡ low + d → a ≤ s + 33 * m → t + 39 * m * place ≤ a + 39 * m * end → t ≤ s + (33 * m + 39 * m * d)
 make_cost m low d place end s a t at is first pass =
-    let h : t + 43 * m * low ≤ a + 43 * m * (low + d) = subst (λ e. t + 43 * m * low ≤ a + 43 * m * e) is (subst (λ x. t + 43 * m * x ≤ a + 43 * m * end) at pass) in
+    let h : t + 39 * m * low ≤ a + 39 * m * (low + d) = subst (λ e. t + 39 * m * low ≤ a + 39 * m * e) is (subst (λ x. t + 39 * m * x ≤ a + 39 * m * end) at pass) in
     omega (arith, h, first)
-
--- and a block that is made again
-pub again_cost : (m low d to s a t : ℕ) → 1 ≤ d → to ≡ low + d → a ≤ s + 41 * m → t + 39 * m * low ≤ a + 39 * m * to → t ≤ s + 80 * m * d
-again_cost m low d to s a t some is first pass =
-    let h : t + 39 * m * low ≤ a + 39 * m * (low + d) = subst (λ e. t + 39 * m * low ≤ a + 39 * m * e) is pass in
-    let g : 41 * m * 1 ≤ 41 * m * d = mul-le-mul_left (41 * m) some in
-    omega (arith, h, g, first)
 
 -- the state of the region's end
 pub first_at : (p : Prepared) (w : List ℕ) (t : Table) (k : Kept) (way : Way) (kind : Kind) (a : State) → IsRegion p w t k → way ≡ t.way →

@@ -1,13 +1,11 @@
 -- What looks into a kept pass may still cost.
-use Rattle.std.proofs.Common.{◌≡◌, ℕ, zero, suc, ◌+◌, ◌-◌, ◌*◌, ◌/◌, ◌<◌, ◌≤◌, ◌⊎◌, ⊎_elim, ◌&&◌, sym, ap, ◌∙◌, subst, arith, mul-le-mul_left}
-use Rattle.std.specs.Prelude.{cond, max, min}
+use Rattle.std.proofs.Common.{◌≡◌, ℕ, zero, suc, ◌+◌, ◌-◌, ◌*◌, ◌<◌, ◌≤◌, ◌⊎◌, ⊎_elim, ◌&&◌, refl, sym, ap, ◌∙◌, subst, arith, mul-le-mul_left}
+use Rattle.std.specs.Prelude.{cond}
 use Rattle.std.proofs.lemmas.Bool.{cases_lt}
 use Rattle.std.proofs.lemmas.Bool.Decides.{nat_tests}
-use Rattle.std.proofs.lemmas.Nat.{le-div}
 use Rattle.std.proofs.Math.Dec.{leb, ltb}
-use Rattle.std.proofs.Math.Nat.{div-mul-le_self, mul-div_cancel, mul-le-mul_right}
 use Rattle.sedmarks.specs.Costs.{Pays}
-use Rattle.sedpass.specs.Kept.{due_place, due_from, owed}
+use Rattle.sedpass.specs.Kept.{again, due_place, owed}
 use Rattle.sedpass.specs.declared.kept.Kept.{Kept}
 use Rattle.sedpass.specs.declared.kept.Region.{Region}
 
@@ -28,96 +26,117 @@ dead_place from to i out = ⊎_elim (λ (h : i < from). grind (arith, nat_tests)
 live_falls : (from to i k : ℕ) → i ≤ k → cond (leb from i && ltb i to) to i ≤ cond (leb from k && ltb k to) to k
 live_falls from to i k up = grind (arith, nat_tests)
 
--- How much is due from there.
+live_above : (from to i : ℕ) → i ≤ cond (leb from i && ltb i to) to i
+live_above from to i = grind (arith, nat_tests)
 
-block_falls : (width i k : ℕ) → i ≤ k → i / width * width ≤ k / width * width
-block_falls zero i k up = omega arith
-block_falls (suc w) i k up =
-    let low = div-mul-le_self i (suc w) in
-    mul-le-mul_right (suc w) (le-div (i / suc w) k (suc w) (omega arith) (omega (arith, low)))
+-- What is made again.
 
-rest_falls : (w low end d k : ℕ) → d ≤ k → end - cond (ltb k end) (max low (k / w * w)) end ≤ end - cond (ltb d end) (max low (d / w * w)) end
-rest_falls w low end d k up =
+again_falls : (m c d : ℕ) → c ≤ d → again m c ≤ again m d
+again_falls m zero d up = omega arith
+again_falls m (suc c) zero up = absurd (omega arith)
+again_falls m (suc c) (suc d) up = let h = mul-le-mul_left (59 * m) up in omega (arith, h)
+
+again_few : (m d : ℕ) → again m d ≤ 59 * m * d + 13 * m
+again_few m zero = omega arith
+again_few m (suc d) = omega arith
+
+again_small : (m d : ℕ) → again m d ≤ 100 * m * d
+again_small m zero = omega arith
+again_small m (suc d) = omega arith
+
+again_some : (m d : ℕ) → 1 ≤ d → again m d ≡ 59 * m * d + 13 * m
+again_some m zero some = absurd (omega arith)
+again_some m (suc d) some = refl
+
+-- a block up to another one, or up to the region's end
+again_inside : (m d e s t a : ℕ) → 1 ≤ d → 1 ≤ e → a ≤ s + 24 * m → t ≤ a + 35 * m * d → t + again m e ≤ s + again m (d + e)
+again_inside m d e s t a some more first pass = omega (arith, first, pass, again_some m e more, again_some m (d + e) (omega arith), mul-le-mul_left (24 * m) some)
+
+again_last : (m d s t a : ℕ) → 1 ≤ d → a ≤ s + 37 * m → t ≤ a + 35 * m * d → t ≤ s + again m d
+again_last m d s t a some first pass = omega (arith, first, pass, again_some m d some, mul-le-mul_left (24 * m) some)
+
+pub again_cost : (m low to end s a t : ℕ) → low < to → to ≤ end → a ≤ s + 37 * m → (to < end → a ≤ s + 24 * m) → t + 35 * m * low ≤ a + 35 * m * to → t + again m (end - to) ≤ s + again m (end - low)
+again_cost m low to end s a t some within first inside pass =
+    let d = to - low in
+    let long : low + d ≡ to = omega arith in
+    let passed : t + 35 * m * low ≤ a + 35 * m * (low + d) = subst (λ v. t + 35 * m * low ≤ a + 35 * m * v) (sym long) pass in
+    let each : t ≤ a + 35 * m * d = omega (arith, passed) in
     ⊎_elim
-    (λ (lt : k < end). let e = lt_then k end (max low (k / w * w)) end lt in let f = lt_then d end (max low (d / w * w)) end (omega arith) in let h = block_falls w d k up in omega (arith, e, f, h))
-    (λ (ge : end ≤ k). let e = lt_else k end (max low (k / w * w)) end ge in omega (arith, e))
-    (cases_lt k end)
-
-rest_low : (w low end d : ℕ) → end - cond (ltb d end) (max low (d / w * w)) end ≤ end - low
-rest_low w low end d =
-    ⊎_elim
-    (λ (lt : d < end). let e = lt_then d end (max low (d / w * w)) end lt in omega (arith, e))
-    (λ (ge : end ≤ d). let e = lt_else d end (max low (d / w * w)) end ge in omega (arith, e))
-    (cases_lt d end)
-
--- after a block's right end
-rest_block : (w low end q d : ℕ) → 0 < w → d ≡ min end (q * w + w) → end - cond (ltb d end) (max low (d / w * w)) end ≤ end - d
-rest_block w low end q d some is =
-    ⊎_elim
-    (λ (lt : d < end).
-    let at : d ≡ (q + 1) * w = omega (arith, is, lt) in
-    let whole : (q + 1) * w / w ≡ q + 1 = mul-div_cancel (q + 1) some in
-    let same : d / w * w ≡ d = subst (λ x. x / w * w ≡ x) (sym at) (ap (λ x. x * w) whole) in
-    let e = lt_then d end (max low (d / w * w)) end lt in omega (arith, e, same))
-    (λ (ge : end ≤ d). let e = lt_else d end (max low (d / w * w)) end ge in omega (arith, e))
-    (cases_lt d end)
+    (λ (lt : to < end).
+    let all : d + (end - to) ≡ end - low = omega arith in
+    subst (λ v. t + again m (end - to) ≤ s + again m v) all (again_inside m d (end - to) s t a (omega arith) (omega arith) (inside lt) each))
+    (λ (ge : end ≤ to).
+    let none : 0 ≡ end - to = omega arith in
+    let all : d ≡ end - low = omega arith in
+    subst (λ v. t + again m v ≤ s + again m (end - low)) none (subst (λ v. t + 0 ≤ s + again m v) all (let h = again_last m d s t a (omega arith) first each in omega (arith, h))))
+    (cases_lt to end)
 
 -- What is owed.
 
-owed_below : (m w : ℕ) (r : Region) (i : ℕ) → i < r.low → owed m w r i ≡ 37 * m + 123 * m * (r.end - i)
-owed_below m w r i low = lt_then i r.low (37 * m + 123 * m * (r.end - i)) (80 * m * (r.end - due_from w r i)) low
+owed_below : (m w : ℕ) (r : Region) (i : ℕ) → i < r.low → owed m w r i ≡ 100 * m * (r.end - i)
+owed_below m w r i low = lt_then i r.low (100 * m * (r.end - i)) (again m (r.end - due_place r i)) low
 
-owed_above : (m w : ℕ) (r : Region) (i : ℕ) → r.low ≤ i → owed m w r i ≡ 80 * m * (r.end - due_from w r i)
-owed_above m w r i low = lt_else i r.low (37 * m + 123 * m * (r.end - i)) (80 * m * (r.end - due_from w r i)) low
+owed_above : (m w : ℕ) (r : Region) (i : ℕ) → r.low ≤ i → owed m w r i ≡ again m (r.end - due_place r i)
+owed_above m w r i low = lt_else i r.low (100 * m * (r.end - i)) (again m (r.end - due_place r i)) low
 
-below_cost : (m o x y z : ℕ) → x ≡ 37 * m + 123 * m * o → y ≡ 80 * m * z → z ≤ o → y ≤ x
-below_cost m o x y z one two less = let h = mul-le-mul_left (80 * m) less in omega (arith, one, two, h)
+-- never more than for the whole rest of the region
+pub owed_small : (m w : ℕ) (r : Region) (i : ℕ) → owed m w r i ≤ 100 * m * (r.end - i)
+owed_small m w r i =
+    ⊎_elim
+    (λ (il : i < r.low). let a = owed_below m w r i il in omega (arith, a))
+    (λ (il : r.low ≤ i).
+    let a = owed_above m w r i il in
+    let up : i ≤ due_place r i = live_above r.from r.to i in
+    let h = again_small m (r.end - due_place r i) in
+    let g = mul-le-mul_left (100 * m) (rest_falls r.end i (due_place r i) up) in
+    omega (arith, a, h, g))
+    (cases_lt i r.low)
+  where
+    rest_falls : (end d k : ℕ) → d ≤ k → end - k ≤ end - d
+    rest_falls end d k up = omega arith
 
 pub owed_falls : (m w : ℕ) (r : Region) (i k : ℕ) → i ≤ k → owed m w r k ≤ owed m w r i
 owed_falls m w r i k up =
-    let rest : r.end - due_from w r k ≤ r.end - due_from w r i = rest_falls w r.low r.end (due_place r i) (due_place r k) (live_falls r.from r.to i k up) in
-    let least : r.end - due_from w r k ≤ r.end - r.low = rest_low w r.low r.end (due_place r k) in
     ⊎_elim
-    (λ (kl : k < r.low).
-    let a = owed_below m w r k kl in let b = owed_below m w r i (omega arith) in let less : r.end - k ≤ r.end - i = omega arith in let h = mul-le-mul_left (123 * m) less in omega (arith, a, b, h))
-    (λ (kl : r.low ≤ k).
-    ⊎_elim
-    (λ (il : i < r.low). below_cost m (r.end - i) (owed m w r i) (owed m w r k) (r.end - due_from w r k) (owed_below m w r i il) (owed_above m w r k kl) (omega (arith, least)))
-    (λ (il : r.low ≤ i). let a = owed_above m w r k kl in let b = owed_above m w r i il in let h = mul-le-mul_left (80 * m) rest in omega (arith, a, b, h))
-    (cases_lt i r.low))
-    (cases_lt k r.low)
+    (λ (il : i < r.low).
+    let a = owed_below m w r i il in
+    let h = owed_small m w r k in
+    let less : r.end - k ≤ r.end - i = omega arith in
+    let g = mul-le-mul_left (100 * m) less in
+    omega (arith, a, h, g))
+    (λ (il : r.low ≤ i).
+    let a = owed_above m w r i il in
+    let b = owed_above m w r k (omega arith) in
+    let rest : due_place r i ≤ due_place r k = live_falls r.from r.to i k up in
+    let h = again_falls m (r.end - due_place r k) (r.end - due_place r i) (omega (arith, rest)) in
+    omega (arith, a, b, h))
+    (cases_lt i r.low)
 
--- the region is made down to the place
-made_cost : (m x y z d s t : ℕ) → x ≡ 37 * m + 123 * m * d → y ≡ 80 * m * z → z ≤ d → t ≤ s + (37 * m + 43 * m * d) → t + y ≤ s + x
-made_cost m x y z d s t one two less cost = let h = mul-le-mul_left (80 * m) less in omega (arith, one, two, h, cost)
+-- the region is made down to the place, which is in the table
+made_cost : (m c d s t : ℕ) → c + 1 ≤ d → t ≤ s + (33 * m + 39 * m * d) → t + again m c ≤ s + 100 * m * d
+made_cost m c d s t less cost = let h = again_few m c in let g = mul-le-mul_left (59 * m) less in omega (arith, h, g, cost)
 
-pub owed_made : (m w : ℕ) (old new : Region) (place s t : ℕ) → place < old.low → new.low ≡ place → new.end ≡ old.end → s ≤ t → t ≤ s + (37 * m + 43 * m * (old.end - place)) →
-    Pays s t (owed m w old place) (owed m w new place)
-owed_made m w old new place s t below low end grows cost =
-    let least : new.end - due_from w new place ≤ new.end - new.low = rest_low w new.low new.end (due_place new place) in (
-      grows,
-      made_cost m (owed m w old place) (owed m w new place) (new.end - due_from w new place) (old.end - place) s t (owed_below m w old place below) (owed_above m w new place (omega (arith, low)))
-          (omega (arith, least, low, end)) cost,
-    )
+pub owed_made : (m w : ℕ) (old new : Region) (place s t : ℕ) → place < old.low → place < old.end → new.low ≡ place → new.from ≡ place → place < new.to → new.end ≡ old.end → s ≤ t →
+    t ≤ s + (33 * m + 39 * m * (old.end - place)) → Pays s t (owed m w old place) (owed m w new place)
+owed_made m w old new place s t below before low from to end grows cost =
+    let a = owed_below m w old place below in
+    let b = owed_above m w new place (omega (arith, low)) in
+    let due : due_place new place ≡ new.to = live_place new.from new.to place (omega (arith, from)) to in
+    let less : (new.end - due_place new place) + 1 ≤ old.end - place = omega (arith, due, end, to, before) in
+    let h = made_cost m (new.end - due_place new place) (old.end - place) s t less cost in
+    (grows, omega (arith, a, b, h))
 
--- the place's block is made again
-remade_cost : (m x y z d e s t : ℕ) → x ≡ 80 * m * d → y ≡ 80 * m * z → e + z ≤ d → t ≤ s + 80 * m * e → t + y ≤ s + x
-remade_cost m x y z d e s t one two less cost = let h = mul-le-mul_left (80 * m) less in omega (arith, one, two, h, cost)
-
-pub owed_again : (m w : ℕ) (old new : Region) (place s t : ℕ) → 0 < w → old.low ≤ place → (place < old.from) ⊎ (old.to ≤ place) → place < old.end → new.low ≡ old.low → new.end ≡ old.end →
-    new.from ≡ max old.low (place / w * w) → new.to ≡ min old.end (place / w * w + w) → place < new.to → s ≤ t → t ≤ s + 80 * m * (new.to - new.from) → Pays s t (owed m w old place) (owed m w new place)
-owed_again m w old new place s t some above out before low end from to there grows cost =
-    let begins : place / w * w ≤ place = div-mul-le_self place w in
-    let old-place : due_place old place ≡ place = dead_place old.from old.to place out in
-    let old-from : due_from w old place ≡ max old.low (place / w * w) =
-    ap (λ d. cond (ltb d old.end) (max old.low (d / w * w)) old.end) old-place ∙ lt_then place old.end (max old.low (place / w * w)) old.end before in
-    let new-place : due_place new place ≡ new.to = live_place new.from new.to place (omega (arith, from, begins)) there in
-    let rest : new.end - cond (ltb new.to new.end) (max new.low (new.to / w * w)) new.end ≤ new.end - new.to = rest_block w new.low new.end (place / w) new.to some (omega (arith, to, end)) in
-    let least : new.end - due_from w new place ≤ new.end - new.to = subst (λ d. new.end - cond (ltb d new.end) (max new.low (d / w * w)) new.end ≤ new.end - new.to) (sym new-place) rest in (
-      grows,
-      remade_cost m (owed m w old place) (owed m w new place) (new.end - due_from w new place) (old.end - due_from w old place) (new.to - new.from) s t
-          (owed_above m w old place above) (owed_above m w new place (omega (arith, above, low))) (omega (arith, least, old-from, from, to, end, before, there)) cost,
-    )
+-- the rest of the place's block is made again
+pub owed_again : (m w : ℕ) (old new : Region) (place s t : ℕ) → old.low ≤ place → (place < old.from) ⊎ (old.to ≤ place) → new.low ≡ old.low → new.end ≡ old.end → new.from ≡ place → place < new.to →
+    Pays s t (again m (old.end - place)) (again m (old.end - new.to)) → Pays s t (owed m w old place) (owed m w new place)
+owed_again m w old new place s t above out low end from to paid =
+    let a = owed_above m w old place above in
+    let b = owed_above m w new place (omega (arith, above, low)) in
+    let was : due_place old place ≡ place = dead_place old.from old.to place out in
+    let due : due_place new place ≡ new.to = live_place new.from new.to place (omega (arith, from)) to in
+    let before : again m (old.end - due_place old place) ≡ again m (old.end - place) = ap (λ d. again m (old.end - d)) was in
+    let after : again m (new.end - due_place new place) ≡ again m (old.end - new.to) = ap (λ d. again m (new.end - d)) due ∙ ap (λ d. again m (d - new.to)) end in
+    (paid.0, let h = paid.1 in omega (arith, a, b, before, after, h))
 
 -- as a call left what is kept
 pub owed_left : (m w : ℕ) (old : Region) (place s t u : ℕ) (k other : Kept) → other ≡ k → u ≡ t → Pays s t (owed m w old place) (owed m w k.region place) → Pays s u (owed m w old place) (owed m w other.region place)
@@ -132,9 +151,9 @@ pub seek_at : (o a b e s s0 s1 s2 from place found : ℕ) → s + a + 2 * from �
 seek_at o a b e s s0 s1 s2 from place found before ready seek falls up = omega arith
 
 -- the same of a pass ahead
-pub cut_on : (m o a b e s s0 s1 s2 from place found : ℕ) → s + a + 40 * m * from ≤ s0 + o + 40 * m * place → s1 + b ≤ s + a → s2 + 40 * m * place ≤ s1 + 40 * m * found → e ≤ b → s2 + e + 40 * m * from ≤ s0 + o + 40 * m * found
+pub cut_on : (m o a b e s s0 s1 s2 from place found : ℕ) → s + a + 36 * m * from ≤ s0 + o + 36 * m * place → s1 + b ≤ s + a → s2 + 36 * m * place ≤ s1 + 36 * m * found → e ≤ b → s2 + e + 36 * m * from ≤ s0 + o + 36 * m * found
 cut_on m o a b e s s0 s1 s2 from place found before ready meet falls = omega (arith, before, ready, meet, falls)
 
-pub cut_at : (m o a b e s s0 first s1 s2 from place found : ℕ) → first ≤ s0 + 37 * m → s + a + 40 * m * from ≤ first + o + 40 * m * place → s1 + b ≤ s + a → s2 + 40 * m * place ≤ s1 + (40 * m * found + m) → e ≤ b →
-    s2 + (e + 40 * m * from) ≤ s0 + (o + 40 * m * (found + 2))
+pub cut_at : (m o a b e s s0 first s1 s2 from place found : ℕ) → first ≤ s0 + 33 * m → s + a + 36 * m * from ≤ first + o + 36 * m * place → s1 + b ≤ s + a → s2 + 36 * m * place ≤ s1 + (36 * m * found + m) → e ≤ b →
+    s2 + (e + 36 * m * from) ≤ s0 + (o + 36 * m * (found + 1))
 cut_at m o a b e s s0 first s1 s2 from place found begun before ready meet falls = omega (arith, begun, before, ready, meet, falls)

@@ -1,5 +1,5 @@
 -- How the marks at a place follow from what the leaves took, and that what is entered at a place decides the next.
-use Rattle.std.proofs.Common.{length-set, ◌≡◌, ℕ, zero, suc, ◌+◌, ◌-◌, ◌<◌, ◌≤◌, ◌⊎◌, ◌↔◌, Bool, List, length, Option, Some, None, IsTrue, refl, sym, ap, ◌∙◌, subst, inl, inr, ⊎_elim, true≢false, true, false, ◌&&◌, ◌||◌, arith}
+use Rattle.std.proofs.Common.{length-set, ◌≡◌, ℕ, zero, suc, ◌+◌, ◌-◌, ◌*◌, ◌<◌, ◌≤◌, ◌⊎◌, ◌↔◌, Bool, List, length, Option, Some, None, IsTrue, refl, sym, ap, ◌∙◌, subst, inl, inr, ⊎_elim, true≢false, true, false, ◌&&◌, ◌||◌, arith}
 use Rattle.std.specs.Prelude.{slice_get, slice_index_or, slice_set, eqb, nat_lt, reverse}
 use Rattle.std.proofs.Math.Path.{fun_ext}
 use Rattle.std.proofs.lemmas.Option.{slice_get_within}
@@ -7,6 +7,7 @@ use Rattle.std.proofs.lemmas.List.{length-reverse, get_or-set_same, get_or-set_o
 use Rattle.std.proofs.lemmas.Bool.{and_parts, and_from, or_cases, or_left, or_right, cases_lt, cases_eq, eqb-true, eq-eqb, lt-ltb, le-ltb}
 use Rattle.sedre.specs.Arena.{Written, IsArena, IsPart, tree_at}
 use Rattle.sedre.specs.Mirror.{mirror_node, seen}
+use Rattle.sedre.specs.Packed.{PartsBelow}
 use Rattle.sedre.proofs.MirrorLemmas.{seen-arena, seen-length, seen-node, old_node}
 use Rattle.sedre.specs.declared.types.Node.{Node}
 use Rattle.sedre.specs.declared.types.NodeId.{NodeId}
@@ -20,7 +21,7 @@ use Rattle.sedmarks.specs.Places.{IsPlace, takes_any}
 use Rattle.sedmarks.specs.Words.{AgreeBelow}
 use Rattle.sedmarks.specs.Reach.{At, IsStart, one_start, SomeSpan, BeginsWith, Marked, Enters, at_root, with_whole, after_left, again, Ends}
 use Rattle.sedpass.specs.Regions.{EndsAt, TellEnds, TellSets, Opposite, Reaches, Meets}
-use Rattle.sedpass.specs.Rows.{Took, NullBy, EndsBy, EntersBy, SameBytes, SameKind, SameLeaves, NoneEntered, InTree, is_tree, part_of, IsRange, TreeBelow, TreeFrom, AreNull, ended_by, leaf_looks, part_looks, bits, TellTook, RowAt, RowFrom, LeadsTo}
+use Rattle.sedpass.specs.Rows.{Took, NullBy, EndsBy, EntersBy, SameBytes, SameKind, SameLeaves, NoneEntered, InTree, is_tree, part_of, IsRange, TreeBelow, TreeFrom, AreNull, ended_by, leaf_looks, part_looks, enter_looks, bits, TellTook, RowAt, RowFrom, LeadsTo}
 use Rattle.sedmarks.proofs.SpanLemmas.{Spans-forward, Spans-within, Copies-append, Copies-last}
 use Rattle.sedmarks.proofs.ReachLemmas.{open_at, close_at, takes_some, null_of-At, FromNode, Enters-from, Enters-part, Enters-inside, Enters-root, Enters-loose}
 use Rattle.sedmarks.proofs.MirrorLemmas.{At-mirror}
@@ -1040,6 +1041,18 @@ looks_few (Alt a b) = omega arith
 looks_few (Group k a) = omega arith
 looks_few (Star a first) = omega arith
 looks_few (Opt a first) = omega arith
+
+-- the node of least index is a leaf: it has no part to enter
+pub enters_few : (x : ℕ) (node : Node) → PartsBelow x node → 6 + enter_looks node + (10 * x - 4) ≤ 10 * (x + 1) - 4
+enters_few x Empty below = omega arith
+enters_few x (Set m) below = omega arith
+enters_few x Begin below = omega arith
+enters_few x End below = omega arith
+enters_few x (Seq a b) below = let low = below.0 in omega (arith, low)
+enters_few x (Alt a b) below = let low = below.0 in omega (arith, low)
+enters_few x (Group k a) below = let low = below in omega (arith, low)
+enters_few x (Star a first) below = let low = below in omega (arith, low)
+enters_few x (Opt a first) below = let low = below in omega (arith, low)
 
 -- a row tells, with the byte that came, which leaves took it
 pub took_bits : (nodes : List Node) (w : List ℕ) (r p : ℕ) (s : Starts) (keeps : Bool) (m : ℕ) (leaves : List Bool) (before : ℕ → Bool) (byte : Option ℕ) → length nodes ≡ m → SameBytes nodes (slice_get w p) byte →

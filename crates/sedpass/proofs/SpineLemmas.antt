@@ -5,26 +5,26 @@ use Rattle.sedre.specs.Arena.{Written, IsArena, tree_at, tree}
 use Rattle.sedre.specs.declared.types.Node.{Node}
 use Rattle.sedre.specs.declared.types.Node.TheVariants.{Empty, Set, Begin, End, Seq, Alt, Group, Star, Opt}
 use Rattle.std.specs.Prelude.{IfSome, slice_index_or}
-use Rattle.sedre.specs.Steps.{Counted, TakesAtLeast}
-use Rattle.sedmarks.specs.Costs.{Pays}
+use Rattle.sedre.specs.Steps.{Counted, Takes, TakesAtLeast}
 use Rattle.sedmarks.specs.Caps.{Groups, IsReport}
 use Rattle.sedmarks.proofs.OpenLemmas.{node_at}
-use Rattle.sedpass.specs.Decide.{nodes_in, text_in, told_of, LooksAt, undecided, GoesOn, EndsIn, IsMatch, Turns, next_of, waiting, due_in, due_after, owed_in, region_cost, turn_cost, long_of, IsSpent}
+use Rattle.sedmarks.proofs.WorkLemmas.{size-pos}
+use Rattle.sedpass.specs.Decide.{nodes_in, text_in, told_of, LooksAt, undecided, GoesOn, EndsIn, IsMatch, Turns, next_of, waiting, part_cost, kind_cost, tasks_cost, long_of, IsSpent}
 use Rattle.sedpass.specs.Overlay.{State, Back, NoneDue, IsStart}
-use Rattle.sedpass.specs.Turns.{Runs, AreReady, AreWithin, AreShort, Reduces, weights, looks, tasks_of}
+use Rattle.sedpass.specs.Turns.{Runs, AreReady, AreWithin, AreShort, Reduces, weights, looks, descents, tasks_of}
 use Rattle.sedpass.specs.declared.group_set.GroupSet.{GroupSet}
 use Rattle.sedpass.specs.declared.groups.GroupTables.{GroupTables}
 use Rattle.sedpass.specs.declared.groups.Matched.{Matched}
 use Rattle.sedpass.specs.declared.groups.Task.{Task}
 use Rattle.sedpass.specs.declared.groups.Task.TheVariants.{Apart, Forget}
 use Rattle.sedpass.specs.declared.groups.Then.{Then}
-use Rattle.sedpass.specs.declared.groups.Then.TheVariants.{Done}
+use Rattle.sedpass.specs.declared.groups.Then.TheVariants.{Done, One, Two}
 use Rattle.sedpass.specs.declared.kept.Region.{Region}
 use Rattle.sedpass.specs.declared.kept.Subject.{Subject}
-use Rattle.sedpass.proofs.DecideLemmas.{flags_at, region_pays}
+use Rattle.sedpass.proofs.DecideLemmas.{flags_at}
 use Rattle.sedpass.proofs.OverlayLemmas.{wanted}
 use Rattle.sedpass.specs.Groups.{holds}
-use Rattle.sedpass.proofs.TurnLemmas.{begins, leave_turn, turned, looks-append}
+use Rattle.sedpass.proofs.TurnLemmas.{begins, leave_turn, turned}
 
 -- no group in the match is due: it is left
 pub left_turn : (s : Subject) (here : Matched) (due : GroupSet) (spans : Groups) → IsArena (nodes_in s) → IsMatch s here → NoneDue (tree_at (nodes_in s) here.node) (told_of due spans) →
@@ -45,55 +45,72 @@ done None = 1
 done (Some p) = 0
 
 -- some of the spine is done: one match goes on, others wait
-pub record Spined (s : Subject) (start : List Task) (begin : State) (before : ℕ) (tables : GroupTables) (r : Region) (now : State) (at : Option Matched) (stack : List Task) (after : ℕ) : Type 0 where
+pub record Spined (s : Subject) (start : List Task) (begin : State) (before : ℕ) (r : Region) (now : State) (at : Option Matched) (stack : List Task) (after : ℕ) : Type 0 where
   pub goes : GoesOn s r at
   pub ready : AreReady (nodes_in s) (text_in s) (waiting at stack)
   pub less : weights (nodes_in s) (waiting at stack) + done at ≤ weights (nodes_in s) start
   pub run : (f : State) → Runs (nodes_in s) (text_in s) (waiting at stack) now f → Runs (nodes_in s) (text_in s) start begin f
-  pub cost : (long : ℕ) → AreShort long start → AreShort long (waiting at stack) ×
-      Pays before after (turn_cost (length (nodes_in s)) long * looks (nodes_in s) start + region_cost (length (nodes_in s)) long)
-      (turn_cost (length (nodes_in s)) long * looks (nodes_in s) (waiting at stack) + due_after s tables r long at)
+  pub spent : IsSpent (nodes_in s) start (waiting at stack) before after
 
-region_more : (m short long : ℕ) → short ≤ long → region_cost m short ≤ region_cost m long
-region_more m short long up = omega (arith, mul-le-mul_left (124 * m) up, mul-le-mul_left (120 * m) up)
-
-pub spine_begins : (s : Subject) (tables : GroupTables) (r : Region) (now : State) (here : Matched) (stack : List Task) (before : ℕ) → EndsIn s r here →
-    AreReady (nodes_in s) (text_in s) (waiting (Some here) stack) → owed_in s tables r here.start ≤ 124 * length (nodes_in s) * (here.stop - here.start + 1) →
-    Spined s (waiting (Some here) stack) now before tables r now (Some here) stack before
-spine_begins s tables r now here stack before ends ready owed_is = record {
+pub spine_begins : (s : Subject) (r : Region) (now : State) (here : Matched) (stack : List Task) (before : ℕ) → EndsIn s r here →
+    AreReady (nodes_in s) (text_in s) (waiting (Some here) stack) → Spined s (waiting (Some here) stack) now before r now (Some here) stack before
+spine_begins s r now here stack before ends ready = record {
   goes = ends;
   ready = ready;
   less = omega arith;
   run = λ f run. run;
-  cost = λ long short.
-      let head = short.0 in
-      let up = ready.1 in
-      let lasts : here.stop - here.start ≤ long = omega arith in
-      let region = region_pays (length (nodes_in s)) (owed_in s tables r here.start) here.start here.start here.stop (omega arith) up owed_is in
-      (short, (omega arith, omega (arith, region, region_more (length (nodes_in s)) (here.stop - here.start) long lasts)));
+  spent = λ long short. (short, (omega arith, omega arith));
 }
 
--- a longer region saves as much more as it costs
-after_more : (s : Subject) (tables : GroupTables) (r : Region) (short long due before after : ℕ) (next : Option Matched) → short ≤ long →
-    after + due_after s tables r short next ≤ before + (due + turn_cost (length (nodes_in s)) short) → after + due_after s tables r long next ≤ before + (due + turn_cost (length (nodes_in s)) long)
-after_more s tables r short long due before after None up paid = omega (arith, paid)
-after_more s tables r short long due before after (Some p) up paid = omega (arith, paid, region_more (length (nodes_in s)) short long up)
+cost_more : (m short long : ℕ) → short ≤ long → part_cost m short ≤ part_cost m long
+cost_more m short long up = mul-le-mul_left (172 * m) up
 
-turn_paid : (k s t u due left start region size_x look_new look_rest : ℕ) → look_new + 1 ≤ size_x → t + left ≤ s + (due + k) → s + (k * (size_x + look_rest) + due) ≤ u + (start + region) →
-    t + (k * (look_new + look_rest) + left) ≤ u + (start + region)
-turn_paid k s t u due left start region size_x look_new look_rest fewer paid all =
-    let le : look_new + look_rest + 1 ≤ size_x + look_rest = omega arith in
-    omega (arith, mul-le-mul_left k le, paid, all)
+-- a node more is paid, with none, one, or two parts that it goes on to
+none_paid : (k e dr n lr s t : ℕ) → 1 ≤ n → t ≤ s + 2 → t + (k * dr + 2 * lr) ≤ s + (k * (e + dr) + 2 * (n + lr))
+none_paid k e dr n lr s t some paid = omega (arith, some, paid)
 
-pub spine_goes : (s : Subject) (start : List Task) (begin old new : State) (before steps after : ℕ) (tables tables' : GroupTables) (r r' : Region) (p : Matched) (stack stack' : List Task) (then : Then) (at : Option Matched) →
-    Spined s start begin before tables r old (Some p) stack steps → Turns s p old new then → GoesOn s r' (next_of then) →
-    Pays steps after (due_in s tables r p + turn_cost (length (nodes_in s)) (long_of p)) (due_after s tables' r' (long_of p) (next_of then)) →
+one_paid : (k c d e dr l n lr s t : ℕ) → c ≤ k → d + 1 ≤ e → l + 1 ≤ n → t ≤ s + (c + 2) → t + (k * (d + dr) + 2 * (l + lr)) ≤ s + (k * (e + dr) + 2 * (n + lr))
+one_paid k c d e dr l n lr s t short less fewer paid = let h = mul-le-mul_left k less in omega (arith, h, short, fewer, paid)
+
+two_paid : (k c d d' e dr l l' n lr s t : ℕ) → c ≤ k → d + d' + 1 ≤ e → l + l' + 1 ≤ n → t ≤ s + (c + 2) → t + (k * (d + (d' + dr)) + 2 * (l + (l' + lr))) ≤ s + (k * (e + dr) + 2 * (n + lr))
+two_paid k c d d' e dr l l' n lr s t short less fewer paid = let h = mul-le-mul_left k less in omega (arith, h, short, fewer, paid)
+
+turn_paid : (s : Subject) (long : ℕ) (p : Matched) (rest : List Task) (then : Then) (steps after : ℕ) → p.stop ≤ p.start + long → looks (nodes_in s) (tasks_of then) + 1 ≤ size (tree_at (nodes_in s) p.node) →
+    after ≤ steps + (kind_cost s p (next_of then) + 1) → after + tasks_cost (nodes_in s) long (tasks_of then ++ rest) ≤ steps + tasks_cost (nodes_in s) long (Apart p.node p.start p.stop ∷ rest)
+turn_paid s long p rest Done steps after short fewer paid =
+    let nodes = nodes_in s in
+    let n = size (tree_at nodes p.node) in
+    none_paid (part_cost (length nodes) long) (n - 1) (descents nodes rest) n (looks nodes rest) steps after (omega (arith, fewer)) (omega (arith, paid))
+turn_paid s long p rest (One next) steps after short fewer paid =
+    let nodes = nodes_in s in
+    let n = size (tree_at nodes p.node) in
+    let l = size (tree_at nodes next.node) in
+    let less : part_cost (length nodes) (long_of p) ≤ part_cost (length nodes) long = cost_more (length nodes) (long_of p) long (omega (arith, short)) in
+    one_paid (part_cost (length nodes) long) (part_cost (length nodes) (long_of p)) (l - 1) (n - 1) (descents nodes rest) l n (looks nodes rest) steps after less
+    (omega (arith, fewer, size-pos (tree_at nodes next.node))) (omega (arith, fewer)) (omega (arith, paid))
+turn_paid s long p rest (Two next (Forget y)) steps after short fewer paid =
+    let nodes = nodes_in s in
+    let n = size (tree_at nodes p.node) in
+    let l = size (tree_at nodes next.node) in
+    let less : part_cost (length nodes) (long_of p) ≤ part_cost (length nodes) long = cost_more (length nodes) (long_of p) long (omega (arith, short)) in
+    one_paid (part_cost (length nodes) long) (part_cost (length nodes) (long_of p)) (l - 1) (n - 1) (descents nodes rest) l n (looks nodes rest) steps after less
+    (omega (arith, fewer, size-pos (tree_at nodes next.node))) (omega (arith, fewer)) (omega (arith, paid))
+turn_paid s long p rest (Two next (Apart y i j)) steps after short fewer paid =
+    let nodes = nodes_in s in
+    let n = size (tree_at nodes p.node) in
+    let l = size (tree_at nodes next.node) in
+    let l' = size (tree_at nodes y) in
+    let less : part_cost (length nodes) (long_of p) ≤ part_cost (length nodes) long = cost_more (length nodes) (long_of p) long (omega (arith, short)) in
+    two_paid (part_cost (length nodes) long) (part_cost (length nodes) (long_of p)) (l - 1) (l' - 1) (n - 1) (descents nodes rest) l l' n (looks nodes rest) steps after less
+    (omega (arith, fewer, size-pos (tree_at nodes next.node), size-pos (tree_at nodes y))) (omega (arith, fewer)) (omega (arith, paid))
+
+pub spine_goes : (s : Subject) (start : List Task) (begin old new : State) (before steps after : ℕ) (r r' : Region) (p : Matched) (stack stack' : List Task) (then : Then) (at : Option Matched) →
+    Spined s start begin before r old (Some p) stack steps → Turns s p old new then → GoesOn s r' (next_of then) → Takes steps after (kind_cost s p (next_of then) + 1) →
     at ≡ next_of then → waiting at stack' ≡ tasks_of then ++ reverse stack →
-    Spined s start begin before tables' r' new at stack' after
-spine_goes s start begin old new before steps after tables tables' r r' p stack stack' then at spined turn goes paid at_is items =
+    Spined s start begin before r' new at stack' after
+spine_goes s start begin old new before steps after r r' p stack stack' then at spined turn goes paid at_is items =
     let nodes = nodes_in s in
     let w = text_in s in
-    let m = length nodes in
     let rest = reverse stack in
     let all = turned nodes w p.node p.start p.stop old new (tasks_of then) rest turn spined.ready in
     let less = all.2 in
@@ -103,20 +120,13 @@ spine_goes s start begin old new before steps after tables tables' r r' p stack 
       ready = subst (AreReady nodes w) (sym items) all.1;
       less = done_less at (weights nodes (waiting at stack')) (weights nodes (waiting (Some p) stack)) (weights nodes start) (omega (arith, all.2, ap (weights nodes) items)) spined.less;
       run = λ f run. spined.run f (all.0 f (subst (λ ts. Runs nodes w ts new f) items run));
-      cost = λ long short.
-          let old_cost = spined.cost long short in
-          let head = old_cost.0.0 in
-          let lasts : long_of p ≤ long = omega arith in
-          let more = after_more s tables' r' (long_of p) long (due_in s tables r p) steps after (next_of then) lasts paid.1 in
-          let numbers = turn_paid (turn_cost m long) steps after before (due_in s tables r p) (due_after s tables' r' long (next_of then)) (turn_cost m long * looks nodes start) (region_cost m long)
-          (size (tree_at nodes p.node)) (looks nodes (tasks_of then)) (looks nodes rest) turn.fewer more old_cost.1.1 in
-          let spread = subst (λ v. after + (turn_cost m long * v + due_after s tables' r' long (next_of then)) ≤ before + (turn_cost m long * looks nodes start + region_cost m long)) (sym (looks-append nodes (tasks_of then) rest)) numbers in (
-            subst (AreShort long) (sym items) (short_within long p.start p.stop (tasks_of then) rest head turn.within old_cost.0.1),
-            (
-              omega (arith, old_cost.1.0, paid.0),
-              subst (λ ts. after + (turn_cost m long * looks nodes ts + due_after s tables' r' long at) ≤ before + (turn_cost m long * looks nodes start + region_cost m long)) (sym items)
-                  (subst (λ v. after + (turn_cost m long * looks nodes (tasks_of then ++ rest) + due_after s tables' r' long v) ≤ before + (turn_cost m long * looks nodes start + region_cost m long)) (sym at_is) spread),
-            ),
+      spent = λ long short.
+          let spent = spined.spent long short in
+          let head = spent.0.0 in
+          let more = turn_paid s long p rest then steps after head turn.fewer paid.1 in
+          (
+            subst (AreShort long) (sym items) (short_within long p.start p.stop (tasks_of then) rest head turn.within spent.0.1),
+            (omega (arith, spent.1.0, paid.0), subst (λ ts. after + tasks_cost nodes long ts ≤ before + tasks_cost nodes long start) (sym items) (omega (arith, spent.1.1, more))),
           );
     }
   where
@@ -124,15 +134,9 @@ spine_goes s start begin old new before steps after tables tables' r r' p stack 
     done_less None a b c one two = omega arith
     done_less (Some q) a b c one two = omega arith
 
-pub spine_reduces : (s : Subject) (start : List Task) (begin now : State) (before after : ℕ) (tables : GroupTables) (r : Region) (stack : List Task) →
-    Spined s start begin before tables r now None stack after → Reduces (nodes_in s) (text_in s) start begin (reverse stack) now
-spine_reduces s start begin now before after tables r stack spined = (spined.run, spined.ready, spined.less)
-
-pub spine_spent : (s : Subject) (start : List Task) (begin now : State) (before after : ℕ) (tables : GroupTables) (r : Region) (stack : List Task) →
-    Spined s start begin before tables r now None stack after → IsSpent (nodes_in s) start (reverse stack) before after
-spine_spent s start begin now before after tables r stack spined long short =
-    let cost = spined.cost long short in
-    (cost.0, (cost.1.0, omega (arith, cost.1.1)))
+pub spine_reduces : (s : Subject) (start : List Task) (begin now : State) (before after : ℕ) (r : Region) (stack : List Task) →
+    Spined s start begin before r now None stack after → Reduces (nodes_in s) (text_in s) start begin (reverse stack) now
+spine_reduces s start begin now before after r stack spined = (spined.run, spined.ready, spined.less)
 
 -- it gets less with each look
 pub spine_less : (s : Subject) (old new : State) (p : Matched) (stack stack' : List Task) (then : Then) (at : Option Matched) → AreReady (nodes_in s) (text_in s) (waiting (Some p) stack) → Turns s p old new then →
@@ -191,9 +195,14 @@ looks_more s here (Group k a) next before begun after up looks = tt
 looks_more s here (Star a first) next before begun after up looks = λ is_open. least_after before begun after (here.stop - here.start) up (looks is_open)
 looks_more s here (Opt a first) next before begun after up looks = tt
 
--- what all looks cost together
-pub all_paid : (s t m long : ℕ) → t ≤ s + turn_cost m long * m → t ≤ s + 244 * m * m * (long + 1)
-all_paid s t m long paid = omega (arith, paid)
+-- what all nodes cost together
+pub all_paid : (s t m long rest : ℕ) → t + rest ≤ s + (part_cost m long * (m - 1) + 2 * m) → t ≤ s + (172 * m * (m - 1) * long + 2 * m)
+all_paid s t m long rest paid = by (m - 1) paid
+  where
+    by : (k : ℕ) → t + rest ≤ s + (part_cost m long * k + 2 * m) → t ≤ s + (172 * m * k * long + 2 * m)
+    by k paid = omega (arith, paid)
 
-pub first_paid : (m long size_x : ℕ) → size_x ≤ m → turn_cost m long * size_x ≤ turn_cost m long * m
-first_paid m long size_x small = mul-le-mul_left (turn_cost m long) small
+pub first_paid : (m long size_x : ℕ) → size_x ≤ m → part_cost m long * ((size_x - 1) + 0) + 2 * (size_x + 0) ≤ part_cost m long * (m - 1) + 2 * m
+first_paid m long size_x small =
+    let less : (size_x - 1) + 0 ≤ m - 1 = omega arith in
+    omega (arith, small, mul-le-mul_left (part_cost m long) less)

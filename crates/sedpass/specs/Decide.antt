@@ -15,7 +15,7 @@ use Rattle.sedpass.specs.Lengths.{length_of}
 use Rattle.sedpass.specs.Overlay.{State, state_of, HasGroup}
 use Rattle.sedpass.specs.Regions.{IsLastIn}
 use Rattle.sedpass.specs.Table.{IsTable}
-use Rattle.sedpass.specs.Turns.{Blank, IsHere, IsTurn, AreReady, AreShort, looks, tasks_of}
+use Rattle.sedpass.specs.Turns.{Blank, IsHere, IsTurn, AreReady, AreShort, looks, descents, tasks_of}
 use Rattle.sedpass.specs.declared.group_set.GroupSet.{GroupSet}
 use Rattle.sedpass.specs.declared.groups.GroupTables.{GroupTables}
 use Rattle.sedpass.specs.declared.groups.Matched.{Matched}
@@ -135,32 +135,23 @@ IsSetAt nodes x = (members : List Bool) × (slice_get nodes x ≡ Some (Set memb
 abbrev pub owed_in : Subject → GroupTables → Region → ℕ → ℕ
 owed_in s tables r place = owed (length (nodes_in s)) (tables.inside.room - 1) r place
 
--- those for a match from its start on, and with them passes ahead over it: a part of it after each byte at most
-abbrev pub due_in : Subject → GroupTables → Region → Matched → ℕ
-due_in s tables r here = owed_in s tables r here.start + 120 * length (nodes_in s) * (here.stop - here.start)
-
--- those of a whole region of so many bytes
-abbrev pub region_cost : ℕ → ℕ → ℕ
-region_cost m long = 124 * m * (long + 1) + 120 * m * long
-
--- those of a node: looks at it, and a region that begins there
-abbrev pub turn_cost : ℕ → ℕ → ℕ
-turn_cost m long = region_cost m long + 100 * m
-
--- of which the kind of node may take these, for a match
-abbrev pub kind_cost : Subject → Matched → ℕ
-kind_cost s here = region_cost (length (nodes_in s)) (here.stop - here.start) + 90 * length (nodes_in s)
-
--- what is to be paid after a look: where nothing goes on, a region of so many bytes is saved
-abbrev pub due_after : Subject → GroupTables → Region → ℕ → Option Matched → ℕ
-due_after s tables r long None = region_cost (length (nodes_in s)) long
-due_after s tables r long (Some p) = due_in s tables r p
-
 -- how many bytes the match has
 abbrev pub long_of : Matched → ℕ
 long_of here = here.stop - here.start
 
--- the tasks are done as far as those left, and each node looked at is paid, where none matches more than so many bytes
+-- the steps to go on from a node to a part of it, in a match of so many bytes: looks into one region, and passes ahead over the parts
+abbrev pub part_cost : ℕ → ℕ → ℕ
+part_cost m long = 172 * m * long
+
+-- those of a node that is decided by its kind: where nothing goes on, no region is looked into
+abbrev pub kind_cost : Subject → Matched → Option Matched → ℕ
+kind_cost s here None = 1
+kind_cost s here (Some next) = part_cost (length (nodes_in s)) (long_of here) + 1
+
+-- those of tasks, where none matches more than so many bytes: two for each node, and those to go on to each part
+abbrev pub tasks_cost : List Node → ℕ → List Task → ℕ
+tasks_cost nodes long tasks = part_cost (length nodes) long * descents nodes tasks + 2 * looks nodes tasks
+
+-- the tasks are done as far as those left, and paid, where none matches more than so many bytes
 abbrev pub IsSpent : List Node → List Task → List Task → ℕ → ℕ → Type 0
-IsSpent nodes old new before after =
-    (long : ℕ) → AreShort long old → AreShort long new × Pays before after (turn_cost (length nodes) long * looks nodes old) (turn_cost (length nodes) long * looks nodes new)
+IsSpent nodes old new before after = (long : ℕ) → AreShort long old → AreShort long new × Pays before after (tasks_cost nodes long old) (tasks_cost nodes long new)

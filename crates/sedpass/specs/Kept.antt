@@ -1,6 +1,6 @@
 -- Private to the proofs: no contract that `sedmatch` makes public cites what stands here.
 -- What is kept of a pass backwards over a region, and what looks into it may cost.
-use Rattle.std.specs.Prelude.{◌≡◌, ℕ, ◌+◌, ◌-◌, ◌*◌, ◌/◌, ◌^◌, ◌<◌, ◌≤◌, ◌↔◌, max, nat_le, nat_lt, ◌&&◌, Bool, true, false, if◌then◌else◌, List, length, reverse, slice_index_or, IsTrue}
+use Rattle.std.specs.Prelude.{◌≡◌, ℕ, zero, suc, ◌+◌, ◌-◌, ◌*◌, ◌/◌, ◌^◌, ◌<◌, ◌≤◌, ◌↔◌, max, nat_le, nat_lt, ◌&&◌, Bool, true, false, if◌then◌else◌, List, length, reverse, slice_index_or, IsTrue}
 use Rattle.sedre.specs.declared.types.Node.{Node}
 use Rattle.sedmarks.specs.declared.passes.Starts.{Starts}
 use Rattle.sedmarks.specs.Search.{starts_to}
@@ -124,10 +124,12 @@ Meet p w t k a i from to = (q : ℕ) → from ≤ q → q < to →
 abbrev pub due_place : Region → ℕ → ℕ
 due_place r place = if nat_le r.from place && nat_lt place r.to then r.to else place
 
--- where the states begin that may have to be made again for looks from a place on, in blocks of a width
-abbrev pub due_from : ℕ → Region → ℕ → ℕ
-due_from width r place = if nat_lt (due_place r place) r.end then max r.low (due_place r place / width * width) else r.end
+-- the steps that it takes to make so many places again, each once, in blocks of one place at least
+abbrev pub again : ℕ → ℕ → ℕ
+again m zero = 0
+again m (suc places) = 59 * m * (suc places) + 13 * m
 
--- the steps that looks into the region from a place on may take: to make what isn't made yet, and each block once again
+-- the steps that looks into the region from a place on may take: to make what isn't made yet, of which a place at least is then in the
+-- table, and each of the others once again
 abbrev pub owed : ℕ → ℕ → Region → ℕ → ℕ
-owed m width r place = if nat_lt place r.low then 37 * m + 123 * m * (r.end - place) else 80 * m * (r.end - due_from width r place)
+owed m width r place = if nat_lt place r.low then 100 * m * (r.end - place) else again m (r.end - due_place r place)

@@ -138,6 +138,14 @@ part_looks (Seq a b) = 3
 part_looks (Alt a b) = 2
 part_looks other = 1
 
+-- and how many are looked at or set where its parts begin
+abbrev pub enter_looks : Node → ℕ
+enter_looks Empty = 0
+enter_looks (Set members) = 0
+enter_looks Begin = 0
+enter_looks End = 0
+enter_looks other = 4
+
 -- the row of the place: which leaves are entered there, and which nodes have ended (of all in r where it keeps them, else r alone)
 pub record RowAt (nodes : List Node) (w : List ℕ) (r : ℕ) (s : Starts) (keeps : Bool) (p : ℕ) (entered ended : ℕ → Bool) : Type 0 where
   pub leaves : (c : ℕ) → IsTrue (entered c) ↔ ((members : List Bool) × (slice_get nodes c ≡ Some (Set members)) × Enters nodes w r s c p)

@@ -1,6 +1,6 @@
 -- Private to the proofs: no contract that `sedmatch` makes public cites what stands here.
 -- What is left to do while the groups of a match are decided from its end.
-use Rattle.std.specs.Prelude.{◌≡◌, ℕ, ◌+◌, ◌*◌, ◌<◌, ◌≤◌, ◌⊎◌, ◌↔◌, Bool, true, List, [], ◌∷◌, ◌++◌, length, slice_get, slice_index_or, Option, None, Some, IsTrue}
+use Rattle.std.specs.Prelude.{◌≡◌, ℕ, ◌+◌, ◌-◌, ◌*◌, ◌<◌, ◌≤◌, ◌⊎◌, ◌↔◌, Bool, true, List, [], ◌∷◌, ◌++◌, length, slice_get, slice_index_or, Option, None, Some, IsTrue}
 use Rattle.sedre.specs.Arena.{IsArena, tree_at}
 use Rattle.sedre.specs.Tree.{Tree, size}
 use Rattle.sedre.specs.declared.types.Node.{Node}
@@ -40,6 +40,12 @@ abbrev pub looks : List Node → List Task → ℕ
 looks nodes [] = 0
 looks nodes (Apart x i j ∷ tasks) = size (tree_at nodes x) + looks nodes tasks
 looks nodes (Forget x ∷ tasks) = looks nodes tasks
+
+-- the sizes of all trees to be decided, without their first nodes: so many nodes can still be gone on to
+abbrev pub descents : List Node → List Task → ℕ
+descents nodes [] = 0
+descents nodes (Apart x i j ∷ tasks) = (size (tree_at nodes x) - 1) + descents nodes tasks
+descents nodes (Forget x ∷ tasks) = descents nodes tasks
 
 -- some tasks are done: those left bring the new state to where all bring the old one, are ready, and weigh less
 abbrev pub Reduces : List Node → List ℕ → List Task → State → List Task → State → Type 0

@@ -12,7 +12,7 @@ ghost use Rattle.sedmarks.specs.Caps.{Groups, LastCut, LastCopy, IsReport};
 ghost use Rattle.sedmarks.specs.Costs.{Pays};
 ghost use Rattle.sedmarks.specs.Places.{InOrder};
 ghost use Rattle.sedmarks.specs.Reach.{At};
-ghost use Rattle.sedpass.specs.Decide.{found, HasAll, nodes_in, text_in, told_of, IsTold, Stands, Repeats, EndsIn, GoesOn, IsDesk, IsMatch, Turns, waiting, long_of, kind_cost, IsOpen, LooksAt, next_of, owed_in, IsSetAt, due_in, due_after, turn_cost, HasDesk, IsSpent};
+ghost use Rattle.sedpass.specs.Decide.{found, HasAll, nodes_in, text_in, told_of, IsTold, Stands, Repeats, EndsIn, GoesOn, IsDesk, IsMatch, Turns, waiting, long_of, part_cost, kind_cost, IsOpen, LooksAt, next_of, owed_in, IsSetAt, HasDesk, IsSpent};
 ghost use Rattle.sedpass.specs.Overlay.{State, settle, drop_groups, NoneDue};
 ghost use Rattle.sedpass.specs.Prepared.{IsFacts};
 ghost use Rattle.sedpass.specs.Turns.{AreReady, Reduces, weights, looks, tasks_of};
@@ -145,8 +145,8 @@ fn meeting_end(
     ensures within { result ≤ kept.old.region.end }
     ensures same { SameKept kept.old kept.new }
     ensures desk { IsDesk subject.entry tables.new kept.new }
-    ensures cost { Pays steps.old steps.new (owed_in subject.entry tables.old kept.old.region from + 40 * length (nodes_in subject.entry) * (result + 2))
-        (owed_in subject.entry tables.new kept.new.region result + 40 * length (nodes_in subject.entry) * from) }
+    ensures cost { Pays steps.old steps.new (owed_in subject.entry tables.old kept.old.region from + 36 * length (nodes_in subject.entry) * (result + 1))
+        (owed_in subject.entry tables.new kept.new.region result + 36 * length (nodes_in subject.entry) * from) }
     ensures counts { TakesAtLeast steps.old steps.new (2 * (result - from) + 1) }
 {
     kept.cut(
@@ -197,7 +197,7 @@ fn last_copy(
     requires desk { IsDesk subject tables.old kept.old }
     ensures copy { LastCopy (At (nodes_in subject.entry) (text_in subject.entry) a.index) here.stop here.start result }
     ensures desk { IsDesk subject.entry tables.new kept.new }
-    ensures cost { Takes steps.old steps.new (due_in subject.entry tables.old kept.old.region here) }
+    ensures cost { Takes steps.old steps.new (part_cost (length (nodes_in subject.entry)) (long_of here)) }
     ensures counts { IsOpen (nodes_in subject.entry) a.index → TakesAtLeast steps.old steps.new (here.stop - here.start) }
 {
     let part = a.index();
@@ -220,6 +220,7 @@ fn fixed_cut(subject: Subject, here: Matched, left: usize, right: usize) -> Opti
     requires fits { here.stop ≤ length (text_in subject) }
     requires parts { (k : ℕ) × At (nodes_in subject) (text_in subject) left here.start k × At (nodes_in subject) (text_in subject) right k here.stop }
     ensures cut { IfSome result (λ k. LastCut (At (nodes_in subject.entry) (text_in subject.entry) left) (At (nodes_in subject.entry) (text_in subject.entry) right) here.start here.stop k) }
+    ensures some { result ≡ None → here.start ≡ here.stop → ⊥ }
     ensures open { IsOpen (nodes_in subject.entry) left → IsOpen (nodes_in subject.entry) right → IfSome result (λ k. k ≡ here.start) }
 {
     if here.start == here.stop {
@@ -260,8 +261,7 @@ fn last_cut(
     ensures cut { LastCut (At (nodes_in subject.entry) (text_in subject.entry) a.index) (At (nodes_in subject.entry) (text_in subject.entry) b.index) here.start here.stop result }
     ensures same { SameKept kept.old kept.new }
     ensures desk { IsDesk subject.entry tables.new kept.new }
-    ensures cost { Pays steps.old steps.new (due_in subject.entry tables.old kept.old.region here + 90 * length (nodes_in subject.entry))
-        (due_in subject.entry tables.new kept.new.region (record here { start = result })) }
+    ensures cost { Takes steps.old steps.new (part_cost (length (nodes_in subject.entry)) (long_of here)) }
     ensures counts { IsOpen (nodes_in subject.entry) a.index → IsOpen (nodes_in subject.entry) b.index → TakesAtLeast steps.old steps.new (result - here.start) }
 {
     let (left, right) = (a.index(), b.index());
@@ -310,8 +310,7 @@ fn turn_seq(
     ensures turn { (spans : Groups) → Turns subject.entry here (told_of due spans) (told_of due spans) result }
     ensures goes { GoesOn subject.entry kept.new.region (next_of result) }
     ensures desk { IsDesk subject.entry tables.new kept.new }
-    ensures cost { Pays steps.old steps.new (due_in subject.entry tables.old kept.old.region here + kind_cost subject.entry here)
-        (due_after subject.entry tables.new kept.new.region (long_of here) (next_of result)) }
+    ensures cost { Takes steps.old steps.new (kind_cost subject.entry here (next_of result)) }
     ensures looks { LooksAt subject.entry here (Seq parts.0 parts.1) (next_of result) steps.old steps.new }
 {
     let (a, b) = parts;
@@ -345,8 +344,7 @@ fn turn_alt(
     ensures turn { (s : State) → Turns subject.entry here s s result }
     ensures goes { GoesOn subject.entry kept.new.region (next_of result) }
     ensures desk { IsDesk subject.entry tables.new kept.new }
-    ensures cost { Pays steps.old steps.new (due_in subject.entry tables.old kept.old.region here + kind_cost subject.entry here)
-        (due_after subject.entry tables.new kept.new.region (long_of here) (next_of result)) }
+    ensures cost { Takes steps.old steps.new (kind_cost subject.entry here (next_of result)) }
     ensures looks { LooksAt subject.entry here (Alt a b) (next_of result) steps.old steps.new }
 {
     let (left, right) = (a.index(), b.index());
@@ -377,8 +375,7 @@ fn turn_star(
     ensures turn { (s : State) → Turns subject.entry here s s result }
     ensures goes { GoesOn subject.entry kept.new.region (next_of result) }
     ensures desk { IsDesk subject.entry tables.new kept.new }
-    ensures cost { Pays steps.old steps.new (due_in subject.entry tables.old kept.old.region here + kind_cost subject.entry here)
-        (due_after subject.entry tables.new kept.new.region (long_of here) (next_of result)) }
+    ensures cost { Takes steps.old steps.new (kind_cost subject.entry here (next_of result)) }
     ensures looks { LooksAt subject.entry here (Star a first) (next_of result) steps.old steps.new }
 {
     let part = a.index();
@@ -404,8 +401,7 @@ fn turn_opt(subject: Subject, here: Matched, a: NodeId, first: bool, steps: &mut
     requires here { Stands subject here (Opt a first) }
     ensures turn { (s : State) → Turns subject.entry here s s result }
     ensures goes { (r : Region) → EndsIn subject.entry r here → GoesOn subject.entry r (next_of result) }
-    ensures cost { (tables : GroupTables) (r : Region) → Pays steps.old steps.new (due_in subject.entry tables r here + kind_cost subject.entry here)
-        (due_after subject.entry tables r (long_of here) (next_of result)) }
+    ensures cost { Takes steps.old steps.new (kind_cost subject.entry here (next_of result)) }
 {
     let part = a.index();
     if here.start < here.stop {
@@ -436,8 +432,7 @@ fn turn_node(
     ensures desk { IsDesk subject.entry tables.new kept.new }
     ensures told { IsTold told.new }
     ensures few { found told.new.spans ≤ found told.old.spans + 1 }
-    ensures cost { Pays steps.old steps.new (due_in subject.entry tables.old kept.old.region here + kind_cost subject.entry here)
-        (due_after subject.entry tables.new kept.new.region (long_of here) (next_of result)) }
+    ensures cost { Takes steps.old steps.new (kind_cost subject.entry here (next_of result)) }
     ensures looks { LooksAt subject.entry here node.now (next_of result) steps.old steps.new }
 {
     match node {
@@ -475,8 +470,7 @@ fn turn(
     ensures goes { GoesOn subject.entry kept.new.region (next_of result) }
     ensures desk { IsDesk subject.entry tables.new kept.new }
     ensures told { IsTold told.new }
-    ensures cost { Pays steps.old steps.new (due_in subject.entry tables.old kept.old.region here + turn_cost (length (nodes_in subject.entry)) (long_of here))
-        (due_after subject.entry tables.new kept.new.region (long_of here) (next_of result)) }
+    ensures cost { Takes steps.old steps.new (kind_cost subject.entry here (next_of result) + 1) }
     ensures counts { TakesAtLeast steps.old steps.new (found told.new.spans - found told.old.spans) }
     ensures looks { (node : Node) → slice_get (nodes_in subject.entry) here.node ≡ Some node → (NoneDue (tree_at (nodes_in subject.entry) here.node) (told_of told.old.due told.old.spans) → ⊥) →
         LooksAt subject.entry here node (next_of result) steps.old steps.new }
@@ -605,7 +599,7 @@ pub fn decide(
     ensures tasks { room.new.tasks.items ≡ [] }
     ensures room { vec_capacity room.old.tasks ≤ vec_capacity room.new.tasks }
     ensures desk { HasDesk subject.entry tables.new room.new.kept }
-    ensures cost { let m = length (nodes_in subject.entry) in Takes steps.old steps.new (244 * m * m * (stop - start + 1)) }
+    ensures cost { let m = length (nodes_in subject.entry) in Takes steps.old steps.new (172 * m * (m - 1) * (stop - start) + 2 * m) }
     ensures counts { TakesAtLeast steps.old steps.new (found result - 1) }
 {
     // What always holds of an expression is told with the number of its nodes.

@@ -1,8 +1,9 @@
 //! A pass backwards over a region, of which the state at each place is kept: two bytes a place.
 //!
 //! The region is cut into blocks, and the table has room for one state more than a block has places. The row at each block's
-//! right end is kept too. Where the states of a block are gone, since the table was emptied after it was made, it is made again.
-ghost use Rattle.std.specs.Prelude.{◌≡◌, ℕ, Bool, true, false, not, min, max, ◌+◌, ◌-◌, ◌*◌, ◌/◌, ◌^◌, ◌<◌, ◌≤◌, ◌↔◌, length, slice_index_or, IfOk, IsTrue};
+//! right end is kept too. Where the states of a block are gone, since the table was emptied after it was made, they are made again
+//! from the block's end down to the place that is looked at, so that looks from left to right make each place again once at most.
+ghost use Rattle.std.specs.Prelude.{◌≡◌, ℕ, Bool, true, false, not, min, ◌+◌, ◌-◌, ◌*◌, ◌/◌, ◌^◌, ◌<◌, ◌≤◌, ◌↔◌, length, slice_index_or, IfOk, IsTrue};
 ghost use Rattle.sedmarks.specs.Costs.{Pays};
 ghost use Rattle.sedmarks.specs.Reach.{At, one_start};
 ghost use Rattle.sedmarks.specs.Words.{row_of};
@@ -10,7 +11,7 @@ ghost use Rattle.sedre.specs.Steps.{Takes, TakesAtLeast};
 ghost use Rattle.sedpass.specs.Regions.{IsLastIn, Meets, Reaches};
 ghost use Rattle.sedpass.specs.Rows.{nodes_of};
 ghost use Rattle.sedpass.specs.Table.{AddsStates, IsOffset, IsTable, MayBegin, SameShape, StateAt, state_of};
-ghost use Rattle.sedpass.specs.Kept.{AllMarked, CeasesAt, EdgesFrom, Follows, IsKept, IsRegion, KeptAt, KeptRoom, Meet, Passes, SameKept, ends_told, owed};
+ghost use Rattle.sedpass.specs.Kept.{AllMarked, CeasesAt, EdgesFrom, Follows, IsKept, IsRegion, KeptAt, KeptRoom, Meet, Passes, SameKept, again, ends_told, owed};
 
 use crate::cells::offset_of;
 use crate::nodes::{Prepared, kind_of};
@@ -101,7 +102,7 @@ impl Kept {
         ensures places { length self.new.states.items ≡ length self.old.states.items }
         ensures edges { length self.new.edges ≡ length self.old.edges }
         ensures owed { (i : ℕ) → i ≤ end → owed (length subject.entry.prepared.now.expr.nodes) (table.now.room - 1) self.new.region i
-            ≤ 124 * length subject.entry.prepared.now.expr.nodes * (end - i + 1) }
+            ≤ 100 * length subject.entry.prepared.now.expr.nodes * (end - i) }
     {
         self.region = Region {
             root,
@@ -131,7 +132,7 @@ impl Kept {
         ensures edges { self.new.edges ≡ self.old.edges }
         ensures to { place < self.new.region.to }
         ensures steady { table.old.count < table.old.room → (self.new.region.to ≡ self.old.region.to) × (table.new.count ≤ table.old.count + 1) }
-        ensures cost { Takes steps.old steps.new (39 * length subject.entry.prepared.now.expr.nodes) }
+        ensures cost { Takes steps.old steps.new (35 * length subject.entry.prepared.now.expr.nodes) }
         ensures counts { TakesAtLeast steps.old steps.new 2 }
     {
         let byte = subject.text.byte(place, steps);
@@ -172,7 +173,7 @@ impl Kept {
         ensures edges { self.new.edges ≡ self.old.edges }
         ensures to { low < self.new.region.to }
         ensures steady { table.old.count + (high - low) ≤ table.old.room → self.new.region.to ≡ self.old.region.to }
-        ensures cost { Pays steps.old steps.new (39 * length subject.entry.prepared.now.expr.nodes * high) (39 * length subject.entry.prepared.now.expr.nodes * low) }
+        ensures cost { Pays steps.old steps.new (35 * length subject.entry.prepared.now.expr.nodes * high) (35 * length subject.entry.prepared.now.expr.nodes * low) }
         ensures counts { TakesAtLeast steps.old steps.new (2 * (high - low)) }
     {
         let mut offset = offset;
@@ -257,7 +258,7 @@ impl Kept {
         ensures shape { SameShape table.old table.new }
         ensures same { SameKept self.old self.new }
         ensures to { result.0 < self.new.region.to }
-        ensures cost { Pays steps.old steps.new (43 * length subject.entry.prepared.now.expr.nodes * high) (43 * length subject.entry.prepared.now.expr.nodes * result.0) }
+        ensures cost { Pays steps.old steps.new (39 * length subject.entry.prepared.now.expr.nodes * high) (39 * length subject.entry.prepared.now.expr.nodes * result.0) }
         ensures counts { TakesAtLeast steps.old steps.new (2 * (high - result.0)) }
     {
         let width = table.room - 1;
@@ -279,7 +280,7 @@ impl Kept {
         ensures there { IsOffset table.new result }
         ensures at { KeptAt subject.entry.prepared.now subject.entry.text.now table.new.way self.old.region.root self.old.region.end self.old.region.end
             (state_of (length subject.entry.prepared.now.expr.nodes) table.new (result / 2 ^ table.new.layout.shift)) }
-        ensures cost { Takes steps.old steps.new (37 * length subject.entry.prepared.now.expr.nodes) }
+        ensures cost { Takes steps.old steps.new (33 * length subject.entry.prepared.now.expr.nodes) }
         ensures counts { TakesAtLeast steps.old steps.new 1 }
     {
         let root = self.region.root;
@@ -300,7 +301,7 @@ impl Kept {
         ensures from { self.new.region.from ≡ low }
         ensures to { low < self.new.region.to }
         ensures cost { let m = length subject.entry.prepared.now.expr.nodes in
-            Takes steps.old steps.new (37 * m + 43 * m * (self.old.region.end - low)) }
+            Takes steps.old steps.new (33 * m + 39 * m * (self.old.region.end - low)) }
         ensures counts { TakesAtLeast steps.old steps.new (2 * (self.old.region.end - low)) }
     {
         let end = self.region.end;
@@ -338,7 +339,8 @@ impl Kept {
         ensures at { KeptAt subject.entry.prepared.now subject.entry.text.now table.new.way self.old.region.root self.old.region.end place
             (state_of (length subject.entry.prepared.now.expr.nodes) table.new (result / 2 ^ table.new.layout.shift)) }
         ensures one { table.new.count ≤ 1 }
-        ensures cost { Takes steps.old steps.new (41 * length subject.entry.prepared.now.expr.nodes) }
+        ensures cost { Takes steps.old steps.new (37 * length subject.entry.prepared.now.expr.nodes) }
+        ensures inside { place < self.old.region.end → Takes steps.old steps.new (24 * length subject.entry.prepared.now.expr.nodes) }
     {
         table.empty(subject.prepared, steps);
         if place == self.region.end {
@@ -356,7 +358,7 @@ impl Kept {
         offset_of(code)
     }
 
-    /// Makes the block of a place again, in an emptied table.
+    /// Makes the states from a place up to the end of its block again, in an emptied table.
     #[inline(never)]
     fn remake(&mut self, subject: Subject, table: &mut Table, place: usize, steps: &mut Steps)
         requires kept { IsKept subject.prepared.now subject.text.now table.old self.old }
@@ -366,19 +368,18 @@ impl Kept {
         ensures shape { SameShape table.old table.new }
         ensures same { SameKept self.old self.new }
         ensures low { self.new.region.low ≡ self.old.region.low }
-        ensures from { self.new.region.from ≡ max self.old.region.low (place / (table.old.room - 1) * (table.old.room - 1)) }
+        ensures from { self.new.region.from ≡ place }
         ensures to { self.new.region.to ≡ min self.old.region.end (place / (table.old.room - 1) * (table.old.room - 1) + (table.old.room - 1)) }
         ensures cost { let m = length subject.entry.prepared.now.expr.nodes in
-            Takes steps.old steps.new (80 * m * (self.new.region.to - self.new.region.from)) }
+            Pays steps.old steps.new (again m (self.old.region.end - place)) (again m (self.old.region.end - self.new.region.to)) }
     {
         let width = table.room - 1;
         let block = place / width;
         let to = self.region.end.min(block * width + width);
-        let low = self.region.low.max(block * width);
         let offset = self.right_end(subject, table, block, to, steps);
-        self.region.from = low;
+        self.region.from = place;
         self.region.to = to;
-        self.pass(subject, table, low, to, offset, steps);
+        self.pass(subject, table, place, to, offset, steps);
     }
 
     /// Sees to it that the states of a place below the region's end, and of those up to the end of its block, are in the table;
@@ -427,7 +428,7 @@ impl Kept {
         ensures same { SameKept self.old self.new }
         ensures spans { IsTrue result ↔ At subject.entry.prepared.now.expr.nodes subject.entry.text.now x place self.old.region.end }
         ensures cost { let m = length subject.entry.prepared.now.expr.nodes in let width = table.old.room - 1 in
-            Pays steps.old steps.new (owed m width self.old.region place + 2) (owed m width self.new.region place) }
+            Pays steps.old steps.new (owed m width self.old.region place + 1) (owed m width self.new.region place) }
         ensures counts { TakesAtLeast steps.old steps.new 1 }
     {
         if place == self.region.end {
@@ -532,7 +533,7 @@ impl Kept {
         ensures ceases { CeasesAt subject.entry.prepared.now.expr.nodes subject.entry.text.now self.old.region.root
             (ends_told table.old.way.sweeps (length subject.entry.text.now) self.old.region.end) a from result }
         ensures cost { let m = length subject.entry.prepared.now.expr.nodes in let width = table.old.room - 1 in
-            Pays steps.old steps.new (owed m width self.old.region from + 40 * m * (result + 2)) (owed m width self.new.region result + 40 * m * from) }
+            Pays steps.old steps.new (owed m width self.old.region from + 36 * m * (result + 1)) (owed m width self.new.region result + 36 * m * from) }
         ensures counts { TakesAtLeast steps.old steps.new (2 * (result - from) + 1) }
     {
         let kind = kind_of(from, subject.text.len());
@@ -581,8 +582,8 @@ impl Kept {
             × Meet subject.entry.prepared.now subject.entry.text.now table.now self.old a i from result.0
             × (result.0 < self.old.region.to → Meets subject.entry.prepared.now.expr.nodes subject.entry.text.now self.old.region.root
             (ends_told table.now.way.sweeps (length subject.entry.text.now) self.old.region.end) a (one_start i) result.0 → ⊥) }
-        ensures cost { let m = length subject.entry.prepared.now.expr.nodes in Pays steps.old steps.new (40 * m * result.0 + m) (40 * m * from) }
-        ensures whole { let m = length subject.entry.prepared.now.expr.nodes in result.0 ≡ self.old.region.to → Pays steps.old steps.new (40 * m * result.0) (40 * m * from) }
+        ensures cost { let m = length subject.entry.prepared.now.expr.nodes in Pays steps.old steps.new (36 * m * result.0 + m) (36 * m * from) }
+        ensures whole { let m = length subject.entry.prepared.now.expr.nodes in result.0 ≡ self.old.region.to → Pays steps.old steps.new (36 * m * result.0) (36 * m * from) }
         ensures counts { TakesAtLeast steps.old steps.new (2 * (result.0 - from)) }
     {
         let length = subject.text.len();

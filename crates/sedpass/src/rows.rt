@@ -2,7 +2,7 @@
 //!
 //! The row of a place tells which leaves are entered there, in a match from one of the pass's starts, and which nodes
 //! ended there. The leaves entered decide, with the byte, the next row.
-ghost use Rattle.std.specs.Prelude.{◌≡◌, ℕ, List, Bool, false, ◌+◌, ◌*◌, ◌<◌, ◌≤◌, ◌↔◌, ◌&&◌, ◌||◌, eqb};
+ghost use Rattle.std.specs.Prelude.{◌≡◌, ℕ, List, Bool, false, ◌+◌, ◌-◌, ◌*◌, ◌<◌, ◌≤◌, ◌↔◌, ◌&&◌, ◌||◌, eqb};
 ghost use Rattle.std.specs.Prelude.{length, Some, slice_index_or, IsTrue};
 ghost use Rattle.sedre.specs.Arena.{tree_at};
 ghost use Rattle.sedre.specs.Packed.{PartsBelow};
@@ -15,7 +15,7 @@ ghost use Rattle.sedmarks.specs.Places.{takes_any};
 ghost use Rattle.sedmarks.specs.Reach.{IsStart, Ends, Marked};
 ghost use Rattle.sedpass.specs.Prepared.{null_in};
 ghost use Rattle.sedpass.specs.Rows.{nodes_of, at_begin, at_end, bits, LeadsTo, IsFirst, RowAt};
-ghost use Rattle.sedpass.specs.Rows.{InTree, AreNull, TellTook, ended_by, leaf_looks, part_looks};
+ghost use Rattle.sedpass.specs.Rows.{InTree, AreNull, TellTook, ended_by, leaf_looks, part_looks, enter_looks};
 
 use crate::nodes::{Kind, Prepared};
 use sedmarks::counted::NodeMarks;
@@ -115,7 +115,7 @@ fn enter(
     requires parts { PartsBelow (length prepared.now.expr.nodes) node.now }
     requires few { length prepared.now.expr.nodes ≤ 65536 }
     ensures marks { entered.new ≡ enter_parts here (null_in prepared.now.expr.nodes kind) (λ c. slice_index_or ended.now c false) node.now entered.old }
-    ensures cost { Takes steps.old steps.new 4 }
+    ensures cost { Takes steps.old steps.new (enter_looks node.now) }
 {
     match node {
         Node::Empty | Node::Begin | Node::End | Node::Set(_) => {}
@@ -207,7 +207,7 @@ fn descend(
         (IsTrue first ↔ IsStart s place) →
         RowAt (nodes_of way prepared.now.expr) w root s way.keeps place
         (bits (length prepared.now.expr.nodes) work.new.leaves) (bits (length prepared.now.expr.nodes) work.new.ends) }
-    ensures cost { Takes steps.old steps.new (12 * length prepared.now.expr.nodes + 1) }
+    ensures cost { Takes steps.old steps.new (12 * length prepared.now.expr.nodes - 3) }
     ensures counts { TakesAtLeast steps.old steps.new (2 * length prepared.now.expr.nodes + 6 * size (tree_at prepared.now.expr.nodes root)) }
 {
     let nodes = prepared.nodes();
@@ -266,7 +266,7 @@ pub fn step(
     ensures anywhere { prepared.now.anchors ≡ false → (end : Bool) (before : ℕ → Bool) → LeadsTo (nodes_of way prepared.now.expr) root way.keeps
         (bits (length prepared.now.expr.nodes) work.old.leaves) before (Some byte) end way.sweeps
         (bits (length prepared.now.expr.nodes) work.new.leaves) (bits (length prepared.now.expr.nodes) work.new.ends) }
-    ensures cost { Takes steps.old steps.new (17 * length prepared.now.expr.nodes + 1) }
+    ensures cost { Takes steps.old steps.new (17 * length prepared.now.expr.nodes - 3) }
     ensures counts { TakesAtLeast steps.old steps.new
         (8 * size (tree_at prepared.now.expr.nodes root) + 2 * length prepared.now.expr.nodes) }
 {
@@ -287,7 +287,7 @@ pub fn first(
     requires root { root < length prepared.now.expr.nodes }
     ensures first { IsFirst (nodes_of way prepared.now.expr) root way.keeps (at_begin way.mirrored kind) (at_end way.mirrored kind)
         (bits (length prepared.now.expr.nodes) work.new.leaves) (bits (length prepared.now.expr.nodes) work.new.ends) }
-    ensures cost { Takes steps.old steps.new (17 * length prepared.now.expr.nodes + 1) }
+    ensures cost { Takes steps.old steps.new (17 * length prepared.now.expr.nodes - 3) }
     ensures counts { TakesAtLeast steps.old steps.new
         (8 * size (tree_at prepared.now.expr.nodes root) + 2 * length prepared.now.expr.nodes) }
 {

@@ -335,7 +335,7 @@ impl Table {
         ensures adds { AddsStates (length prepared.now.expr.nodes) self.old self.new }
         ensures names { Names (length prepared.now.expr.nodes) self.new (LeadsOn (nodes_of self.old.way prepared.now.expr) self.old.way
             (state_of (length prepared.now.expr.nodes) self.old (offset / 2 ^ self.old.layout.shift)) byte edge) result }
-        ensures cost { Takes steps.old steps.new (37 * length prepared.now.expr.nodes) }
+        ensures cost { Takes steps.old steps.new (33 * length prepared.now.expr.nodes) }
         ensures counts { TakesAtLeast steps.old steps.new (length prepared.now.expr.nodes) }
     {
         let state = self.state_at(offset);
@@ -384,7 +384,7 @@ impl Table {
         ensures adds { AddsStates (length prepared.now.expr.nodes) self.old self.new }
         ensures names { Names (length prepared.now.expr.nodes) self.new (LeadsOn (nodes_of self.old.way prepared.now.expr) self.old.way
             (state_of (length prepared.now.expr.nodes) self.old (offset / 2 ^ self.old.layout.shift)) byte edge) result }
-        ensures cost { Takes steps.old steps.new (38 * length prepared.now.expr.nodes) }
+        ensures cost { Takes steps.old steps.new (34 * length prepared.now.expr.nodes) }
         ensures counts { TakesAtLeast steps.old steps.new 1 }
     {
         steps.add(1);
@@ -420,7 +420,7 @@ impl Table {
         ensures table { IsTable prepared.now self.new }
         ensures adds { AddsStates (length prepared.now.expr.nodes) self.old self.new }
         ensures names { Names (length prepared.now.expr.nodes) self.new (BeginsIn (nodes_of self.old.way prepared.now.expr) self.old.way root kind) result }
-        ensures cost { Takes steps.old steps.new (36 * length prepared.now.expr.nodes) }
+        ensures cost { Takes steps.old steps.new (32 * length prepared.now.expr.nodes) }
     {
         first(prepared, self.way, root, kind, work, steps);
         let code = self.intern(prepared, root, work, steps);
@@ -447,7 +447,7 @@ impl Table {
         ensures table { IsTable prepared.now self.new }
         ensures adds { AddsStates (length prepared.now.expr.nodes) self.old self.new }
         ensures names { Names (length prepared.now.expr.nodes) self.new (BeginsIn (nodes_of self.old.way prepared.now.expr) self.old.way root kind) result }
-        ensures cost { Takes steps.old steps.new (37 * length prepared.now.expr.nodes) }
+        ensures cost { Takes steps.old steps.new (33 * length prepared.now.expr.nodes) }
         ensures counts { TakesAtLeast steps.old steps.new 1 }
     {
         steps.add(1);

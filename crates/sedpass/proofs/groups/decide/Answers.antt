@@ -1,12 +1,12 @@
 use Rattle.std.proofs.Common.{◌≡◌, ◌+◌, ◌-◌, ◌*◌, ◌<◌, ◌≤◌, List, [], ◌∷◌, ◌++◌, length, reverse, refl, sym, ap, ◌∙◌, subst, arith}
 use Rattle.std.proofs.lemmas.List.{nil_from_length, reverse-append}
-use Rattle.sedpass.specs.Decide.{nodes_in, text_in, told_of, undecided, found, turn_cost}
-use Rattle.sedpass.specs.Turns.{Runs, AreReady, AreShort, weights, looks}
+use Rattle.sedpass.specs.Decide.{nodes_in, text_in, told_of, undecided, found, part_cost, tasks_cost}
+use Rattle.sedpass.specs.Turns.{Runs, AreReady, AreShort, weights}
 use Rattle.sedre.specs.Tree.{size}
 use Rattle.sedre.specs.Arena.{tree_at, tree}
 use Rattle.sedpass.specs.declared.groups.Task.{Task}
 use Rattle.sedpass.specs.declared.groups.Task.TheVariants.{Apart}
-use Rattle.sedpass.proofs.SpineLemmas.{decides, decides_due, first_paid, least_same, least_on}
+use Rattle.sedpass.proofs.SpineLemmas.{decides, decides_due, all_paid, first_paid, least_same, least_on}
 use Rattle.sedpass.proofs.DecideLemmas.{starts_due, starts_blank}
 use Rattle.sedpass.proofs.groups.decide.Goals as goal
 
@@ -23,8 +23,8 @@ all-init c =
     let begun : reverse items ≡ first ∷ [] = ap reverse (c.push_reserved.ensures.items ∙ ap (λ (xs : List Task). xs ++ (first ∷ [])) c.requires.tasks) in
     let inside : p.root < length nodes = omega (arith, p.is_prepared.last) in
     let small : size (tree_at nodes p.root) ≤ length nodes = omega (arith, c.nodes-nodes.ensures.expr.sizes p.root inside) in
-    let all : size (tree_at nodes p.root) + 0 ≤ length nodes = omega (arith, small) in
-    let paid = first_paid (length nodes) long (size (tree_at nodes p.root) + 0) all in
+    let paid = first_paid (length nodes) long (size (tree_at nodes p.root)) small in
+    let most = part_cost (length nodes) long * (length nodes - 1) + 2 * length nodes in
     record {
       desk = c.requires.desk;
       told = record { blank = starts_blank c.args.start c.args.stop c.args.due c.requires.whole; whole = c.requires.whole };
@@ -34,7 +34,7 @@ all-init c =
       run = λ f run. subst (λ ts. Runs nodes w ts start f) begun run;
       counts = least_same c.args.steps.now 1;
       short = subst (AreShort long) (sym begun) (omega arith, tt);
-      cost = (omega arith, subst (λ ts. c.args.steps.now + turn_cost (length nodes) long * looks nodes ts ≤ c.args.steps.now + turn_cost (length nodes) long * length nodes) (sym begun) (omega (arith, paid)));
+      cost = (omega arith, subst (λ ts. c.args.steps.now + tasks_cost nodes long ts ≤ c.args.steps.now + most) (sym begun) (omega (arith, paid)));
     }
 
 pub all-smaller : goal.all-smaller
@@ -59,7 +59,7 @@ all-preserved c =
     let long = c.args.stop - c.args.start in
     let less : weights nodes (reverse c.work.new.room.tasks.items) + 1 ≤ weights nodes (reverse c.all.room.tasks.items) = omega (arith, c.work.ensures.reduces.2, ap (weights nodes) popped) in
     let spent = c.work.ensures.cost long (subst (AreShort long) popped inv.short) in
-    let before = subst (λ ts. c.all.steps + turn_cost m long * looks nodes ts ≤ c.args.steps.now + turn_cost m long * m) popped inv.cost.1 in
+    let before = subst (λ ts. c.all.steps + tasks_cost nodes long ts ≤ c.args.steps.now + (part_cost m long * (m - 1) + 2 * m)) popped inv.cost.1 in
     record {
       desk = c.work.ensures.desk;
       told = c.work.ensures.told;
@@ -88,3 +88,8 @@ returns-clause-due c = λ groups k report is.
     let run = c.all.invariant.run s (subst (λ ts. Runs (nodes_in c.args.subject) (text_in c.args.subject) ts s s) (sym (ap reverse empty)) refl) in
     let p = c.args.subject.prepared.now in
     decides_due p.expr (text_in c.args.subject) p.root c.args.start c.args.stop k c.args.due s groups p.is_prepared.last c.requires.whole run report is
+
+pub returns-clause-cost : goal.returns-clause-cost
+returns-clause-cost c =
+    let paid = c.all.invariant.cost in
+    (paid.0, all_paid c.args.steps.now c.all.steps (length (nodes_in c.args.subject)) (c.args.stop - c.args.start) _ paid.1)

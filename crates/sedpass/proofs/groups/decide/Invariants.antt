@@ -1,9 +1,9 @@
-use Rattle.std.proofs.Common.{◌-◌, ◌*◌, ◌≤◌, [], ◌∷◌, length, reverse, vec_capacity}
+use Rattle.std.proofs.Common.{◌+◌, ◌-◌, ◌*◌, ◌≤◌, [], ◌∷◌, length, reverse, vec_capacity}
 use Rattle.sedre.specs.Steps.{TakesAtLeast}
 use Rattle.sedmarks.specs.Costs.{Pays}
-use Rattle.sedpass.specs.Decide.{nodes_in, text_in, told_of, undecided, found, IsTold, HasDesk, turn_cost}
+use Rattle.sedpass.specs.Decide.{nodes_in, text_in, told_of, undecided, found, IsTold, HasDesk, part_cost, tasks_cost}
 use Rattle.sedpass.specs.Overlay.{State}
-use Rattle.sedpass.specs.Turns.{Runs, AreReady, AreShort, weights, looks}
+use Rattle.sedpass.specs.Turns.{Runs, AreReady, AreShort, weights}
 use Rattle.sedpass.specs.declared.groups.Task.TheVariants.{Apart}
 use Rattle.sedpass.proofs.groups.decide.Given as goal
 
@@ -18,8 +18,8 @@ invariant-all l = record {
       Runs (nodes_in l.subject) (text_in l.subject) (Apart l.subject.prepared.now.root l.fn.start l.fn.stop ∷ []) (told_of l.fn.due (undecided l.fn.start l.fn.stop)) f;
   counts : TakesAtLeast l.initial.steps l.steps (found l.told.spans - 1);
   short : AreShort (l.fn.stop - l.fn.start) (reverse l.room.tasks.items);
-  cost : Pays l.initial.steps l.steps (turn_cost (length (nodes_in l.subject)) (l.fn.stop - l.fn.start) * length (nodes_in l.subject))
-      (turn_cost (length (nodes_in l.subject)) (l.fn.stop - l.fn.start) * looks (nodes_in l.subject) (reverse l.room.tasks.items));
+  cost : Pays l.initial.steps l.steps (part_cost (length (nodes_in l.subject)) (l.fn.stop - l.fn.start) * (length (nodes_in l.subject) - 1) + 2 * length (nodes_in l.subject))
+      (tasks_cost (nodes_in l.subject) (l.fn.stop - l.fn.start) (reverse l.room.tasks.items));
 }
 
 abbrev pub decreases-all : goal.decreases-all

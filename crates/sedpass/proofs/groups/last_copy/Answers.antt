@@ -4,7 +4,7 @@ use Rattle.sedmarks.specs.Reach.{At}
 use Rattle.sedpass.specs.Lengths.{length_of}
 use Rattle.sedpass.specs.Decide.{nodes_in, text_in}
 use Rattle.sedpass.specs.Regions.{StopsAt}
-use Rattle.sedpass.proofs.DecideLemmas.{long_at, copy_fits, copy_named, part_low, ends_still, copy_pays, least_none, least_then, least_less, not_open}
+use Rattle.sedpass.proofs.DecideLemmas.{long_at, copy_fits, copy_named, part_low, ends_still, copy_pays, owed_here, least_none, least_then, least_less, not_open}
 use Rattle.sedpass.proofs.LengthLemmas.{copies_long}
 use Rattle.sedpass.proofs.MeetingLemmas.{copy_walk}
 use Rattle.sedpass.proofs.TurnLemmas.{star_parts, star_spine}
@@ -96,7 +96,10 @@ pub returns-clause-desk : goal.returns-clause-desk
 returns-clause-desk c = c.copies.invariant.desk
 
 pub returns-clause-cost : goal.returns-clause-cost
-returns-clause-cost c = let cost = c.copies.invariant.cost in (cost.0, omega (arith, cost.1))
+returns-clause-cost c =
+    let cost = c.copies.invariant.cost in
+    let owed_is = owed_here c.args.subject c.args.tables.now c.args.kept.now.region c.args.here c.requires.ends in
+    (cost.0, omega (arith, cost.1, owed_is))
 
 pub returns-in-Some-clause-counts : goal.returns-in-Some-clause-counts
 returns-in-Some-clause-counts c = λ is_open. absurd (not_open c.in-Some.length c.facts_at.ensures.long c.in-Some.is (ap (λ x. length_of (tree_at (nodes_in c.args.subject) x)) c.index-part.ensures ∙ is_open))

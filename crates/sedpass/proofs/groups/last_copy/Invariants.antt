@@ -1,10 +1,10 @@
-use Rattle.std.proofs.Common.{◌≡◌, ◌⊎◌, ◌-◌, ◌<◌, ◌≤◌, ℕ}
+use Rattle.std.proofs.Common.{◌≡◌, ◌⊎◌, ◌+◌, ◌-◌, ◌*◌, ◌<◌, ◌≤◌, ℕ, length}
 use Rattle.sedmarks.specs.Caps.{LastCopy}
 use Rattle.sedre.specs.Steps.{TakesAtLeast}
 use Rattle.sedmarks.specs.Costs.{Pays}
 use Rattle.sedmarks.specs.Reach.{At}
 use Rattle.sedmarks.specs.Spans.{Copies}
-use Rattle.sedpass.specs.Decide.{nodes_in, text_in, EndsIn, IsDesk, due_in}
+use Rattle.sedpass.specs.Decide.{nodes_in, text_in, EndsIn, IsDesk, owed_in}
 use Rattle.sedpass.proofs.groups.last_copy.Given as goal
 
 abbrev pub invariant-copies : goal.invariant-copies
@@ -15,7 +15,8 @@ invariant-copies l = record {
   rest : Copies (At (nodes_in l.subject) (text_in l.subject) l.part) l.here.stop l.end;
   walk : (c : ℕ) → ((l.end < l.here.stop) × LastCopy (At (nodes_in l.subject) (text_in l.subject) l.part) l.here.stop l.end c) ⊎ ((l.end ≡ l.here.stop) × (c ≡ l.copy)) →
       LastCopy (At (nodes_in l.subject) (text_in l.subject) l.part) l.here.stop l.here.start c;
-  cost : Pays l.initial.steps l.steps (due_in l.subject l.initial.tables l.initial.kept.region l.here) (due_in l.subject l.tables l.kept.region (record l.here { start = l.end }));
+  cost : Pays l.initial.steps l.steps (owed_in l.subject l.initial.tables l.initial.kept.region l.here.start + 72 * length (nodes_in l.subject) * (l.here.stop - l.here.start))
+      (owed_in l.subject l.tables l.kept.region l.end + 72 * length (nodes_in l.subject) * (l.here.stop - l.end));
   low : l.here.start ≤ l.end;
   counts : TakesAtLeast l.initial.steps l.steps (l.end - l.here.start);
 }

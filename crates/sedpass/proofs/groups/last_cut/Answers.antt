@@ -3,8 +3,7 @@ use Rattle.sedre.specs.Arena.{tree_at}
 use Rattle.sedpass.specs.Decide.{nodes_in, text_in}
 use Rattle.sedpass.specs.Lengths.{length_of}
 use Rattle.sedpass.specs.Regions.{StopsAt, RunsTo}
-use Rattle.sedpass.proofs.OwedLemmas.{owed_falls}
-use Rattle.sedpass.proofs.DecideLemmas.{cut_named, cut_within, part_low, fixed_pays, run_pays, cut_pays, least_less, least_none}
+use Rattle.sedpass.proofs.DecideLemmas.{cut_named, part_low, not_empty, owed_here, run_paid, meet_paid, least_less, least_none}
 use Rattle.sedpass.proofs.TurnLemmas.{seq_parts, seq_spine, run_spine}
 use Rattle.sedpass.proofs.groups.last_cut.Goals as goal
 
@@ -25,16 +24,6 @@ meeting_end-requires-clause-node c =
     let here = c.requires.here in
     part_low (nodes_in c.args.subject) (text_in c.args.subject) _ c.args.here.node c.index-left.result _ here.arena here.is (inl (sym c.index-left.ensures)) c.requires.ends.0
 
-pub returns-in-Some-clause-cost : goal.returns-in-Some-clause-cost
-returns-in-Some-clause-cost c =
-    let m = length (nodes_in c.args.subject) in
-    let t = c.args.tables.now in
-    let between = cut_within _ _ _ _ _ _ _ c.in-Some.ensures.cut in (
-      omega arith,
-      fixed_pays m c.args.steps.now _ _ c.args.here.start c.in-Some.cut c.args.here.stop between.0
-          (owed_falls m (t.inside.room - 1) c.args.kept.now.region c.args.here.start c.in-Some.cut between.0),
-    )
-
 pub returns-in-Some-run_at-clause-cut : goal.returns-in-Some-run_at-clause-cut
 returns-in-Some-run_at-clause-cut c =
     let nodes = nodes_in c.args.subject in
@@ -51,10 +40,11 @@ pub returns-in-Some-run_at-clause-cost : goal.returns-in-Some-run_at-clause-cost
 returns-in-Some-run_at-clause-cost c =
     let m = length (nodes_in c.args.subject) in
     let inside = c.requires.here.inside in
-    let some = c.run_end.ensures.runs.0 in
     let on = c.run_end.ensures.within in
     let ends = c.requires.ends.1 in
-    (c.run_end.ensures.cost.0, run_pays m c.args.steps.now c.run_end.new.steps _ _ c.args.here.start c.run_end.result c.args.here.stop (omega (arith, inside)) some (omega (arith, on, ends)) c.run_end.ensures.cost.1)
+    let some = not_empty c.args.here.start c.args.here.stop c.requires.here.up (c.fixed_cut.ensures.some c.in_default.is) in
+    let owed_is = owed_here c.args.subject c.args.tables.now c.args.kept.now.region c.args.here c.requires.ends in
+    (c.run_end.ensures.cost.0, run_paid m c.args.steps.now c.run_end.new.steps _ _ c.args.here.start c.run_end.result c.args.here.stop (omega (arith, inside)) some (omega (arith, on, ends)) owed_is c.run_end.ensures.cost.1)
 
 pub returns-clause-cut : goal.returns-clause-cut
 returns-clause-cut c =
@@ -70,10 +60,11 @@ returns-clause-cut c =
 pub returns-clause-cost : goal.returns-clause-cost
 returns-clause-cost c =
     let m = length (nodes_in c.args.subject) in
-    let up = c.meeting_end.ensures.stops.0 in
     let on = c.meeting_end.ensures.within in
     let ends = c.requires.ends.1 in
-    (c.meeting_end.ensures.cost.0, cut_pays m c.args.steps.now c.meeting_end.new.steps _ _ c.args.here.start c.meeting_end.result c.args.here.stop up (omega (arith, on, ends)) c.meeting_end.ensures.cost.1)
+    let some = not_empty c.args.here.start c.args.here.stop c.requires.here.up (c.fixed_cut.ensures.some c.in_default.is) in
+    let owed_is = owed_here c.args.subject c.args.tables.now c.args.kept.now.region c.args.here c.requires.ends in
+    (c.meeting_end.ensures.cost.0, meet_paid m c.args.steps.now c.meeting_end.new.steps _ _ c.args.here.start c.meeting_end.result c.args.here.stop some (omega (arith, on, ends)) owed_is c.meeting_end.ensures.cost.1)
 
 pub returns-in-Some-clause-counts : goal.returns-in-Some-clause-counts
 returns-in-Some-clause-counts c = λ left right.

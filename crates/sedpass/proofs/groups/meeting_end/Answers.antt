@@ -18,5 +18,5 @@ pub returns-clause-cost : goal.returns-clause-cost
 returns-clause-cost c =
     let m = length (nodes_in c.args.subject) in
     let t = c.args.tables.now in
-    subst (λ room. Pays c.args.steps.now c.cut.new.steps (owed m (t.inside.room - 1) c.args.kept.now.region c.args.from + 40 * m * (c.cut.result + 2)) (owed m (room - 1) c.cut.new.self.region c.cut.result + 40 * m * c.args.from))
+    subst (λ room. Pays c.args.steps.now c.cut.new.steps (owed m (t.inside.room - 1) c.args.kept.now.region c.args.from + 36 * m * (c.cut.result + 1)) (owed m (room - 1) c.cut.new.self.region c.cut.result + 36 * m * c.args.from))
     (sym c.cut.ensures.shape.0.1) c.cut.ensures.cost

@@ -3,7 +3,7 @@ use Rattle.std.proofs.lemmas.List.{length-reverse}
 use Rattle.sedpass.specs.Decide.{nodes_in, told_of, waiting, found}
 use Rattle.sedpass.specs.Turns.{weights}
 use Rattle.sedpass.proofs.DecideLemmas.{may_begin, begun_ends, desk_begun, desk_has}
-use Rattle.sedpass.proofs.SpineLemmas.{Spined, spine_begins, spine_goes, spine_less, spine_reduces, spine_spent, least_same, least_on}
+use Rattle.sedpass.proofs.SpineLemmas.{Spined, spine_begins, spine_goes, spine_less, spine_reduces, least_same, least_on}
 use Rattle.sedpass.proofs.TurnLemmas.{room}
 use Rattle.sedpass.proofs.groups.spine.Goals as goal
 
@@ -22,8 +22,8 @@ nodes-init c =
       desk = desk_begun s c.args.tables.now c.args.room.now.kept c.begin.new.self c.requires.desk c.begin.ensures.kept;
       told = c.requires.told;
       room = omega arith;
-      spined = spine_begins s c.args.tables.now r (told_of c.args.told.now.due c.args.told.now.spans) here c.args.room.now.tasks.items c.args.steps.now
-          (begun_ends s r here.node here.start here.stop c.begin.ensures.root c.begin.ensures.end) c.requires.ready (c.begin.ensures.owed here.start c.requires.ready.1);
+      spined = spine_begins s r (told_of c.args.told.now.due c.args.told.now.spans) here c.args.room.now.tasks.items c.args.steps.now
+          (begun_ends s r here.node here.start here.stop c.begin.ensures.root c.begin.ensures.end) c.requires.ready;
       counts = least_same c.args.steps.now (found c.args.told.now.spans);
     }
 
@@ -41,7 +41,7 @@ nodes-smaller c =
     let stack = c.nodes.room.tasks.items in
     let old = told_of c.nodes.told.due c.nodes.told.spans in
     let new = told_of c.turn-then.new.told.due c.turn-then.new.told.spans in
-    let spined = subst (λ v. Spined s (waiting (Some c.args.here) c.args.room.now.tasks.items) (told_of c.args.told.now.due c.args.told.now.spans) c.args.steps.now c.nodes.tables c.nodes.room.kept.region old v stack c.nodes.steps)
+    let spined = subst (λ v. Spined s (waiting (Some c.args.here) c.args.room.now.tasks.items) (told_of c.args.told.now.due c.args.told.now.spans) c.args.steps.now c.nodes.room.kept.region old v stack c.nodes.steps)
     c.in-Some.is c.nodes.invariant.spined in
     let less = spine_less s old new c.in-Some.next stack c.put-at.new.tasks.items c.turn-then.result c.put-at.result spined.ready c.turn-then.ensures.turn c.put-at.ensures.items in
     subst (λ v. weights (nodes_in s) (waiting c.put-at.result c.put-at.new.tasks.items) < weights (nodes_in s) (waiting v stack)) (sym c.in-Some.is) (omega (arith, less))
@@ -54,12 +54,12 @@ nodes-preserved c =
     let begin = told_of c.args.told.now.due c.args.told.now.spans in
     let old = told_of c.nodes.told.due c.nodes.told.spans in
     let new = told_of c.turn-then.new.told.due c.turn-then.new.told.spans in
-    let spined = subst (λ v. Spined s start begin c.args.steps.now c.nodes.tables c.nodes.room.kept.region old v stack c.nodes.steps) c.in-Some.is c.nodes.invariant.spined in
+    let spined = subst (λ v. Spined s start begin c.args.steps.now c.nodes.room.kept.region old v stack c.nodes.steps) c.in-Some.is c.nodes.invariant.spined in
     record {
       desk = c.turn-then.ensures.desk;
       told = c.turn-then.ensures.told;
       room = omega (arith, c.nodes.invariant.room, c.put-at.ensures.room);
-      spined = spine_goes s start begin old new c.args.steps.now c.nodes.steps c.turn-then.new.steps c.nodes.tables c.turn-then.new.tables c.nodes.room.kept.region c.turn-then.new.kept.region
+      spined = spine_goes s start begin old new c.args.steps.now c.nodes.steps c.turn-then.new.steps c.nodes.room.kept.region c.turn-then.new.kept.region
           c.in-Some.next stack c.put-at.new.tasks.items c.turn-then.result c.put-at.result spined c.turn-then.ensures.turn c.turn-then.ensures.goes c.turn-then.ensures.cost c.put-at.ensures.first c.put-at.ensures.items;
       counts = least_on c.args.steps.now c.nodes.steps c.turn-then.new.steps (found c.args.told.now.spans) (found c.nodes.told.spans) (found c.turn-then.new.told.spans) c.nodes.invariant.counts c.turn-then.ensures.counts;
     }
@@ -69,12 +69,12 @@ returns-clause-desk c = desk_has c.args.subject c.nodes.tables c.nodes.room.kept
 
 pub returns-clause-reduces : goal.returns-clause-reduces
 returns-clause-reduces c =
-    let spined = subst (λ v. Spined c.args.subject (waiting (Some c.args.here) c.args.room.now.tasks.items) (told_of c.args.told.now.due c.args.told.now.spans) c.args.steps.now c.nodes.tables c.nodes.room.kept.region
+    let spined = subst (λ v. Spined c.args.subject (waiting (Some c.args.here) c.args.room.now.tasks.items) (told_of c.args.told.now.due c.args.told.now.spans) c.args.steps.now c.nodes.room.kept.region
     (told_of c.nodes.told.due c.nodes.told.spans) v c.nodes.room.tasks.items c.nodes.steps) c.in_default.is c.nodes.invariant.spined in
-    spine_reduces _ _ _ _ _ _ c.nodes.tables c.nodes.room.kept.region c.nodes.room.tasks.items spined
+    spine_reduces _ _ _ _ _ _ c.nodes.room.kept.region c.nodes.room.tasks.items spined
 
 pub returns-clause-cost : goal.returns-clause-cost
 returns-clause-cost c =
-    let spined = subst (λ v. Spined c.args.subject (waiting (Some c.args.here) c.args.room.now.tasks.items) (told_of c.args.told.now.due c.args.told.now.spans) c.args.steps.now c.nodes.tables c.nodes.room.kept.region
+    let spined = subst (λ v. Spined c.args.subject (waiting (Some c.args.here) c.args.room.now.tasks.items) (told_of c.args.told.now.due c.args.told.now.spans) c.args.steps.now c.nodes.room.kept.region
     (told_of c.nodes.told.due c.nodes.told.spans) v c.nodes.room.tasks.items c.nodes.steps) c.in_default.is c.nodes.invariant.spined in
-    spine_spent _ _ _ _ _ _ c.nodes.tables c.nodes.room.kept.region c.nodes.room.tasks.items spined
+    spined.spent

@@ -11,7 +11,7 @@ invariant-nodes l = record {
   told : IsTold l.told;
   room : vec_capacity l.initial.room.tasks ≤ vec_capacity l.room.tasks;
   spined : Spined l.subject (waiting (Some l.fn.here) l.initial.room.tasks.items) (told_of l.initial.told.due l.initial.told.spans) l.initial.steps
-      l.tables l.room.kept.region (told_of l.told.due l.told.spans) l.at l.room.tasks.items l.steps;
+      l.room.kept.region (told_of l.told.due l.told.spans) l.at l.room.tasks.items l.steps;
   counts : TakesAtLeast l.initial.steps l.steps (found l.told.spans - found l.initial.told.spans);
 }
 

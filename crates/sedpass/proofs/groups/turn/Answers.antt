@@ -12,7 +12,7 @@ pub returns-then-is_due-clause-cost : goal.returns-then-is_due-clause-cost
 returns-then-is_due-clause-cost c =
     let look = c.look-node.ensures.cost in
     let paid = c.turn_node.ensures.cost in
-    (omega (arith, look.0, paid.0), omega (arith, look.1, paid.1, c.requires.there.0))
+    (omega (arith, look.0, paid.0), omega (arith, look.1, paid.1))
 
 pub returns-else-is_due-clause-turn : goal.returns-else-is_due-clause-turn
 returns-else-is_due-clause-turn c = left_turn c.args.subject c.args.here c.args.told.now.due c.args.told.now.spans c.requires.arena c.requires.there (c.is_due.ensures c.if-is_due.false c.args.told.now.spans)

@@ -1,10 +1,8 @@
-use Rattle.std.proofs.Common.{◌+◌, ◌-◌, length, refl, sym, subst, arith}
+use Rattle.std.proofs.Common.{◌-◌, length, refl, sym, subst, arith}
 use Rattle.std.proofs.lemmas.Bool.{both_ways}
-use Rattle.sedmarks.specs.Costs.{Pays}
 use Rattle.sedmarks.specs.Reach.{At}
 use Rattle.sedpass.specs.Decide.{nodes_in, text_in}
-use Rattle.sedpass.specs.Kept.{owed}
-use Rattle.sedpass.proofs.DecideLemmas.{part_ends, desk_still}
+use Rattle.sedpass.proofs.DecideLemmas.{part_ends, desk_still, look_paid, owed_here}
 use Rattle.sedpass.proofs.TurnLemmas.{alt_turn, alt_spine}
 use Rattle.sedpass.proofs.groups.turn_alt.Goals as goal
 
@@ -58,17 +56,13 @@ returns-else-spans-clause-desk c =
 pub returns-then-spans-clause-cost : goal.returns-then-spans-clause-cost
 returns-then-spans-clause-cost c =
     let m = length (nodes_in c.args.subject) in
-    let here = c.args.here in
-    let t = c.args.tables.now in
-    let paid = subst (λ room. Pays c.args.steps.now c.spans-spans.new.steps (owed m (t.inside.room - 1) c.args.kept.now.region here.start + 2) (owed m (room - 1) c.spans-spans.new.self.region here.start))
-    (sym c.spans-spans.ensures.shape.1) c.spans-spans.ensures.cost in
-    (paid.0, omega (arith, paid.1, c.requires.here.inside))
+    let owed_is = owed_here c.args.subject c.args.tables.now c.args.kept.now.region c.args.here c.requires.ends in
+    let paid = c.spans-spans.ensures.cost in
+    (paid.0, look_paid m c.args.steps.now c.spans-spans.new.steps _ _ (c.args.here.stop - c.args.here.start) owed_is paid.1)
 
 pub returns-else-spans-clause-cost : goal.returns-else-spans-clause-cost
 returns-else-spans-clause-cost c =
     let m = length (nodes_in c.args.subject) in
-    let here = c.args.here in
-    let t = c.args.tables.now in
-    let paid = subst (λ room. Pays c.args.steps.now c.spans-spans.new.steps (owed m (t.inside.room - 1) c.args.kept.now.region here.start + 2) (owed m (room - 1) c.spans-spans.new.self.region here.start))
-    (sym c.spans-spans.ensures.shape.1) c.spans-spans.ensures.cost in
-    (paid.0, omega (arith, paid.1, c.requires.here.inside))
+    let owed_is = owed_here c.args.subject c.args.tables.now c.args.kept.now.region c.args.here c.requires.ends in
+    let paid = c.spans-spans.ensures.cost in
+    (paid.0, look_paid m c.args.steps.now c.spans-spans.new.steps _ _ (c.args.here.stop - c.args.here.start) owed_is paid.1)

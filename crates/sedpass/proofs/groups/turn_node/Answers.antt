@@ -31,9 +31,6 @@ returns-in-Opt-clause-turn c = c.turn_opt.ensures.turn _
 pub returns-in-Opt-clause-goes : goal.returns-in-Opt-clause-goes
 returns-in-Opt-clause-goes c = c.turn_opt.ensures.goes c.args.kept.now.region c.requires.ends
 
-pub returns-in-Opt-clause-cost : goal.returns-in-Opt-clause-cost
-returns-in-Opt-clause-cost c = c.turn_opt.ensures.cost c.args.tables.now c.args.kept.now.region
-
 pub returns-in-Group-clause-turn : goal.returns-in-Group-clause-turn
 returns-in-Group-clause-turn c =
     let here = subst (Stands c.args.subject c.args.here) c.in-Group.is c.requires.here in

@@ -1,9 +1,8 @@
-use Rattle.std.proofs.Common.{◌≤◌, length, sym, inl, true≢false, ◌∙◌, arith}
+use Rattle.std.proofs.Common.{sym, inl, true≢false, ◌∙◌, arith}
 use Rattle.std.proofs.lemmas.Bool.{both_ways}
-use Rattle.sedmarks.specs.Reach.{At}
 use Rattle.sedpass.specs.Decide.{nodes_in, text_in}
-use Rattle.sedpass.proofs.DecideLemmas.{copy_named, desk_has, desk_begun, may_begin, begun_ends, region_pays, least_no_byte}
-use Rattle.sedpass.proofs.TurnLemmas.{copy_spans, star_parts, star_turn, empty_turn}
+use Rattle.sedpass.proofs.DecideLemmas.{copy_named, desk_has, desk_begun, may_begin, begun_ends, least_no_byte}
+use Rattle.sedpass.proofs.TurnLemmas.{star_parts, star_turn, empty_turn}
 use Rattle.sedpass.proofs.groups.turn_star.Goals as goal
 
 pub last_copy-copy-requires-clause-here : goal.last_copy-copy-requires-clause-here
@@ -38,16 +37,6 @@ returns-then-here-clause-goes c = begun_ends c.args.subject c.begin.new.self.reg
 pub returns-then-here-clause-desk : goal.returns-then-here-clause-desk
 returns-then-here-clause-desk c =
     desk_begun c.args.subject c.last_copy-copy.new.tables c.last_copy-copy.new.kept c.begin.new.self (desk_has c.args.subject c.last_copy-copy.new.tables c.last_copy-copy.new.kept c.last_copy-copy.ensures.desk) c.begin.ensures.kept
-
-pub returns-then-here-clause-cost : goal.returns-then-here-clause-cost
-returns-then-here-clause-cost c =
-    let m = length (nodes_in c.args.subject) in
-    let here = c.args.here in
-    let copy = copy_spans (At (nodes_in c.args.subject) (text_in c.args.subject) c.args.a.index) here.stop here.start c.last_copy-copy.result c.last_copy-copy.ensures.copy in
-    let on : c.last_copy-copy.result ≤ here.stop = omega (arith, copy.1) in
-    let region = region_pays m _ here.start c.last_copy-copy.result here.stop copy.0 on (c.begin.ensures.owed c.last_copy-copy.result on) in
-    let cost = c.last_copy-copy.ensures.cost in
-    (cost.0, omega (arith, cost.1, region))
 
 pub begin-requires-then-has_empty_copy-clause-root : goal.begin-requires-then-has_empty_copy-clause-root
 begin-requires-then-has_empty_copy-clause-root c =

@@ -7,7 +7,7 @@ use Rattle.sedpass.specs.Prepared.{null_in}
 use Rattle.sedpass.specs.Rows.{nodes_of, bits, InTree, TreeFrom, RowFrom}
 use Rattle.sedpass.proofs.CountLemmas.{least_none, least_six, least_after}
 use Rattle.sedpass.proofs.FactLemmas.{inside_seen}
-use Rattle.sedpass.proofs.RowLemmas.{down, down_root, here_right, row_none, row_step, row_done, bits_clear, bits_set, bits_other}
+use Rattle.sedpass.proofs.RowLemmas.{down, down_root, enters_few, here_right, row_none, row_step, row_done, bits_clear, bits_set, bits_other}
 use Rattle.sedpass.proofs.rows.descend.Goals as goal
 
 pub loop-x-init : goal.loop-x-init
@@ -45,6 +45,7 @@ loop-x-preserved c =
     let value : c.enter.new.entered ≡ enter_parts (slice_index_or c.loop-x.work.entered x false) null ended node c.loop-x.work.entered = rw (← here) c.enter.ensures.marks in
     let kept : c.end_bit-kept.result ≡ ((c.args.way.keeps || eqb x r) && (c.get-end.result || (c.get-here.result && c.null_at-null.result))) =
     c.end_bit-kept.ensures ∙ ap (λ b. b && (c.get-end.result || (c.get-here.result && c.null_at-null.result))) c.keeps_end.ensures in
+    let few = enters_few x node c.look-node.ensures.parts in
     record {
       grows = omega arith;
       above = omega arith;

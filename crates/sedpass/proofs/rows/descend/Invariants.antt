@@ -10,7 +10,7 @@ abbrev pub invariant-loop-x : goal.invariant-loop-x
 invariant-loop-x l = record {
   grows : l.initial.steps ≤ l.steps;
   above : l.low ≤ l.x;
-  cost : l.steps + 10 * l.x ≤ l.initial.steps + 10 * (l.root + 1);
+  cost : l.steps + (10 * l.x - 4) ≤ l.initial.steps + (10 * (l.root + 1) - 4);
   counts : TakesAtLeast l.initial.steps l.steps (6 * (l.root + 1 - l.x));
   kept : l.work.ended ≡ l.initial.work.ended;
   entered : (w : List ℕ) (s : Starts) (place : ℕ) → AreNull (nodes_of l.way l.prepared.expr) w place (null_in l.prepared.expr.nodes l.kind) →

@@ -1,7 +1,9 @@
-use Rattle.std.proofs.Common.{◌≡◌, ◌+◌, ◌-◌, ◌*◌, ◌/◌, ◌<◌, ◌≤◌, refl, ap, ◌∙◌, arith}
+use Rattle.std.proofs.Common.{◌≡◌, ◌+◌, ◌-◌, ◌*◌, ◌/◌, ◌<◌, ◌≤◌, refl, sym, ap, ◌∙◌, subst, arith}
+use Rattle.std.specs.Prelude.{length}
 use Rattle.std.proofs.Math.Nat.{div-mul-le_self, lt-div-mul-add}
-use Rattle.sedpass.specs.Kept.{EdgesFrom}
-use Rattle.sedpass.proofs.KeptLemmas.{again_cost, edges_same, kept_passed, same_shape}
+use Rattle.sedpass.specs.Kept.{EdgesFrom, again}
+use Rattle.sedpass.proofs.KeptLemmas.{edges_same, kept_passed, same_shape}
+use Rattle.sedpass.proofs.OwedLemmas.{again_cost}
 use Rattle.sedpass.proofs.kept.Kept.remake.Goals as goal
 
 pub pass-requires-clause-order : goal.pass-requires-clause-order
@@ -10,9 +12,8 @@ pass-requires-clause-order c =
     let some = c.requires.kept.region.table.room.some in
     let from : c.args.place / width * width ≤ c.args.place = div-mul-le_self c.args.place width in
     let to : c.args.place < c.args.place / width * width + width = lt-div-mul-add (omega (arith, some)) in
-    let low = c.requires.low in
     let before = c.requires.place in
-    omega (arith, from, to, low, before)
+    omega (arith, from, to, before)
 
 pub returns-clause-kept : goal.returns-clause-kept
 returns-clause-kept c =
@@ -25,12 +26,29 @@ returns-clause-kept c =
     edges_same p w c.args.table.now c.pass.new.table c.args.self.now c.pass.new.self c.args.self.now.region.low c.pass.new.self.region.low
     (same_shape c.args.table.now c.right_end-offset.new.table c.pass.new.table old.shape now.shape) (now.edges ∙ old.edges)
     (now.same.root ∙ ap (λ r. r.root) old.region) (now.same.end ∙ ap (λ r. r.end) old.region) (omega (arith, low)) c.requires.kept.edges in
-    kept_passed p w c.pass.new.table c.pass.new.self c.pass.new.self c.max-low.result c.pass.result now.passes edges (omega (arith, low)) now.from refl refl refl refl refl
+    kept_passed p w c.pass.new.table c.pass.new.self c.pass.new.self c.args.place c.pass.result now.passes edges (let h = c.requires.low in omega (arith, low, h)) now.from refl refl refl refl refl
+
+pub returns-clause-to : goal.returns-clause-to
+returns-clause-to c =
+    let width = c.args.table.now.room - 1 in
+    let from : c.args.place / width * width ≤ c.args.place = div-mul-le_self c.args.place width in
+    let to : c.pass.new.self.region.to ≡ c.min-to.result = c.pass.ensures.steady (omega (arith, from)) in
+    omega (arith, to)
 
 pub returns-clause-cost : goal.returns-clause-cost
 returns-clause-cost c =
+    let width = c.args.table.now.room - 1 in
+    let some = c.requires.kept.region.table.room.some in
+    let from : c.args.place / width * width ≤ c.args.place = div-mul-le_self c.args.place width in
+    let after : c.args.place < c.args.place / width * width + width = lt-div-mul-add (omega (arith, some)) in
+    let before = c.requires.place in
     let one = c.right_end-offset.ensures.cost in
     let two = c.pass.ensures.cost in
-    let from = c.pass.ensures.from in
-    let to : c.pass.new.self.region.to ≡ c.min-to.result = c.pass.ensures.steady (omega arith) in
-    (omega (arith, one.0, two.0), again_cost _ c.max-low.result _ c.min-to.result _ c.right_end-offset.new.steps _ (omega arith) (omega (arith, from, to)) one.1 two.1)
+    let to : c.pass.new.self.region.to ≡ c.min-to.result = c.pass.ensures.steady (omega (arith, from)) in
+    let m = length c.args.subject.prepared.now.expr.nodes in
+    let end = c.args.self.now.region.end in
+    (
+      omega (arith, one.0, two.0),
+      subst (λ v. c.pass.new.steps + again m (end - v) ≤ c.args.steps.now + again m (end - c.args.place)) (sym to)
+          (again_cost m c.args.place c.min-to.result end _ c.right_end-offset.new.steps _ (omega (arith, after, before)) (omega arith) one.1 (λ lt. (c.right_end-offset.ensures.inside lt).1) two.1),
+    )
