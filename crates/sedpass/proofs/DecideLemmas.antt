@@ -200,11 +200,7 @@ starts_blank i j due whole (suc k) is = none_there 9 k
 
 -- Places.
 
--- a cut is within the span
-pub cut_within : (nodes : List Node) (w : List ℕ) (a b i j k : ℕ) → LastCut (At nodes w a) (At nodes w b) i j k → (i ≤ k) × (k ≤ j)
-cut_within nodes w a b i j k cut = (Spans-forward (tree_at nodes a) w i k cut.left, Spans-forward (tree_at nodes b) w k j cut.right)
-
--- of a null string
+-- a cut of a null string
 pub null_cut : (nodes : List Node) (w : List ℕ) (a b i j : ℕ) → (k : ℕ) × At nodes w a i k × At nodes w b k j → i ≡ j → LastCut (At nodes w a) (At nodes w b) i j i
 null_cut nodes w a b i j parts same =
     let up = Spans-forward (tree_at nodes a) w i parts.0 parts.1 in

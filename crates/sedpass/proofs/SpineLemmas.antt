@@ -13,7 +13,6 @@ use Rattle.sedpass.specs.Decide.{nodes_in, text_in, told_of, LooksAt, undecided,
 use Rattle.sedpass.specs.Overlay.{State, Back, NoneDue, IsStart}
 use Rattle.sedpass.specs.Turns.{Runs, AreReady, AreWithin, AreShort, Reduces, weights, looks, descents, tasks_of}
 use Rattle.sedpass.specs.declared.group_set.GroupSet.{GroupSet}
-use Rattle.sedpass.specs.declared.groups.GroupTables.{GroupTables}
 use Rattle.sedpass.specs.declared.groups.Matched.{Matched}
 use Rattle.sedpass.specs.declared.groups.Task.{Task}
 use Rattle.sedpass.specs.declared.groups.Task.TheVariants.{Apart, Forget}
@@ -123,8 +122,7 @@ spine_goes s start begin old new before steps after r r' p stack stack' then at 
       spent = λ long short.
           let spent = spined.spent long short in
           let head = spent.0.0 in
-          let more = turn_paid s long p rest then steps after head turn.fewer paid.1 in
-          (
+          let more = turn_paid s long p rest then steps after head turn.fewer paid.1 in (
             subst (AreShort long) (sym items) (short_within long p.start p.stop (tasks_of then) rest head turn.within spent.0.1),
             (omega (arith, spent.1.0, paid.0), subst (λ ts. after + tasks_cost nodes long ts ≤ before + tasks_cost nodes long start) (sym items) (omega (arith, spent.1.1, more))),
           );

@@ -16,7 +16,7 @@ use Rattle.sedpass.specs.Overlay.{State, is_due, settle, drop_groups, Back, HasG
 use Rattle.sedpass.specs.declared.groups.Task.{Task}
 use Rattle.sedpass.specs.declared.groups.Task.TheVariants.{Apart, Forget}
 use Rattle.sedmarks.specs.Work.{parts_of}
-use Rattle.sedpass.specs.Turns.{AreReady, weights, looks, IsTurn, IsHere, HasGroupAt, Blank, LeaveTurn, LeafTurn, SeqTurn, AltTurn, GroupTurn, StarTurn, OptTurn, EmptyTurn, SeqSpine, RunSpine, AltSpine, PartSpine, StarSpine, SeqParts, AltParts, StarParts, OptParts, TurnedLaw, ForgottenLaw, BeginLaw, RoomLaw, GroupsAtLaw, DropLaw, BlankLaw}
+use Rattle.sedpass.specs.Turns.{AreReady, weights, IsTurn, IsHere, HasGroupAt, Blank, LeaveTurn, LeafTurn, SeqTurn, AltTurn, GroupTurn, StarTurn, OptTurn, EmptyTurn, SeqSpine, RunSpine, AltSpine, PartSpine, StarSpine, SeqParts, AltParts, StarParts, OptParts, TurnedLaw, ForgottenLaw, BeginLaw, RoomLaw, GroupsAtLaw, DropLaw, BlankLaw}
 use Rattle.sedmarks.proofs.ReachLemmas.{open_at, close_at}
 use Rattle.sedpass.proofs.LeaveLemmas.{alt_looks, reaches_last}
 use Rattle.sedpass.proofs.MeetingLemmas.{stops_at_cut, stops_at_copy, run_stops}
@@ -409,11 +409,6 @@ weights-append : (nodes : List Node) (xs ys : List Task) → weights nodes (xs +
 weights-append nodes [] ys = omega arith
 weights-append nodes (Apart x i j ∷ xs) ys = omega (arith, weights-append nodes xs ys)
 weights-append nodes (Forget x ∷ xs) ys = omega (arith, weights-append nodes xs ys)
-
-pub looks-append : (nodes : List Node) (xs ys : List Task) → looks nodes (xs ++ ys) ≡ looks nodes xs + looks nodes ys
-looks-append nodes [] ys = omega arith
-looks-append nodes (Apart x i j ∷ xs) ys = omega (arith, looks-append nodes xs ys)
-looks-append nodes (Forget x ∷ xs) ys = looks-append nodes xs ys
 
 pub turned : TurnedLaw
 turned nodes w x i j old new tasks rest turn ready = (

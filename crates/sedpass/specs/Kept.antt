@@ -1,6 +1,6 @@
 -- Private to the proofs: no contract that `sedmatch` makes public cites what stands here.
 -- What is kept of a pass backwards over a region, and what looks into it may cost.
-use Rattle.std.specs.Prelude.{◌≡◌, ℕ, zero, suc, ◌+◌, ◌-◌, ◌*◌, ◌/◌, ◌^◌, ◌<◌, ◌≤◌, ◌↔◌, max, nat_le, nat_lt, ◌&&◌, Bool, true, false, if◌then◌else◌, List, length, reverse, slice_index_or, IsTrue}
+use Rattle.std.specs.Prelude.{◌≡◌, ℕ, zero, suc, ◌+◌, ◌-◌, ◌*◌, ◌/◌, ◌^◌, ◌<◌, ◌≤◌, ◌↔◌, nat_le, nat_lt, ◌&&◌, Bool, true, false, if◌then◌else◌, List, length, reverse, slice_index_or, IsTrue}
 use Rattle.sedre.specs.declared.types.Node.{Node}
 use Rattle.sedmarks.specs.declared.passes.Starts.{Starts}
 use Rattle.sedmarks.specs.Search.{starts_to}

@@ -1,6 +1,5 @@
 use Rattle.std.proofs.Common.{sym, inl, true≢false, ◌∙◌, arith}
 use Rattle.std.proofs.lemmas.Bool.{both_ways}
-use Rattle.sedpass.specs.Decide.{nodes_in, text_in}
 use Rattle.sedpass.proofs.DecideLemmas.{copy_named, desk_has, desk_begun, may_begin, begun_ends, least_no_byte}
 use Rattle.sedpass.proofs.TurnLemmas.{star_parts, star_turn, empty_turn}
 use Rattle.sedpass.proofs.groups.turn_star.Goals as goal
