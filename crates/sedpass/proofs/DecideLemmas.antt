@@ -22,7 +22,7 @@ use Rattle.sedmarks.proofs.SpanLemmas.{Spans-forward}
 use Rattle.sedpass.specs.Decide.{found, undecided, HasAll, flags_of, told_of, nodes_in, EndsIn, IsDesk, HasDesk, IsSetAt, owed_in}
 use Rattle.sedpass.specs.Kept.{AllMarked, CeasesAt, IsKept, SameKept, ends_told}
 use Rattle.sedpass.specs.Regions.{IsLastIn, all_of, Reaches, StopsAt, RunsTo, IsRunOf, repeated, in_group}
-use Rattle.sedpass.specs.Table.{IsTable, SameShape, MayBegin}
+use Rattle.sedpass.specs.Table.{IsAhead, IsTable, SameShape, MayBegin}
 use Rattle.sedpass.specs.declared.groups.GroupTables.{GroupTables}
 use Rattle.sedpass.specs.declared.groups.Matched.{Matched}
 use Rattle.sedpass.specs.declared.kept.Kept.{Kept}
@@ -352,14 +352,17 @@ ends_still s old new here same ends = (subst (λ r. IsLastIn (nodes_in s) r here
 
 -- so are the tables' ways
 pub desk_still : (s : Subject) (inside ahead inside' ahead' : Table) (kept : Kept) → IsKept s.prepared.now s.text.now inside' kept → IsTable s.prepared.now ahead' →
-    inside.way.sweeps ≡ false → ahead.way.mirrored ≡ false → ahead.way.sweeps ≡ false → SameShape inside inside' → SameShape ahead ahead' →
+    inside.way.sweeps ≡ false → IsAhead s.prepared.now ahead → SameShape inside inside' → SameShape ahead ahead' →
     IsDesk s (record { ahead = ahead'; inside = inside' }) kept
-desk_still s inside ahead inside' ahead' kept region table one_end forwards one_start same same' = record {
+desk_still s inside ahead inside' ahead' kept region table one_end before same same' = record {
   region = region;
   one_end = ap (λ v. v.sweeps) same.0 ∙ one_end;
-  ahead = table;
-  forwards = ap (λ v. v.mirrored) same'.0 ∙ forwards;
-  one_start = ap (λ v. v.sweeps) same'.0 ∙ one_start;
+  ahead = record {
+    table = table;
+    forwards = ap (λ v. v.mirrored) same'.0 ∙ before.forwards;
+    single = ap (λ v. v.sweeps) same'.0 ∙ before.single;
+    brief = ap (λ v. v.keeps) same'.0 ∙ before.brief;
+  };
 }
 
 -- a part that goes on in the region
@@ -377,13 +380,11 @@ desk_has s tables kept desk = record {
   places = desk.region.region.room;
   one_end = desk.one_end;
   ahead = desk.ahead;
-  forwards = desk.forwards;
-  one_start = desk.one_start;
 }
 
 -- with a region that was begun it is one again
 pub desk_begun : (s : Subject) (tables : GroupTables) (old new : Kept) → HasDesk s tables old → IsKept s.prepared.now s.text.now tables.inside new → IsDesk s tables new
-desk_begun s tables old new desk region = record { region = region; one_end = desk.one_end; ahead = desk.ahead; forwards = desk.forwards; one_start = desk.one_start }
+desk_begun s tables old new desk region = record { region = region; one_end = desk.one_end; ahead = desk.ahead }
 
 -- and passes for any node may begin
 pub may_begin : (s : Subject) (tables : GroupTables) (x : ℕ) → tables.inside.way.sweeps ≡ false → x < length (nodes_in s) → MayBegin s.prepared.now tables.inside.way x

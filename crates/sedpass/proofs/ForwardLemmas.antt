@@ -1,6 +1,6 @@
 -- Passes for the whole expression.
 use Rattle.std.proofs.Common.{◌≡◌, ℕ, ◌+◌, ◌-◌, ◌*◌, ◌/◌, ◌^◌, ◌<◌, ◌≤◌, ◌⊎◌, ◌↔◌, Bool, true, false, not, ◌&&◌, ◌||◌, List, length, Option, Some, None, IsTrue, refl, sym, ap, ◌∙◌, subst, ⊎_elim, true≢false, arith, mul-le-mul_left, min}
-use Rattle.std.specs.Prelude.{slice_get, is_some}
+use Rattle.std.specs.Prelude.{slice_get, is_some, IfSome}
 use Rattle.std.proofs.lemmas.Bool.{cases_lt, cases_Bool, both_ways}
 use Rattle.std.proofs.lemmas.Option.{slice_get_within}
 use Rattle.sedre.specs.Arena.{Written, IsArena, tree, tree_at}
@@ -50,21 +50,27 @@ module _ (nodes : List Node) (w : List ℕ) (r : ℕ) (s : Starts) where
       (λ (ge : n ≤ k). let e : k ≡ n = omega arith in none (subst (λ x. SomeSpan nodes w r s x) e some))
       (cases_lt k n)
   last_step n (Some j) none last = (
-    last.0,
+    let below = last.0 in omega arith,
+    last.1,
     λ k low some.
         ⊎_elim
-        (λ (lt : k < n). last.1 k lt some)
+        (λ (lt : k < n). last.2 k lt some)
         (λ (ge : n ≤ k). let e : k ≡ n = omega arith in absurd (none (subst (λ x. SomeSpan nodes w r s x) e some)))
         (cases_lt k n),
   )
 
   last_here : (n : ℕ) → SomeSpan nodes w r s n → LastBelow nodes w r s (n + 1) (Some n)
-  last_here n some = (some, λ k low h. omega arith)
+  last_here n some = (omega arith, some, λ k low h. omega arith)
 
   -- if none ends from n on, the last one below n is the last of all
   all_below : (sweeps : Bool) (n : ℕ) (end : Option ℕ) → ((k : ℕ) → n ≤ k → SomeSpan nodes w r s k → ⊥) → LastBelow nodes w r s n end → IsEnd sweeps nodes w r s end
   all_below sweeps n None none last = λ k some. ⊎_elim (λ (lt : k < n). last k lt some) (λ (ge : n ≤ k). none k ge some) (cases_lt k n)
-  all_below sweeps n (Some j) none last = (last.0, λ e k some. ⊎_elim (λ (lt : k < n). last.1 k lt some) (λ (ge : n ≤ k). absurd (none k ge some)) (cases_lt k n))
+  all_below sweeps n (Some j) none last = (last.1, λ e k some. ⊎_elim (λ (lt : k < n). last.2 k lt some) (λ (ge : n ≤ k). absurd (none k ge some)) (cases_lt k n))
+
+-- the last end below a place is below it
+pub end_below : (nodes : List Node) (w : List ℕ) (r : ℕ) (s : Starts) (n : ℕ) (end : Option ℕ) → LastBelow nodes w r s (n + 1) end → IfSome end (λ j. j ≤ n)
+end_below nodes w r s n None last = tt
+end_below nodes w r s n (Some j) last = let low = last.0 in omega arith
 
 -- nothing ends before a start
 pub none_before : (p : Prepared) (way : Way) (w : List ℕ) (from : ℕ) → EndsBelow p way w from from None

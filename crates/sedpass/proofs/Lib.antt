@@ -12,6 +12,7 @@ pub mod MeetingLemmas
 pub mod OverlayLemmas
 pub mod OwedLemmas
 pub mod RowLemmas
+pub mod SearchLemmas
 pub mod SpineLemmas
 pub mod TableLemmas
 pub mod TurnLemmas

@@ -14,7 +14,7 @@ use Rattle.sedpass.specs.Kept.{IsKept, KeptRoom, owed}
 use Rattle.sedpass.specs.Lengths.{length_of}
 use Rattle.sedpass.specs.Overlay.{State, state_of, HasGroup}
 use Rattle.sedpass.specs.Regions.{IsLastIn}
-use Rattle.sedpass.specs.Table.{IsTable}
+use Rattle.sedpass.specs.Table.{IsAhead, IsTable}
 use Rattle.sedpass.specs.Turns.{Blank, IsHere, IsTurn, AreReady, AreShort, looks, descents, tasks_of}
 use Rattle.sedpass.specs.declared.group_set.GroupSet.{GroupSet}
 use Rattle.sedpass.specs.declared.groups.GroupTables.{GroupTables}
@@ -79,17 +79,13 @@ pub record HasDesk (s : Subject) (tables : GroupTables) (kept : Kept) : Type 0 w
   pub inside : IsTable s.prepared.now tables.inside
   pub places : KeptRoom (length s.prepared.now.expr.nodes) (length s.text.now) tables.inside kept
   pub one_end : tables.inside.way.sweeps ≡ false
-  pub ahead : IsTable s.prepared.now tables.ahead
-  pub forwards : tables.ahead.way.mirrored ≡ false
-  pub one_start : tables.ahead.way.sweeps ≡ false
+  pub ahead : IsAhead s.prepared.now tables.ahead
 
 -- and the region is kept
 pub record IsDesk (s : Subject) (tables : GroupTables) (kept : Kept) : Type 0 where
   pub region : IsKept s.prepared.now s.text.now tables.inside kept
   pub one_end : tables.inside.way.sweeps ≡ false
-  pub ahead : IsTable s.prepared.now tables.ahead
-  pub forwards : tables.ahead.way.mirrored ≡ false
-  pub one_start : tables.ahead.way.sweeps ≡ false
+  pub ahead : IsAhead s.prepared.now tables.ahead
 
 -- which match comes first in place of a node
 abbrev pub next_of : Then → Option Matched

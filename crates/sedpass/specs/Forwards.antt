@@ -19,7 +19,7 @@ starts_of false from w = record { first = from; last = from }
 -- the last place below n at which a match from one of the starts ends; None: none ends there
 abbrev pub LastBelow : List Node → List ℕ → ℕ → Starts → ℕ → Option ℕ → Type 0
 LastBelow nodes w r s n None = (k : ℕ) → k < n → SomeSpan nodes w r s k → ⊥
-LastBelow nodes w r s n (Some j) = SomeSpan nodes w r s j × ((k : ℕ) → k < n → SomeSpan nodes w r s k → k ≤ j)
+LastBelow nodes w r s n (Some j) = (j < n) × SomeSpan nodes w r s j × ((k : ℕ) → k < n → SomeSpan nodes w r s k → k ≤ j)
 
 -- the last place of all, or in a sweep some place
 abbrev pub IsEnd : Bool → List Node → List ℕ → ℕ → Starts → Option ℕ → Type 0

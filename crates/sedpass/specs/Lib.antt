@@ -1,6 +1,7 @@
 pub mod Cells
 pub mod Classes
 pub mod Decide
+pub mod Find
 pub mod Forwards
 pub mod Groups
 pub mod Kept
@@ -9,5 +10,6 @@ pub mod Overlay
 pub mod Prepared
 pub mod Regions
 pub mod Rows
+pub mod Search
 pub mod Table
 pub mod Turns

@@ -130,6 +130,13 @@ pub record IsTable (p : Prepared) (t : Table) : Type 0 where
 abbrev pub SameShape : Table → Table → Type 0
 SameShape old new = (new.way ≡ old.way) × (new.room ≡ old.room) × (new.layout ≡ old.layout)
 
+-- a table of passes forwards, each from one start, which keeps the ends of the root alone
+pub record IsAhead (p : Prepared) (t : Table) : Type 0 where
+  pub table : IsTable p t
+  pub forwards : t.way.mirrored ≡ false
+  pub single : t.way.sweeps ≡ false
+  pub brief : t.way.keeps ≡ false
+
 -- a state was added at most, and those before stand as they were; or, in another epoch, all were forgotten before, as the table was full
 pub record AddsStates (m : ℕ) (old new : Table) : Type 0 where
   pub shape : SameShape old new

@@ -1,5 +1,5 @@
 //! Passes for the whole expression, which stop as soon as no later place matters.
-ghost use Rattle.std.specs.Prelude.{◌≡◌, ℕ, true, false, ◌+◌, ◌-◌, ◌*◌, ◌/◌, ◌^◌, ◌<◌, ◌≤◌, ◌↔◌, length, min, Some, IsTrue, is_some};
+ghost use Rattle.std.specs.Prelude.{◌≡◌, ℕ, true, false, ◌+◌, ◌-◌, ◌*◌, ◌/◌, ◌^◌, ◌<◌, ◌≤◌, ◌↔◌, length, min, Some, IfSome, IsTrue, is_some};
 ghost use Rattle.sedmarks.specs.Costs.{Pays};
 ghost use Rattle.sedmarks.specs.Reach.{Longest};
 ghost use Rattle.sedmarks.specs.Spans.{SomeFound};
@@ -194,6 +194,7 @@ impl Table {
         ensures shape { SameShape self.old self.new }
         ensures after { from ≤ result.place }
         ensures within { result.place ≤ length text.now }
+        ensures reached { IfSome result.end (λ j. j ≤ result.place) }
         ensures longest { self.old.way.sweeps ≡ false → Longest (tree prepared.now.expr) text.now from result.end }
         ensures found { IsTrue self.old.way.sweeps → IsTrue (is_some result.end) ↔ SomeFound (tree prepared.now.expr) text.now from }
         ensures cost { Pays steps.old steps.new (40 * length prepared.now.expr.nodes * (result.place + 1)) (40 * length prepared.now.expr.nodes * from) }

@@ -9,10 +9,12 @@
 
 pub mod cells;
 pub mod classes;
+pub mod find;
 pub mod forwards;
 pub mod group_set;
 pub mod groups;
 pub mod kept;
 pub mod nodes;
 pub mod rows;
+pub mod search;
 pub mod table;

@@ -12,7 +12,7 @@ pub returns-clause-desk : goal.returns-clause-desk
 returns-clause-desk c =
     let t = c.args.tables.now in
     let desk = c.requires.desk in
-    desk_still c.args.subject t.inside t.ahead c.cut.new.table c.cut.new.ahead c.cut.new.self c.cut.ensures.kept c.cut.ensures.ahead desk.one_end desk.forwards desk.one_start c.cut.ensures.shape.0 c.cut.ensures.shape.1
+    desk_still c.args.subject t.inside t.ahead c.cut.new.table c.cut.new.ahead c.cut.new.self c.cut.ensures.kept c.cut.ensures.ahead desk.one_end desk.ahead c.cut.ensures.shape.0 c.cut.ensures.shape.1
 
 pub returns-clause-cost : goal.returns-clause-cost
 returns-clause-cost c =

@@ -17,7 +17,7 @@ pub returns-clause-desk : goal.returns-clause-desk
 returns-clause-desk c =
     let t = c.args.tables.now in
     let desk = c.requires.desk in
-    desk_still c.args.subject t.inside t.ahead c.seek.new.table t.ahead c.seek.new.self c.seek.ensures.kept desk.ahead desk.one_end desk.forwards desk.one_start c.seek.ensures.shape (refl, refl, refl)
+    desk_still c.args.subject t.inside t.ahead c.seek.new.table t.ahead c.seek.new.self c.seek.ensures.kept desk.ahead.table desk.one_end desk.ahead c.seek.ensures.shape (refl, refl, refl)
 
 pub returns-clause-cost : goal.returns-clause-cost
 returns-clause-cost c =

@@ -1,0 +1,368 @@
+-- What the pass from the text's end tells of matches of the whole expression, and what searches cost.
+use Rattle.std.proofs.Common.{◌≡◌, ℕ, zero, suc, ◌+◌, ◌-◌, ◌*◌, ◌/◌, ◌<◌, ◌≤◌, ◌↔◌, Bool, true, false, List, length, Option, Some, None, IsTrue, refl, sym, ap, ◌∙◌, subst, ⊎_elim, true≢false, arith, mul-le-mul_left}
+use Rattle.std.proofs.lemmas.Bool.{cases_lt}
+use Rattle.sedre.specs.Arena.{Written, IsArena, tree, tree_at}
+use Rattle.sedre.specs.Tree.{Tree}
+use Rattle.std.specs.Prelude.{IfSome, if◌then◌else◌}
+use Rattle.sedre.specs.Steps.{TakesAtLeast}
+use Rattle.sedpass.proofs.CountLemmas.{least_since}
+use Rattle.sedmarks.specs.Answer.{SpanAnswer}
+use Rattle.sedmarks.specs.declared.passes.Starts.{Starts}
+use Rattle.sedmarks.specs.Reach.{At, one_start, Longest}
+use Rattle.sedmarks.specs.Search.{NoneIn, starts_to}
+use Rattle.sedmarks.specs.Spans.{Spans, Found, NotFound}
+use Rattle.sedmarks.proofs.SpanLemmas.{Spans-forward, Spans-within}
+use Rattle.sedpass.specs.Kept.{AllMarked, CeasesAt, ends_told}
+use Rattle.sedpass.specs.Regions.{all_of, Reaches}
+use Rattle.sedpass.specs.Search.{TrialsAnswer, owed_kept, owed_search}
+use Rattle.sedpass.specs.declared.search.Seeking.{Seeking}
+use Rattle.sedpass.specs.declared.nodes.Prepared.{Prepared}
+use Rattle.sedpass.specs.declared.search.Trials.{Trials}
+use Rattle.sedpass.specs.declared.search.Trials.TheVariants.{Nothing, Tired}
+
+use Rattle.sedpass.proofs.LeaveLemmas.{reaches_ends}
+use Rattle.sedpass.proofs.MeetingLemmas.{meets_whole}
+
+-- where no place before begins a match, the longest one from there is the one sought
+pub found_at : (e : Written) (w : List ℕ) (from i j : ℕ) → from ≤ i → NoneIn (tree e) w from i → Longest (tree e) w i (Some j) → Found (tree e) w from i j
+found_at e w from i j after none longest = record { after = after; spans = longest.0; longest = longest.1; leftmost = λ h k low high. none h k low high }
+
+-- and none is found where no place from there on begins one
+pub none_later : (e : Written) (w : List ℕ) (from i : ℕ) → NoneIn (tree e) w from i → length w < i → NotFound (tree e) w from
+none_later e w from i none late = λ h k low high. none h k low (omega arith)
+
+-- where one place more begins none
+pub none_more : (e : Written) (w : List ℕ) (from i : ℕ) → NoneIn (tree e) w from i → Longest (tree e) w i None → NoneIn (tree e) w from (i + 1)
+none_more e w from i none longest = λ h k low high span.
+    ⊎_elim
+    (λ (before : h < i). none h k low before span)
+    (λ (at : i ≤ h). let same : h ≡ i = omega arith in longest k (subst (λ v. Spans (tree e) w v k) same span))
+    (cases_lt h i)
+
+-- and places after those that begin none
+pub none_on : (e : Written) (w : List ℕ) (from k i : ℕ) → NoneIn (tree e) w from k → NoneIn (tree e) w k i → NoneIn (tree e) w from i
+none_on e w from k i none more = λ h l low high span.
+    ⊎_elim
+    (λ (before : h < k). none h l low before span)
+    (λ (at : k ≤ h). more h l at high span)
+    (cases_lt h k)
+
+module _ (p : Prepared) (w : List ℕ) (arena : IsArena p.expr.nodes) where
+  abbrev pub all : Starts
+  all = starts_to 0 (length w)
+
+  root_is : length p.expr.nodes - 1 ≡ p.root
+  root_is = let last = p.is_prepared.last in omega arith
+
+  to_tree : (i k : ℕ) → At p.expr.nodes w p.root i k → Spans (tree p.expr) w i k
+  to_tree i k span = subst (λ x. Spans (tree_at p.expr.nodes x) w i k) (sym root_is) span
+
+  from_tree : (i k : ℕ) → Spans (tree p.expr) w i k → At p.expr.nodes w p.root i k
+  from_tree i k span = subst (λ x. Spans (tree_at p.expr.nodes x) w i k) root_is span
+
+  -- the root is marked exactly where a match begins
+  pub begins_at : (q : ℕ) → q ≤ length w → Reaches p.expr.nodes w p.root all p.root q ↔ ((k : ℕ) × Spans (tree p.expr) w q k)
+  begins_at q low =
+      let both = reaches_ends p.expr.nodes w p.root p.root q all arena (all_of p.root refl) in (
+        λ h. let g = both.0 h in (g.0, to_tree q g.0 g.2),
+        λ h. let within = Spans-within (tree p.expr) w q h.0 low h.1 in both.1 (h.0, (omega arith, omega arith), from_tree q h.0 h.1),
+      )
+
+  -- so none begins where it isn't marked
+  pub none_marked : (from start : ℕ) → start ≤ length w → AllMarked p.expr.nodes w p.root all p.root false from start → NoneIn (tree p.expr) w from start
+  none_marked from start low none = λ i k after before span. absurd (true≢false (sym ((none i after before).1 ((begins_at i (omega arith)).1 (k, span)))))
+
+  -- nor at the end, where it doesn't match the null string
+  pub none_kept : (from : ℕ) → NoneIn (tree p.expr) w from (length w) → (At p.expr.nodes w p.root (length w) (length w) → ⊥) → NotFound (tree p.expr) w from
+  none_kept from none null = λ i k after within span.
+      ⊎_elim
+      (λ (before : i < length w). none i k after before span)
+      (λ (at : length w ≤ i).
+      let on = Spans-forward (tree p.expr) w i k span in
+      let in_text = Spans-within (tree p.expr) w i k within span in
+      let same : i ≡ length w = omega arith in
+      let end : k ≡ length w = omega arith in
+      null (subst (λ v. At p.expr.nodes w p.root v (length w)) same (subst (λ v. At p.expr.nodes w p.root i v) end (from_tree i k span))))
+      (cases_lt i (length w))
+
+  -- a pass from where one begins ceases to meet the kept one at its longest end
+  pub longest_kept : (start stop k : ℕ) → start ≤ length w → Spans (tree p.expr) w start k → CeasesAt p.expr.nodes w p.root all p.root start stop → Longest (tree p.expr) w start (Some stop)
+  longest_kept start stop k low span ceases =
+      let on = ceases.0 in
+      let last = p.is_prepared.last in
+      let inside : p.root < length p.expr.nodes = omega arith in
+      let most : (l : ℕ) → Spans (tree p.expr) w start l → l ≤ stop = λ l more. ⊎_elim
+      (λ (later : stop < l).
+      let in_text = Spans-within (tree p.expr) w start l low more in
+      absurd (ceases.2 ((meets_whole p.expr.nodes w p.root stop (one_start start) all arena inside).1 (start, l, (omega arith, omega arith), on, later, from_tree start l more, (omega arith, omega arith)))))
+      (λ (ge : l ≤ stop). ge)
+      (cases_lt stop l) in
+      let high = most k span in
+      ⊎_elim
+      (λ (later : start < stop).
+      let met = (meets_whole p.expr.nodes w p.root (stop - 1) (one_start start) all arena inside).0 (ceases.1 (stop - 1) (omega arith) (omega arith)) in
+      let first = met.2 in
+      let same : met.0 ≡ start = omega arith in
+      let here : Spans (tree p.expr) w start met.1 = subst (λ v. Spans (tree p.expr) w v met.1) same (to_tree met.0 met.1 met.5) in
+      let top = most met.1 here in
+      let after = met.4 in
+      let end : met.1 ≡ stop = omega arith in
+      (subst (Spans (tree p.expr) w start) end here, most))
+      (λ (ge : stop ≤ start).
+      let up = Spans-forward (tree p.expr) w start k span in
+      let end : k ≡ stop = omega arith in
+      (subst (Spans (tree p.expr) w start) end span, most))
+      (cases_lt start stop)
+
+-- the ends that a kept pass over all places tells of
+pub ends_all : (b : Bool) (n end : ℕ) → IsTrue b → ends_told b n end ≡ starts_to 0 n
+ends_all b n end is = ap (λ v. ends_told v n end) is
+
+-- no match is found where the root is marked nowhere, nor null at the end
+pub kept_none : (p : Prepared) (w : List ℕ) (b : Bool) (r end from start : ℕ) (begins : Bool) → IsArena p.expr.nodes → IsTrue b → r ≡ p.root → start ≤ length w →
+    AllMarked p.expr.nodes w r (ends_told b (length w) end) p.root false from start → (start < length w → IsTrue begins) → (start ≡ length w → IsTrue begins ↔ At p.expr.nodes w p.root start start) → begins ≡ false →
+    NotFound (tree p.expr) w from
+kept_none p w b r end from start begins arena sweeps root low none inside null is =
+    let at : start ≡ length w = ⊎_elim (λ (lt : start < length w). absurd (true≢false (sym (inside lt) ∙ is))) (λ (ge : length w ≤ start). omega arith) (cases_lt start (length w)) in
+    let marked : AllMarked p.expr.nodes w p.root (starts_to 0 (length w)) p.root false from start = subst (λ t. AllMarked p.expr.nodes w p.root t p.root false from start) (ends_all b (length w) end sweeps)
+    (subst (λ v. AllMarked p.expr.nodes w v (ends_told b (length w) end) p.root false from start) root none) in
+    let before = none_marked p w arena from start low marked in
+    none_kept p w arena from (subst (NoneIn (tree p.expr) w from) at before)
+    (λ span. absurd (true≢false (sym ((null at).1 (subst (λ v. At p.expr.nodes w p.root v v) (sym at) span)) ∙ is)))
+
+-- where one begins, and a pass from there ceases to meet the kept one, is the one sought
+pub kept_found : (p : Prepared) (w : List ℕ) (b : Bool) (r end : ℕ) (b' : Bool) (r' end' from start stop : ℕ) → IsArena p.expr.nodes → IsTrue b → r ≡ p.root → IsTrue b' → r' ≡ p.root → from ≤ start → start ≤ length w →
+    AllMarked p.expr.nodes w r (ends_told b (length w) end) p.root false from start → ((k : ℕ) × Spans (tree p.expr) w start k) →
+    CeasesAt p.expr.nodes w r' (ends_told b' (length w) end') p.root start stop → Found (tree p.expr) w from start stop
+kept_found p w b r end b' r' end' from start stop arena sweeps root sweeps' root' after low none begins ceases =
+    let marked : AllMarked p.expr.nodes w p.root (starts_to 0 (length w)) p.root false from start = subst (λ t. AllMarked p.expr.nodes w p.root t p.root false from start) (ends_all b (length w) end sweeps)
+    (subst (λ v. AllMarked p.expr.nodes w v (ends_told b (length w) end) p.root false from start) root none) in
+    let met : CeasesAt p.expr.nodes w p.root (starts_to 0 (length w)) p.root start stop = subst (λ t. CeasesAt p.expr.nodes w p.root t p.root start stop) (ends_all b' (length w) end' sweeps')
+    (subst (λ v. CeasesAt p.expr.nodes w v (ends_told b' (length w) end') p.root start stop) root' ceases) in
+    found_at p.expr w from start stop after (none_marked p w arena from start low marked) (longest_kept p w arena start stop begins.0 low begins.1 met)
+
+-- one begins where the root is marked before the end
+pub begins_marked : (p : Prepared) (w : List ℕ) (b : Bool) (r end start : ℕ) → IsArena p.expr.nodes → IsTrue b → r ≡ p.root → start ≤ length w →
+    Reaches p.expr.nodes w r (ends_told b (length w) end) p.root start → (k : ℕ) × Spans (tree p.expr) w start k
+begins_marked p w b r end start arena sweeps root low reaches =
+    (begins_at p w arena start low).0 (subst (λ t. Reaches p.expr.nodes w p.root t p.root start) (ends_all b (length w) end sweeps)
+        (subst (λ v. Reaches p.expr.nodes w v (ends_told b (length w) end) p.root start) root reaches))
+
+-- or, at the end, where it is null
+pub begins_some : (p : Prepared) (w : List ℕ) (b : Bool) (r end start : ℕ) (begins : Bool) → IsArena p.expr.nodes → IsTrue b → r ≡ p.root → end ≡ length w → start ≤ length w →
+    (start < end → IsTrue true ↔ Reaches p.expr.nodes w r (ends_told b (length w) end) p.root start) → (start ≡ length w → IsTrue begins ↔ At p.expr.nodes w p.root start start) → IsTrue begins →
+    (k : ℕ) × Spans (tree p.expr) w start k
+begins_some p w b r end start begins arena sweeps root whole low found null is =
+    ⊎_elim
+    (λ (lt : start < end). begins_marked p w b r end start arena sweeps root low ((found lt).0 refl))
+    (λ (ge : end ≤ start). let at : start ≡ length w = omega arith in (start, to_tree p w arena start start ((null at).0 is)))
+    (cases_lt start end)
+
+-- Costs.
+
+pub kept_cost : (m n from start stop s0 s1 s2 s3 o0 o1 o2 : ℕ) → 1 ≤ m → from ≤ start → start ≤ stop → stop ≤ n → s1 + (o1 + 2 * from) ≤ s0 + (o0 + 2 * start + 2) → s2 ≤ s1 + 1 →
+    s3 + (o2 + 36 * m * start) ≤ s2 + (o1 + 36 * m * (stop + 1)) → s3 + (o2 + 42 * m * (n - stop)) ≤ s0 + (o0 + 42 * m * (n - from) + 84 * m)
+kept_cost m n from start stop s0 s1 s2 s3 o0 o1 o2 some low on within seek null cut =
+    let d1 = start - from in
+    let d2 = stop - start in
+    let d3 = n - stop in
+    let e1 : start ≡ from + d1 = omega arith in
+    let e2 : stop ≡ from + d1 + d2 = omega arith in
+    let e3 : n - from ≡ d1 + d2 + d3 = omega arith in
+    let a1 : 36 * m * start ≡ 36 * m * (from + d1) = ap (λ v. 36 * m * v) e1 in
+    let a2 : 36 * m * (stop + 1) ≡ 36 * m * (from + d1 + d2 + 1) = ap (λ v. 36 * m * (v + 1)) e2 in
+    let a3 : 42 * m * (n - from) ≡ 42 * m * (d1 + d2 + d3) = ap (λ v. 42 * m * v) e3 in
+    let most = mul-le-mul_left d1 some in
+    omega (arith, most, a1, a2, a3)
+
+pub none_cost : (m n from start s0 s1 s2 o0 o1 : ℕ) → 1 ≤ m → from ≤ start → start ≤ n → s1 + (o1 + 2 * from) ≤ s0 + (o0 + 2 * start + 2) → s2 ≤ s1 + 1 → s2 + 0 ≤ s0 + (o0 + 42 * m * (n - from) + 84 * m)
+none_cost m n from start s0 s1 s2 o0 o1 some low within seek null =
+    let d = n - from in
+    let most = mul-le-mul_left d some in
+    omega (arith, most, seek, null)
+
+pub begun_cost : (m n from s t o after : ℕ) → o ≤ 100 * m * (n - from) → t + after ≤ s + (o + 42 * m * (n - from) + 84 * m) → t + after ≤ s + (142 * m * (n - from) + 84 * m)
+begun_cost m n from s t o after begins pays = omega (arith, begins, pays)
+
+-- a hit
+pub hit_cost : (m n from i j tried tried' s t : ℕ) → 1 ≤ m → from ≤ i → i ≤ j → j ≤ n → tried ≤ n → tried' ≤ 2 * n + 1 → t + (40 * m * tried + from) ≤ s + (40 * m * tried' + (i + 1 + 40 * m * (j + 1 - i))) →
+    t + (40 * m * (2 * n + 1 - tried') + 142 * m * (n - j)) ≤ s + (40 * m * (2 * n + 1 - tried) + 142 * m * (n - from) + 84 * m)
+hit_cost m n from i j tried tried' s t some low on within few few' pays =
+    let d1 = i - from in
+    let d2 = j - i in
+    let d3 = n - j in
+    let u = 2 * n + 1 - tried in
+    let v = 2 * n + 1 - tried' in
+    let e1 : n - from ≡ d1 + d2 + d3 = omega arith in
+    let e2 : j + 1 - i ≡ d2 + 1 = omega arith in
+    let e3 : tried + u ≡ 2 * n + 1 = omega arith in
+    let e4 : tried' + v ≡ 2 * n + 1 = omega arith in
+    let a1 : 142 * m * (n - from) ≡ 142 * m * (d1 + d2 + d3) = ap (λ x. 142 * m * x) e1 in
+    let a2 : 40 * m * (j + 1 - i) ≡ 40 * m * (d2 + 1) = ap (λ x. 40 * m * x) e2 in
+    let a3 : 40 * m * (tried + u) ≡ 40 * m * (2 * n + 1) = ap (λ x. 40 * m * x) e3 in
+    let a4 : 40 * m * (tried' + v) ≡ 40 * m * (2 * n + 1) = ap (λ x. 40 * m * x) e4 in
+    let most = mul-le-mul_left d1 some in
+    omega (arith, most, a1, a2, a3, a4)
+
+-- no match
+pub nothing_cost : (m n from tried tried' s t : ℕ) → 1 ≤ m → from ≤ n → tried ≤ n → tried' ≤ 2 * n + 1 → t + (40 * m * tried + from) ≤ s + (40 * m * tried' + (n + 1)) →
+    t + 0 ≤ s + (40 * m * (2 * n + 1 - tried) + 142 * m * (n - from) + 84 * m)
+nothing_cost m n from tried tried' s t some low few few' pays =
+    let d = n - from in
+    let u = 2 * n + 1 - tried in
+    let v = 2 * n + 1 - tried' in
+    let e3 : tried + u ≡ 2 * n + 1 = omega arith in
+    let e4 : tried' + v ≡ 2 * n + 1 = omega arith in
+    let a3 : 40 * m * (tried + u) ≡ 40 * m * (2 * n + 1) = ap (λ x. 40 * m * x) e3 in
+    let a4 : 40 * m * (tried' + v) ≡ 40 * m * (2 * n + 1) = ap (λ x. 40 * m * x) e4 in
+    let most = mul-le-mul_left d some in
+    omega (arith, most, a3, a4)
+
+-- a pass from the end after trials
+pub tired_cost : (m n from k tried tried' s t1 t2 after : ℕ) → 1 ≤ m → from < k → k ≤ n → tried ≤ n → tried' ≤ 2 * n + 1 → t1 + (40 * m * tried + from) ≤ s + (40 * m * tried' + k) →
+    t2 + after ≤ t1 + (142 * m * (n - k) + 84 * m) → t2 + after ≤ s + (40 * m * (2 * n + 1 - tried) + 142 * m * (n - from) + 84 * m)
+tired_cost m n from k tried tried' s t1 t2 after some low within few few' pays more =
+    let d = k - from in
+    let u = 2 * n + 1 - tried in
+    let v = 2 * n + 1 - tried' in
+    let e1 : n - from ≡ d + (n - k) = omega arith in
+    let e3 : tried + u ≡ 2 * n + 1 = omega arith in
+    let e4 : tried' + v ≡ 2 * n + 1 = omega arith in
+    let a1 : 142 * m * (n - from) ≡ 142 * m * (d + (n - k)) = ap (λ x. 142 * m * x) e1 in
+    let a3 : 40 * m * (tried + u) ≡ 40 * m * (2 * n + 1) = ap (λ x. 40 * m * x) e3 in
+    let a4 : 40 * m * (tried' + v) ≡ 40 * m * (2 * n + 1) = ap (λ x. 40 * m * x) e4 in
+    let most = mul-le-mul_left d some in
+    omega (arith, most, a1, a3, a4)
+
+-- and of a first search in a text
+few_tried : (m n z : ℕ) → z ≤ n / 8 + n + 1 → 40 * m * z ≤ 45 * (m * n) + 40 * m
+few_tried m n z few =
+    let q = n / 8 in
+    let eight : 8 * q ≤ n = omega arith in
+    let a1 = mul-le-mul_left m few in
+    let a2 = mul-le-mul_left m eight in
+    omega (arith, a1, a2)
+
+pub hit_alone : (m n from i j tried' s t : ℕ) → 1 ≤ m → from ≤ i → i ≤ j → j ≤ n → tried' + (j + 1 - i) ≤ n / 8 + n + 1 → t + (40 * m * 0 + from) ≤ s + (40 * m * tried' + (i + 1 + 40 * m * (j + 1 - i))) →
+    t ≤ s + m * (192 * n + 48)
+hit_alone m n from i j tried' s t some low on within few pays =
+    let z = j + 1 - i in
+    let most = few_tried m n (tried' + z) few in
+    let all = mul-le-mul_left n some in
+    omega (arith, most, all, pays)
+
+pub nothing_alone : (m n from tried' s t : ℕ) → 1 ≤ m → from ≤ n → tried' ≤ n / 8 + n + 1 → t + (40 * m * 0 + from) ≤ s + (40 * m * tried' + (n + 1)) → t ≤ s + m * (192 * n + 48)
+nothing_alone m n from tried' s t some low few pays =
+    let most = few_tried m n tried' few in
+    let all = mul-le-mul_left n some in
+    omega (arith, most, all, pays)
+
+pub tired_alone : (m n from k tried' s t1 t2 after : ℕ) → 1 ≤ m → from < k → k ≤ n → tried' ≤ n / 8 + n + 1 → t1 + (40 * m * 0 + from) ≤ s + (40 * m * tried' + k) →
+    t2 + after ≤ t1 + (142 * m * (n - k) + 84 * m) → t2 ≤ s + m * (192 * n + 48)
+tired_alone m n from k tried' s t1 t2 after some low within few pays more =
+    let d = n - k in
+    let e : n ≡ k + d = omega arith in
+    let a : m * n ≡ m * (k + d) = ap (λ x. m * x) e in
+    let most = few_tried m n tried' few in
+    let one : 1 ≤ k = omega arith in
+    let b = mul-le-mul_left k some in
+    let c = mul-le-mul_left m one in
+    omega (arith, most, a, b, c, pays, more)
+
+-- a trial's places: those past its end, and those of the match
+pub hit_room : (tried place end start n most : ℕ) → start ≤ place → place ≤ n → start ≤ end → end ≤ n → tried ≤ most → tried + (place - end) + (end + 1 - start) ≤ most + n + 1
+hit_room tried place end start n most low within on inside few = omega arith
+
+pub hit_paid : (m from start here place end tried old s0 s1 s2 : ℕ) → 1 ≤ m → start ≤ here → here ≤ end → here ≤ place → s1 + (40 * m * old + from) ≤ s0 + (40 * m * tried + start) →
+    s2 + start ≤ s1 + (here + 1 + 40 * m * (place + 1 - here)) → s2 + (40 * m * old + from) ≤ s0 + (40 * m * (tried + (place - end)) + (here + 1 + 40 * m * (end + 1 - here)))
+hit_paid m from start here place end tried old s0 s1 s2 some low on up paid trial =
+    let a = place + 1 - here in
+    let b = place - end in
+    let c = end + 1 - here in
+    let few : a ≤ b + c = omega arith in
+    let most = mul-le-mul_left m few in
+    omega (arith, most, paid, trial)
+
+-- what trials answer that go no further than before a place
+pub tired_answer : (e : Written) (w : List ℕ) (from k : ℕ) (r : Trials) → from < k → NoneIn (tree e) w from k → (k ≤ length w → r ≡ Tired k) × (length w < k → r ≡ Nothing) → TrialsAnswer (tree e) w from r
+tired_answer e w from k r low none is =
+    ⊎_elim
+    (λ (late : length w < k). subst (TrialsAnswer (tree e) w from) (sym (is.1 late)) (none_later e w from k none late))
+    (λ (within : k ≤ length w). subst (TrialsAnswer (tree e) w from) (sym (is.0 within)) (low, within, none))
+    (cases_lt (length w) k)
+
+-- the match from a place on, where none begins before another
+pub later_answer : (e : Tree) (w : List ℕ) (from k : ℕ) (r : Option (ℕ × ℕ)) → from ≤ k → NoneIn e w from k → SpanAnswer e w k r → SpanAnswer e w from r
+later_answer e w from k None low none is = (
+  tt,
+  λ i j after within span. ⊎_elim (λ (before : i < k). none i j after before span) (λ (ge : k ≤ i). is.1 i j ge within span) (cases_lt i k),
+  tt,
+)
+later_answer e w from k (Some f) low none is =
+    let on = is.0.after in (
+      record {
+        after = omega (arith, on, low);
+        spans = is.0.spans;
+        longest = is.0.longest;
+        leftmost = λ h l after before span. ⊎_elim (λ (lt : h < k). none h l after lt span) (λ (ge : k ≤ h). is.0.leftmost h l ge before span) (cases_lt h k);
+      },
+      tt,
+      is.2,
+    )
+
+-- what searches by trials may still take
+pub unbegun : (m n width : ℕ) (s : Seeking) (place : ℕ) → s.begun ≡ false → owed_search m n width s place ≡ 40 * m * (2 * n + 1 - s.tried) + 142 * m * (n - place)
+unbegun m n width s place is = ap (λ b. if b then owed_kept m n width s.kept.region place else 40 * m * (2 * n + 1 - s.tried) + 142 * m * (n - place)) is
+
+-- and what was counted before counts too
+pub found_since : (s a b : ℕ) (r : Option (ℕ × ℕ)) → s ≤ a → IfSome r (λ f. TakesAtLeast a b (f.1 - f.0)) → IfSome r (λ f. TakesAtLeast s b (f.1 - f.0))
+found_since s a b None grows least = tt
+found_since s a b (Some f) grows least = least_since s a b (f.1 - f.0) grows least
+
+-- What a whole match takes, by the cost of the search and that of the groups.
+
+square : (n : ℕ) → n ≤ n * n
+square zero = omega arith
+square (suc n) = let h = mul-le-mul_left (suc n) (let h : 1 ≤ suc n = omega arith in h) in omega (arith, h)
+
+pub alone_square : (m n : ℕ) → 1 ≤ m → m * (192 * n + 48) ≤ 64 * m * m * (n + 1) * (n + 1)
+alone_square m n some =
+    let sq = square n in
+    let inner : 192 * n + 48 ≤ 64 * (n + 1) * (n + 1) = omega (arith, sq) in
+    let a = mul-le-mul_left m inner in
+    let b = mul-le-mul_left (m * (64 * (n + 1) * (n + 1))) some in
+    omega (arith, a, b)
+
+pub alone_linear : (m n : ℕ) → 1 ≤ m → m * (192 * n + 48) ≤ 192 * m * m * (n + 1)
+alone_linear m n some =
+    let b = mul-le-mul_left (m * (192 * (n + 1))) some in
+    omega (arith, b)
+
+groups_most : (m k n long : ℕ) → m ≡ k + 1 → long ≤ n → m * (192 * n + 48) + (172 * m * (m - 1) * long + 2 * m) ≤ m * (172 * (k * n) + 192 * n + 50)
+groups_most m k n long is few =
+    let e : m - 1 ≡ k = omega arith in
+    let a : 172 * m * (m - 1) * long ≡ 172 * m * k * long = ap (λ v. 172 * m * v * long) e in
+    let b = mul-le-mul_left (172 * m * k) few in
+    omega (arith, a, b)
+
+pub groups_square : (m n long : ℕ) → 1 ≤ m → long ≤ n → m * (192 * n + 48) + (172 * m * (m - 1) * long + 2 * m) ≤ 64 * m * m * (n + 1) * (n + 1)
+groups_square m n long some few =
+    let k = m - 1 in
+    let is : m ≡ k + 1 = omega arith in
+    let sq = square n in
+    let ksq = mul-le-mul_left k sq in
+    let inner : 172 * (k * n) + 192 * n + 50 ≤ 64 * (k + 1) * (n + 1) * (n + 1) = omega (arith, sq, ksq) in
+    let a = mul-le-mul_left m inner in
+    let b : 64 * m * m * (n + 1) * (n + 1) ≡ 64 * m * (k + 1) * (n + 1) * (n + 1) = ap (λ v. 64 * m * v * (n + 1) * (n + 1)) is in
+    let most = groups_most m k n long is few in
+    omega (arith, a, b, most)
+
+pub groups_linear : (m n long : ℕ) → 1 ≤ m → long ≤ n → m * (192 * n + 48) + (172 * m * (m - 1) * long + 2 * m) ≤ 192 * m * m * (n + 1)
+groups_linear m n long some few =
+    let k = m - 1 in
+    let is : m ≡ k + 1 = omega arith in
+    let inner : 172 * (k * n) + 192 * n + 50 ≤ 192 * (k + 1) * (n + 1) = omega arith in
+    let a = mul-le-mul_left m inner in
+    let b : 192 * m * m * (n + 1) ≡ 192 * m * (k + 1) * (n + 1) = ap (λ v. 192 * m * v * (n + 1)) is in
+    let most = groups_most m k n long is few in
+    omega (arith, a, b, most)

@@ -1,0 +1,105 @@
+use Rattle.std.proofs.Common.{◌≡◌, ◌+◌, ◌-◌, ◌*◌, ◌≤◌, false, length, subst, arith}
+use Rattle.sedre.specs.Arena.{tree}
+use Rattle.sedmarks.proofs.SpanLemmas.{Spans-forward}
+use Rattle.sedpass.proofs.SearchLemmas.{found_since, hit_alone, hit_cost, later_answer, nothing_alone, nothing_cost, tired_alone, tired_cost, unbegun}
+use Rattle.sedpass.proofs.search.next_match.Goals as goal
+
+pub returns-in-Hit-clause-answer : goal.returns-in-Hit-clause-answer
+returns-in-Hit-clause-answer c =
+    let answer = c.in-Hit.ensures.answer in
+    (answer.0, tt, (Spans-forward (tree c.args.subject.prepared.now.expr) c.args.subject.text.now c.in-Hit.start c.in-Hit.end answer.0.spans, answer.1))
+
+pub returns-in-Hit-clause-cost : goal.returns-in-Hit-clause-cost
+returns-in-Hit-clause-cost c =
+    let m = length c.args.subject.prepared.now.expr.nodes in
+    let n = length c.args.subject.text.now in
+    let last = c.args.subject.prepared.now.is_prepared.last in
+    let answer = c.in-Hit.ensures.answer in
+    let on = Spans-forward (tree c.args.subject.prepared.now.expr) c.args.subject.text.now c.in-Hit.start c.in-Hit.end answer.0.spans in
+    let begun : c.args.seeking.now.begun ≡ false = cc in
+    let few = c.in-Hit.ensures.few in
+    let low : c.args.seeking.now.tried ≤ n = omega (arith, c.if-seeking-len.false, c.len.ensures.is) in
+    let old = unbegun m n (c.args.back.now.room - 1) c.args.seeking.now c.args.from begun in
+    let new = unbegun m n (c.args.back.now.room - 1) (record c.args.seeking.now { kept = record c.args.seeking.now.kept { work = c.try_all.new.work }; tried = c.try_all.new.tried }) c.in-Hit.end begun in
+    let cost = hit_cost m n c.args.from c.in-Hit.start c.in-Hit.end c.args.seeking.now.tried c.try_all.new.tried c.args.steps.now c.try_all.new.steps (omega (arith, last)) answer.0.after on answer.1 low
+    (omega (arith, few, low)) c.in-Hit.ensures.cost.1 in
+    (c.in-Hit.ensures.cost.0, omega (arith, cost, old, new))
+
+pub returns-in-Hit-clause-alone : goal.returns-in-Hit-clause-alone
+returns-in-Hit-clause-alone c begun fresh =
+    let m = length c.args.subject.prepared.now.expr.nodes in
+    let n = length c.args.subject.text.now in
+    let i = c.in-Hit.start in
+    let j = c.in-Hit.end in
+    let last = c.args.subject.prepared.now.is_prepared.last in
+    let answer = c.in-Hit.ensures.answer in
+    let on = Spans-forward (tree c.args.subject.prepared.now.expr) c.args.subject.text.now i j answer.0.spans in
+    let few = c.in-Hit.ensures.few in
+    (
+      c.in-Hit.ensures.cost.0,
+      hit_alone m n c.args.from i j c.try_all.new.tried c.args.steps.now c.try_all.new.steps (omega (arith, last)) answer.0.after on answer.1 (omega (arith, few, fresh))
+      (subst (λ v. c.try_all.new.steps + (40 * m * v + c.args.from) ≤ c.args.steps.now + (40 * m * c.try_all.new.tried + (i + 1 + 40 * m * (j + 1 - i)))) fresh c.in-Hit.ensures.cost.1),
+    )
+
+pub returns-in-Nothing-clause-cost : goal.returns-in-Nothing-clause-cost
+returns-in-Nothing-clause-cost c =
+    let m = length c.args.subject.prepared.now.expr.nodes in
+    let n = length c.args.subject.text.now in
+    let last = c.args.subject.prepared.now.is_prepared.last in
+    let begun : c.args.seeking.now.begun ≡ false = cc in
+    let few = c.in-Nothing.ensures.few in
+    let low : c.args.seeking.now.tried ≤ n = omega (arith, c.if-seeking-len.false, c.len.ensures.is) in
+    let old = unbegun m n (c.args.back.now.room - 1) c.args.seeking.now c.args.from begun in
+    let cost = nothing_cost m n c.args.from c.args.seeking.now.tried c.try_all.new.tried c.args.steps.now c.try_all.new.steps (omega (arith, last)) c.requires.from low (omega (arith, few, low)) c.in-Nothing.ensures.cost.1 in
+    (c.in-Nothing.ensures.cost.0, omega (arith, cost, old))
+
+pub returns-in-Nothing-clause-alone : goal.returns-in-Nothing-clause-alone
+returns-in-Nothing-clause-alone c begun fresh =
+    let m = length c.args.subject.prepared.now.expr.nodes in
+    let n = length c.args.subject.text.now in
+    let last = c.args.subject.prepared.now.is_prepared.last in
+    let few = c.in-Nothing.ensures.few in
+    (
+      c.in-Nothing.ensures.cost.0,
+      nothing_alone m n c.args.from c.try_all.new.tried c.args.steps.now c.try_all.new.steps (omega (arith, last)) c.requires.from (omega (arith, few, fresh))
+      (subst (λ v. c.try_all.new.steps + (40 * m * v + c.args.from) ≤ c.args.steps.now + (40 * m * c.try_all.new.tried + (n + 1))) fresh c.in-Nothing.ensures.cost.1),
+    )
+
+pub returns-in-Tired-clause-answer : goal.returns-in-Tired-clause-answer
+returns-in-Tired-clause-answer c =
+    let answer = c.in-Tired.ensures.answer in
+    later_answer (tree c.args.subject.prepared.now.expr) c.args.subject.text.now c.args.from c.in-Tired.start c.next_begun-in-Tired.result (omega (arith, answer.0)) answer.2 c.next_begun-in-Tired.ensures.answer
+
+pub returns-in-Tired-clause-cost : goal.returns-in-Tired-clause-cost
+returns-in-Tired-clause-cost c =
+    let m = length c.args.subject.prepared.now.expr.nodes in
+    let n = length c.args.subject.text.now in
+    let last = c.args.subject.prepared.now.is_prepared.last in
+    let answer = c.in-Tired.ensures.answer in
+    let begun : c.args.seeking.now.begun ≡ false = cc in
+    let few = c.in-Tired.ensures.few in
+    let low : c.args.seeking.now.tried ≤ n = omega (arith, c.if-seeking-len.false, c.len.ensures.is) in
+    let old = unbegun m n (c.args.back.now.room - 1) c.args.seeking.now c.args.from begun in
+    let first = c.in-Tired.ensures.cost in
+    let then = c.next_begun-in-Tired.ensures.cost in
+    let cost = tired_cost m n c.args.from c.in-Tired.start c.args.seeking.now.tried c.try_all.new.tried c.args.steps.now c.try_all.new.steps c.next_begun-in-Tired.new.steps _ (omega (arith, last)) answer.0 answer.1 low
+    (omega (arith, few, low)) first.1 then.1 in
+    (omega (arith, first.0, then.0), omega (arith, cost, old))
+
+pub returns-in-Tired-clause-alone : goal.returns-in-Tired-clause-alone
+returns-in-Tired-clause-alone c begun fresh =
+    let m = length c.args.subject.prepared.now.expr.nodes in
+    let n = length c.args.subject.text.now in
+    let last = c.args.subject.prepared.now.is_prepared.last in
+    let answer = c.in-Tired.ensures.answer in
+    let few = c.in-Tired.ensures.few in
+    let first = c.in-Tired.ensures.cost in
+    let then = c.next_begun-in-Tired.ensures.cost in
+    (
+      omega (arith, first.0, then.0),
+      tired_alone m n c.args.from c.in-Tired.start c.try_all.new.tried c.args.steps.now c.try_all.new.steps c.next_begun-in-Tired.new.steps _ (omega (arith, last)) answer.0 answer.1 (omega (arith, few, fresh))
+      (subst (λ v. c.try_all.new.steps + (40 * m * v + c.args.from) ≤ c.args.steps.now + (40 * m * c.try_all.new.tried + c.in-Tired.start)) fresh first.1) then.1,
+    )
+
+pub returns-in-Tired-clause-counts : goal.returns-in-Tired-clause-counts
+returns-in-Tired-clause-counts c = found_since c.args.steps.now c.try_all.new.steps _ c.next_begun-in-Tired.result c.in-Tired.ensures.cost.0 c.next_begun-in-Tired.ensures.counts

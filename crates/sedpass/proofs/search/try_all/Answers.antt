@@ -1,0 +1,72 @@
+use Rattle.std.proofs.Common.{◌≡◌, ◌+◌, ◌-◌, ◌*◌, ◌≤◌, ℕ, length, Option, None, Some, subst, sym, arith}
+use Rattle.sedmarks.specs.Reach.{Longest}
+use Rattle.sedre.specs.Arena.{tree}
+use Rattle.sedmarks.proofs.SpanLemmas.{Spans-forward, Spans-within}
+use Rattle.std.specs.Prelude.{IfSome}
+use Rattle.sedpass.proofs.CountLemmas.{least_fewer, least_since}
+use Rattle.sedpass.proofs.SearchLemmas.{found_at, hit_paid, hit_room, none_more, none_on, tired_answer}
+use Rattle.sedpass.proofs.search.try_all.Goals as goal
+
+pub returns-in-Some-end-clause-answer : goal.returns-in-Some-end-clause-answer
+returns-in-Some-end-clause-answer c =
+    let e = c.args.subject.prepared.now.expr in
+    let w = c.args.subject.text.now in
+    let t = c.in-Some.trial in
+    let is = c.in-Some.ensures.trial in
+    let i = c.loop-start.invariant in
+    let long : Longest (tree e) w t.start (Some c.in-Some-end.end) = subst (Longest (tree e) w t.start) c.in-Some-end.is is.longest in
+    (
+      found_at e w c.args.from t.start c.in-Some-end.end (omega (arith, i.after, is.after)) (none_on e w c.args.from c.loop-start.start t.start i.none is.none) long,
+      Spans-within (tree e) w t.start c.in-Some-end.end (omega (arith, is.passed, is.within)) long.0,
+    )
+
+pub returns-in-Some-end-clause-few : goal.returns-in-Some-end-clause-few
+returns-in-Some-end-clause-few c =
+    let e = c.args.subject.prepared.now.expr in
+    let w = c.args.subject.text.now in
+    let t = c.in-Some.trial in
+    let is = c.in-Some.ensures.trial in
+    let long : Longest (tree e) w t.start (Some c.in-Some-end.end) = subst (Longest (tree e) w t.start) c.in-Some-end.is is.longest in
+    let on = Spans-forward (tree e) w t.start c.in-Some-end.end long.0 in
+    let within = Spans-within (tree e) w t.start c.in-Some-end.end (omega (arith, is.passed, is.within)) long.0 in
+    rw c.saturating_sub.ensures (hit_room c.loop-start.tried t.place c.in-Some-end.end t.start (length w) _ is.passed is.within on within c.loop-start.invariant.few)
+
+pub returns-in-Some-end-clause-cost : goal.returns-in-Some-end-clause-cost
+returns-in-Some-end-clause-cost c =
+    let e = c.args.subject.prepared.now.expr in
+    let w = c.args.subject.text.now in
+    let t = c.in-Some.trial in
+    let is = c.in-Some.ensures.trial in
+    let i = c.loop-start.invariant in
+    let last = c.args.subject.prepared.now.is_prepared.last in
+    let long : Longest (tree e) w t.start (Some c.in-Some-end.end) = subst (Longest (tree e) w t.start) c.in-Some-end.is is.longest in
+    let on = Spans-forward (tree e) w t.start c.in-Some-end.end long.0 in
+    let cost = c.in-Some.ensures.cost in
+    (
+      omega (arith, i.grows, cost),
+      rw c.saturating_sub.ensures (hit_paid (length e.nodes) c.args.from c.loop-start.start t.start t.place c.in-Some-end.end c.loop-start.tried c.args.tried.now c.args.steps.now c.loop-start.steps c.try_next.new.steps
+      (omega (arith, last)) is.after on is.passed i.cost cost.1),
+    )
+
+pub returns-then-tried-length-clause-answer : goal.returns-then-tried-length-clause-answer
+returns-then-tried-length-clause-answer c =
+    let e = c.args.subject.prepared.now.expr in
+    let w = c.args.subject.text.now in
+    let t = c.in-Some.trial in
+    let is = c.in-Some.ensures.trial in
+    let i = c.loop-start.invariant in
+    tired_answer e w c.args.from (t.start + 1) c.tired_at.result (omega (arith, i.after, is.after))
+    (none_more e w c.args.from t.start (none_on e w c.args.from c.loop-start.start t.start i.none is.none) (let none : t.end ≡ None = cc in subst (Longest (tree e) w t.start) none is.longest)) (rw (sym c.len-length.ensures.is) c.tired_at.ensures)
+
+pub returns-clause-cost : goal.returns-clause-cost
+returns-clause-cost c =
+    let i = c.loop-start.invariant in
+    (i.grows, omega (arith, i.cost, i.within))
+
+pub returns-in-Some-end-clause-counts : goal.returns-in-Some-end-clause-counts
+returns-in-Some-end-clause-counts c =
+    let t = c.in-Some.trial in
+    let is = c.in-Some.ensures.trial in
+    let reached : c.in-Some-end.end ≤ t.place = subst (λ (o : Option ℕ). IfSome o (λ j. j ≤ t.place)) c.in-Some-end.is is.reached in
+    least_since c.args.steps.now c.loop-start.steps c.try_next.new.steps (c.in-Some-end.end - t.start) c.loop-start.invariant.grows
+    (least_fewer c.loop-start.steps c.try_next.new.steps (2 * (t.place - t.start)) (c.in-Some-end.end - t.start) (omega (arith, reached)) c.in-Some.ensures.counts)

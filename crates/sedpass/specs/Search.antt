@@ -1,0 +1,76 @@
+-- Private to the proofs: no contract that `sedmatch` makes public cites what stands here.
+-- Searches in one text, from places that don't fall: what they find, and what they may cost.
+use Rattle.std.specs.Prelude.{ℕ, ◌+◌, ◌-◌, ◌*◌, ◌<◌, ◌≤◌, if◌then◌else◌, List, length, Option, Some, None, IfSome, IsTrue}
+use Rattle.sedre.specs.Steps.{TakesAtLeast}
+use Rattle.sedre.specs.Tree.{Tree}
+use Rattle.sedmarks.specs.Reach.{Longest}
+use Rattle.sedmarks.specs.Search.{NoneIn}
+use Rattle.sedmarks.specs.Spans.{Found, NotFound}
+use Rattle.sedpass.specs.Table.{IsTable}
+use Rattle.sedpass.specs.Kept.{IsKept, KeptRoom, owed}
+use Rattle.sedpass.specs.declared.nodes.Prepared.{Prepared}
+use Rattle.sedpass.specs.declared.table.Table.{Table}
+use Rattle.sedpass.specs.declared.kept.Region.{Region}
+use Rattle.sedpass.specs.declared.search.Seeking.{Seeking}
+use Rattle.sedpass.specs.declared.search.Trial.{Trial}
+use Rattle.sedpass.specs.declared.search.Trials.{Trials}
+use Rattle.sedpass.specs.declared.search.Trials.TheVariants.{Hit, Nothing, Tired}
+
+-- there is room for a pass from the text's end, and what is kept of it is right if it was begun
+pub record Serves (p : Prepared) (w : List ℕ) (back : Table) (s : Seeking) : Type 0 where
+  pub table : IsTable p back
+  pub room : KeptRoom (length p.expr.nodes) (length w) back s.kept
+  pub sweeps : IsTrue back.way.sweeps
+  pub kept : IsTrue s.begun → IsKept p w back s.kept
+
+-- no match begins from the place on before the trial's, and it tells the longest one from there
+pub record IsTrial (e : Tree) (w : List ℕ) (from : ℕ) (t : Trial) : Type 0 where
+  pub after : from ≤ t.start
+  pub passed : t.start ≤ t.place
+  pub within : t.place ≤ length w
+  pub reached : IfSome t.end (λ j. j ≤ t.place)
+  pub none : NoneIn e w from t.start
+  pub longest : Longest e w t.start t.end
+
+-- what trials from the place on found
+abbrev pub TrialsAnswer : Tree → List ℕ → ℕ → Trials → Type 0
+TrialsAnswer e w from (Hit i j) = Found e w from i j × (j ≤ length w)
+TrialsAnswer e w from Nothing = NotFound e w from
+TrialsAnswer e w from (Tired k) = (from < k) × (k ≤ length w) × NoneIn e w from k
+
+-- a match found was looked at byte by byte
+abbrev pub LooksAtHit : ℕ → ℕ → Trials → Type 0
+LooksAtHit before after (Hit i j) = TakesAtLeast before after (j - i)
+LooksAtHit before after other = Unit {0}
+
+-- Costs, with m nodes in a text of n bytes.
+
+-- of a trial, besides the place from which it was made
+abbrev pub trial_cost : ℕ → ℕ → Option Trial → ℕ
+trial_cost m n None = n + 1
+trial_cost m n (Some t) = t.start + 1 + 40 * m * (t.place + 1 - t.start)
+
+-- of trials, besides that place and the places that are in no match
+abbrev pub trials_cost : ℕ → ℕ → Trials → ℕ
+trials_cost m n (Hit i j) = i + 1 + 40 * m * (j + 1 - i)
+trials_cost m n Nothing = n + 1
+trials_cost m n (Tired k) = k
+
+-- the places that are in no match, and those of the match found
+abbrev pub trials_room : ℕ → Trials → ℕ
+trials_room tried (Hit i j) = tried + (j + 1 - i)
+trials_room tried other = tried
+
+-- the steps that searches from a place on may still take, over what one search takes besides: by the pass from the text's end,
+abbrev pub owed_kept : ℕ → ℕ → ℕ → Region → ℕ → ℕ
+owed_kept m n width r place = owed m width r place + 42 * m * (n - place)
+
+-- by that or by trials,
+abbrev pub owed_search : ℕ → ℕ → ℕ → Seeking → ℕ → ℕ
+owed_search m n width s place =
+    if s.begun then owed_kept m n width s.kept.region place else 40 * m * (2 * n + 1 - s.tried) + 142 * m * (n - place)
+
+-- and after an answer: none where there is no match
+abbrev pub owed_after : (ℕ → ℕ) → Option (ℕ × ℕ) → ℕ
+owed_after due None = 0
+owed_after due (Some f) = due f.1

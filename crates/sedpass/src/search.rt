@@ -1,0 +1,255 @@
+//! The search for the leftmost of the longest matches (XBD 9.1), in one text from places that don't fall.
+//!
+//! A trial is a pass from one place at which a match can begin. Where trials went over many places that are in no match, a pass
+//! from the text's end is kept for the rest of the text: it tells where matches begin, and how far one leads.
+ghost use Rattle.std.specs.Prelude.{◌≡◌, ℕ, false, max, ◌+◌, ◌-◌, ◌*◌, ◌/◌, ◌<◌, ◌≤◌, ◌↔◌, length, IfNone, IfSome, IsTrue};
+ghost use Rattle.sedmarks.specs.Answer.{SpanAnswer};
+ghost use Rattle.sedmarks.specs.Beginnings.{AllBegin};
+ghost use Rattle.sedmarks.specs.Costs.{Pays};
+ghost use Rattle.sedmarks.specs.Reach.{At};
+ghost use Rattle.sedmarks.specs.Spans.{NotFound};
+ghost use Rattle.sedre.specs.Arena.{tree};
+ghost use Rattle.sedre.specs.Steps.{Takes, TakesAtLeast};
+ghost use Rattle.sedpass.specs.declared.search.Trials.TheVariants.{Nothing, Tired};
+ghost use Rattle.sedpass.specs.Table.{IsAhead, IsTable, SameShape};
+ghost use Rattle.sedpass.specs.Kept.{IsKept, KeptRoom, owed};
+ghost use Rattle.sedpass.specs.Search.{IsTrial, LooksAtHit, Serves, TrialsAnswer, trial_cost, trials_cost, trials_room, owed_kept, owed_search, owed_after};
+
+use crate::kept::{Kept, Subject};
+use crate::nodes::kind_of;
+use crate::rows::Work;
+use crate::table::Table;
+use sedmarks::beginnings::{Begins, next_start};
+use sedre::Steps;
+
+/// How the searches in one text go on.
+#[derive(Drop)]
+pub struct Seeking {
+    /// The pass from the text's end.
+    pub kept: Kept,
+    /// Whether that pass was begun.
+    pub begun: bool,
+    /// How many places the trials in this text went over that are in no match.
+    pub tried: usize,
+}
+
+/// A pass from one place.
+#[derive(Clone, Copy)]
+pub struct Trial {
+    /// The place.
+    pub start: usize,
+    /// The end of the longest match from there, if there is one.
+    pub end: Option<usize>,
+    /// How far the pass went.
+    pub place: usize,
+}
+
+/// What trials found.
+#[derive(Clone, Copy)]
+pub enum Trials {
+    /// A match that begins and ends at these places.
+    Hit(usize, usize),
+    /// There is no match.
+    Nothing,
+    /// None begins before this place; it took many trials.
+    Tired(usize),
+}
+
+/// One trial, from the first place at which a match can begin.
+fn try_next(
+    subject: Subject,
+    begins: &Begins,
+    ahead: &mut Table,
+    from: usize,
+    work: &mut Work,
+    steps: &mut Steps,
+) -> Option<Trial>
+    requires from { from ≤ length subject.text.now }
+    requires begins { AllBegin (tree subject.prepared.now.expr) begins.now }
+    requires ahead { IsAhead subject.prepared.now ahead.old }
+    ensures ahead { IsAhead subject.entry.prepared.now ahead.new }
+    ensures none { IfNone result (NotFound (tree subject.entry.prepared.now.expr) subject.entry.text.now from) }
+    ensures trial { IfSome result (IsTrial (tree subject.entry.prepared.now.expr) subject.entry.text.now from) }
+    ensures cost { Pays steps.old steps.new (trial_cost (length subject.entry.prepared.now.expr.nodes) (length subject.entry.text.now) result) from }
+    ensures counts { IfSome result (λ t. TakesAtLeast steps.old steps.new (2 * (t.place - t.start))) }
+{
+    let start = next_start(begins, subject.text, from, steps)?;
+    let bytes = subject.text.forwards();
+    let passed = ahead.run(subject.prepared, &bytes, start, work, steps);
+    Some(Trial {
+        start,
+        end: passed.end,
+        place: passed.place,
+    })
+}
+
+/// Where trials end that found no match before a place.
+fn tired_at(start: usize, length: usize) -> Trials
+    ensures { (start ≤ length → result ≡ Tired start) × (length < start → result ≡ Nothing) }
+{
+    if start <= length {
+        Trials::Tired(start)
+    } else {
+        Trials::Nothing
+    }
+}
+
+/// Trials from a place on, until a match is found, or many places are in none.
+fn try_all(
+    subject: Subject,
+    begins: &Begins,
+    ahead: &mut Table,
+    from: usize,
+    work: &mut Work,
+    tried: &mut usize,
+    steps: &mut Steps,
+) -> Trials
+    requires from { from ≤ length subject.text.now }
+    requires begins { AllBegin (tree subject.prepared.now.expr) begins.now }
+    requires ahead { IsAhead subject.prepared.now ahead.old }
+    requires tried { tried.old ≤ length subject.text.now }
+    ensures ahead { IsAhead subject.entry.prepared.now ahead.new }
+    ensures answer { TrialsAnswer (tree subject.entry.prepared.now.expr) subject.entry.text.now from result }
+    ensures few { trials_room tried.new result ≤ max tried.old (length subject.entry.text.now / 8) + length subject.entry.text.now + 1 }
+    ensures cost { let m = length subject.entry.prepared.now.expr.nodes in
+        Pays steps.old steps.new (40 * m * tried.new + trials_cost m (length subject.entry.text.now) result) (40 * m * tried.old + from) }
+    ensures counts { LooksAtHit steps.old steps.new result }
+{
+    let length = subject.text.len();
+    let mut start = from;
+    while start <= length {
+        let Some(trial) = try_next(subject, begins, ahead, start, work, steps) else {
+            return Trials::Nothing;
+        };
+        if let Some(end) = trial.end {
+            *tried += trial.place.saturating_sub(end);
+            return Trials::Hit(trial.start, end);
+        }
+        *tried += trial.place + 1 - trial.start;
+        start = trial.start + 1;
+        if *tried > length / 8 {
+            return tired_at(start, length);
+        }
+    }
+    Trials::Nothing
+}
+
+/// Whether a match begins at a place that the pass from the text's end told; of the end itself it tells nothing.
+fn begins_there(subject: Subject, start: usize, steps: &mut Steps) -> bool
+    requires start { start ≤ length subject.text.now }
+    ensures inside { start < length subject.entry.text.now → IsTrue result }
+    ensures null { start ≡ length subject.entry.text.now → IsTrue result ↔
+        At subject.entry.prepared.now.expr.nodes subject.entry.text.now subject.entry.prepared.now.root start start }
+    ensures cost { Takes steps.old steps.new 1 }
+{
+    let length = subject.text.len();
+    let root = subject.prepared.root;
+    start < length || subject.prepared.null_at(root, kind_of(start, length), steps)
+}
+
+/// The match from a place on, by the pass from the text's end.
+fn next_kept(
+    subject: Subject,
+    ahead: &mut Table,
+    back: &mut Table,
+    kept: &mut Kept,
+    from: usize,
+    steps: &mut Steps,
+) -> Option<(usize, usize)>
+    requires from { from ≤ length subject.text.now }
+    requires ahead { IsAhead subject.prepared.now ahead.old }
+    requires kept { IsKept subject.prepared.now subject.text.now back.old kept.old }
+    requires sweeps { IsTrue back.old.way.sweeps }
+    ensures ahead { IsAhead subject.entry.prepared.now ahead.new }
+    ensures kept { IsKept subject.entry.prepared.now subject.entry.text.now back.new kept.new }
+    ensures shape { SameShape back.old back.new }
+    ensures answer { SpanAnswer (tree subject.entry.prepared.now.expr) subject.entry.text.now from result }
+    ensures cost { let m = length subject.entry.prepared.now.expr.nodes in let n = length subject.entry.text.now in let width = back.old.room - 1 in
+        Pays steps.old steps.new (owed_kept m n width kept.old.region from + 84 * m) (owed_after (λ q. owed_kept m n width kept.new.region q) result) }
+    ensures counts { IfSome result (λ f. TakesAtLeast steps.old steps.new (f.1 - f.0)) }
+{
+    let root = subject.prepared.root;
+    let start = kept.seek(subject, back, root, from, true, steps);
+    if !begins_there(subject, start, steps) {
+        return None;
+    }
+    let end = kept.cut(subject, back, ahead, root, start, steps);
+    Some((start, end))
+}
+
+/// The same, of a text of which nothing is kept yet.
+fn next_begun(
+    subject: Subject,
+    ahead: &mut Table,
+    back: &mut Table,
+    kept: &mut Kept,
+    from: usize,
+    steps: &mut Steps,
+) -> Option<(usize, usize)>
+    requires from { from ≤ length subject.text.now }
+    requires ahead { IsAhead subject.prepared.now ahead.old }
+    requires table { IsTable subject.prepared.now back.old }
+    requires room { KeptRoom (length subject.prepared.now.expr.nodes) (length subject.text.now) back.old kept.old }
+    requires sweeps { IsTrue back.old.way.sweeps }
+    ensures ahead { IsAhead subject.entry.prepared.now ahead.new }
+    ensures kept { IsKept subject.entry.prepared.now subject.entry.text.now back.new kept.new }
+    ensures shape { SameShape back.old back.new }
+    ensures answer { SpanAnswer (tree subject.entry.prepared.now.expr) subject.entry.text.now from result }
+    ensures cost { let m = length subject.entry.prepared.now.expr.nodes in let n = length subject.entry.text.now in let width = back.old.room - 1 in
+        Pays steps.old steps.new (142 * m * (n - from) + 84 * m) (owed_after (λ q. owed_kept m n width kept.new.region q) result) }
+    ensures counts { IfSome result (λ f. TakesAtLeast steps.old steps.new (f.1 - f.0)) }
+{
+    let length = subject.text.len();
+    kept.begin(subject, back, subject.prepared.root, length);
+    next_kept(subject, ahead, back, kept, from, steps)
+}
+
+/// The leftmost of the longest matches that begin at a place or later. For one text the places don't fall from call to call.
+pub fn next_match(
+    subject: Subject,
+    begins: &Begins,
+    ahead: &mut Table,
+    back: &mut Table,
+    seeking: &mut Seeking,
+    from: usize,
+    steps: &mut Steps,
+) -> Option<(usize, usize)>
+    requires from { from ≤ length subject.text.now }
+    requires begins { AllBegin (tree subject.prepared.now.expr) begins.now }
+    requires ahead { IsAhead subject.prepared.now ahead.old }
+    requires serves { Serves subject.prepared.now subject.text.now back.old seeking.old }
+    ensures ahead { IsAhead subject.entry.prepared.now ahead.new }
+    ensures serves { Serves subject.entry.prepared.now subject.entry.text.now back.new seeking.new }
+    ensures shape { SameShape back.old back.new }
+    ensures answer { SpanAnswer (tree subject.entry.prepared.now.expr) subject.entry.text.now from result }
+    ensures cost { let m = length subject.entry.prepared.now.expr.nodes in let n = length subject.entry.text.now in let width = back.old.room - 1 in
+        Pays steps.old steps.new (owed_search m n width seeking.old from + 84 * m) (owed_after (owed_search m n width seeking.new) result) }
+    // A first search in a text.
+    ensures alone { let m = length subject.entry.prepared.now.expr.nodes in let n = length subject.entry.text.now in
+        seeking.old.begun ≡ false → seeking.old.tried ≡ 0 → Takes steps.old steps.new (m * (192 * n + 48)) }
+    ensures counts { IfSome result (λ f. TakesAtLeast steps.old steps.new (f.1 - f.0)) }
+{
+    if seeking.begun {
+        return next_kept(subject, ahead, back, &mut seeking.kept, from, steps);
+    }
+    if seeking.tried > subject.text.len() {
+        seeking.begun = true;
+        return next_begun(subject, ahead, back, &mut seeking.kept, from, steps);
+    }
+    match try_all(
+        subject,
+        begins,
+        ahead,
+        from,
+        &mut seeking.kept.work,
+        &mut seeking.tried,
+        steps,
+    ) {
+        Trials::Hit(start, end) => Some((start, end)),
+        Trials::Nothing => None,
+        Trials::Tired(start) => {
+            seeking.begun = true;
+            next_begun(subject, ahead, back, &mut seeking.kept, start, steps)
+        }
+    }
+}
