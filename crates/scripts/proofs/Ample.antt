@@ -12,22 +12,22 @@ use Rattle.scripts.specs.Ampleness.{NoDevice}
 
 module _ (g : Setting) (s : State) where
   -- after an end nothing changes, and nothing is written
-  ended_stays : (n t : ℕ) → (after g s n).tasks ≡ [] → n ≤ t → after g s t ≡ after g s n
+  pub ended_stays : (n t : ℕ) → (after g s n).tasks ≡ [] → n ≤ t → after g s t ≡ after g s n
   ended_stays n t e h =
       let at : n + (t - n) ≡ t = omega arith in
       ap (after g s) (sym at) ∙ after-add g s n (t - n) ∙ stays g (after g s n) (t - n) (move_at g (after g s n) [] e)
 
-  ended_still : (n t : ℕ) → (after g s n).tasks ≡ [] → n ≤ t → written g s t ≡ written g s n
+  pub ended_still : (n t : ℕ) → (after g s n).tasks ≡ [] → n ≤ t → written g s t ≡ written g s n
   ended_still n t e h =
       let at : n + (t - n) ≡ t = omega arith in
       ap (written g s) (sym at) ∙ written-add g s n (t - n) ∙ ap (λ w. written g s n ++ w) (stays_still g (after g s n) (t - n) (move_at g (after g s n) [] e)) ∙ append-nil (written g s n)
 
-  before_or_not : (t n : ℕ) → (t < n) ⊎ (n ≤ t)
+  pub before_or_not : (t n : ℕ) → (t < n) ⊎ (n ≤ t)
   before_or_not t zero = inr (omega arith)
   before_or_not zero (suc n) = inl (omega arith)
   before_or_not (suc t) (suc n) = elim (before_or_not t n) [ inl h ↦ inl (omega arith) | inr h ↦ inr (omega arith) ]
 
-  both_ended : (n t : ℕ) → (after g s n).tasks ≡ [] → (after g s t).tasks ≡ [] → written g s t ≡ written g s n
+  pub both_ended : (n t : ℕ) → (after g s n).tasks ≡ [] → (after g s t).tasks ≡ [] → written g s t ≡ written g s n
   both_ended n t e f = elim (before_or_not t n) [ inl h ↦ sym (ended_still t n f (omega arith)) | inr h ↦ ended_still n t e h ]
 
   next_is : (t : ℕ) (m : Move) → move g (after g s t) ≡ Some m → after g s (suc t) ≡ m.next

@@ -16,3 +16,10 @@ mod Cutting
 mod Ample
 mod TurnedEnds
 mod Transliterating
+mod Edits
+mod EditedLines
+mod Unbroken
+mod OneAfterOther
+mod Placing
+mod WholeEdit
+mod WayBack

@@ -148,7 +148,7 @@ module _ (l : Limits) (finds : ℕ → List ℕ → Bool) (search : ℕ → List
       (round_comes line rest 0 [] 0 (omega (arith, small)) (omega (arith, few)))
 
 -- the lines of bytes are no larger than these, and a newline more
-size_of_lines : (bytes : List ℕ) → size_of (lines bytes) ≤ length bytes + 1
+pub size_of_lines : (bytes : List ℕ) → size_of (lines bytes) ≤ length bytes + 1
 size_of_lines [] = rw lines_nil (omega arith)
 size_of_lines (b ∷ bs) = by_test (is_newline b) refl (size_of_lines bs)
   where

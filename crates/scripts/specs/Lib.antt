@@ -3,3 +3,4 @@ pub mod Words
 pub mod Alone
 pub mod Slashed
 pub mod Ampleness
+pub mod InTurn

@@ -1,7 +1,7 @@
 //! What famous scripts write, over every input. The calls do nothing.
 
 ghost use Rattle.std.specs.Prelude.{◌≡◌, ◌<◌, ◌-◌, ◌^◌, ℕ, List, [], ◌∷◌, ◌++◌, false, true, Option, Err, codes, decimal, drop, length, map, reverse, take};
-ghost use Rattle.std.specs.List.{filter, flat_map};
+ghost use Rattle.std.specs.List.{filter, flat_map, list_any};
 ghost use Rattle.sedre.specs.Tree.{Tree};
 ghost use Rattle.sedscript.specs.Replacement.{GroupsWithin};
 ghost use Rattle.sedre.specs.declared.types.Kind.TheVariants.{Basic};
@@ -16,12 +16,12 @@ ghost use Rattle.scripts.specs.Ampleness.{Ample, NoDevice};
 ghost use Rattle.sedscript.specs.declared.substitution.Piece.{Piece};
 ghost use Rattle.sedspace.specs.Lines.{lines};
 ghost use Rattle.sedengine.specs.Devices.{Gained, GainedWithin, part};
-ghost use Rattle.examples.specs.Strings.{written};
 ghost use Rattle.examples.specs.WrittenReplacements.{written_pieces};
 ghost use Rattle.scripts.specs.Alone.{EachLooksAtLine, EndsLine};
 ghost use Rattle.scripts.specs.Edited.{RunsTo, Sends, Writes, text_of};
+ghost use Rattle.scripts.specs.InTurn.{BreaksNoLine, OnlyEdits, in_turn, is_break};
 ghost use Rattle.scripts.specs.Slashed.{IsSlashed};
-ghost use Rattle.scripts.specs.Words.{by_table, each_once, has_none, in_one, numbered, odd_ones, replaced};
+ghost use Rattle.scripts.specs.Words.{HasWayBack, by_table, each_once, has_none, in_one, numbered, odd_ones, replaced, y_of};
 
 use sedscript::laws::one_meaning;
 
@@ -123,11 +123,24 @@ pub fn substituted()
     one_meaning();
 }
 
+/// What `s/RE/text/g` writes has as many lines as its input, where the text has no newline.
+pub fn line_for_line()
+    ensures { (e : Tree) (text : List Piece) (input : List ℕ) → list_any is_break text ≡ false →
+        length (lines (text_of (map (replaced e text) (lines input)))) ≡ length (lines input) }
+{}
+
 /// `y/string1/string2/` writes each line byte by byte as its table says, where no byte stands twice in the first string and
 /// the two are of one length.
 pub fn transliterated()
-    ensures { (s1 s2 input : List ℕ) → each_once [] s1 ≡ true → length s1 ≡ length s2 →
-        Writes false (codes "y/" ++ (written 47 s1 ++ (codes "/" ++ (written 47 s2 ++ codes "/")))) input (map (by_table s1 s2) (lines input)) }
+    ensures { (s1 s2 input : List ℕ) → each_once [] s1 ≡ true → length s1 ≡ length s2 → Writes false (y_of s1 s2) input (map (by_table s1 s2) (lines input)) }
+{
+    one_meaning();
+}
+
+/// A `y` and then the `y` back write the lines of the input, where the strings have a way back for its bytes.
+pub fn back_again()
+    ensures { (s1 s2 input : List ℕ) → HasWayBack s1 s2 input →
+        Writes false (y_of s2 s1) (text_of (map (by_table s1 s2) (lines input))) (lines input) }
 {
     one_meaning();
 }
@@ -137,6 +150,13 @@ pub fn transliterated()
 pub fn apart()
     ensures { (p : Program) (files : ℕ → List ℕ) (a b : List ℕ) (x y : List (ℕ × ℕ)) → EachLooksAtLine p → EndsLine a →
         RunsTo p files a x → RunsTo p files b y → RunsTo p files (a ++ b) (x ++ y) }
+{}
+
+/// Two scripts that only edit their lines, one after the other: the script of both writes what the second writes over what the
+/// first wrote, where the first breaks no line in two.
+pub fn one_after_other()
+    ensures { (p q : Program) (files : ℕ → List ℕ) (input middle : List ℕ) (out : List (ℕ × ℕ)) → OnlyEdits p → OnlyEdits q → BreaksNoLine p →
+        RunsTo p files input (to_sink 0 middle) → RunsTo q files middle out → RunsTo (in_turn p q) files input out }
 {}
 
 /// Over any source within ample limits, an edit by `1!G;h;$!d` in which no device fails or is full comes to the ordinary end,

@@ -1,0 +1,161 @@
+-- The commands of a script that only edits its lines: one cycle of them, in two runs.
+use Rattle.std.proofs.Common.{◌≡◌, ◌⊎◌, inl, inr, ℕ, zero, suc, ◌+◌, ◌-◌, ◌<◌, ◌≤◌, List, [], ◌∷◌, ◌++◌, Bool, true, false, Option, None, Some, refl, sym, ap, subst, ◌∙◌, arith}
+use Rattle.std.specs.Prelude.{slice_get}
+use Rattle.sedscript.specs.declared.types.Command.{Command}
+use Rattle.sedengine.specs.State.{Task, do_at, State, Setting}
+use Rattle.sedengine.specs.Move.{after, written}
+use Rattle.sedengine.proofs.Moves.{after-add, written-add}
+use Rattle.scripts.specs.Edited.{Ends}
+use Rattle.scripts.proofs.Ample.{before_or_not, ended_stays}
+use Rattle.scripts.proofs.Cycles.{Goes, goes_on}
+use Rattle.examples.proofs.ComputedRun.{after_first as after_next}
+use Rattle.scripts.proofs.Edits.{Edit, block, delete, change, effect, IsEdit, Within, Leads, LeadsOne, one_goes, one_leads, edit_leads}
+
+-- a run goes on from a state that its moves come to
+pub record EndsThen (g : Setting) (now : State) (before out : List (ℕ × ℕ)) : Type 0 where
+  pub more : List (ℕ × ℕ)
+  pub ends : Ends g now more
+  pub all : out ≡ before ++ more
+
+some_task : (task : Task) (rest : List Task) → (◌≡◌ {A = List Task} (task ∷ rest) []) → ⊥
+some_task task rest e = cc
+
+pub ends_then : {g : Setting} {s now : State} {before out : List (ℕ × ℕ)} (task : Task) (rest : List Task) → Goes g s now before → now.tasks ≡ task ∷ rest → Ends g s out → EndsThen g now before out
+ends_then {g = g} {s = s} {now = now} {before = before} {out = out} task rest goes has ends = elim (before_or_not g s ends.moves goes.moves) [
+  | inl less ↦
+      absurd (some_task task rest (sym has ∙ ap (λ (x : State). x.tasks) (sym goes.is ∙ ended_stays g s ends.moves goes.moves ends.ended (omega arith)) ∙ ends.ended))
+  | inr more ↦
+      let left : ℕ = ends.moves - goes.moves in
+      let at : goes.moves + left ≡ ends.moves = omega arith in
+      let there : after g now left ≡ after g s ends.moves = ap (λ (x : State). after g x left) (sym goes.is) ∙ sym (after-add g s goes.moves left) ∙ ap (after g s) at in
+      let wrote : written g s ends.moves ≡ before ++ written g now left =
+      ap (written g s) (sym at) ∙ written-add g s goes.moves left ∙ ap (λ (bs : List (ℕ × ℕ)). bs ++ written g (after g s goes.moves) left) goes.wrote ∙ ap (λ (x : State). before ++ written g x left) goes.is in
+      record {
+        more = written g now left;
+        ends = record { moves = left; ended = ap (λ (x : State). x.tasks) there ∙ ends.ended; wrote = refl };
+        all = sym ends.wrote ∙ wrote;
+      }
+]
+
+-- ---- commands in two scripts
+
+-- the edit with the numbers of another script
+abbrev pub placed : (ℕ → ℕ) → Edit → Edit
+placed to (block n) = block (to n)
+placed to delete = delete
+placed to (change f) = change f
+
+abbrev pub placed_effect : (ℕ → ℕ) → Option (ℕ × List ℕ) → Option (ℕ × List ℕ)
+placed_effect to None = None
+placed_effect to (Some next) = Some (to next.0, next.1)
+
+-- an edit stays within a script of so many commands, and its texts stay good ones
+abbrev pub Fits : ℕ → (List ℕ → Type 0) → Edit → Type 0
+Fits count Good (block n) = n ≤ count
+Fits count Good delete = Unit {0}
+Fits count Good (change f) = (w : List ℕ) → Good w → Good (f w)
+
+abbrev FitsEffect : ℕ → (List ℕ → Type 0) → Option (ℕ × List ℕ) → Type 0
+FitsEffect count Good None = Unit {0}
+FitsEffect count Good (Some next) = (next.0 ≤ count) × Good next.1
+
+-- the command of this number in a script, and in another one at its place
+pub record Both (g g' : Setting) (count : ℕ) (to : ℕ → ℕ) (Good : List ℕ → Type 0) (k : ℕ) : Type 0 where
+  pub here : Command
+  pub there : Command
+  pub on : List ℕ → Bool
+  pub edit : Edit
+  pub is_here : slice_get g.commands k ≡ Some here
+  pub is_there : slice_get g'.commands (to k) ≡ Some there
+  pub makes_here : IsEdit g here on edit
+  pub makes_there : IsEdit g' there on (placed to edit)
+  pub fits : Fits count Good edit
+
+-- what a cycle makes of a line: a text at the end of the script, or none
+abbrev pub result_at : ℕ → Option (List ℕ) → Option (ℕ × List ℕ)
+result_at count None = None
+result_at count (Some w) = Some (count, w)
+
+abbrev pub GoodResult : (List ℕ → Type 0) → Option (List ℕ) → Type 0
+GoodResult Good None = Unit {0}
+GoodResult Good (Some w) = Good w
+
+-- one cycle of both
+pub record Cycle (g g' : Setting) (count : ℕ) (to : ℕ → ℕ) (Good : List ℕ → Type 0) (ls : List (List ℕ)) (k : ℕ) (w : List ℕ) (s : State) : Type 0 where
+  pub result : Option (List ℕ)
+  pub good : GoodResult Good result
+  pub here : Leads g ls (result_at count result) s
+  pub there : (rest : List (List ℕ)) (t : State) → Within rest (to k) w t → Leads g' rest (result_at (to count) result) t
+
+leads_on : (g : Setting) (s now : State) (ls : List (List ℕ)) (e : Option (ℕ × List ℕ)) → Goes g s now [] → Leads g ls e now → Leads g ls e s
+leads_on g s now ls e goes on = (on.0, goes_on goes on.1, on.2)
+
+stays_there : (g : Setting) (s : State) → Goes g s s []
+unfolding after written
+stays_there g s = record { moves = 0; is = refl; wrote = refl }
+
+module _ (g g' : Setting) (count : ℕ) (to : ℕ → ℕ) (next : (k : ℕ) → to k + 1 ≡ to (k + 1)) (Good : List ℕ → Type 0) (each : (k : ℕ) → k < count → Both g g' count to Good k) where
+  effect_placed : (yes : Bool) (edit : Edit) (k : ℕ) (w : List ℕ) → effect yes (placed to edit) (to k) w ≡ placed_effect to (effect yes edit k w)
+  effect_placed true (block n) k w = ap (λ j. Some (j, w)) (next k)
+  effect_placed false (block n) k w = refl
+  effect_placed true delete k w = refl
+  effect_placed false delete k w = ap (λ j. Some (j, w)) (next k)
+  effect_placed true (change f) k w = ap (λ j. Some (j, f w)) (next k)
+  effect_placed false (change f) k w = ap (λ j. Some (j, w)) (next k)
+
+  effect_fits : (yes : Bool) (edit : Edit) (k : ℕ) (w : List ℕ) → k < count → Good w → Fits count Good edit → FitsEffect count Good (effect yes edit k w)
+  effect_fits true (block n) k w less good fits = (omega arith, good)
+  effect_fits false (block n) k w less good fits = (fits, good)
+  effect_fits true delete k w less good fits = tt
+  effect_fits false delete k w less good fits = (omega arith, good)
+  effect_fits true (change f) k w less good fits = (omega arith, fits w good)
+  effect_fits false (change f) k w less good fits = (omega arith, good)
+
+  less_or_same : (k n : ℕ) → k ≤ n → (k < n) ⊎ (k ≡ n)
+  less_or_same zero zero h = inr refl
+  less_or_same zero (suc n) h = inl (omega arith)
+  less_or_same (suc k) zero h = absurd (omega arith)
+  less_or_same (suc k) (suc n) h = elim (less_or_same k n (omega arith)) [ inl less ↦ inl (omega arith) | inr same ↦ inr (ap suc same) ]
+
+  -- at the end of the script
+  at_its_end : (ls : List (List ℕ)) (w : List ℕ) (s : State) → Good w → Within ls count w s → Cycle g g' count to Good ls count w s
+  at_its_end ls w s good at = record {
+    result = Some w;
+    good = good;
+    here = (s, stays_there g s, at);
+    there = λ rest t is. (t, stays_there g' t, is);
+  }
+
+  -- the cycle from a command on, of a run that ends after so many moves
+  abbrev CycleWithin : ℕ → Type 0
+  CycleWithin n = (ls : List (List ℕ)) (k : ℕ) (w : List ℕ) (s : State) → Within ls k w s → k ≤ count → Good w → (after g s n).tasks ≡ [] → Cycle g g' count to Good ls k w s
+
+  -- by the effect of the first command
+  by_effect : (n : ℕ) → CycleWithin n → (ls : List (List ℕ)) (k : ℕ) (w : List ℕ) (s : State) (e : Option (ℕ × List ℕ)) → FitsEffect count Good e → LeadsOne g ls e s → (after g s (suc n)).tasks ≡ [] →
+      ((rest : List (List ℕ)) (t : State) → Within rest (to k) w t → Leads g' rest (placed_effect to e) t) → Cycle g g' count to Good ls k w s
+  by_effect n more ls k w s None fits here ended there = record { result = None; good = tt; here = one_leads g ls None s here; there = there }
+  by_effect n more ls k w s (Some next) fits here ended there =
+      let c = more ls next.0 next.1 here.0.next here.3 fits.0 fits.1 (ap (λ (x : State). x.tasks) (sym (after_next g s here.0 n here.1)) ∙ ended) in
+      record {
+        result = c.result;
+        good = c.good;
+        here = leads_on g s here.0.next ls (result_at count c.result) (one_goes g ls (Some next) s here) c.here;
+        there = λ rest t at. let first = there rest t at in leads_on g' t first.0 rest (result_at (to count) c.result) first.1 (c.there rest first.0 first.2);
+      }
+
+  not_ended : (ls : List (List ℕ)) (k : ℕ) (w : List ℕ) (s : State) → Within ls k w s → s.tasks ≡ [] → ⊥
+  not_ended ls k w s at e = some_task (do_at k) [] (sym (ap (λ (x : State). x.tasks) at.is) ∙ e)
+
+  pub cycle : (n : ℕ) → CycleWithin n
+  unfolding after
+  cycle zero ls k w s at low good ended = absurd (not_ended ls k w s at ended)
+  cycle (suc n) ls k w s at low good ended = elim (less_or_same k count low) [
+    | inl less ↦
+        let b = each k less in
+        let e = effect (b.on w) b.edit k w in
+        let here = edit_leads g b.here b.on b.edit ls k w s b.makes_here b.is_here at in
+        by_effect n (cycle n) ls k w s e (effect_fits (b.on w) b.edit k w less good b.fits) here ended
+        (λ rest t is. subst (λ e. Leads g' rest e t) (effect_placed (b.on w) b.edit k w) (one_leads g' rest (effect (b.on w) (placed to b.edit) (to k) w) t (edit_leads g' b.there b.on (placed to b.edit) rest (to k) w t b.makes_there b.is_there is)))
+    | inr same ↦
+        subst (λ j. Cycle g g' count to Good ls j w s) (sym same) (at_its_end ls w s good (subst (λ j. Within ls j w s) same at))
+  ]

@@ -1,0 +1,104 @@
+-- Two scripts that only edit their lines, one after the other (XCU sed, Options: scripts of -e are added in their order).
+use Rattle.std.specs.Prelude.{◌≡◌, ℕ, ◌+◌, Bool, true, false, not, ◌&&◌, ◌||◌, Option, Some, None, ◌++◌, length, map, is_some, is_none, nat_le, slice_get}
+use Rattle.std.specs.List.{list_all, list_any}
+use Rattle.std.specs.Option.{option_map}
+use Rattle.sedspace.specs.Lines.{is_newline}
+use Rattle.sedscript.specs.declared.types.Address.{Address}
+use Rattle.sedscript.specs.declared.types.Address.TheVariants.{Match}
+use Rattle.sedscript.specs.declared.types.Command.{Command}
+use Rattle.sedscript.specs.declared.types.Action.{Action}
+use Rattle.sedscript.specs.declared.types.Action.TheVariants.{Block, Delete, Substitute, Transliterate}
+use Rattle.sedscript.specs.declared.substitution.Piece.{Piece}
+use Rattle.sedscript.specs.declared.substitution.Piece.TheVariants.{Literal}
+use Rattle.sedscript.specs.declared.substitution.Substitution.{Substitution}
+use Rattle.sedscript.specs.Script.{Program}
+use Rattle.sedengine.specs.Move.{in_table}
+
+-- an expression of the script's own
+abbrev pub is_own : Program → Option ℕ → Bool
+is_own p None = false
+is_own p (Some e) = is_some (slice_get p.expressions e)
+
+-- no address, or `/RE/` with such an expression
+abbrev pub asks_own : Program → Option Address → Bool
+asks_own p None = true
+asks_own p (Some (Match e)) = is_own p e
+asks_own p other = false
+
+-- an `s` with such an expression, and without the flags `p` and `w`
+abbrev pub replaces_only : Program → Option Substitution → Bool
+replaces_only p None = false
+replaces_only p (Some t) = is_own p t.expression && (not t.print && is_none t.file)
+
+-- `{`, `d`, `s` and `y`, whose numbers are in the script
+abbrev pub edits : Program → Action → Bool
+edits p (Block next) = nat_le next (length p.commands)
+edits p Delete = true
+edits p (Substitute k) = replaces_only p (slice_get p.substitutions k)
+edits p (Transliterate k) = is_some (slice_get p.tables k)
+edits p other = false
+
+abbrev pub only_edits : Program → Command → Bool
+only_edits p c = is_none c.second && (asks_own p c.first && edits p c.action)
+
+-- Each command of the script is one of these, without a number, `$` or range as its addresses, and it has no -n: so it writes
+-- by default only, and what it writes of a line depends on that line alone.
+pub record OnlyEdits (p : Program) : Type 0 where
+  pub each : list_all (only_edits p) p.commands ≡ true
+  pub loud : p.quiet ≡ false
+
+-- whether a piece of a replacement is a newline
+abbrev pub is_break : Piece → Bool
+is_break (Literal b) = is_newline b
+is_break other = false
+
+-- No replacement has a newline in it, and no `y` makes one of another byte. So a line stays one line.
+pub record BreaksNoLine (p : Program) : Type 0 where
+  pub replacements : list_all (λ t. not (list_any is_break t.replacement)) p.substitutions ≡ true
+  pub tables : (k b : ℕ) → is_newline b ≡ false → is_newline (in_table (slice_get p.tables k) b) ≡ false
+
+-- how many commands, expressions, substitutions and tables stand before those of a script
+pub record Before : Type 0 where
+  pub commands : ℕ
+  pub expressions : ℕ
+  pub substitutions : ℕ
+  pub tables : ℕ
+
+abbrev pub all_of : Program → Before
+all_of p = record {
+  commands = length p.commands;
+  expressions = length p.expressions;
+  substitutions = length p.substitutions;
+  tables = length p.tables;
+}
+
+-- the numbers in such addresses, commands and substitutions, where so many stand before
+abbrev pub address_behind : Before → Option Address → Option Address
+address_behind b (Some (Match (Some e))) = Some (Match (Some (b.expressions + e)))
+address_behind b other = other
+
+abbrev pub action_behind : Before → Action → Action
+action_behind b (Block next) = Block (b.commands + next)
+action_behind b (Substitute k) = Substitute (b.substitutions + k)
+action_behind b (Transliterate k) = Transliterate (b.tables + k)
+action_behind b other = other
+
+abbrev pub command_behind : Before → Command → Command
+command_behind b c = record c { first = address_behind b c.first; action = action_behind b c.action }
+
+abbrev pub substitution_behind : Before → Substitution → Substitution
+substitution_behind b t = record t { expression = option_map (λ e. b.expressions + e) t.expression }
+
+-- the commands of one script, and then those of another
+abbrev pub in_turn : Program → Program → Program
+in_turn p q = record {
+  commands = p.commands ++ map (command_behind (all_of p)) q.commands;
+  expressions = p.expressions ++ q.expressions;
+  texts = p.texts ++ q.texts;
+  substitutions = p.substitutions ++ map (substitution_behind (all_of p)) q.substitutions;
+  tables = p.tables ++ q.tables;
+  rfiles = p.rfiles ++ q.rfiles;
+  wfiles = p.wfiles ++ q.wfiles;
+  quiet = p.quiet || q.quiet;
+  max_nodes = p.max_nodes;
+}
