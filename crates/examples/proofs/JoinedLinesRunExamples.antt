@@ -14,16 +14,17 @@ use Rattle.sedscript.specs.Functions.{name_from, text_from}
 use Rattle.sedscript.specs.Items.{function_at, item_at}
 use Rattle.sedscript.specs.Script.{Program}
 use Rattle.sedspace.specs.Lines.{is_newline, lines}
-use Rattle.sedspace.proofs.LineLemmas.{lines_at}
 use Rattle.sedengine.specs.Ends.{WithinLimits}
 use Rattle.sedengine.specs.Move.{line_to, move, start, to_sink}
 use Rattle.sedengine.specs.Run.{setting_of}
 use Rattle.sedengine.specs.Select.{selects}
 use Rattle.sedengine.specs.State.{begin, do_at, flush, join, rebegin, Setting, State, Task}
 use Rattle.sedengine.specs.declared.ends.Ended.TheVariants.{Done}
+use Rattle.sedengine.proofs.Gains.{to_sink-append}
 use Rattle.examples.proofs.ComputedEnds.{all_fit, IsWhole, whole_after, whole_first, stops_whole, Stops, StopsBy}
 use Rattle.examples.proofs.ComputedRun.{course, plain, no_files}
 use Rattle.examples.proofs.ComputedScript.{verdict, cutting, walked, is_script}
+use Rattle.examples.proofs.LineLaws.{after_it, all_of_it, before_it, has_it, line_again}
 use Rattle.examples.proofs.ScriptWords.{always, at, unless}
 use Rattle.examples.proofs.LimitWords.{own}
 
@@ -55,71 +56,10 @@ text_of (line ∷ lines) = line ++ 10 ∷ text_of lines
 
 -- ---- lines and newlines
 
-by_place : (line : List ℕ) → list_any is_newline line ≡ false → (k d : ℕ) → k < length line → is_newline (slice_index_or line k d) ≡ false
-by_place [] none k d below = absurd (omega arith)
-by_place (b ∷ bs) none k d below = by_test (is_newline b) refl none k below (by_place bs)
-  where
-    by_test : (t : Bool) → is_newline b ≡ t → (t || list_any is_newline bs) ≡ false → (k : ℕ) → k < suc (length bs) →
-        (list_any is_newline bs ≡ false → (k d : ℕ) → k < length bs → is_newline (slice_index_or bs k d) ≡ false) → is_newline (slice_index_or (b ∷ bs) k d) ≡ false
-    by_test true is none k below on = absurd cc
-    by_test false is none zero below on = is
-    by_test false is none (suc k) below on = on none k d (omega arith)
-
 lines_are : (ls : List (List ℕ)) → AreLines ls → lines (text_of ls) ≡ ls
 unfolding lines
 lines_are [] are = refl
-lines_are (line ∷ ls) are = lines_at line (text_of ls) (by_place line are.0) ∙ ap (λ (rest : List (List ℕ)). line ∷ rest) (lines_are ls are.2)
-
-first_newline : (line rest : List ℕ) → list_any is_newline line ≡ false → position_or_len is_newline (line ++ 10 ∷ rest) ≡ length line
-first_newline [] rest none = refl
-first_newline (b ∷ bs) rest none = by_test (is_newline b) refl none (first_newline bs rest)
-  where
-    by_test : (t : Bool) → is_newline b ≡ t → (t || list_any is_newline bs) ≡ false →
-        (list_any is_newline bs ≡ false → position_or_len is_newline (bs ++ 10 ∷ rest) ≡ length bs) → position_or_len is_newline (b ∷ bs ++ 10 ∷ rest) ≡ suc (length bs)
-    by_test true is none on = absurd cc
-    by_test false is none on = rw (is, on none) (omega arith)
-
-no_newline : (line : List ℕ) → list_any is_newline line ≡ false → position_or_len is_newline line ≡ length line
-no_newline [] none = refl
-no_newline (b ∷ bs) none = by_test (is_newline b) refl none (no_newline bs)
-  where
-    by_test : (t : Bool) → is_newline b ≡ t → (t || list_any is_newline bs) ≡ false →
-        (list_any is_newline bs ≡ false → position_or_len is_newline bs ≡ length bs) → position_or_len is_newline (b ∷ bs) ≡ suc (length bs)
-    by_test true is none on = absurd cc
-    by_test false is none on = rw (is, on none) (omega arith)
-
-take_front : (line rest : List ℕ) → take (length line) (line ++ rest) ≡ line
-take_front [] rest = refl
-take_front (b ∷ bs) rest = ap (λ (x : List ℕ). b ∷ x) (take_front bs rest)
-
-drop_front : (line rest : List ℕ) → drop (suc (length line)) (line ++ 10 ∷ rest) ≡ rest
-drop_front [] rest = refl
-drop_front (b ∷ bs) rest = drop_front bs rest
-
--- of two lines with a newline between them
-before_it : (line rest : List ℕ) → list_any is_newline line ≡ false → before_first is_newline (line ++ 10 ∷ rest) ≡ line
-before_it line rest none = rw (first_newline line rest none) (take_front line (10 ∷ rest))
-
-after_it : (line rest : List ℕ) → list_any is_newline line ≡ false → after_first is_newline (line ++ 10 ∷ rest) ≡ rest
-after_it line rest none =
-    let place : length line + 1 ≡ suc (length line) = omega arith in
-    rw (first_newline line rest none, place) (drop_front line rest)
-
-has_it : (line rest : List ℕ) → list_any is_newline (line ++ 10 ∷ rest) ≡ true
-has_it [] rest = refl
-has_it (b ∷ bs) rest = by_test (is_newline b) (has_it bs rest)
-  where
-    by_test : (t : Bool) → list_any is_newline (bs ++ 10 ∷ rest) ≡ true → (t || list_any is_newline (bs ++ 10 ∷ rest)) ≡ true
-    by_test true h = refl
-    by_test false h = h
-
-all_of_it : (line : List ℕ) → list_any is_newline line ≡ false → before_first is_newline line ≡ line
-all_of_it line none = rw (no_newline line none) (take_all (length line) line (omega arith))
-
--- what is written for a text is written for its parts
-to_sink-append : (k : ℕ) (a b : List ℕ) → to_sink k (a ++ b) ≡ to_sink k a ++ to_sink k b
-to_sink-append k [] b = refl
-to_sink-append k (x ∷ a) b = ap (λ (rest : List (ℕ × ℕ)). (k, x) ∷ rest) (to_sink-append k a b)
+lines_are (line ∷ ls) are = line_again line (text_of ls) are.0 ∙ ap (λ (rest : List (List ℕ)). line ∷ rest) (lines_are ls are.2)
 
 line_first : (line rest : List ℕ) → line_to 0 line ++ to_sink 0 rest ≡ to_sink 0 (line ++ 10 ∷ rest)
 line_first line rest = sym (to_sink-append 0 (line ++ 10 ∷ []) rest) ∙ ap (to_sink 0) (append_assoc line (10 ∷ []) rest)

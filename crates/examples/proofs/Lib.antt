@@ -26,6 +26,7 @@ mod JoinedLinesRunExamples
 mod LabelEnds
 mod LimitExamples
 mod LimitWords
+pub mod LineLaws
 mod ListExamples
 mod ListReading
 mod ListingExamples

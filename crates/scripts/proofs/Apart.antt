@@ -15,6 +15,7 @@ use Rattle.sedengine.specs.Select.{Selection, selects, stands_for}
 use Rattle.sedengine.specs.Move.{acts, after, begins, copies, first_task, flushes, is_active, move, next_or_stay, passes, performs, reach, replaces, substitutes, start, to_replace_in, writes_of, written, quietly}
 use Rattle.sedengine.proofs.Moves.{move_at, written_none}
 use Rattle.examples.proofs.ComputedRun.{after_first as after_next, written_first as written_next, stays_still}
+use Rattle.examples.proofs.ComputedEnds.{both}
 use Rattle.scripts.specs.Edited.{Ends}
 use Rattle.scripts.specs.Alone.{asks_text, has_expression, stays_in_line, looks_at_line}
 use Rattle.scripts.proofs.Cycles.{Goes, goes_one, goes_on, ends_on}
@@ -134,10 +135,6 @@ command first negate a = record { first = first; second = None; negate = negate;
 abbrev choice : Bool → Bool → Option ℕ → Selection
 choice selected active used = record { yes = selected; end = false; active = active; used = used }
 
-both_true : (a b : Bool) → (a && b) ≡ true → (a ≡ true) × (b ≡ true)
-both_true true b e = (refl, e)
-both_true false b e = absurd cc
-
 same_text : (ts : List Task) (s t : State) → t.pattern ≡ s.pattern → t.replaced ≡ s.replaced → SameText ts s t
 same_text [] s t e f = tt
 same_text (begin ∷ rest) s t e f = tt
@@ -180,7 +177,7 @@ module _ (g : Setting) (more ls : List (List ℕ)) (n n' : ℕ) (p h h' : List �
   reach_parts : (k : ℕ) (ts : List Task) (first second : Option Address) (negate : Bool) (a : Action) → ((is_none second && asks_text first) && stays_in_line g.substitutions a) ≡ true →
       Both more (reach g (one ts) k (Some (record { first = first; second = second; negate = negate; action = a }))) (reach g (other ts) k (Some (record { first = first; second = second; negate = negate; action = a })))
   reach_parts k ts first (Some b) negate a e = absurd cc
-  reach_parts k ts first None negate a e = let two = both_true (asks_text first) (stays_in_line g.substitutions a) e in reach_with k ts first negate a two.0 two.1
+  reach_parts k ts first None negate a e = let two = both (asks_text first) (stays_in_line g.substitutions a) e in reach_with k ts first negate a two.0 two.1
 
   reach_both : (k : ℕ) (ts : List Task) (o : Option Command) → AloneAt g o → Both more (reach g (one ts) k o) (reach g (other ts) k o)
   reach_both k ts None e = (refl, record { lines = refl; queue = refl; tasks = refl; clean = (refl, refl); same = (refl, refl) })
@@ -213,8 +210,8 @@ AllAlone g = list_all (looks_at_line g.substitutions) g.commands ≡ true
 
 alone_at : (g : Setting) (cs : List Command) → list_all (looks_at_line g.substitutions) cs ≡ true → (k : ℕ) → AloneAt g (slice_get cs k)
 alone_at g [] h k = tt
-alone_at g (c ∷ cs) h zero = (both_true (looks_at_line g.substitutions c) (list_all (looks_at_line g.substitutions) cs) h).0
-alone_at g (c ∷ cs) h (suc k) = alone_at g cs (both_true (looks_at_line g.substitutions c) (list_all (looks_at_line g.substitutions) cs) h).1 k
+alone_at g (c ∷ cs) h zero = (both (looks_at_line g.substitutions c) (list_all (looks_at_line g.substitutions) cs) h).0
+alone_at g (c ∷ cs) h (suc k) = alone_at g cs (both (looks_at_line g.substitutions c) (list_all (looks_at_line g.substitutions) cs) h).1 k
 
 -- where no line is left, a run ends at the beginning of a cycle
 ends_at : (g : Setting) (s : State) → s.tasks ≡ begin ∷ [] → s.lines ≡ [] → Ends g s []

@@ -38,7 +38,7 @@ use Rattle.examples.proofs.ComputedScript.{verdict, cutting, walked}
 use Rattle.examples.proofs.ScriptWords.{always, at, from_to, unless}
 use Rattle.scripts.specs.Edited.{Ends, Sends, text_of, Writes}
 use Rattle.scripts.specs.Slashed.{IsSlashed}
-use Rattle.scripts.specs.Words.{by_table, each_once, numbered, odd_ones, replaced, has_none, in_one}
+use Rattle.scripts.specs.Words.{by_table, numbered, odd_ones, replaced, has_none, in_one, y_of}
 use Rattle.scripts.proofs.Meanings.{of_commands, meant}
 use Rattle.scripts.proofs.Numbers.{quit_means, cut_means}
 use Rattle.scripts.proofs.Slashes.{with_expression, delete_means, print_means}
@@ -46,8 +46,9 @@ use Rattle.scripts.proofs.Plain.{empty_run, quiet_run, twice_run, once_run, numb
 use Rattle.scripts.proofs.Holding.{turned_run, pair_run}
 use Rattle.scripts.proofs.Finding.{bytes_run, deletes_run, prints_run, replaces_by, replaces_run, replacing, with_replaced}
 use Rattle.sedscript.specs.Transliteration.{table_of}
-use Rattle.examples.specs.Strings.{written as string_between}
+use Rattle.examples.specs.Strings.{NoneTwice}
 use Rattle.scripts.proofs.Transliterating.{with_table, transliterate_means}
+use Rattle.scripts.proofs.Once.{once_of}
 use Rattle.scripts.proofs.Joining.{SeeksNewlines, joins_run}
 use Rattle.scripts.proofs.Newlines.{newline_alone, none_found, next_found}
 use Rattle.scripts.proofs.Substituting.{substitutes, substitute_means}
@@ -265,9 +266,9 @@ module _ (one : OneMeaning) where
 
   -- ---- `y/string1/string2/`
 
-  pub bytes_law : (s1 s2 input : List ℕ) → each_once [] s1 ≡ true → length s1 ≡ length s2 →
-      Writes false (codes "y/" ++ (string_between 47 s1 ++ (codes "/" ++ (string_between 47 s2 ++ codes "/")))) input (map (by_table s1 s2) (lines input))
-  bytes_law s1 s2 input once long =
+  pub bytes_law : (s1 s2 input : List ℕ) → NoneTwice s1 → length s1 ≡ length s2 → Writes false (y_of s1 s2) input (map (by_table s1 s2) (lines input))
+  bytes_law s1 s2 input twice long =
+      let once = once_of s1 twice in
       let p : Program = with_table s1 s2 once long (table_of s1 s2) in
-      sends one false (codes "y/" ++ (string_between 47 s1 ++ (codes "/" ++ (string_between 47 s2 ++ codes "/")))) input (to_sink 0 (text_of (map (by_table s1 s2) (lines input)))) p (transliterate_means s1 s2 once long)
+      sends one false (y_of s1 s2) input (to_sink 0 (text_of (map (by_table s1 s2) (lines input)))) p (transliterate_means s1 s2 once long)
       (λ es files same. bytes_run (finds_in es) (search_in es) files (table_of s1 s2) (lines input) 0 (false, None, 0))

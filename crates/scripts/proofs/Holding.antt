@@ -15,7 +15,8 @@ use Rattle.scripts.specs.Edited.{Ends, text_of}
 use Rattle.scripts.proofs.Cycles.{Goes, goes_one, goes_on, ends_on, between, ends_there, line_first, text_of-append}
 use Rattle.examples.proofs.ScriptWords.{always, at, unless}
 use Rattle.scripts.proofs.Plain.{runs}
-use Rattle.scripts.proofs.LineLaws.{NoneBroken, before_it, after_it, has_it, all_of_it}
+use Rattle.examples.proofs.LineLaws.{before_it, after_it, has_it, all_of_it}
+use Rattle.scripts.proofs.LineLaws.{NoneBroken}
 
 module _ (finds : ℕ → List ℕ → Bool) (search : ℕ → List ℕ → ℕ → Option Occurrence) (files : ℕ → List ℕ) where
   abbrev pub turns_round : Setting

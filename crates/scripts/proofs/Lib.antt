@@ -15,6 +15,7 @@ mod Famous
 mod Cutting
 mod Ample
 mod TurnedEnds
+mod Once
 mod Transliterating
 mod Edits
 mod EditedLines
@@ -23,3 +24,4 @@ mod OneAfterOther
 mod Placing
 mod WholeEdit
 mod WayBack
+mod InTurnExamples

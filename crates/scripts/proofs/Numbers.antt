@@ -1,5 +1,5 @@
 -- Commands whose addresses are numbers, as they are read.
-use Rattle.std.proofs.Common.{◌≡◌, ℕ, zero, suc, ◌+◌, ◌-◌, ◌*◌, ◌/◌, ◌%◌, ◌^◌, ◌<◌, ◌≤◌, List, [], ◌∷◌, ◌++◌, length, length-append, take, drop, drop-drop, Bool, false, true, ◌&&◌, Option, None, Some, Ok, refl, sym, ap, ap₂, subst, ◌∙◌, add-zero, arith}
+use Rattle.std.proofs.Common.{◌≡◌, ℕ, zero, suc, ◌+◌, ◌-◌, ◌*◌, ◌/◌, ◌%◌, ◌^◌, ◌<◌, ◌≤◌, List, [], ◌∷◌, ◌++◌, length, length-append, take, drop, drop-drop, false, true, Option, None, Some, Ok, refl, sym, ap, ap₂, subst, ◌∙◌, add-zero, arith}
 use Rattle.std.specs.Prelude.{decimal, slice_get, nat_lt, ◌==◌}
 use Rattle.std.specs.List.{list_all, prefix_len}
 use Rattle.std.proofs.lemmas.Fmt.{decimal_by_steps}
@@ -29,6 +29,7 @@ use Rattle.sedscript.specs.declared.items.Function.{Function}
 use Rattle.examples.proofs.ComputedScript.{program_of}
 use Rattle.sedscript.specs.declared.types.Action.TheVariants as action
 use Rattle.examples.proofs.ScriptWords.{at, from_to}
+use Rattle.examples.proofs.ComputedEnds.{both}
 use Rattle.scripts.proofs.Meanings.{of_commands}
 use Rattle.sedscript.specs.Reading.{plainly, ◌>>=◌}
 
@@ -85,14 +86,10 @@ end_there (x ∷ text) (suc at) e = end_there text at e
 pub drop_on : (text : List ℕ) (at : ℕ) (front rest : List ℕ) → drop at text ≡ front ++ rest → drop (at + length front) text ≡ rest
 drop_on text at front rest e = sym (drop-drop (length front) at text) ∙ ap (drop (length front)) e ∙ drop-append_seam front rest
 
-both_true : (a b : Bool) → (a && b) ≡ true → (a ≡ true) × (b ≡ true)
-both_true true b e = (refl, e)
-both_true false b e = absurd cc
-
 digits_passed : (ds : List ℕ) (b : ℕ) (rest : List ℕ) → list_all is_digit ds ≡ true → is_digit b ≡ false → prefix_len is_digit (ds ++ b ∷ rest) ≡ length ds
 digits_passed [] b rest e f = rw f refl
 digits_passed (d ∷ ds) b rest e f =
-    let each = both_true (is_digit d) (list_all is_digit ds) e in
+    let each = both (is_digit d) (list_all is_digit ds) e in
     let n : 1 + length ds ≡ suc (length ds) = omega arith in
     rw (each.0, digits_passed ds b rest each.1 f) n
 
@@ -117,7 +114,7 @@ module _ (text : List ℕ) (count at : ℕ) (ds : List ℕ) (b : ℕ) (rest : Li
   number_is =
       let one = first_of ds writes.some in
       let here : slice_get text at ≡ Some one.0 = byte_there text at one.0 (one.1 ++ b ∷ rest) (there ∙ ap (λ ds. ds ++ b ∷ rest) one.2) in
-      let digit : is_digit one.0 ≡ true = (both_true (is_digit one.0) (list_all is_digit one.1) (ap (list_all is_digit) (sym one.2) ∙ writes.each)).0 in
+      let digit : is_digit one.0 ≡ true = (both (is_digit one.0) (list_all is_digit one.1) (ap (list_all is_digit) (sym one.2) ∙ writes.each)).0 in
       rw (here, digit, digits_end, digits_are, writes.value) refl
 
 pub past_none : (sort : Sort) (text : List ℕ) (at b : ℕ) (rest : List ℕ) → drop at text ≡ b ∷ rest → belongs sort b ≡ false → past sort text at ≡ at
@@ -166,7 +163,7 @@ unfolding item_at
 starts_there text ds b rest n e writes =
     let one = first_of ds writes.some in
     let there : drop 0 text ≡ one.0 ∷ (one.1 ++ b ∷ rest) = e ∙ ap (λ ds. ds ++ b ∷ rest) one.2 in
-    let digit : is_digit one.0 ≡ true = (both_true (is_digit one.0) (list_all is_digit one.1) (ap (list_all is_digit) (sym one.2) ∙ writes.each)).0 in
+    let digit : is_digit one.0 ≡ true = (both (is_digit one.0) (list_all is_digit one.1) (ap (list_all is_digit) (sym one.2) ∙ writes.each)).0 in
     rw (past_none Separator text 0 one.0 (one.1 ++ b ∷ rest) there (digit_separates one.0 digit), byte_there text 0 one.0 (one.1 ++ b ∷ rest) there) refl
 
 pub no_comma : (text : List ℕ) (count at b : ℕ) (rest : List ℕ) (first : Address) → drop at text ≡ b ∷ rest → is_blank b ≡ false → (b == 44) ≡ false →
@@ -220,7 +217,7 @@ module _ (ds es : List ℕ) (n m : ℕ) (writes : WritesNumber ds (suc n)) (writ
   after_comma : after_first cut_text 0 (length ds) (Some (Line (suc n))) ≡ second_at cut_text 0 (Line (suc n)) second_place
   after_comma =
       let one = first_of es writes_too.some in
-      let digit : is_digit one.0 ≡ true = (both_true (is_digit one.0) (list_all is_digit one.1) (ap (list_all is_digit) (sym one.2) ∙ writes_too.each)).0 in
+      let digit : is_digit one.0 ≡ true = (both (is_digit one.0) (list_all is_digit one.1) (ap (list_all is_digit) (sym one.2) ∙ writes_too.each)).0 in
       comma_there cut_text 0 (length ds) one.0 (one.1 ++ 100 ∷ []) (Line (suc n)) (behind_first ∙ ap (λ es. 44 ∷ (es ++ 100 ∷ [])) one.2) (digit_no_blank one.0 digit)
 
   pub cut_item : item_at cut_text 0 0 ≡ plainly (Ok (Is (plain_item (Some (Line (suc n))) (Some (Line (suc m))) (second_place + length es) Delete) (second_place + length es + 1)))
@@ -239,7 +236,7 @@ not_quiet b (c ∷ d ∷ rest) e = rw e refl
 digit_not_quiet : (ds : List ℕ) (b : ℕ) (rest : List ℕ) (n : ℕ) → WritesNumber ds n → is_quiet (ds ++ b ∷ rest) ≡ false
 digit_not_quiet ds b rest n writes =
     let one = first_of ds writes.some in
-    let digit : is_digit one.0 ≡ true = (both_true (is_digit one.0) (list_all is_digit one.1) (ap (list_all is_digit) (sym one.2) ∙ writes.each)).0 in
+    let digit : is_digit one.0 ≡ true = (both (is_digit one.0) (list_all is_digit one.1) (ap (list_all is_digit) (sym one.2) ∙ writes.each)).0 in
     ap (λ ds. is_quiet (ds ++ b ∷ rest)) one.2 ∙ not_quiet one.0 (one.1 ++ b ∷ rest) (digit_no_hash one.0 digit)
   where
     digit_no_hash : (d : ℕ) → is_digit d ≡ true → (d == 35) ≡ false

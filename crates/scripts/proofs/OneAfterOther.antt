@@ -95,7 +95,8 @@ module _ (g1 g2 g : Setting) (n m : ℕ) (loud1 : g1.quiet ≡ false) (loud2 : g
       let ours = finishes g rest (n + m) c.result t loud none (c.there rest t (subst (λ k. Within rest k w t) (sym (add-zero n)) at_t)) in
       let left = then_between mids mine.1 mine.2 e.ends in
       let goes_so = ends_on ours.1 (hands ours.0 mine.0 left.more ours.2 mine.2 left.ends) in
-      subst (λ (out : List (ℕ × ℕ)). Ends g t out) (sym (e.all ∙ left.all)) goes_so
+      let all : out ≡ of_result c.result ++ left.more = e.all ∙ left.all in
+      subst (λ (out : List (ℕ × ℕ)). Ends g t out) (sym all) goes_so
 
   by_result : (line : List ℕ) (rest : List (List ℕ)) (result : Option (List ℕ)) (out more : List (ℕ × ℕ)) → GoodResult Unbroken result → out ≡ of_result result ++ more → Made rest more →
       ((t : State) → Within rest 0 line t → Leads g rest (result_at n result) t) → Made (line ∷ rest) out

@@ -21,6 +21,7 @@ use Rattle.sedengine.specs.Move.{in_table, start, to_replace_in, to_sink}
 use Rattle.sedengine.specs.Run.{has_match, search_for, setting_of}
 use Rattle.sedengine.specs.Substitute.{Occurrence, occurrences, to_replace}
 use Rattle.sedengine.proofs.Writing.{slice_get-append_add}
+use Rattle.examples.proofs.ComputedEnds.{both}
 use Rattle.scripts.specs.Edited.{RunsTo}
 use Rattle.scripts.specs.InTurn.{Before, BreaksNoLine, OnlyEdits, action_behind, address_behind, all_of, asks_own, command_behind, edits, in_turn, is_break, is_own, only_edits, replaces_only, substitution_behind}
 use Rattle.scripts.proofs.Edits.{Between, Chooses, Edit, Makes, Replaces, block, change, delete, with_found}
@@ -29,10 +30,6 @@ use Rattle.scripts.proofs.OneAfterOther.{in_turn_run}
 use Rattle.scripts.proofs.Unbroken.{Unbroken, unbroken_map, unbroken_replaced}
 
 -- ---- places in lists
-
-both_true : (a b : Bool) → (a && b) ≡ true → (a ≡ true) × (b ≡ true)
-both_true true b e = (refl, e)
-both_true false b e = absurd cc
 
 there_is : {A : Type 0} (o : Option A) → is_some o ≡ true → (x : A) × (o ≡ Some x)
 there_is None h = absurd cc
@@ -49,8 +46,8 @@ not_so false h = refl
 all_there : {A : Type 0} (f : A → Bool) (xs : List A) (k : ℕ) (x : A) → list_all f xs ≡ true → slice_get xs k ≡ Some x → f x ≡ true
 all_there f [] zero x all h = absurd cc
 all_there f [] (suc k) x all h = absurd cc
-all_there f (y ∷ xs) zero x all h = let same : y ≡ x = cc in subst (λ y. f y ≡ true) same (both_true (f y) (list_all f xs) all).0
-all_there f (y ∷ xs) (suc k) x all h = all_there f xs k x (both_true (f y) (list_all f xs) all).1 h
+all_there f (y ∷ xs) zero x all h = let same : y ≡ x = cc in subst (λ y. f y ≡ true) same (both (f y) (list_all f xs) all).0
+all_there f (y ∷ xs) (suc k) x all h = all_there f xs k x (both (f y) (list_all f xs) all).1 h
 
 found_below : {A : Type 0} (xs : List A) (k : ℕ) → k < length xs → (x : A) × (slice_get xs k ≡ Some x)
 found_below [] k h = absurd (omega arith)
@@ -97,14 +94,14 @@ record Placed (p r : Program) (b : Before) : Type 0 where
 -- the three tests of a command that only edits
 tests : (p : Program) (c : Command) → only_edits p c ≡ true → (c.second ≡ None) × (asks_own p c.first ≡ true) × (edits p c.action ≡ true)
 tests p c h =
-    let one = both_true (is_none c.second) (asks_own p c.first && edits p c.action) h in
-    let two = both_true (asks_own p c.first) (edits p c.action) one.1 in (is_none_so c.second one.0, two.0, two.1)
+    let one = both (is_none c.second) (asks_own p c.first && edits p c.action) h in
+    let two = both (asks_own p c.first) (edits p c.action) one.1 in (is_none_so c.second one.0, two.0, two.1)
 
 -- and those of a substitution
 is_plain : (p : Program) (t : Substitution) → replaces_only p (Some t) ≡ true → (e : ℕ) × (x : Written) × (t.expression ≡ Some e) × (slice_get p.expressions e ≡ Some x) × (t.print ≡ false) × (t.file ≡ None)
 is_plain p t h =
-    let one = both_true (is_own p t.expression) (not t.print && is_none t.file) h in
-    let two = both_true (not t.print) (is_none t.file) one.1 in
+    let one = both (is_own p t.expression) (not t.print && is_none t.file) h in
+    let two = both (not t.print) (is_none t.file) one.1 in
     let e = own t.expression one.0 in
     (e.0, e.1, e.2, e.3, not_so t.print two.0, is_none_so t.file two.1)
   where

@@ -26,8 +26,8 @@ use Rattle.examples.proofs.ScriptWords.{always}
 use Rattle.examples.proofs.StringReading.{string_read}
 use Rattle.examples.proofs.WrittenEnds.{string_whole}
 use Rattle.examples.proofs.WrittenFaults.{string_faultless}
-use Rattle.scripts.specs.Words.{each_once}
 use Rattle.scripts.proofs.Meanings.{of_commands}
+use Rattle.scripts.proofs.Once.{each_once}
 use Rattle.scripts.proofs.Numbers.{drop_on, past_none, ends_there, means_one, gives_plainly, ends_command, not_quiet}
 
 none_repeated : (before : List ℕ) (cs : List Char) → each_once before (bytes_of cs) ≡ true → repeated_in before cs ≡ None

@@ -1,7 +1,7 @@
 -- Texts without a newline, and what `s` and `y` make of them; the lines of texts that are written.
 use Rattle.std.proofs.Common.{◌≡◌, ℕ, zero, suc, List, [], ◌∷◌, ◌++◌, length, map, take, drop, Bool, true, false, ◌||◌, Option, None, Some, refl, ap, ◌∙◌}
 use Rattle.std.specs.Prelude.{slice_range}
-use Rattle.std.specs.List.{list_any, onto_first}
+use Rattle.std.specs.List.{list_any}
 use Rattle.std.proofs.lemmas.List.Folds.{list_any-append}
 use Rattle.sedspace.specs.Lines.{is_newline, lines}
 use Rattle.sedspace.proofs.LineLemmas.{lines_nil}
@@ -11,11 +11,10 @@ use Rattle.sedmatch.specs.Matching.{found}
 use Rattle.sedmatch.specs.Parts.{part_of, span_of}
 use Rattle.sedscript.specs.declared.substitution.Piece.{Piece}
 use Rattle.sedscript.specs.declared.substitution.Piece.TheVariants.{Literal, Whole, Group}
-use Rattle.sedengine.specs.Move.{newline}
 use Rattle.sedengine.specs.Substitute.{Occurrence, occurrences, put_for, replaced_from}
 use Rattle.scripts.specs.Edited.{text_of}
 use Rattle.scripts.specs.InTurn.{is_break}
-use Rattle.scripts.proofs.Cutting.{lines_yes, lines_no}
+use Rattle.examples.proofs.LineLaws.{line_again}
 use Rattle.scripts.specs.Words.{match_with, replaced}
 use Rattle.scripts.proofs.LineLaws.{NoneBroken, lines_none_broken}
 
@@ -76,11 +75,6 @@ none_broken_map f keeps [] h = tt
 none_broken_map f keeps (line ∷ rest) h = (keeps line h.0, none_broken_map f keeps rest h.1)
 
 -- ---- what is written of lines has these lines
-
-line_again : (line rest : List ℕ) → Unbroken line → lines (line ++ newline ∷ rest) ≡ line ∷ lines rest
-line_again [] rest none = lines_yes newline rest refl
-line_again (b ∷ bs) rest none =
-    let two = neither (is_newline b) (list_any is_newline bs) none in lines_no b (bs ++ newline ∷ rest) two.0 ∙ ap (onto_first b) (line_again bs rest two.1)
 
 pub lines_again : (ls : List (List ℕ)) → NoneBroken ls → lines (text_of ls) ≡ ls
 lines_again [] none = lines_nil

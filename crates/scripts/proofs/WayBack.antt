@@ -1,5 +1,5 @@
 -- A `y` and the `y` back.
-use Rattle.std.proofs.Common.{◌≡◌, ◌⊎◌, inl, inr, ℕ, zero, suc, ◌<◌, ◌≤◌, List, [], ◌∷◌, length, map, Bool, true, false, not, ◌&&◌, ◌||◌, Some, refl, sym, ap, ap₂, subst, ◌∙◌, zero-add, arith}
+use Rattle.std.proofs.Common.{◌≡◌, ◌⊎◌, inl, inr, ℕ, zero, suc, ◌<◌, ◌≤◌, List, [], ◌∷◌, length, map, Bool, true, false, not, ◌||◌, Some, refl, sym, ap, ap₂, subst, ◌∙◌, zero-add, arith}
 use Rattle.std.specs.Prelude.{◌==◌, nat_lt, slice_index_or}
 use Rattle.std.specs.List.{list_all, list_any, onto_first, range_with_len}
 use Rattle.std.proofs.lemmas.Bool.{eqb-true}
@@ -9,19 +9,17 @@ use Rattle.sedspace.specs.Lines.{is_newline, lines}
 use Rattle.sedspace.proofs.LineLemmas.{lines_nil}
 use Rattle.sedscript.specs.Transliteration.{counterpart, is_among, table_of}
 use Rattle.sedengine.specs.Move.{in_table}
+use Rattle.examples.proofs.ComputedEnds.{both}
 use Rattle.scripts.specs.Edited.{Writes, text_of}
-use Rattle.scripts.specs.Words.{HasWayBack, by_table, each_once, y_of}
+use Rattle.scripts.specs.Words.{HasWayBack, by_table, y_of}
 use Rattle.scripts.proofs.Cutting.{lines_yes, lines_no}
 use Rattle.scripts.proofs.Famous.{bytes_law}
+use Rattle.scripts.proofs.Once.{each_once, once_of}
 use Rattle.scripts.proofs.Links.{OneMeaning}
 use Rattle.scripts.proofs.LineLaws.{NoneBroken, lines_none_broken}
 use Rattle.scripts.proofs.Unbroken.{Unbroken, lines_again}
 
 -- ---- truth values
-
-both_so : (a b : Bool) → (a && b) ≡ true → (a ≡ true) × (b ≡ true)
-both_so true b e = (refl, e)
-both_so false b e = absurd cc
 
 neither : (a b : Bool) → (a || b) ≡ false → (a ≡ false) × (b ≡ false)
 neither true b e = absurd cc
@@ -51,7 +49,7 @@ not_before before [] b once h = absurd cc
 not_before before (x ∷ s) b once h = by_test (not_before (x ∷ before) s b) (x == b) refl h
   where
     two : (is_among before x ≡ false) × (each_once (x ∷ before) s ≡ true)
-    two = let both = both_so (not (is_among before x)) (each_once (x ∷ before) s) once in (not_so (is_among before x) both.0, both.1)
+    two = let parts = both (not (is_among before x)) (each_once (x ∷ before) s) once in (not_so (is_among before x) parts.0, parts.1)
 
     by_test : (each_once (x ∷ before) s ≡ true → is_among s b ≡ true → is_among (x ∷ before) b ≡ false) → (t : Bool) → (x == b) ≡ t → (t || is_among s b) ≡ true → is_among before b ≡ false
     by_test on true is h = ap (is_among before) (sym (eqb-true x b is)) ∙ two.0
@@ -77,7 +75,7 @@ returns_on before (s ∷ s1) [] b once long h = absurd (omega (arith, long))
 returns_on before (s ∷ s1) (t ∷ s2) b once long h = by_test (returns_on (t ∷ before) s1 s2 b) (s == b) refl h
   where
     rest : each_once (t ∷ before) s2 ≡ true
-    rest = (both_so (not (is_among before t)) (each_once (t ∷ before) s2) once).1
+    rest = (both (not (is_among before t)) (each_once (t ∷ before) s2) once).1
 
     by_test : (each_once (t ∷ before) s2 ≡ true → length s1 ≡ length s2 → is_among s1 b ≡ true → Returns s1 s2 b) → (x : Bool) → (s == b) ≡ x → (x || is_among s1 b) ≡ true → Returns (s ∷ s1) (t ∷ s2) b
     by_test on true is h =
@@ -116,7 +114,7 @@ all_among f [] b all h = absurd cc
 all_among f (x ∷ s) b all h = by_test (all_among f s b) (x == b) refl h
   where
     two : (f x ≡ true) × (list_all f s ≡ true)
-    two = both_so (f x) (list_all f s) all
+    two = both (f x) (list_all f s) all
 
     by_test : (list_all f s ≡ true → is_among s b ≡ true → f b ≡ true) → (t : Bool) → (x == b) ≡ t → (t || is_among s b) ≡ true → f b ≡ true
     by_test on true is h = ap f (sym (eqb-true x b is)) ∙ two.0
@@ -144,7 +142,7 @@ module _ (s1 s2 input : List ℕ) (way : HasWayBack s1 s2 input) where
     | inl low ↦ elim (one_of (is_among s1 b) (is_among s2 b) h) [
       | inl in_first ↦
           let one = table_low s1 s2 b low in
-          let r = returns_on [] s1 s2 b way.second_once way.long in_first in
+          let r = returns_on [] s1 s2 b (once_of s2 way.second_once) way.long in_first in
           let c : ℕ = counterpart s1 s2 b in
           let byte : nat_lt c 256 ≡ true = all_among (λ b. nat_lt b 256) s2 c way.bytes r.there in
           let small : c < 256 = grind (arith, nat_tests) in
@@ -163,12 +161,12 @@ module _ (s1 s2 input : List ℕ) (way : HasWayBack s1 s2 input) where
 
   line_comes : (w : List ℕ) → list_all may w ≡ true → map again (map forth w) ≡ w
   line_comes [] h = refl
-  line_comes (b ∷ w) h = let two = both_so (may b) (list_all may w) h in ap₂ (λ (x : ℕ) (y : List ℕ). x ∷ y) (comes b two.0).back (line_comes w two.1)
+  line_comes (b ∷ w) h = let two = both (may b) (list_all may w) h in ap₂ (λ (x : ℕ) (y : List ℕ). x ∷ y) (comes b two.0).back (line_comes w two.1)
 
   line_whole : (w : List ℕ) → list_all may w ≡ true → Unbroken w → Unbroken (map forth w)
   line_whole [] h none = refl
   line_whole (b ∷ w) h none =
-      let two = both_so (may b) (list_all may w) h in
+      let two = both (may b) (list_all may w) h in
       let parts = neither (is_newline b) (list_any is_newline w) none in rw ((comes b two.0).newline parts.0) (line_whole w two.1 parts.1)
 
   -- each line has bytes of the input
@@ -181,7 +179,7 @@ module _ (s1 s2 input : List ℕ) (way : HasWayBack s1 s2 input) where
   lines_may (b ∷ bs) h = by_test (lines_may bs) (is_newline b) refl
     where
       two : (may b ≡ true) × (list_all may bs ≡ true)
-      two = both_so (may b) (list_all may bs) h
+      two = both (may b) (list_all may bs) h
 
       onto : (ls : List (List ℕ)) → EachMay ls → EachMay (onto_first b ls)
       onto [] each = (rw two.0 refl, tt)

@@ -1,8 +1,14 @@
 -- Runs with room to spare (this project's own).
-use Rattle.std.specs.Prelude.{◌≡◌, ℕ, ◌+◌, ◌-◌, ◌*◌, ◌^◌, ◌≤◌, ◌<◌, List, None, length}
+use Rattle.std.specs.Prelude.{◌≡◌, ℕ, ◌+◌, ◌-◌, ◌*◌, ◌^◌, ◌≤◌, ◌<◌, List, Err, None, Option, length}
+use Rattle.sedre.specs.declared.types.Kind.TheVariants.{Basic}
+use Rattle.sedscript.specs.Script.{Program, Means}
+use Rattle.sedengine.specs.Devices.{GainedWithin}
+use Rattle.sedengine.specs.Ends.{Cause}
 use Rattle.sedengine.specs.Limits.{Limits}
+use Rattle.sedengine.specs.Run.{setting_of}
 use Rattle.sedengine.specs.declared.ends.Ended.{Ended}
 use Rattle.sedengine.specs.declared.ends.Ended.TheVariants.{InputBroken, OutputBroken, OutputFull}
+use Rattle.sededit.specs.Editing.{start_over}
 
 -- an end that names no device
 abbrev pub NoDevice : Ended → Type 0
@@ -10,6 +16,17 @@ NoDevice InputBroken = ⊥
 NoDevice (OutputBroken k) = ⊥
 NoDevice (OutputFull k) = ⊥
 NoDevice other = Unit {0}
+
+-- A run by this script over these bytes within the limits came to this end, its sinks gained what leads from the old contents to
+-- the new ones, and no device failed or was full: what `edit` says of it.
+pub record ComesTo (l : Limits) (text input : List ℕ) (old new : ℕ → Option (List ℕ)) (end : Ended) : Type 0 where
+  pub program : Program
+  pub files : ℕ → List ℕ
+  pub means : Means text Basic 65536 program
+  pub before : ℕ → ℕ
+  pub t : ℕ
+  pub cause : Cause l (setting_of program files) (start_over program input) (GainedWithin l.output before old new (Err end)) end t
+  pub free : NoDevice end
 
 -- a space holds all of the input, and there are so many turns for each byte of it, and some more
 pub record Ample (l : Limits) (turns : ℕ) (input : List ℕ) : Type 0 where

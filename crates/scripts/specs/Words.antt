@@ -1,8 +1,8 @@
 -- Words of lines.
 use Rattle.std.specs.Prelude.{ℕ, ◌+◌, List, [], ◌∷◌, length, Bool, not, Option, Some, None, is_some, decimal}
-use Rattle.std.specs.Prelude.{◌≡◌, ◌&&◌, ◌||◌, ◌++◌, codes, false, map, nat_lt, true}
+use Rattle.std.specs.Prelude.{◌≡◌, ◌||◌, ◌++◌, codes, false, map, nat_lt, true}
 use Rattle.std.specs.List.{join_with_byte, list_all}
-use Rattle.examples.specs.Strings.{written}
+use Rattle.examples.specs.Strings.{NoneTwice, written}
 use Rattle.sedscript.specs.Transliteration.{is_among, table_of}
 use Rattle.sedengine.specs.Move.{in_table}
 use Rattle.sedre.specs.Tree.{Tree}
@@ -39,11 +39,6 @@ abbrev pub in_one : List (List ℕ) → List (List ℕ)
 in_one [] = []
 in_one lines = join_with_byte 44 lines ∷ []
 
--- no byte stands twice among these, nor one of those that stand before them
-abbrev pub each_once : (before : List ℕ) → List ℕ → Bool
-each_once before [] = true
-each_once before (b ∷ bs) = not (is_among before b) && each_once (b ∷ before) bs
-
 -- a text, byte by byte, by the table of two strings
 abbrev pub by_table : (string1 string2 : List ℕ) → List ℕ → List ℕ
 by_table string1 string2 w = map (in_table (Some (table_of string1 string2))) w
@@ -56,8 +51,8 @@ y_of string1 string2 = codes "y/" ++ (written 47 string1 ++ (codes "/" ++ (writt
 -- input is in the first string, or not in the second. So it is where both have the same bytes, in any order, or where the
 -- second's don't occur.
 pub record HasWayBack (string1 string2 input : List ℕ) : Type 0 where
-  pub first_once : each_once [] string1 ≡ true
-  pub second_once : each_once [] string2 ≡ true
+  pub first_once : NoneTwice string1
+  pub second_once : NoneTwice string2
   pub long : length string1 ≡ length string2
   pub bytes : list_all (λ b. nat_lt b 256) string2 ≡ true
   pub no_newline : is_among string2 10 ≡ false

@@ -1,27 +1,25 @@
 //! What famous scripts write, over every input. The calls do nothing.
 
-ghost use Rattle.std.specs.Prelude.{◌≡◌, ◌<◌, ◌-◌, ◌^◌, ℕ, List, [], ◌∷◌, ◌++◌, false, true, Option, Err, codes, decimal, drop, length, map, reverse, take};
+ghost use Rattle.std.specs.Prelude.{◌≡◌, ◌<◌, ◌-◌, ◌^◌, ℕ, List, [], ◌∷◌, ◌++◌, false, true, Option, codes, decimal, drop, length, map, reverse, take};
 ghost use Rattle.std.specs.List.{filter, flat_map, list_any};
 ghost use Rattle.sedre.specs.Tree.{Tree};
 ghost use Rattle.sedscript.specs.Replacement.{GroupsWithin};
-ghost use Rattle.sedre.specs.declared.types.Kind.TheVariants.{Basic};
-ghost use Rattle.sedscript.specs.Script.{Means, Program};
-ghost use Rattle.sedengine.specs.Ends.{Cause};
+ghost use Rattle.sedscript.specs.Script.{Program};
 ghost use Rattle.sedengine.specs.Limits.{Limits};
-ghost use Rattle.sedengine.specs.Move.{start, to_sink};
-ghost use Rattle.sedengine.specs.Run.{setting_of};
+ghost use Rattle.sedengine.specs.Move.{to_sink};
 ghost use Rattle.sedengine.specs.declared.ends.Ended.{Ended};
 ghost use Rattle.sedengine.specs.declared.ends.Ended.TheVariants.{Done};
-ghost use Rattle.scripts.specs.Ampleness.{Ample, NoDevice};
+ghost use Rattle.scripts.specs.Ampleness.{Ample, ComesTo};
 ghost use Rattle.sedscript.specs.declared.substitution.Piece.{Piece};
 ghost use Rattle.sedspace.specs.Lines.{lines};
-ghost use Rattle.sedengine.specs.Devices.{Gained, GainedWithin, part};
+ghost use Rattle.sedengine.specs.Devices.{Gained, part};
+ghost use Rattle.examples.specs.Strings.{NoneTwice};
 ghost use Rattle.examples.specs.WrittenReplacements.{written_pieces};
 ghost use Rattle.scripts.specs.Alone.{EachLooksAtLine, EndsLine};
 ghost use Rattle.scripts.specs.Edited.{RunsTo, Sends, Writes, text_of};
 ghost use Rattle.scripts.specs.InTurn.{BreaksNoLine, OnlyEdits, in_turn, is_break};
 ghost use Rattle.scripts.specs.Slashed.{IsSlashed};
-ghost use Rattle.scripts.specs.Words.{HasWayBack, by_table, each_once, has_none, in_one, numbered, odd_ones, replaced, y_of};
+ghost use Rattle.scripts.specs.Words.{HasWayBack, by_table, has_none, in_one, numbered, odd_ones, replaced, y_of};
 
 use sedscript::laws::one_meaning;
 
@@ -132,7 +130,7 @@ pub fn line_for_line()
 /// `y/string1/string2/` writes each line byte by byte as its table says, where no byte stands twice in the first string and
 /// the two are of one length.
 pub fn transliterated()
-    ensures { (s1 s2 input : List ℕ) → each_once [] s1 ≡ true → length s1 ≡ length s2 → Writes false (y_of s1 s2) input (map (by_table s1 s2) (lines input)) }
+    ensures { (s1 s2 input : List ℕ) → NoneTwice s1 → length s1 ≡ length s2 → Writes false (y_of s1 s2) input (map (by_table s1 s2) (lines input)) }
 {
     one_meaning();
 }
@@ -159,12 +157,10 @@ pub fn one_after_other()
         RunsTo p files input (to_sink 0 middle) → RunsTo q files middle out → RunsTo (in_turn p q) files input out }
 {}
 
-/// Over any source within ample limits, an edit by `1!G;h;$!d` in which no device fails or is full comes to the ordinary end,
-/// and its sinks have gained the lines in reverse order.
+/// Within ample limits, an edit by `1!G;h;$!d` in which no device fails or is full comes to the ordinary end, and its sinks have
+/// gained the lines in reverse order.
 pub fn turned_ends()
-    ensures { (l : Limits) (p : Program) (files : ℕ → List ℕ) (input : List ℕ) (before : ℕ → ℕ) (old new : ℕ → Option (List ℕ)) (end : Ended) (t : ℕ) →
-        Means (codes "1!G;h;$!d") Basic 65536 p → Ample l 4 input → NoDevice end →
-        Cause l (setting_of p files) (start p.commands (lines input)) (GainedWithin l.output before old new (Err end)) end t →
+    ensures { (l : Limits) (input : List ℕ) (old new : ℕ → Option (List ℕ)) (end : Ended) → Ample l 4 input → ComesTo l (codes "1!G;h;$!d") input old new end →
         (end ≡ Done) × Gained old new (to_sink 0 (text_of (reverse (lines input)))) }
 {
     one_meaning();

@@ -4,5 +4,5 @@ use Rattle.scripts.proofs.TurnedEnds.{turned_ends as law}
 use Rattle.scripts.proofs.laws.turned_ends.Goals as goal
 
 pub returns : goal.returns
-returns c = λ l p files input before old new end t m ample free cause.
-    let both = law c.one_meaning.ensures l p files input (GainedWithin l.output before old new (Err end)) end t m ample free cause in (both.0, both.1.gained)
+returns c = λ l input old new end ample to.
+    let ends = law c.one_meaning.ensures l to.program to.files input (GainedWithin l.output to.before old new (Err end)) end to.t to.means ample to.free to.cause in (ends.0, ends.1.gained)

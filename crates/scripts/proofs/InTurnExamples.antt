@@ -1,0 +1,110 @@
+-- Examples of two scripts one after the other, computed by the definitions: what the text of both means, and pairs for which the law
+-- isn't so, each with what the second writes over what the first wrote, and what the script of both writes.
+use Rattle.std.proofs.Common.{ℕ, [], ◌∷◌, Some, refl}
+use Rattle.std.specs.Prelude.{codes}
+use Rattle.sedre.specs.Delimited.{delimiter_at}
+use Rattle.sedre.specs.Intervals.{interval}
+use Rattle.sedre.specs.Items.{item_at as expression_item_at}
+use Rattle.sedre.specs.Sets.{only, set_of}
+use Rattle.sedre.specs.Tree.{Tree, set}
+use Rattle.sedre.specs.Arena.{tree_at, tree_within}
+use Rattle.sedre.specs.Brackets.{list_at, list_end}
+use Rattle.sedre.specs.declared.types.Kind.TheVariants.{Basic}
+use Rattle.sedscript.specs.declared.types.Action.TheVariants as action
+use Rattle.sedscript.specs.declared.types.Address.TheVariants.{Match}
+use Rattle.sedscript.specs.declared.substitution.Piece.TheVariants.{Literal}
+use Rattle.sedscript.specs.Addresses.{address_at, match_at, second_at, addresses_at}
+use Rattle.sedscript.specs.Between.{substituted, transliterate_at}
+use Rattle.sedscript.specs.Bytes.{past}
+use Rattle.sedscript.specs.Functions.{name_from, text_from}
+use Rattle.sedscript.specs.Items.{function_at, item_at, substitute_at}
+use Rattle.sedscript.specs.Script.{Program, Means}
+use Rattle.sedscript.specs.Transliteration.{table_of}
+use Rattle.sedmatch.specs.Matching.{any, caps, copies, cut, first_copy, found, found_from, greatest, last_start, longest, report, spans}
+use Rattle.sedspace.specs.Lines.{lines}
+use Rattle.sedengine.specs.Move.{move}
+use Rattle.sedengine.specs.Select.{selects}
+use Rattle.sedengine.specs.Substitute.{occurrences_from}
+use Rattle.examples.proofs.ComputedReading.{outcome, rest_of, written}
+use Rattle.examples.proofs.ComputedRun.{course, ends_after, Writes}
+use Rattle.examples.proofs.ComputedScript.{verdict, cutting, walked, is_script}
+use Rattle.examples.proofs.ScriptWords.{always, at, substitution}
+use Rattle.scripts.specs.InTurn.{in_turn}
+use Rattle.scripts.proofs.Meanings.{of_commands, meant}
+
+-- ---- what the text of both means
+
+-- the expression of one byte
+abbrev byte : ℕ → Tree
+byte b = set (only b)
+
+abbrev first : Program
+first = record (of_commands (at (Match (Some 0)) action.Delete ∷ always (action.Substitute 0) ∷ []) []) {
+  expressions = written (byte 120) 0 ∷ written (byte 97) 0 ∷ [];
+  substitutions = substitution (Some 1) (Literal 98 ∷ []) ∷ [];
+}
+
+abbrev second : Program
+second = record (of_commands (always (action.Substitute 0) ∷ always (action.Transliterate 0) ∷ []) []) {
+  expressions = written (byte 99) 0 ∷ [];
+  substitutions = substitution (Some 0) (Literal 100 ∷ []) ∷ [];
+  tables = table_of (101 ∷ []) (102 ∷ []) ∷ [];
+}
+
+first_means : Means (codes "/x/d\ns/a/b/") Basic 65536 first
+unfolding verdict cutting walked item_at past function_at addresses_at address_at second_at text_from name_from match_at substitute_at substituted delimiter_at outcome rest_of expression_item_at interval set_of
+first_means = meant _ _ refl
+
+second_means : Means (codes "s/c/d/\ny/e/f/") Basic 65536 second
+unfolding verdict cutting walked item_at past function_at addresses_at address_at second_at text_from name_from match_at substitute_at substituted transliterate_at delimiter_at outcome rest_of expression_item_at interval set_of
+second_means = meant _ _ refl
+
+both_means : Means (codes "/x/d\ns/a/b/\ns/c/d/\ny/e/f/") Basic 65536 (in_turn first second)
+unfolding verdict cutting walked item_at past function_at addresses_at address_at second_at text_from name_from match_at substitute_at substituted transliterate_at delimiter_at outcome rest_of expression_item_at interval set_of
+both_means = meant _ _ refl
+
+-- ---- a number, and `$`, in the second script
+
+first_number : Writes (codes "1d") (codes "a\nb\n") (codes "b\n")
+unfolding verdict cutting walked item_at past function_at addresses_at address_at second_at text_from name_from lines course move selects
+first_number = is_script (ends_after 60 refl refl)
+
+second_number : Writes (codes "1d") (codes "b\n") (codes "")
+unfolding verdict cutting walked item_at past function_at addresses_at address_at second_at text_from name_from lines course move selects
+second_number = is_script (ends_after 60 refl refl)
+
+both_numbers : Writes (codes "1d\n1d") (codes "a\nb\n") (codes "b\n")
+unfolding verdict cutting walked item_at past function_at addresses_at address_at second_at text_from name_from lines course move selects
+both_numbers = is_script (ends_after 60 refl refl)
+
+second_last : Writes (codes "$d") (codes "a\n") (codes "")
+unfolding verdict cutting walked item_at past function_at addresses_at address_at second_at text_from name_from lines course move selects
+second_last = is_script (ends_after 60 refl refl)
+
+both_last : Writes (codes "$d\n$d") (codes "a\nb\n") (codes "a\n")
+unfolding verdict cutting walked item_at past function_at addresses_at address_at second_at text_from name_from lines course move selects
+both_last = is_script (ends_after 60 refl refl)
+
+-- ---- an empty expression in the second script, and a newline that the first one makes
+
+both_empty : Writes (codes "s/b/c/\n//d") (codes "a\nb\n") (codes "a\nc\n")
+unfolding verdict cutting walked item_at past function_at addresses_at address_at second_at text_from name_from lines course move selects match_at substitute_at substituted delimiter_at outcome rest_of expression_item_at interval set_of tree_at tree_within list_at list_end found found_from longest greatest spans any copies report caps cut first_copy last_start occurrences_from
+both_empty = is_script (ends_after 100 refl refl)
+
+second_broken : Writes (codes "s/^y/z/") (codes "x\ny\nb\n") (codes "x\nz\nb\n")
+unfolding verdict cutting walked item_at past function_at addresses_at address_at second_at text_from name_from lines course move selects match_at substitute_at substituted delimiter_at outcome rest_of expression_item_at interval set_of tree_at tree_within list_at list_end found found_from longest greatest spans any copies report caps cut first_copy last_start occurrences_from
+second_broken = is_script (ends_after 100 refl refl)
+
+both_broken : Writes (codes "s/a/x\\ny/\ns/^y/z/") (codes "a\nb\n") (codes "x\ny\nb\n")
+unfolding verdict cutting walked item_at past function_at addresses_at address_at second_at text_from name_from lines course move selects match_at substitute_at substituted delimiter_at outcome rest_of expression_item_at interval set_of tree_at tree_within list_at list_end found found_from longest greatest spans any copies report caps cut first_copy last_start occurrences_from
+both_broken = is_script (ends_after 100 refl refl)
+
+-- ---- a branch to the end, and what the first one writes by itself
+
+both_branch : Writes (codes "b\nd") (codes "a\nb\n") (codes "a\nb\n")
+unfolding verdict cutting walked item_at past function_at addresses_at address_at second_at text_from name_from lines course move selects
+both_branch = is_script (ends_after 60 refl refl)
+
+both_print : Writes (codes "p\nd") (codes "a\nb\n") (codes "a\nb\n")
+unfolding verdict cutting walked item_at past function_at addresses_at address_at second_at text_from name_from lines course move selects
+both_print = is_script (ends_after 60 refl refl)
