@@ -3,13 +3,13 @@ use Rattle.std.proofs.Common.{◌≡◌, ◌⊎◌, inl, inr, ℕ, zero, suc, �
 use Rattle.std.specs.Prelude.{slice_get}
 use Rattle.sedscript.specs.declared.types.Command.{Command}
 use Rattle.sedengine.specs.State.{Task, do_at, State, Setting}
-use Rattle.sedengine.specs.Move.{after, written}
+use Rattle.sedengine.specs.Move.{after, none_left, written}
 use Rattle.sedengine.proofs.Moves.{after-add, written-add}
 use Rattle.scripts.specs.Edited.{Ends}
 use Rattle.scripts.proofs.Ample.{before_or_not, ended_stays}
 use Rattle.scripts.proofs.Cycles.{Goes, goes_on}
 use Rattle.examples.proofs.ComputedRun.{after_first as after_next}
-use Rattle.scripts.proofs.Edits.{Edit, block, delete, change, effect, IsEdit, Within, Leads, LeadsOne, one_goes, one_leads, edit_leads}
+use Rattle.scripts.proofs.Edits.{Edit, Test, block, delete, change, effect, IsEdit, Within, Leads, LeadsOne, one_goes, one_leads, edit_leads}
 
 -- a run goes on from a state that its moves come to
 pub record EndsThen (g : Setting) (now : State) (before out : List (ℕ × ℕ)) : Type 0 where
@@ -59,17 +59,22 @@ abbrev FitsEffect : ℕ → (List ℕ → Type 0) → Option (ℕ × List ℕ) �
 FitsEffect count Good None = Unit {0}
 FitsEffect count Good (Some next) = (next.0 ≤ count) × Good next.1
 
+-- lines of two runs that are alike: each is told by its number, and by those that are left
+abbrev pub AreAlike : Type 1
+AreAlike = ℕ → List (List ℕ) → ℕ → List (List ℕ) → Type 0
+
 -- the command of this number in a script, and in another one at its place
-pub record Both (g g' : Setting) (count : ℕ) (to : ℕ → ℕ) (Good : List ℕ → Type 0) (k : ℕ) : Type 0 where
+pub record Both (Alike : AreAlike) (g g' : Setting) (count : ℕ) (to : ℕ → ℕ) (Good : List ℕ → Type 0) (k : ℕ) : Type 0 where
   pub here : Command
   pub there : Command
-  pub on : List ℕ → Bool
+  pub on : Test
   pub edit : Edit
   pub is_here : slice_get g.commands k ≡ Some here
   pub is_there : slice_get g'.commands (to k) ≡ Some there
   pub makes_here : IsEdit g here on edit
   pub makes_there : IsEdit g' there on (placed to edit)
   pub fits : Fits count Good edit
+  pub chooses_both : (n n' : ℕ) (ls ls' : List (List ℕ)) (w : List ℕ) → Alike n ls n' ls' → on n (none_left ls) w ≡ on n' (none_left ls') w
 
 -- what a cycle makes of a line: a text at the end of the script, or none
 abbrev pub result_at : ℕ → Option (List ℕ) → Option (ℕ × List ℕ)
@@ -81,20 +86,20 @@ GoodResult Good None = Unit {0}
 GoodResult Good (Some w) = Good w
 
 -- one cycle of both
-pub record Cycle (g g' : Setting) (count : ℕ) (to : ℕ → ℕ) (Good : List ℕ → Type 0) (ls : List (List ℕ)) (k : ℕ) (w : List ℕ) (s : State) : Type 0 where
+pub record Cycle (Alike : AreAlike) (g g' : Setting) (count : ℕ) (to : ℕ → ℕ) (Good : List ℕ → Type 0) (n : ℕ) (ls : List (List ℕ)) (k : ℕ) (w : List ℕ) (s : State) : Type 0 where
   pub result : Option (List ℕ)
   pub good : GoodResult Good result
-  pub here : Leads g ls (result_at count result) s
-  pub there : (rest : List (List ℕ)) (t : State) → Within rest (to k) w t → Leads g' rest (result_at (to count) result) t
+  pub here : Leads g n ls (result_at count result) s
+  pub there : (m : ℕ) (rest : List (List ℕ)) (t : State) → Alike n ls m rest → Within m rest (to k) w t → Leads g' m rest (result_at (to count) result) t
 
-leads_on : (g : Setting) (s now : State) (ls : List (List ℕ)) (e : Option (ℕ × List ℕ)) → Goes g s now [] → Leads g ls e now → Leads g ls e s
-leads_on g s now ls e goes on = (on.0, goes_on goes on.1, on.2)
+leads_on : (g : Setting) (s now : State) (n : ℕ) (ls : List (List ℕ)) (e : Option (ℕ × List ℕ)) → Goes g s now [] → Leads g n ls e now → Leads g n ls e s
+leads_on g s now n ls e goes on = (on.0, goes_on goes on.1, on.2)
 
 stays_there : (g : Setting) (s : State) → Goes g s s []
 unfolding after written
 stays_there g s = record { moves = 0; is = refl; wrote = refl }
 
-module _ (g g' : Setting) (count : ℕ) (to : ℕ → ℕ) (next : (k : ℕ) → to k + 1 ≡ to (k + 1)) (Good : List ℕ → Type 0) (each : (k : ℕ) → k < count → Both g g' count to Good k) where
+module _ (Alike : AreAlike) (g g' : Setting) (count : ℕ) (to : ℕ → ℕ) (next : (k : ℕ) → to k + 1 ≡ to (k + 1)) (Good : List ℕ → Type 0) (each : (k : ℕ) → k < count → Both Alike g g' count to Good k) where
   effect_placed : (yes : Bool) (edit : Edit) (k : ℕ) (w : List ℕ) → effect yes (placed to edit) (to k) w ≡ placed_effect to (effect yes edit k w)
   effect_placed true (block n) k w = ap (λ j. Some (j, w)) (next k)
   effect_placed false (block n) k w = refl
@@ -118,44 +123,47 @@ module _ (g g' : Setting) (count : ℕ) (to : ℕ → ℕ) (next : (k : ℕ) →
   less_or_same (suc k) (suc n) h = elim (less_or_same k n (omega arith)) [ inl less ↦ inl (omega arith) | inr same ↦ inr (ap suc same) ]
 
   -- at the end of the script
-  at_its_end : (ls : List (List ℕ)) (w : List ℕ) (s : State) → Good w → Within ls count w s → Cycle g g' count to Good ls count w s
-  at_its_end ls w s good at = record {
+  at_its_end : (n : ℕ) (ls : List (List ℕ)) (w : List ℕ) (s : State) → Good w → Within n ls count w s → Cycle Alike g g' count to Good n ls count w s
+  at_its_end n ls w s good at = record {
     result = Some w;
     good = good;
     here = (s, stays_there g s, at);
-    there = λ rest t is. (t, stays_there g' t, is);
+    there = λ m rest t alike is. (t, stays_there g' t, is);
   }
 
   -- the cycle from a command on, of a run that ends after so many moves
   abbrev CycleWithin : ℕ → Type 0
-  CycleWithin n = (ls : List (List ℕ)) (k : ℕ) (w : List ℕ) (s : State) → Within ls k w s → k ≤ count → Good w → (after g s n).tasks ≡ [] → Cycle g g' count to Good ls k w s
+  CycleWithin i = (n : ℕ) (ls : List (List ℕ)) (k : ℕ) (w : List ℕ) (s : State) → Within n ls k w s → k ≤ count → Good w → (after g s i).tasks ≡ [] → Cycle Alike g g' count to Good n ls k w s
 
   -- by the effect of the first command
-  by_effect : (n : ℕ) → CycleWithin n → (ls : List (List ℕ)) (k : ℕ) (w : List ℕ) (s : State) (e : Option (ℕ × List ℕ)) → FitsEffect count Good e → LeadsOne g ls e s → (after g s (suc n)).tasks ≡ [] →
-      ((rest : List (List ℕ)) (t : State) → Within rest (to k) w t → Leads g' rest (placed_effect to e) t) → Cycle g g' count to Good ls k w s
-  by_effect n more ls k w s None fits here ended there = record { result = None; good = tt; here = one_leads g ls None s here; there = there }
-  by_effect n more ls k w s (Some next) fits here ended there =
-      let c = more ls next.0 next.1 here.0.next here.3 fits.0 fits.1 (ap (λ (x : State). x.tasks) (sym (after_next g s here.0 n here.1)) ∙ ended) in
+  by_effect : (i : ℕ) → CycleWithin i → (n : ℕ) (ls : List (List ℕ)) (k : ℕ) (w : List ℕ) (s : State) (e : Option (ℕ × List ℕ)) → FitsEffect count Good e → LeadsOne g n ls e s → (after g s (suc i)).tasks ≡ [] →
+      ((m : ℕ) (rest : List (List ℕ)) (t : State) → Alike n ls m rest → Within m rest (to k) w t → Leads g' m rest (placed_effect to e) t) → Cycle Alike g g' count to Good n ls k w s
+  by_effect i more n ls k w s None fits here ended there = record { result = None; good = tt; here = one_leads g n ls None s here; there = there }
+  by_effect i more n ls k w s (Some next) fits here ended there =
+      let c = more n ls next.0 next.1 here.0.next here.3 fits.0 fits.1 (ap (λ (x : State). x.tasks) (sym (after_next g s here.0 i here.1)) ∙ ended) in
       record {
         result = c.result;
         good = c.good;
-        here = leads_on g s here.0.next ls (result_at count c.result) (one_goes g ls (Some next) s here) c.here;
-        there = λ rest t at. let first = there rest t at in leads_on g' t first.0 rest (result_at (to count) c.result) first.1 (c.there rest first.0 first.2);
+        here = leads_on g s here.0.next n ls (result_at count c.result) (one_goes g n ls (Some next) s here) c.here;
+        there = λ m rest t alike at.
+            let first = there m rest t alike at in leads_on g' t first.0 m rest (result_at (to count) c.result) first.1 (c.there m rest first.0 alike first.2);
       }
 
-  not_ended : (ls : List (List ℕ)) (k : ℕ) (w : List ℕ) (s : State) → Within ls k w s → s.tasks ≡ [] → ⊥
-  not_ended ls k w s at e = some_task (do_at k) [] (sym (ap (λ (x : State). x.tasks) at.is) ∙ e)
+  not_ended : (n : ℕ) (ls : List (List ℕ)) (k : ℕ) (w : List ℕ) (s : State) → Within n ls k w s → s.tasks ≡ [] → ⊥
+  not_ended n ls k w s at e = some_task (do_at k) [] (sym (ap (λ (x : State). x.tasks) at.is) ∙ e)
 
-  pub cycle : (n : ℕ) → CycleWithin n
+  pub cycle : (i : ℕ) → CycleWithin i
   unfolding after
-  cycle zero ls k w s at low good ended = absurd (not_ended ls k w s at ended)
-  cycle (suc n) ls k w s at low good ended = elim (less_or_same k count low) [
+  cycle zero n ls k w s at low good ended = absurd (not_ended n ls k w s at ended)
+  cycle (suc i) n ls k w s at low good ended = elim (less_or_same k count low) [
     | inl less ↦
         let b = each k less in
-        let e = effect (b.on w) b.edit k w in
-        let here = edit_leads g b.here b.on b.edit ls k w s b.makes_here b.is_here at in
-        by_effect n (cycle n) ls k w s e (effect_fits (b.on w) b.edit k w less good b.fits) here ended
-        (λ rest t is. subst (λ e. Leads g' rest e t) (effect_placed (b.on w) b.edit k w) (one_leads g' rest (effect (b.on w) (placed to b.edit) (to k) w) t (edit_leads g' b.there b.on (placed to b.edit) rest (to k) w t b.makes_there b.is_there is)))
+        let yes : Bool = b.on n (none_left ls) w in
+        by_effect i (cycle i) n ls k w s (effect yes b.edit k w) (effect_fits yes b.edit k w less good b.fits) (edit_leads g b.here b.on b.edit n ls k w s b.makes_here b.is_here at) ended
+        (λ m rest t alike is.
+        let leads = edit_leads g' b.there b.on (placed to b.edit) m rest (to k) w t b.makes_there b.is_there is in
+        subst (λ e. Leads g' m rest e t) (ap (λ yes. effect yes (placed to b.edit) (to k) w) (sym (b.chooses_both n m ls rest w alike)) ∙ effect_placed yes b.edit k w)
+        (one_leads g' m rest (effect (b.on m (none_left rest) w) (placed to b.edit) (to k) w) t leads))
     | inr same ↦
-        subst (λ j. Cycle g g' count to Good ls j w s) (sym same) (at_its_end ls w s good (subst (λ j. Within ls j w s) same at))
+        subst (λ j. Cycle Alike g g' count to Good n ls j w s) (sym same) (at_its_end n ls w s good (subst (λ j. Within n ls j w s) same at))
   ]

@@ -1,6 +1,6 @@
 -- Where the commands of two scripts that only edit their lines stand in the script of both, and what they make there.
 use Rattle.std.proofs.Common.{◌≡◌, ℕ, zero, suc, ◌+◌, ◌<◌, List, [], ◌∷◌, ◌++◌, length, length-append, map, Bool, true, false, not, ◌&&◌, Option, None, Some, refl, sym, ap, ap₂, subst, ◌∙◌, zero-add, arith}
-use Rattle.std.specs.Prelude.{slice_get, is_some, is_none, if◌then◌else◌}
+use Rattle.std.specs.Prelude.{nat_eq, slice_get, is_some, is_none, if◌then◌else◌}
 use Rattle.std.specs.List.{list_all, list_any}
 use Rattle.std.specs.Option.{option_map}
 use Rattle.std.proofs.Math.Path.{fun_ext}
@@ -17,16 +17,16 @@ use Rattle.sedscript.specs.declared.types.Action.TheVariants.{Block, Delete, Sub
 use Rattle.sedscript.specs.declared.substitution.Substitution.{Substitution}
 use Rattle.sedscript.specs.Script.{Program}
 use Rattle.sedengine.specs.State.{Setting}
-use Rattle.sedengine.specs.Move.{in_table, start, to_replace_in, to_sink}
+use Rattle.sedengine.specs.Move.{none_left, in_table, start, to_replace_in, to_sink}
 use Rattle.sedengine.specs.Run.{has_match, search_for, setting_of}
 use Rattle.sedengine.specs.Substitute.{Occurrence, occurrences, to_replace}
 use Rattle.sedengine.proofs.Writing.{slice_get-append_add}
 use Rattle.examples.proofs.ComputedEnds.{both}
 use Rattle.scripts.specs.Edited.{RunsTo}
 use Rattle.scripts.specs.InTurn.{Before, BreaksNoLine, OnlyEdits, action_behind, address_behind, all_of, asks_own, command_behind, edits, in_turn, is_break, is_own, only_edits, replaces_only, substitution_behind}
-use Rattle.scripts.proofs.Edits.{Between, Chooses, Edit, Makes, Replaces, block, change, delete, with_found}
-use Rattle.scripts.proofs.EditedLines.{Both, Fits, placed}
-use Rattle.scripts.proofs.OneAfterOther.{in_turn_run}
+use Rattle.scripts.proofs.Edits.{Test, Between, Chooses, Edit, Makes, Replaces, block, change, delete, with_found}
+use Rattle.scripts.proofs.EditedLines.{AreAlike, Both, Fits, placed}
+use Rattle.scripts.proofs.OneAfterOther.{AnyLines, SameLines, in_turn_run}
 use Rattle.scripts.proofs.Unbroken.{Unbroken, unbroken_map, unbroken_replaced}
 
 -- ---- places in lists
@@ -80,22 +80,40 @@ edit_of g (Substitute k) = change (substituted_by g (slice_get g.substitutions k
 edit_of g (Transliterate k) = change (λ w. map (in_table (slice_get g.tables k)) w)
 edit_of g other = delete
 
-abbrev on_of : Setting → Option Address → Bool → List ℕ → Bool
-on_of g (Some (Match (Some e))) negate w = if negate then not (g.finds e w) else g.finds e w
-on_of g other negate w = if negate then false else true
+abbrev on_of : Setting → Option Address → Bool → Test
+on_of g None negate n last w = if negate then false else true
+on_of g (Some (Match (Some e))) negate n last w = if negate then not (g.finds e w) else g.finds e w
+on_of g (Some (Match None)) negate n last w = true
+on_of g (Some (Line i)) negate n last w = if negate then not (nat_eq i n) else nat_eq i n
+on_of g (Some Last) negate n last w = if negate then not last else last
+
+-- where lines are alike as far as a script counts them, its commands choose them alike
+abbrev AlikeIn : Bool → AreAlike
+AlikeIn true = SameLines
+AlikeIn false = AnyLines
+
+chooses_alike : (counts : Bool) (p : Program) (g : Setting) (first : Option Address) (negate : Bool) → asks_own counts p first ≡ true →
+    (n n' : ℕ) (ls ls' : List (List ℕ)) (w : List ℕ) → AlikeIn counts n ls n' ls' → on_of g first negate n (none_left ls) w ≡ on_of g first negate n' (none_left ls') w
+chooses_alike counts p g None negate h n n' ls ls' w alike = refl
+chooses_alike counts p g (Some (Match (Some e))) negate h n n' ls ls' w alike = refl
+chooses_alike counts p g (Some (Match None)) negate h n n' ls ls' w alike = refl
+chooses_alike true p g (Some (Line i)) negate h n n' ls ls' w alike = ap (λ n. if negate then not (nat_eq i n) else nat_eq i n) (sym alike.0)
+chooses_alike true p g (Some Last) negate h n n' ls ls' w alike = ap (λ ls. if negate then not (none_left ls) else none_left ls) (sym alike.1)
+chooses_alike false p g (Some (Line i)) negate h n n' ls ls' w alike = absurd cc
+chooses_alike false p g (Some Last) negate h n n' ls ls' w alike = absurd cc
 
 -- what stands in a script stands in another one, behind so much
 record Placed (p r : Program) (b : Before) : Type 0 where
-  commands : (k : ℕ) (c : Command) → slice_get p.commands k ≡ Some c → only_edits p c ≡ true → slice_get r.commands (b.commands + k) ≡ Some (command_behind b c)
+  commands : (k : ℕ) (c : Command) (counts : Bool) → slice_get p.commands k ≡ Some c → only_edits counts p c ≡ true → slice_get r.commands (b.commands + k) ≡ Some (command_behind b c)
   expressions : (e : ℕ) (x : Written) → slice_get p.expressions e ≡ Some x → slice_get r.expressions (b.expressions + e) ≡ Some x
   substitutions : (k : ℕ) (t : Substitution) → slice_get p.substitutions k ≡ Some t → slice_get r.substitutions (b.substitutions + k) ≡ Some (substitution_behind b t)
   tables : (k : ℕ) (x : List ℕ) → slice_get p.tables k ≡ Some x → slice_get r.tables (b.tables + k) ≡ Some x
 
 -- the three tests of a command that only edits
-tests : (p : Program) (c : Command) → only_edits p c ≡ true → (c.second ≡ None) × (asks_own p c.first ≡ true) × (edits p c.action ≡ true)
-tests p c h =
-    let one = both (is_none c.second) (asks_own p c.first && edits p c.action) h in
-    let two = both (asks_own p c.first) (edits p c.action) one.1 in (is_none_so c.second one.0, two.0, two.1)
+tests : (counts : Bool) (p : Program) (c : Command) → only_edits counts p c ≡ true → (c.second ≡ None) × (asks_own counts p c.first ≡ true) × (edits p c.action ≡ true)
+tests counts p c h =
+    let one = both (is_none c.second) (asks_own counts p c.first && edits p c.action) h in
+    let two = both (asks_own counts p c.first) (edits p c.action) one.1 in (is_none_so c.second one.0, two.0, two.1)
 
 -- and those of a substitution
 is_plain : (p : Program) (t : Substitution) → replaces_only p (Some t) ≡ true → (e : ℕ) × (x : Written) × (t.expression ≡ Some e) × (slice_get p.expressions e ≡ Some x) × (t.print ≡ false) × (t.file ≡ None)
@@ -113,12 +131,12 @@ module _ (p : Program) (files : ℕ → List ℕ) where
   abbrev g1 : Setting
   g1 = setting_of p files
 
-  chooses_here : (first : Option Address) (negate : Bool) → asks_own p first ≡ true → Chooses g1 first negate (on_of g1 first negate)
-  chooses_here None negate h = λ w. refl
-  chooses_here (Some (Match (Some e))) negate h = λ w. refl
-  chooses_here (Some (Match None)) negate h = absurd cc
-  chooses_here (Some (Line i)) negate h = absurd cc
-  chooses_here (Some Last) negate h = absurd cc
+  chooses_here : (counts : Bool) (first : Option Address) (negate : Bool) → asks_own counts p first ≡ true → Chooses g1 first negate (on_of g1 first negate)
+  chooses_here counts None negate h = λ n last w. refl
+  chooses_here counts (Some (Match (Some e))) negate h = λ n last w. refl
+  chooses_here counts (Some (Match None)) negate h = absurd cc
+  chooses_here counts (Some (Line i)) negate h = λ n last w. refl
+  chooses_here counts (Some Last) negate h = λ n last w. refl
 
   replaces_here : (o : Option Substitution) → replaces_only p o ≡ true → Replaces g1 o (substituted_by g1 o)
   replaces_here None h = absurd cc
@@ -144,12 +162,12 @@ module _ (p : Program) (files : ℕ → List ℕ) where
     same_search : (e : ℕ) (x : Written) (w : List ℕ) → slice_get p.expressions e ≡ Some x → g.search (b.expressions + e) w ≡ g1.search e w
     same_search e x w h = ap (λ o. search_for o w) (is.expressions e x h ∙ sym h)
 
-    chooses_there : (first : Option Address) (negate : Bool) → asks_own p first ≡ true → Chooses g (address_behind b first) negate (on_of g1 first negate)
-    chooses_there None negate h = λ w. refl
-    chooses_there (Some (Match (Some e))) negate h = λ w. let x = there_is (slice_get p.expressions e) h in ap (λ (f : Bool). if negate then not f else f) (same_finds e x.0 w x.1)
-    chooses_there (Some (Match None)) negate h = absurd cc
-    chooses_there (Some (Line i)) negate h = absurd cc
-    chooses_there (Some Last) negate h = absurd cc
+    chooses_there : (counts : Bool) (first : Option Address) (negate : Bool) → asks_own counts p first ≡ true → Chooses g (address_behind b first) negate (on_of g1 first negate)
+    chooses_there counts None negate h = λ n last w. refl
+    chooses_there counts (Some (Match (Some e))) negate h = λ n last w. let x = there_is (slice_get p.expressions e) h in ap (λ (f : Bool). if negate then not f else f) (same_finds e x.0 w x.1)
+    chooses_there counts (Some (Match None)) negate h = absurd cc
+    chooses_there counts (Some (Line i)) negate h = λ n last w. refl
+    chooses_there counts (Some Last) negate h = λ n last w. refl
 
     replaces_there : (k : ℕ) (o : Option Substitution) → slice_get p.substitutions k ≡ o → replaces_only p o ≡ true → Replaces g (slice_get r.substitutions (b.substitutions + k)) (substituted_by g1 o)
     replaces_there k None at h = absurd cc
@@ -176,21 +194,22 @@ module _ (p : Program) (files : ℕ → List ℕ) where
       fits_so (Transliterate k) h = keeps_table k
       fits_so other h = absurd cc
 
-      both_at : OnlyEdits p → (k : ℕ) → k < length p.commands → Both g1 g (length p.commands) to Good k
-      both_at only k less =
+      both_at : (counts : Bool) → OnlyEdits counts p → (k : ℕ) → k < length p.commands → Both (AlikeIn counts) g1 g (length p.commands) to Good k
+      both_at counts only k less =
           let c = found_below p.commands k less in
-          let test = all_there (only_edits p) p.commands k c.0 only.each c.1 in
-          let three = tests p c.0 test in
+          let test = all_there (only_edits counts p) p.commands k c.0 only.each c.1 in
+          let three = tests counts p c.0 test in
           record {
             here = c.0;
             there = command_behind b c.0;
             on = on_of g1 c.0.first c.0.negate;
             edit = edit_of g1 c.0.action;
             is_here = c.1;
-            is_there = is.commands k c.0 c.1 test;
-            makes_here = record { one = three.0; chooses = chooses_here c.0.first c.0.negate three.1; makes = makes_here c.0.action three.2 };
-            makes_there = record { one = three.0; chooses = chooses_there c.0.first c.0.negate three.1; makes = makes_there c.0.action three.2 };
+            is_there = is.commands k c.0 counts c.1 test;
+            makes_here = record { one = three.0; chooses = chooses_here counts c.0.first c.0.negate three.1; makes = makes_here c.0.action three.2 };
+            makes_there = record { one = three.0; chooses = chooses_there counts c.0.first c.0.negate three.1; makes = makes_there c.0.action three.2 };
             fits = fits_so c.0.action three.2;
+            chooses_both = chooses_alike counts p g1 c.0.first c.0.negate three.1;
           }
 
 -- ---- the two scripts in the one of both
@@ -198,12 +217,12 @@ module _ (p : Program) (files : ℕ → List ℕ) where
 abbrev none_before : Before
 none_before = record { commands = 0; expressions = 0; substitutions = 0; tables = 0 }
 
-same_address : (p : Program) (a : Option Address) → asks_own p a ≡ true → address_behind none_before a ≡ a
-same_address p None h = refl
-same_address p (Some (Match (Some e))) h = ap (λ e. Some (Match (Some e))) (zero-add e)
-same_address p (Some (Match None)) h = absurd cc
-same_address p (Some (Line i)) h = absurd cc
-same_address p (Some Last) h = absurd cc
+same_address : (a : Option Address) → address_behind none_before a ≡ a
+same_address None = refl
+same_address (Some (Match (Some e))) = ap (λ e. Some (Match (Some e))) (zero-add e)
+same_address (Some (Match None)) = refl
+same_address (Some (Line i)) = refl
+same_address (Some Last) = refl
 
 same_action : (p : Program) (a : Action) → edits p a ≡ true → action_behind none_before a ≡ a
 same_action p (Block n) h = ap Block (zero-add n)
@@ -216,15 +235,15 @@ same_expression : (o : Option ℕ) → option_map (λ e. 0 + e) o ≡ o
 same_expression None = refl
 same_expression (Some e) = ap (λ e. Some e) (zero-add e)
 
-same_command : (p : Program) (c : Command) → only_edits p c ≡ true → command_behind none_before c ≡ c
-same_command p c h = let three = tests p c h in ap₂ (λ first action. record c { first = first; action = action }) (same_address p c.first three.1) (same_action p c.action three.2)
+same_command : (counts : Bool) (p : Program) (c : Command) → only_edits counts p c ≡ true → command_behind none_before c ≡ c
+same_command counts p c h = let three = tests counts p c h in ap₂ (λ first action. record c { first = first; action = action }) (same_address c.first) (same_action p c.action three.2)
 
 in_first : {A : Type 0} (xs ys : List A) (k : ℕ) (x : A) → slice_get xs k ≡ Some x → slice_get (xs ++ ys) (0 + k) ≡ Some x
 in_first xs ys k x h = ap (slice_get (xs ++ ys)) (zero-add k) ∙ in_front xs ys k x h
 
 first_placed : (p q : Program) → Placed p (in_turn p q) none_before
 first_placed p q = record {
-  commands = λ k c h test. in_first p.commands (map (command_behind (all_of p)) q.commands) k c h ∙ ap (λ c. Some c) (sym (same_command p c test));
+  commands = λ k c counts h test. in_first p.commands (map (command_behind (all_of p)) q.commands) k c h ∙ ap (λ c. Some c) (sym (same_command counts p c test));
   expressions = λ e x h. in_first p.expressions q.expressions e x h;
   substitutions = λ k t h. in_first p.substitutions (map (substitution_behind (all_of p)) q.substitutions) k t h ∙ ap (λ e. Some (record t { expression = e })) (sym (same_expression t.expression));
   tables = λ k x h. in_first p.tables q.tables k x h;
@@ -232,7 +251,7 @@ first_placed p q = record {
 
 second_placed : (p q : Program) → Placed q (in_turn p q) (all_of p)
 second_placed p q = record {
-  commands = λ k c h test. behind_all (command_behind (all_of p)) p.commands q.commands k c h;
+  commands = λ k c counts h test. behind_all (command_behind (all_of p)) p.commands q.commands k c h;
   expressions = λ e x h. slice_get-append_add p.expressions q.expressions e ∙ h;
   substitutions = λ k t h. behind_all (substitution_behind (all_of p)) p.substitutions q.substitutions k t h;
   tables = λ k x h. slice_get-append_add p.tables q.tables k ∙ h;
@@ -262,17 +281,17 @@ no_more_of_both p q =
     let all : List Command = map (command_behind (all_of p)) q.commands in
     slice_get_past (p.commands ++ all) (length p.commands + length q.commands) (omega (arith, length-append p.commands all, length-map q.commands (command_behind (all_of p))))
 
-starts : (p : Program) (ls : List (List ℕ)) → Between ls (start p.commands ls)
-starts p ls = record { number = 0; hold = []; replaced = false; ranges = map (λ _. false) p.commands; used = None; turns = 0; is = refl }
+starts : (p : Program) (ls : List (List ℕ)) → Between 0 ls (start p.commands ls)
+starts p ls = record { hold = []; replaced = false; ranges = map (λ _. false) p.commands; used = None; turns = 0; is = refl }
 
-pub in_turn_law : (p q : Program) (files : ℕ → List ℕ) (input middle : List ℕ) (out : List (ℕ × ℕ)) → OnlyEdits p → OnlyEdits q → BreaksNoLine p →
+pub in_turn_law : (p q : Program) (files : ℕ → List ℕ) (input middle : List ℕ) (out : List (ℕ × ℕ)) → OnlyEdits true p → OnlyEdits false q → BreaksNoLine p →
     RunsTo p files input (to_sink 0 middle) → RunsTo q files middle out → RunsTo (in_turn p q) files input out
 in_turn_law p q files input middle out only_p only_q breaks a b =
     let r : Program = in_turn p q in
     let loud : r.quiet ≡ false = rw (only_p.loud, only_q.loud) refl in
-    let first : (k : ℕ) → k < length p.commands → Both (setting_of p files) (setting_of r files) (length p.commands) (λ k. k) Unbroken k =
-    λ k less. subst (λ to. Both (setting_of p files) (setting_of r files) (length p.commands) to Unbroken k) (fun_ext zero-add)
-    (both_at p files r none_before (first_placed p q) Unbroken (replaced_unbroken p files breaks) (λ k w h. unbroken_map (in_table (slice_get p.tables k)) (breaks.tables k) w h) only_p k less) in
-    let second = both_at q files r (all_of p) (second_placed p q) (λ w. Unit {0}) (λ k w h. tt) (λ k w h. tt) only_q in
+    let first : (k : ℕ) → k < length p.commands → Both SameLines (setting_of p files) (setting_of r files) (length p.commands) (λ k. k) Unbroken k =
+    λ k less. subst (λ to. Both SameLines (setting_of p files) (setting_of r files) (length p.commands) to Unbroken k) (fun_ext zero-add)
+    (both_at p files r none_before (first_placed p q) Unbroken (replaced_unbroken p files breaks) (λ k w h. unbroken_map (in_table (slice_get p.tables k)) (breaks.tables k) w h) true only_p k less) in
+    let second = both_at q files r (all_of p) (second_placed p q) (λ w. Unit {0}) (λ k w h. tt) (λ k w h. tt) false only_q in
     in_turn_run (setting_of p files) (setting_of q files) (setting_of r files) (length p.commands) (length q.commands) only_p.loud only_q.loud loud (no_more p) (no_more q) (no_more_of_both p q) first second
     input middle out (start p.commands (lines input)) (start r.commands (lines input)) (start q.commands (lines middle)) (starts p (lines input)) (starts r (lines input)) (starts q (lines middle)) a b

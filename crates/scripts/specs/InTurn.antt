@@ -4,7 +4,7 @@ use Rattle.std.specs.List.{list_all, list_any}
 use Rattle.std.specs.Option.{option_map}
 use Rattle.sedspace.specs.Lines.{is_newline}
 use Rattle.sedscript.specs.declared.types.Address.{Address}
-use Rattle.sedscript.specs.declared.types.Address.TheVariants.{Match}
+use Rattle.sedscript.specs.declared.types.Address.TheVariants.{Last, Line, Match}
 use Rattle.sedscript.specs.declared.types.Command.{Command}
 use Rattle.sedscript.specs.declared.types.Action.{Action}
 use Rattle.sedscript.specs.declared.types.Action.TheVariants.{Block, Delete, Substitute, Transliterate}
@@ -19,11 +19,12 @@ abbrev pub is_own : Program → Option ℕ → Bool
 is_own p None = false
 is_own p (Some e) = is_some (slice_get p.expressions e)
 
--- no address, or `/RE/` with such an expression
-abbrev pub asks_own : Program → Option Address → Bool
-asks_own p None = true
-asks_own p (Some (Match e)) = is_own p e
-asks_own p other = false
+-- no address, or `/RE/` with such an expression; and, where lines are counted, a number or `$`
+abbrev pub asks_own : (counts : Bool) → Program → Option Address → Bool
+asks_own counts p None = true
+asks_own counts p (Some (Match e)) = is_own p e
+asks_own counts p (Some (Line n)) = counts
+asks_own counts p (Some Last) = counts
 
 -- an `s` with such an expression, and without the flags `p` and `w`
 abbrev pub replaces_only : Program → Option Substitution → Bool
@@ -38,13 +39,13 @@ edits p (Substitute k) = replaces_only p (slice_get p.substitutions k)
 edits p (Transliterate k) = is_some (slice_get p.tables k)
 edits p other = false
 
-abbrev pub only_edits : Program → Command → Bool
-only_edits p c = is_none c.second && (asks_own p c.first && edits p c.action)
+abbrev pub only_edits : (counts : Bool) → Program → Command → Bool
+only_edits counts p c = is_none c.second && (asks_own counts p c.first && edits p c.action)
 
--- Each command of the script is one of these, without a number, `$` or range as its addresses, and it has no -n: so it writes
--- by default only, and what it writes of a line depends on that line alone.
-pub record OnlyEdits (p : Program) : Type 0 where
-  pub each : list_all (only_edits p) p.commands ≡ true
+-- Each command of the script is one of these, for lines that it chooses by one address at most, and it has no -n: so it writes by
+-- default only. Where lines aren't counted, what it writes of a line depends on that line alone.
+pub record OnlyEdits (counts : Bool) (p : Program) : Type 0 where
+  pub each : list_all (only_edits counts p) p.commands ≡ true
   pub loud : p.quiet ≡ false
 
 -- whether a piece of a replacement is a newline

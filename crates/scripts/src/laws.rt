@@ -150,10 +150,10 @@ pub fn apart()
         RunsTo p files a x → RunsTo p files b y → RunsTo p files (a ++ b) (x ++ y) }
 {}
 
-/// Two scripts that only edit their lines, one after the other: the script of both writes what the second writes over what the
-/// first wrote, where the first breaks no line in two.
+/// Of two scripts that only edit their lines the script of both writes what the second writes over what the first wrote, where the
+/// first breaks no line and the second counts none.
 pub fn one_after_other()
-    ensures { (p q : Program) (files : ℕ → List ℕ) (input middle : List ℕ) (out : List (ℕ × ℕ)) → OnlyEdits p → OnlyEdits q → BreaksNoLine p →
+    ensures { (p q : Program) (files : ℕ → List ℕ) (input middle : List ℕ) (out : List (ℕ × ℕ)) → OnlyEdits true p → OnlyEdits false q → BreaksNoLine p →
         RunsTo p files input (to_sink 0 middle) → RunsTo q files middle out → RunsTo (in_turn p q) files input out }
 {}
 
