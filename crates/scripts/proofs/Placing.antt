@@ -1,6 +1,6 @@
 -- Where the commands of two scripts that only edit their lines stand in the script of both, and what they make there.
 use Rattle.std.proofs.Common.{◌≡◌, ℕ, zero, suc, ◌+◌, ◌<◌, List, [], ◌∷◌, ◌++◌, length, length-append, map, Bool, true, false, not, ◌&&◌, Option, None, Some, refl, sym, ap, ap₂, subst, ◌∙◌, zero-add, arith}
-use Rattle.std.specs.Prelude.{nat_eq, slice_get, is_some, is_none, if◌then◌else◌}
+use Rattle.std.specs.Prelude.{nat_eq, nat_lt, slice_get, slice_index_or, is_some, is_none, if◌then◌else◌}
 use Rattle.std.specs.List.{list_all, list_any}
 use Rattle.std.specs.Option.{option_map}
 use Rattle.std.proofs.Math.Path.{fun_ext}
@@ -17,6 +17,7 @@ use Rattle.sedscript.specs.declared.types.Action.TheVariants.{Block, Delete, Sub
 use Rattle.sedscript.specs.declared.substitution.Substitution.{Substitution}
 use Rattle.sedscript.specs.Script.{Program}
 use Rattle.sedengine.specs.State.{Setting}
+use Rattle.sedengine.specs.Select.{Current, Selection, answer, ends_at_once, of_addresses, on_active, on_idle, selects}
 use Rattle.sedengine.specs.Move.{none_left, in_table, start, to_replace_in, to_sink}
 use Rattle.sedengine.specs.Run.{has_match, search_for, setting_of}
 use Rattle.sedengine.specs.Substitute.{Occurrence, occurrences, to_replace}
@@ -24,8 +25,8 @@ use Rattle.sedengine.proofs.Writing.{slice_get-append_add}
 use Rattle.examples.proofs.ComputedEnds.{both}
 use Rattle.scripts.specs.Edited.{RunsTo}
 use Rattle.scripts.specs.InTurn.{Before, BreaksNoLine, OnlyEdits, action_behind, address_behind, all_of, asks_own, command_behind, edits, in_turn, is_break, is_own, only_edits, replaces_only, substitution_behind}
-use Rattle.scripts.proofs.Edits.{Test, Between, Chooses, Edit, Makes, Replaces, block, change, delete, with_found}
-use Rattle.scripts.proofs.EditedLines.{AreAlike, Both, Fits, placed}
+use Rattle.scripts.proofs.Edits.{Test, Between, Chosen, Edit, Makes, Replaces, block, change, delete, with_found}
+use Rattle.scripts.proofs.EditedLines.{AreAlike, Both, Fits, Matches, placed}
 use Rattle.scripts.proofs.OneAfterOther.{AnyLines, SameLines, in_turn_run}
 use Rattle.scripts.proofs.Unbroken.{Unbroken, unbroken_map, unbroken_replaced}
 
@@ -80,27 +81,99 @@ edit_of g (Substitute k) = change (substituted_by g (slice_get g.substitutions k
 edit_of g (Transliterate k) = change (λ w. map (in_table (slice_get g.tables k)) w)
 edit_of g other = delete
 
-abbrev on_of : Setting → Option Address → Bool → Test
-on_of g None negate n last w = if negate then false else true
-on_of g (Some (Match (Some e))) negate n last w = if negate then not (g.finds e w) else g.finds e w
-on_of g (Some (Match None)) negate n last w = true
-on_of g (Some (Line i)) negate n last w = if negate then not (nat_eq i n) else nat_eq i n
-on_of g (Some Last) negate n last w = if negate then not last else last
+-- whether a line matches an address, and what a range chooses: whether the line, and whether it is active then
+abbrev judged : (ℕ → List ℕ → Bool) → Address → ℕ → Bool → List ℕ → Bool
+judged finds (Line i) n last w = nat_eq i n
+judged finds Last n last w = last
+judged finds (Match (Some e)) n last w = finds e w
+judged finds (Match None) n last w = false
+
+abbrev idle : Bool → Bool → Bool × Bool
+idle true at_once = (true, not at_once)
+idle false at_once = (false, false)
+
+abbrev ranged : (ℕ → List ℕ → Bool) → Address → Address → Test
+ranged finds a b false n last w = idle (judged finds a n last w) (ends_at_once n b)
+ranged finds a (Line i) true n last w = if nat_lt n i then (true, true) else (if nat_eq n i then (true, false) else idle (judged finds a n last w) (ends_at_once n (Line i)))
+ranged finds a Last true n last w = (true, not last)
+ranged finds a (Match e) true n last w = (true, not (judged finds (Match e) n last w))
+
+abbrev choice_of : (ℕ → List ℕ → Bool) → Option Address → Option Address → Test
+choice_of finds None second active n last w = (true, active)
+choice_of finds (Some a) None active n last w = (judged finds a n last w, active)
+choice_of finds (Some a) (Some b) active n last w = ranged finds a b active n last w
+
+abbrev with_bang : Bool → Bool × Bool → Bool × Bool
+with_bang negate choice = (if negate then not choice.0 else choice.0, choice.1)
+
+abbrev on_of : (ℕ → List ℕ → Bool) → Command → Test
+on_of finds c active n last w = with_bang c.negate (choice_of finds c.first c.second active n last w)
+
+-- an answer for addresses is this choice
+abbrev Selected : Option Selection → Bool × Bool → Type 0
+Selected o choice = (e : Bool) × (v : Option ℕ) × (o ≡ Some (record { yes = choice.0; end = e; active = choice.1; used = v }))
+
+answer_so : (counts : Bool) (p : Program) (c : Current) (a : Address) → asks_own counts p (Some a) ≡ true → (v : Option ℕ) × (answer c a ≡ Some (record { yes = judged c.finds a c.number c.last c.pattern; used = v }))
+answer_so counts p c (Line i) h = (c.used, refl)
+answer_so counts p c Last h = (c.used, refl)
+answer_so counts p c (Match (Some e)) h = (Some e, refl)
+answer_so counts p c (Match None) h = absurd cc
+
+idle_by : (c : Current) (a b : Address) (yes : Bool) (v : Option ℕ) → answer c a ≡ Some (record { yes = yes; used = v }) → Selected (on_idle c a b) (idle yes (ends_at_once c.number b))
+idle_by c a b true v e = (ends_at_once c.number b, v, rw e refl)
+idle_by c a b false v e = (false, v, rw e refl)
+
+idle_so : (counts : Bool) (p : Program) (c : Current) (a b : Address) → asks_own counts p (Some a) ≡ true → Selected (on_idle c a b) (idle (judged c.finds a c.number c.last c.pattern) (ends_at_once c.number b))
+idle_so counts p c a b h = let x = answer_so counts p c a h in idle_by c a b (judged c.finds a c.number c.last c.pattern) x.0 x.1
+
+active_so : (counts : Bool) (p : Program) (c : Current) (a b : Address) → asks_own counts p (Some a) ≡ true → asks_own counts p (Some b) ≡ true → Selected (on_active c a b) (ranged c.finds a b true c.number c.last c.pattern)
+active_so counts p c a (Line i) h k = by_less (nat_lt c.number i) (nat_eq c.number i) (idle_so counts p c a (Line i) h)
+  where
+    by_less : (less same : Bool) → Selected (on_idle c a (Line i)) (idle (judged c.finds a c.number c.last c.pattern) (ends_at_once c.number (Line i))) →
+        Selected (if less then Some (record { yes = true; end = false; active = true; used = c.used }) else (if same then Some (record { yes = true; end = true; active = false; used = c.used }) else on_idle c a (Line i)))
+        (if less then (true, true) else (if same then (true, false) else idle (judged c.finds a c.number c.last c.pattern) (ends_at_once c.number (Line i))))
+    by_less true same is = (false, c.used, refl)
+    by_less false true is = (true, c.used, refl)
+    by_less false false is = is
+active_so counts p c a Last h k = (c.last, c.used, refl)
+active_so counts p c a (Match (Some e)) h k = (c.finds e c.pattern, Some e, refl)
+active_so counts p c a (Match None) h k = absurd cc
+
+addresses_so : (counts : Bool) (p : Program) (c : Current) (active : Bool) (first second : Option Address) → asks_own counts p first ≡ true → asks_own counts p second ≡ true →
+    Selected (of_addresses c active first second) (choice_of c.finds first second active c.number c.last c.pattern)
+addresses_so counts p c active None second h k = (false, c.used, refl)
+addresses_so counts p c active (Some a) None h k = let x = answer_so counts p c a h in (false, x.0, rw x.1 refl)
+addresses_so counts p c true (Some a) (Some b) h k = active_so counts p c a b h k
+addresses_so counts p c false (Some a) (Some b) h k = idle_so counts p c a b h
+
+chosen_so : (counts : Bool) (p : Program) (g : Setting) (c : Command) (active : Bool) (n : ℕ) (last : Bool) (w : List ℕ) (u : Option ℕ) → asks_own counts p c.first ≡ true → asks_own counts p c.second ≡ true →
+    Chosen g c active n last w u (on_of g.finds c active n last w)
+unfolding selects
+chosen_so counts p g c active n last w u h k =
+    let x = addresses_so counts p (record { number = n; last = last; pattern = w; finds = g.finds; used = u }) active c.first c.second h k in record { end = x.0; used = x.1; is = rw x.2 refl }
 
 -- where lines are alike as far as a script counts them, its commands choose them alike
 abbrev AlikeIn : Bool → AreAlike
 AlikeIn true = SameLines
 AlikeIn false = AnyLines
 
-chooses_alike : (counts : Bool) (p : Program) (g : Setting) (first : Option Address) (negate : Bool) → asks_own counts p first ≡ true →
-    (n n' : ℕ) (ls ls' : List (List ℕ)) (w : List ℕ) → AlikeIn counts n ls n' ls' → on_of g first negate n (none_left ls) w ≡ on_of g first negate n' (none_left ls') w
-chooses_alike counts p g None negate h n n' ls ls' w alike = refl
-chooses_alike counts p g (Some (Match (Some e))) negate h n n' ls ls' w alike = refl
-chooses_alike counts p g (Some (Match None)) negate h n n' ls ls' w alike = refl
-chooses_alike true p g (Some (Line i)) negate h n n' ls ls' w alike = ap (λ n. if negate then not (nat_eq i n) else nat_eq i n) (sym alike.0)
-chooses_alike true p g (Some Last) negate h n n' ls ls' w alike = ap (λ ls. if negate then not (none_left ls) else none_left ls) (sym alike.1)
-chooses_alike false p g (Some (Line i)) negate h n n' ls ls' w alike = absurd cc
-chooses_alike false p g (Some Last) negate h n n' ls ls' w alike = absurd cc
+alike_choice : (p : Program) (finds : ℕ → List ℕ → Bool) (first second : Option Address) → asks_own false p first ≡ true → asks_own false p second ≡ true →
+    (active : Bool) (n n' : ℕ) (last last' : Bool) (w : List ℕ) → choice_of finds first second active n last w ≡ choice_of finds first second active n' last' w
+alike_choice p finds None second h k active n n' last last' w = refl
+alike_choice p finds (Some (Match (Some e))) None h k active n n' last last' w = refl
+alike_choice p finds (Some (Match (Some e))) (Some (Match (Some f))) h k true n n' last last' w = refl
+alike_choice p finds (Some (Match (Some e))) (Some (Match (Some f))) h k false n n' last last' w = refl
+alike_choice p finds (Some (Match (Some e))) (Some (Match None)) h k active n n' last last' w = absurd cc
+alike_choice p finds (Some (Match (Some e))) (Some (Line i)) h k active n n' last last' w = absurd cc
+alike_choice p finds (Some (Match (Some e))) (Some Last) h k active n n' last last' w = absurd cc
+alike_choice p finds (Some (Match None)) second h k active n n' last last' w = absurd cc
+alike_choice p finds (Some (Line i)) second h k active n n' last last' w = absurd cc
+alike_choice p finds (Some Last) second h k active n n' last last' w = absurd cc
+
+chooses_alike : (counts : Bool) (p : Program) (finds : ℕ → List ℕ → Bool) (c : Command) → asks_own counts p c.first ≡ true → asks_own counts p c.second ≡ true →
+    (active : Bool) (n n' : ℕ) (ls ls' : List (List ℕ)) (w : List ℕ) → AlikeIn counts n ls n' ls' → on_of finds c active n (none_left ls) w ≡ on_of finds c active n' (none_left ls') w
+chooses_alike true p finds c h k active n n' ls ls' w alike = ap₂ (λ n ls. on_of finds c active n (none_left ls) w) (sym alike.0) (sym alike.1)
+chooses_alike false p finds c h k active n n' ls ls' w alike = ap (with_bang c.negate) (alike_choice p finds c.first c.second h k active n n' (none_left ls) (none_left ls') w)
 
 -- what stands in a script stands in another one, behind so much
 record Placed (p r : Program) (b : Before) : Type 0 where
@@ -110,10 +183,10 @@ record Placed (p r : Program) (b : Before) : Type 0 where
   tables : (k : ℕ) (x : List ℕ) → slice_get p.tables k ≡ Some x → slice_get r.tables (b.tables + k) ≡ Some x
 
 -- the three tests of a command that only edits
-tests : (counts : Bool) (p : Program) (c : Command) → only_edits counts p c ≡ true → (c.second ≡ None) × (asks_own counts p c.first ≡ true) × (edits p c.action ≡ true)
+tests : (counts : Bool) (p : Program) (c : Command) → only_edits counts p c ≡ true → (asks_own counts p c.first ≡ true) × (asks_own counts p c.second ≡ true) × (edits p c.action ≡ true)
 tests counts p c h =
-    let one = both (is_none c.second) (asks_own counts p c.first && edits p c.action) h in
-    let two = both (asks_own counts p c.first) (edits p c.action) one.1 in (is_none_so c.second one.0, two.0, two.1)
+    let one = both (asks_own counts p c.first) (asks_own counts p c.second && edits p c.action) h in
+    let two = both (asks_own counts p c.second) (edits p c.action) one.1 in (one.0, two.0, two.1)
 
 -- and those of a substitution
 is_plain : (p : Program) (t : Substitution) → replaces_only p (Some t) ≡ true → (e : ℕ) × (x : Written) × (t.expression ≡ Some e) × (slice_get p.expressions e ≡ Some x) × (t.print ≡ false) × (t.file ≡ None)
@@ -130,13 +203,6 @@ is_plain p t h =
 module _ (p : Program) (files : ℕ → List ℕ) where
   abbrev g1 : Setting
   g1 = setting_of p files
-
-  chooses_here : (counts : Bool) (first : Option Address) (negate : Bool) → asks_own counts p first ≡ true → Chooses g1 first negate (on_of g1 first negate)
-  chooses_here counts None negate h = λ n last w. refl
-  chooses_here counts (Some (Match (Some e))) negate h = λ n last w. refl
-  chooses_here counts (Some (Match None)) negate h = absurd cc
-  chooses_here counts (Some (Line i)) negate h = λ n last w. refl
-  chooses_here counts (Some Last) negate h = λ n last w. refl
 
   replaces_here : (o : Option Substitution) → replaces_only p o ≡ true → Replaces g1 o (substituted_by g1 o)
   replaces_here None h = absurd cc
@@ -162,12 +228,61 @@ module _ (p : Program) (files : ℕ → List ℕ) where
     same_search : (e : ℕ) (x : Written) (w : List ℕ) → slice_get p.expressions e ≡ Some x → g.search (b.expressions + e) w ≡ g1.search e w
     same_search e x w h = ap (λ o. search_for o w) (is.expressions e x h ∙ sym h)
 
-    chooses_there : (counts : Bool) (first : Option Address) (negate : Bool) → asks_own counts p first ≡ true → Chooses g (address_behind b first) negate (on_of g1 first negate)
-    chooses_there counts None negate h = λ n last w. refl
-    chooses_there counts (Some (Match (Some e))) negate h = λ n last w. let x = there_is (slice_get p.expressions e) h in ap (λ (f : Bool). if negate then not f else f) (same_finds e x.0 w x.1)
-    chooses_there counts (Some (Match None)) negate h = absurd cc
-    chooses_there counts (Some (Line i)) negate h = λ n last w. refl
-    chooses_there counts (Some Last) negate h = λ n last w. refl
+    -- what it chooses there
+    address_there : (counts : Bool) (a : Option Address) → asks_own counts p a ≡ true → asks_own counts r (address_behind b a) ≡ true
+    address_there counts None h = h
+    address_there counts (Some (Match (Some e))) h = let x = there_is (slice_get p.expressions e) h in ap is_some (is.expressions e x.0 x.1)
+    address_there counts (Some (Match None)) h = absurd cc
+    address_there counts (Some (Line i)) h = h
+    address_there counts (Some Last) h = h
+
+    -- an address behind others, and what is judged by it
+    abbrev moved : Address → Address
+    moved (Match (Some e)) = Match (Some (b.expressions + e))
+    moved (Match None) = Match None
+    moved (Line i) = Line i
+    moved Last = Last
+
+    judged_there : (counts : Bool) (a : Address) (n : ℕ) (last : Bool) (w : List ℕ) → asks_own counts p (Some a) ≡ true → judged g.finds (moved a) n last w ≡ judged g1.finds a n last w
+    judged_there counts (Match (Some e)) n last w h = let x = there_is (slice_get p.expressions e) h in same_finds e x.0 w x.1
+    judged_there counts (Match None) n last w h = absurd cc
+    judged_there counts (Line i) n last w h = refl
+    judged_there counts Last n last w h = refl
+
+    moved_so : (a : Address) → address_behind b (Some a) ≡ Some (moved a)
+    moved_so (Match (Some e)) = refl
+    moved_so (Match None) = refl
+    moved_so (Line i) = refl
+    moved_so Last = refl
+
+    same_once : (n : ℕ) (a : Address) → ends_at_once n (moved a) ≡ ends_at_once n a
+    same_once n (Match (Some e)) = refl
+    same_once n (Match None) = refl
+    same_once n (Line i) = refl
+    same_once n Last = refl
+
+    ranged_there : (counts : Bool) (a c : Address) (active : Bool) (n : ℕ) (last : Bool) (w : List ℕ) → asks_own counts p (Some a) ≡ true → asks_own counts p (Some c) ≡ true →
+        ranged g.finds (moved a) (moved c) active n last w ≡ ranged g1.finds a c active n last w
+    ranged_there counts a c false n last w h k = ap₂ idle (judged_there counts a n last w h) (same_once n c)
+    ranged_there counts a (Line i) true n last w h k =
+        ap (λ (x : Bool). if nat_lt n i then (true, true) else (if nat_eq n i then (true, false) else idle x (ends_at_once n (Line i)))) (judged_there counts a n last w h)
+    ranged_there counts a Last true n last w h k = refl
+    ranged_there counts a (Match (Some e)) true n last w h k = ap (λ (x : Bool). (true, not x)) (judged_there counts (Match (Some e)) n last w k)
+    ranged_there counts a (Match None) true n last w h k = absurd cc
+
+    choice_there : (counts : Bool) (first second : Option Address) (active : Bool) (n : ℕ) (last : Bool) (w : List ℕ) → asks_own counts p first ≡ true → asks_own counts p second ≡ true →
+        choice_of g.finds (address_behind b first) (address_behind b second) active n last w ≡ choice_of g1.finds first second active n last w
+    choice_there counts None second active n last w h k = refl
+    choice_there counts (Some a) None active n last w h k =
+        ap (λ o. choice_of g.finds o None active n last w) (moved_so a) ∙ ap (λ (x : Bool). (x, active)) (judged_there counts a n last w h)
+    choice_there counts (Some a) (Some c) active n last w h k =
+        ap₂ (λ o o'. choice_of g.finds o o' active n last w) (moved_so a) (moved_so c) ∙ ranged_there counts a c active n last w h k
+
+    chosen_there : (counts : Bool) (c : Command) (active : Bool) (n : ℕ) (last : Bool) (w : List ℕ) (u : Option ℕ) → asks_own counts p c.first ≡ true → asks_own counts p c.second ≡ true →
+        Chosen g (command_behind b c) active n last w u (on_of g1.finds c active n last w)
+    chosen_there counts c active n last w u h k =
+        subst (Chosen g (command_behind b c) active n last w u) (ap (with_bang c.negate) (choice_there counts c.first c.second active n last w h k))
+        (chosen_so counts r g (command_behind b c) active n last w u (address_there counts c.first h) (address_there counts c.second k))
 
     replaces_there : (k : ℕ) (o : Option Substitution) → slice_get p.substitutions k ≡ o → replaces_only p o ≡ true → Replaces g (slice_get r.substitutions (b.substitutions + k)) (substituted_by g1 o)
     replaces_there k None at h = absurd cc
@@ -202,14 +317,14 @@ module _ (p : Program) (files : ℕ → List ℕ) where
           record {
             here = c.0;
             there = command_behind b c.0;
-            on = on_of g1 c.0.first c.0.negate;
+            on = on_of g1.finds c.0;
             edit = edit_of g1 c.0.action;
             is_here = c.1;
             is_there = is.commands k c.0 counts c.1 test;
-            makes_here = record { one = three.0; chooses = chooses_here counts c.0.first c.0.negate three.1; makes = makes_here c.0.action three.2 };
-            makes_there = record { one = three.0; chooses = chooses_there counts c.0.first c.0.negate three.1; makes = makes_there c.0.action three.2 };
+            makes_here = record { chooses = λ active n last w u. chosen_so counts p g1 c.0 active n last w u three.0 three.1; makes = makes_here c.0.action three.2 };
+            makes_there = record { chooses = λ active n last w u. chosen_there counts c.0 active n last w u three.0 three.1; makes = makes_there c.0.action three.2 };
             fits = fits_so c.0.action three.2;
-            chooses_both = chooses_alike counts p g1 c.0.first c.0.negate three.1;
+            chooses_both = chooses_alike counts p g1.finds c.0 three.0 three.1;
           }
 
 -- ---- the two scripts in the one of both
@@ -236,7 +351,7 @@ same_expression None = refl
 same_expression (Some e) = ap (λ e. Some e) (zero-add e)
 
 same_command : (counts : Bool) (p : Program) (c : Command) → only_edits counts p c ≡ true → command_behind none_before c ≡ c
-same_command counts p c h = let three = tests counts p c h in ap₂ (λ first action. record c { first = first; action = action }) (same_address c.first) (same_action p c.action three.2)
+same_command counts p c h = let three = tests counts p c h in ap₂ (λ first action. record c { first = first; second = address_behind none_before c.second; action = action }) (same_address c.first) (same_action p c.action three.2) ∙ ap (λ second. record c { second = second }) (same_address c.second)
 
 in_first : {A : Type 0} (xs ys : List A) (k : ℕ) (x : A) → slice_get xs k ≡ Some x → slice_get (xs ++ ys) (0 + k) ≡ Some x
 in_first xs ys k x h = ap (slice_get (xs ++ ys)) (zero-add k) ∙ in_front xs ys k x h
@@ -281,17 +396,33 @@ no_more_of_both p q =
     let all : List Command = map (command_behind (all_of p)) q.commands in
     slice_get_past (p.commands ++ all) (length p.commands + length q.commands) (omega (arith, length-append p.commands all, length-map q.commands (command_behind (all_of p))))
 
-starts : (p : Program) (ls : List (List ℕ)) → Between 0 ls (start p.commands ls)
-starts p ls = record { hold = []; replaced = false; ranges = map (λ _. false) p.commands; used = None; turns = 0; is = refl }
+idle_at_first : {A : Type 0} (xs : List A) (k : ℕ) → slice_index_or (map (λ _. false) xs) k false ≡ false
+idle_at_first [] k = refl
+idle_at_first (x ∷ xs) zero = refl
+idle_at_first (x ∷ xs) (suc k) = idle_at_first xs k
+
+starts_idle : (p r : Program) (to : ℕ → ℕ) → ((k : ℕ) → k < length p.commands → to k < length r.commands) → Matches to (length p.commands) (map (λ _. false) p.commands) (map (λ _. false) r.commands)
+starts_idle p r to fits = record {
+  here = λ k less. omega (arith, less, length-map p.commands (λ (c : Command). false));
+  there = λ k less. let fit = fits k less in omega (arith, fit, length-map r.commands (λ (c : Command). false));
+  same = λ k less. idle_at_first r.commands (to k) ∙ sym (idle_at_first p.commands k);
+}
+
+starts : (p : Program) (ls : List (List ℕ)) → Between 0 ls (map (λ _. false) p.commands) (start p.commands ls)
+starts p ls = record { hold = []; replaced = false; used = None; turns = 0; is = refl }
 
 pub in_turn_law : (p q : Program) (files : ℕ → List ℕ) (input middle : List ℕ) (out : List (ℕ × ℕ)) → OnlyEdits true p → OnlyEdits false q → BreaksNoLine p →
     RunsTo p files input (to_sink 0 middle) → RunsTo q files middle out → RunsTo (in_turn p q) files input out
 in_turn_law p q files input middle out only_p only_q breaks a b =
     let r : Program = in_turn p q in
+    let moved : List Command = map (command_behind (all_of p)) q.commands in
+    let long : length r.commands ≡ length p.commands + length q.commands = omega (arith, length-append p.commands moved, length-map q.commands (command_behind (all_of p))) in
     let loud : r.quiet ≡ false = rw (only_p.loud, only_q.loud) refl in
     let first : (k : ℕ) → k < length p.commands → Both SameLines (setting_of p files) (setting_of r files) (length p.commands) (λ k. k) Unbroken k =
     λ k less. subst (λ to. Both SameLines (setting_of p files) (setting_of r files) (length p.commands) to Unbroken k) (fun_ext zero-add)
     (both_at p files r none_before (first_placed p q) Unbroken (replaced_unbroken p files breaks) (λ k w h. unbroken_map (in_table (slice_get p.tables k)) (breaks.tables k) w h) true only_p k less) in
     let second = both_at q files r (all_of p) (second_placed p q) (λ w. Unit {0}) (λ k w h. tt) (λ k w h. tt) false only_q in
     in_turn_run (setting_of p files) (setting_of q files) (setting_of r files) (length p.commands) (length q.commands) only_p.loud only_q.loud loud (no_more p) (no_more q) (no_more_of_both p q) first second
-    input middle out (start p.commands (lines input)) (start r.commands (lines input)) (start q.commands (lines middle)) (starts p (lines input)) (starts r (lines input)) (starts q (lines middle)) a b
+    input middle out (map (λ _. false) p.commands) (map (λ _. false) q.commands) (map (λ _. false) r.commands) (start p.commands (lines input)) (start r.commands (lines input)) (start q.commands (lines middle))
+    (starts_idle p r (λ k. k) (λ k less. omega (arith, less, long))) (starts_idle q r (λ k. length p.commands + k) (λ k less. omega (arith, less, long)))
+    (starts p (lines input)) (starts r (lines input)) (starts q (lines middle)) a b

@@ -40,10 +40,10 @@ edits p (Transliterate k) = is_some (slice_get p.tables k)
 edits p other = false
 
 abbrev pub only_edits : (counts : Bool) → Program → Command → Bool
-only_edits counts p c = is_none c.second && (asks_own counts p c.first && edits p c.action)
+only_edits counts p c = asks_own counts p c.first && (asks_own counts p c.second && edits p c.action)
 
--- Each command of the script is one of these, for lines that it chooses by one address at most, and it has no -n: so it writes by
--- default only. Where lines aren't counted, what it writes of a line depends on that line alone.
+-- Each command of the script is one of these, and it has no -n: so it writes by default only. Where lines aren't counted, what it
+-- does to a line depends on that line's text and on those before it alone.
 pub record OnlyEdits (counts : Bool) (p : Program) : Type 0 where
   pub each : list_all (only_edits counts p) p.commands ≡ true
   pub loud : p.quiet ≡ false
@@ -85,7 +85,7 @@ action_behind b (Transliterate k) = Transliterate (b.tables + k)
 action_behind b other = other
 
 abbrev pub command_behind : Before → Command → Command
-command_behind b c = record c { first = address_behind b c.first; action = action_behind b c.action }
+command_behind b c = record c { first = address_behind b c.first; second = address_behind b c.second; action = action_behind b c.action }
 
 abbrev pub substitution_behind : Before → Substitution → Substitution
 substitution_behind b t = record t { expression = option_map (λ e. b.expressions + e) t.expression }
