@@ -1,3 +1,4 @@
+mod Truth
 mod Cycles
 mod Plain
 mod LineLaws

@@ -25,6 +25,7 @@ use Rattle.sedengine.proofs.Writing.{slice_get-append_add}
 use Rattle.examples.proofs.ComputedEnds.{both}
 use Rattle.scripts.specs.Edited.{RunsTo}
 use Rattle.scripts.specs.InTurn.{Before, BreaksNoLine, OnlyEdits, action_behind, address_behind, all_of, asks_own, command_behind, edits, in_turn, is_break, is_own, only_edits, replaces_only, substitution_behind}
+use Rattle.scripts.proofs.Truth.{not_so}
 use Rattle.scripts.proofs.Edits.{Test, Between, Chosen, Edit, Makes, Replaces, block, change, delete, with_found}
 use Rattle.scripts.proofs.EditedLines.{AreAlike, Both, Fits, Matches, placed}
 use Rattle.scripts.proofs.OneAfterOther.{AnyLines, SameLines, in_turn_run}
@@ -39,10 +40,6 @@ there_is (Some x) h = (x, refl)
 is_none_so : {A : Type 0} (o : Option A) → is_none o ≡ true → o ≡ None
 is_none_so None h = refl
 is_none_so (Some x) h = absurd cc
-
-not_so : (b : Bool) → not b ≡ true → b ≡ false
-not_so true h = absurd cc
-not_so false h = refl
 
 all_there : {A : Type 0} (f : A → Bool) (xs : List A) (k : ℕ) (x : A) → list_all f xs ≡ true → slice_get xs k ≡ Some x → f x ≡ true
 all_there f [] zero x all h = absurd cc

@@ -1,5 +1,5 @@
 -- Texts without a newline, and what `s` and `y` make of them; the lines of texts that are written.
-use Rattle.std.proofs.Common.{◌≡◌, ℕ, zero, suc, List, [], ◌∷◌, ◌++◌, length, map, take, drop, Bool, true, false, ◌||◌, Option, None, Some, refl, ap, ◌∙◌}
+use Rattle.std.proofs.Common.{◌≡◌, ℕ, zero, suc, List, [], ◌∷◌, ◌++◌, length, map, take, drop, Bool, false, ◌||◌, Option, None, Some, refl, ap, ◌∙◌}
 use Rattle.std.specs.Prelude.{slice_range}
 use Rattle.std.specs.List.{list_any}
 use Rattle.std.proofs.lemmas.List.Folds.{list_any-append}
@@ -16,14 +16,11 @@ use Rattle.scripts.specs.Edited.{text_of}
 use Rattle.scripts.specs.InTurn.{is_break}
 use Rattle.examples.proofs.LineLaws.{line_again}
 use Rattle.scripts.specs.Words.{match_with, replaced}
+use Rattle.scripts.proofs.Truth.{neither}
 use Rattle.scripts.proofs.LineLaws.{NoneBroken, lines_none_broken}
 
 abbrev pub Unbroken : List ℕ → Type 0
 Unbroken w = list_any is_newline w ≡ false
-
-neither : (a b : Bool) → (a || b) ≡ false → (a ≡ false) × (b ≡ false)
-neither true b e = absurd cc
-neither false b e = (refl, e)
 
 both_false : (a b : Bool) → a ≡ false → b ≡ false → (a || b) ≡ false
 both_false a b e f = rw (e, f) refl

@@ -12,6 +12,7 @@ use Rattle.sedengine.specs.Move.{in_table}
 use Rattle.examples.proofs.ComputedEnds.{both}
 use Rattle.scripts.specs.Edited.{Writes, text_of}
 use Rattle.scripts.specs.Words.{HasWayBack, by_table, y_of}
+use Rattle.scripts.proofs.Truth.{neither, not_so}
 use Rattle.scripts.proofs.Cutting.{lines_yes, lines_no}
 use Rattle.scripts.proofs.Famous.{bytes_law}
 use Rattle.scripts.proofs.Once.{each_once, once_of}
@@ -20,14 +21,6 @@ use Rattle.scripts.proofs.LineLaws.{NoneBroken, lines_none_broken}
 use Rattle.scripts.proofs.Unbroken.{Unbroken, lines_again}
 
 -- ---- truth values
-
-neither : (a b : Bool) → (a || b) ≡ false → (a ≡ false) × (b ≡ false)
-neither true b e = absurd cc
-neither false b e = (refl, e)
-
-not_so : (b : Bool) → not b ≡ true → b ≡ false
-not_so true h = absurd cc
-not_so false h = refl
 
 one_of : (a b : Bool) → (a || not b) ≡ true → (a ≡ true) ⊎ ((a ≡ false) × (b ≡ false))
 one_of true b e = inl refl
