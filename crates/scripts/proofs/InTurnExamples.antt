@@ -1,7 +1,7 @@
 -- Examples of two scripts one after the other, computed by the definitions: what the text of both means, and pairs for which the law
 -- isn't so, each with what the second writes over what the first wrote, and what the script of both writes.
-use Rattle.std.proofs.Common.{ℕ, [], ◌∷◌, Some, refl}
-use Rattle.std.specs.Prelude.{codes}
+use Rattle.std.proofs.Common.{◌≡◌, ℕ, zero, suc, [], ◌∷◌, true, false, Some, refl}
+use Rattle.std.specs.Prelude.{codes, slice_get}
 use Rattle.sedre.specs.Delimited.{delimiter_at}
 use Rattle.sedre.specs.Intervals.{interval}
 use Rattle.sedre.specs.Items.{item_at as expression_item_at}
@@ -21,15 +21,15 @@ use Rattle.sedscript.specs.Items.{function_at, item_at, substitute_at}
 use Rattle.sedscript.specs.Script.{Program, Means}
 use Rattle.sedscript.specs.Transliteration.{table_of}
 use Rattle.sedmatch.specs.Matching.{any, caps, copies, cut, first_copy, found, found_from, greatest, last_start, longest, report, spans}
-use Rattle.sedspace.specs.Lines.{lines}
-use Rattle.sedengine.specs.Move.{move}
+use Rattle.sedspace.specs.Lines.{is_newline, lines}
+use Rattle.sedengine.specs.Move.{in_table, move}
 use Rattle.sedengine.specs.Select.{selects}
 use Rattle.sedengine.specs.Substitute.{occurrences_from}
 use Rattle.examples.proofs.ComputedReading.{outcome, rest_of, written}
 use Rattle.examples.proofs.ComputedRun.{course, ends_after, Writes}
 use Rattle.examples.proofs.ComputedScript.{verdict, cutting, walked, is_script}
 use Rattle.examples.proofs.ScriptWords.{always, at, substitution}
-use Rattle.scripts.specs.InTurn.{in_turn}
+use Rattle.scripts.specs.InTurn.{BreaksNoLine, OnlyEdits, in_turn}
 use Rattle.scripts.proofs.Meanings.{of_commands, meant}
 
 -- ---- what the text of both means
@@ -62,6 +62,20 @@ second_means = meant _ _ refl
 both_means : Means (codes "/x/d\ns/a/b/\ns/c/d/\ny/e/f/") Basic 65536 (in_turn first second)
 unfolding verdict cutting walked item_at past function_at addresses_at address_at second_at text_from name_from match_at substitute_at substituted transliterate_at delimiter_at outcome rest_of expression_item_at interval set_of
 both_means = meant _ _ refl
+
+-- the law is about this pair
+first_edits : OnlyEdits true first
+first_edits = record { each = refl; loud = refl }
+
+second_edits : OnlyEdits false second
+second_edits = record { each = refl; loud = refl }
+
+no_table : (k b : ℕ) → is_newline b ≡ false → is_newline (in_table (slice_get first.tables k) b) ≡ false
+no_table zero b h = h
+no_table (suc k) b h = h
+
+first_breaks : BreaksNoLine first
+first_breaks = record { replacements = refl; tables = no_table }
 
 -- ---- a number, and `$`, in the second script
 
