@@ -88,11 +88,61 @@ pub fn edit<R: ByteSource, O: Outputs, T: Texts>(
     ensures untouched { OnErr result ((source.new ≡ source.old) × (outputs.new ≡ outputs.old)
         × (texts.new ≡ texts.old)) }
 {
+    match edit_ahead(alloc, script, limits, source, outputs, texts) {
+        Ok(edited) => Ok(edited.end),
+        Err(AllocError) => Err(AllocError),
+    }
+}
+
+/// How an edit ended, and how many bytes were left ahead: they were taken from the source, and no line was made of them.
+#[derive(Clone, Copy)]
+pub(crate) struct Edited {
+    pub(crate) end: Ended,
+    pub(crate) ahead: usize,
+}
+
+/// What `edit` does, as its contract says; besides it tells what was left ahead.
+pub(crate) fn edit_ahead<R: ByteSource, O: Outputs, T: Texts>(
+    alloc: Global,
+    script: Script,
+    limits: Limits,
+    source: &mut R,
+    outputs: &mut O,
+    texts: &mut T,
+) -> Result<Edited, AllocError>
+    requires sinks { length script.wfiles < O.count outputs.old }
+    requires nodes { script.max_nodes ≤ limits.nodes }
+    ensures ending { IfOk result (λ edited. ForSome (R.remaining source.old) (λ bytes.
+        (files : ℕ → List ℕ) → TellsFiles (T.text texts.old) files →
+        Edits limits (setting_of script files) (start_over script bytes)
+        (GainedWithin limits.output nothing_before (O.contents outputs.old) (O.contents outputs.new) (Err edited.end))
+        (R.remaining source.old) (R.remaining source.new) edited.end)) }
+    ensures output { OnOk result (ForSome (R.remaining source.old) (λ bytes.
+        (files : ℕ → List ℕ) → TellsFiles (T.text texts.old) files →
+        GainsBeginning (setting_of script files) (start_over script bytes)
+        (Gained (O.contents outputs.old) (O.contents outputs.new)))) }
+    ensures whole { IfOk result (λ edited. edited.end ≡ Ended.Done → ForSome (R.remaining source.old) (λ bytes.
+        (files : ℕ → List ℕ) → TellsFiles (T.text texts.old) files →
+        GainsAll (setting_of script files) (start_over script bytes)
+        (Gained (O.contents outputs.old) (O.contents outputs.new)))) }
+    ensures input { IfOk result (λ edited.
+        SourceAtEnd (R.failures source.old) (R.failures source.new) edited.end) }
+    ensures failed { IfOk result (λ edited.
+        SinksAtEnd limits.output (O.failures outputs.old) (O.failures outputs.new) (Err edited.end)) }
+    ensures same_sinks { SameSinks O.count O.names outputs.old outputs.new }
+    ensures same_reference { R.reference source.new ≡ R.reference source.old }
+    ensures same_texts { (k : ℕ) → Keeps (T.text texts.old k) (T.text texts.new k) }
+    ensures untouched { OnErr result ((source.new ≡ source.old) × (outputs.new ≡ outputs.old)
+        × (texts.new ≡ texts.old)) }
+    // What is left ahead is what was read ahead.
+    ensures ahead { IfOk result (λ edited. edited.ahead ≤ limits.look) }
+{
     let room = Room::new(alloc, limits.look())?;
     let mut engine = Engine::open(alloc, script, limits)?;
     let mut lines = Lines::over(&mut *source, room);
-    let ended = engine.run(&mut lines, outputs, texts);
+    let end = engine.run(&mut lines, outputs, texts);
+    let ahead = lines.ahead_len();
     let _source = lines.into_source();
     drop(engine);
-    Ok(ended)
+    Ok(Edited { end, ahead })
 }

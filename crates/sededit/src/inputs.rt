@@ -57,6 +57,11 @@ pub trait Inputs {
         ensures failed { FailsAtErr result (failures self.old) (failures self.new) }
         ensures same_reference { reference self.new ≡ reference self.old };
 
+    /// Says that of the bytes that the current file gave last so many weren't used, in a run that ended well before the end of
+    /// the input. What others share of it, as the place up to which the standard input is read, is then as if they hadn't
+    /// been read (XCU 1.4, "INPUT FILES"); what contracts see stays.
+    fn give_back(&self, count: usize);
+
     /// Reads the whole file of this name, as a script of -f is read. Answers `None` where it can't be read. Here the name
     /// `-` is a file's own. The current file and those still to be opened stay as they are.
     fn whole(&mut self, alloc: Global, name: &str) -> Result<Option<Vec<u8>>, AllocError>
@@ -98,6 +103,10 @@ impl<I: Inputs> Inputs for &mut I {
 
     fn read(&mut self, buf: &mut [u8]) -> Result<usize, Broken> {
         Inputs::read(&mut **self, buf)
+    }
+
+    fn give_back(&self, count: usize) {
+        Inputs::give_back(&**self, count);
     }
 
     fn whole(&mut self, alloc: Global, name: &str) -> Result<Option<Vec<u8>>, AllocError> {

@@ -111,6 +111,12 @@ impl<'a, I: Inputs> Joined<'a, I> {
         self.has_missed
     }
 
+    /// Says that of the bytes given last so many weren't used. They are all of the file being read, since nothing is read
+    /// on while any are left.
+    pub(crate) fn give_back(&self, count: usize) {
+        self.inputs.give_back(count);
+    }
+
     /// Gives the inputs back.
     pub fn into_inputs(self) -> I
         ensures { result ≡ self.entry.inputs }

@@ -274,6 +274,9 @@ impl Inputs for MemoryInputs {
         Ok(count)
     }
 
+    // Nobody shares a place in memory.
+    fn give_back(&self, _count: usize) {}
+
     fn whole(&mut self, alloc: Global, name: &str) -> Result<Option<Vec<u8>>, AllocError>
         ensures given { IfOk result (λ file.
             GivesWhole (Some (file_of self.old.files name.now)) (option_map (λ bytes. bytes.items) file)) }

@@ -18,7 +18,7 @@ use crate::inputs::Inputs;
 use crate::messages::{say_cannot_open, say_fault, say_no_script, say_refused};
 use crate::names::Names;
 use crate::reading::{NoScript, read_script};
-use crate::running::{MISSED, REFUSED, STOPPED, SUCCESS, out_of_memory, run, stopped};
+use crate::running::{MISSED, REFUSED, STOPPED, SUCCESS, Task, out_of_memory, run, stopped};
 use crate::sinks::Sinks;
 use clap::error::ErrorKind;
 use sedengine::{Ended, Limits};
@@ -168,9 +168,12 @@ fn run_line<I: Inputs, O: Sinks, N: Names, E: Write>(
         return out_of_memory(errors);
     }
     let operands = operands_of(line, standard.as_slice());
-    run(
-        alloc, script, operands, limits, inputs, sinks, names, errors,
-    )
+    let task = Task {
+        script,
+        names: operands,
+        limits,
+    };
+    run(alloc, task, inputs, sinks, names, errors)
 }
 
 /// The operands where none are given.

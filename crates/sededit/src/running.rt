@@ -6,7 +6,7 @@ ghost use Rattle.sedengine.specs.Devices.{Gained};
 ghost use Rattle.sededit.specs.FilesInTurn.{StillGives, joined_files, left};
 ghost use Rattle.sededit.specs.Program.{GainsBy, DevicesAtEnd, SinkFailed, StopsEarly, WritesAll, WritesBeginning};
 
-use crate::edit;
+use crate::editing::{Edited, edit_ahead};
 use crate::inputs::Inputs;
 use crate::joined::Joined;
 use crate::messages::{say_cannot_open, say_end, say_no_memory};
@@ -28,6 +28,14 @@ pub(crate) const MISSED: u8 = 2;
 
 /// The run ended before its time: a limit or a device ended it.
 pub(crate) const STOPPED: u8 = 4;
+
+/// A script, the files that it is run over, and the limits of the run.
+#[derive(Drop)]
+pub(crate) struct Task<'a> {
+    pub(crate) script: Script,
+    pub(crate) names: &'a [String],
+    pub(crate) limits: Limits,
+}
 
 /// Says how the run stopped.
 pub(crate) fn stopped<E: Write>(end: Ended, errors: &mut E) -> u8
@@ -54,6 +62,13 @@ fn say_missed<I: Inputs, E: Write>(joined: &Joined<'_, I>, names: &[String], err
     }
 }
 
+/// Gives back what a run left ahead that `q` ended.
+fn give_back<I: Inputs>(joined: &Joined<'_, I>, edited: Edited) {
+    if let Ended::Done = edited.end {
+        joined.give_back(edited.ahead);
+    }
+}
+
 /// Writes out what is held back, says how the run ended, and gives the status.
 fn finish<O: Sinks, E: Write>(end: Ended, has_missed: bool, sinks: &mut O, errors: &mut E) -> u8
     ensures status { (result ≡ SUCCESS) ⊎ ((result ≡ MISSED) ⊎ (result ≡ STOPPED)) }
@@ -77,32 +92,30 @@ fn finish<O: Sinks, E: Write>(end: Ended, has_missed: bool, sinks: &mut O, error
 /// Runs a script over files that are joined.
 fn run_joined<I: Inputs, O: Sinks, T: Texts, E: Write>(
     alloc: Global,
-    script: Script,
-    names: &[String],
-    limits: Limits,
+    task: Task<'_>,
     joined: &mut Joined<'_, I>,
     sinks: &mut O,
     texts: &mut T,
     errors: &mut E,
 ) -> u8
-    requires sinks { length script.wfiles < O.count sinks.old }
-    requires nodes { script.max_nodes ≤ limits.nodes }
+    requires sinks { length task.script.wfiles < O.count sinks.old }
+    requires nodes { task.script.max_nodes ≤ task.limits.nodes }
     ensures status { (result ≡ SUCCESS) ⊎ ((result ≡ REFUSED) ⊎ ((result ≡ MISSED) ⊎ (result ≡ STOPPED))) }
-    ensures whole { result ≡ SUCCESS → WritesAll script (left I.current I.ahead joined.old)
+    ensures whole { result ≡ SUCCESS → WritesAll task.entry.script (left I.current I.ahead joined.old)
         (T.text texts.old) (Gained (O.contents sinks.old) (O.contents sinks.new))
         × (I.refusals joined.new.inputs ≡ joined.new.start)
         × (I.failures joined.new.inputs ≡ I.failures joined.old.inputs) }
-    ensures missed { result ≡ MISSED → WritesAll script (left I.current I.ahead joined.old)
+    ensures missed { result ≡ MISSED → WritesAll task.entry.script (left I.current I.ahead joined.old)
         (T.text texts.old) (Gained (O.contents sinks.old) (O.contents sinks.new))
         × Rose joined.new.start (I.refusals joined.new.inputs)
         × (I.failures joined.new.inputs ≡ I.failures joined.old.inputs) }
-    ensures stopped { result ≡ STOPPED → WritesBeginning script (left I.current I.ahead joined.old)
+    ensures stopped { result ≡ STOPPED → WritesBeginning task.entry.script (left I.current I.ahead joined.old)
         (T.text texts.old) (Gained (O.contents sinks.old) (O.contents sinks.new)) }
-    ensures cause { result ≡ STOPPED → StopsEarly limits script (left I.current I.ahead joined.old)
-        (λ more. more ≡ left I.current I.ahead joined.new) (T.text texts.old) (GainsBy limits (O.contents sinks.old) (O.contents sinks.new))
-        (DevicesAtEnd limits.output (I.failures joined.old.inputs) (I.failures joined.new.inputs)
+    ensures cause { result ≡ STOPPED → StopsEarly task.entry.limits task.entry.script (left I.current I.ahead joined.old)
+        (λ more. more ≡ left I.current I.ahead joined.new) (T.text texts.old) (GainsBy task.entry.limits (O.contents sinks.old) (O.contents sinks.new))
+        (DevicesAtEnd task.entry.limits.output (I.failures joined.old.inputs) (I.failures joined.new.inputs)
         (O.failures sinks.old) (O.failures sinks.new))
-        ⊎ (WritesAll script (left I.current I.ahead joined.old)
+        ⊎ (WritesAll task.entry.script (left I.current I.ahead joined.old)
         (T.text texts.old) (Gained (O.contents sinks.old) (O.contents sinks.new))
         × SinkFailed (O.failures sinks.old) (O.failures sinks.new)
         × (I.failures joined.new.inputs ≡ I.failures joined.old.inputs)) }
@@ -113,43 +126,47 @@ fn run_joined<I: Inputs, O: Sinks, T: Texts, E: Write>(
     ensures same_reference { joined.new.start ∷ I.reference joined.new.inputs
         ≡ joined.old.start ∷ I.reference joined.old.inputs }
 {
-    let end = match edit(alloc, script, limits, &mut *joined, sinks, texts) {
-        Ok(end) => end,
+    let Task {
+        script,
+        names,
+        limits,
+    } = task;
+    let edited = match edit_ahead(alloc, script, limits, &mut *joined, sinks, texts) {
+        Ok(edited) => edited,
         Err(AllocError) => return out_of_memory(errors),
     };
+    give_back(&*joined, edited);
     say_missed(&*joined, names, errors);
     let has_missed = joined.has_missed();
-    finish(end, has_missed, sinks, errors)
+    finish(edited.end, has_missed, sinks, errors)
 }
 
 /// Runs a script over the files of these names, joined.
 pub(crate) fn run<I: Inputs, O: Sinks, T: Texts, E: Write>(
     alloc: Global,
-    script: Script,
-    names: &[String],
-    limits: Limits,
+    task: Task<'_>,
     inputs: &mut I,
     sinks: &mut O,
     texts: &mut T,
     errors: &mut E,
 ) -> u8
-    requires sinks { length script.wfiles < O.count sinks.old }
-    requires nodes { script.max_nodes ≤ limits.nodes }
+    requires sinks { length task.script.wfiles < O.count sinks.old }
+    requires nodes { task.script.max_nodes ≤ task.limits.nodes }
     ensures status { (result ≡ SUCCESS) ⊎ ((result ≡ REFUSED) ⊎ ((result ≡ MISSED) ⊎ (result ≡ STOPPED))) }
-    ensures whole { result ≡ SUCCESS → WritesAll script (joined_files I.ahead inputs.old (map string_bytes names.now))
+    ensures whole { result ≡ SUCCESS → WritesAll task.entry.script (joined_files I.ahead inputs.old (map string_bytes task.entry.names.now))
         (T.text texts.old) (Gained (O.contents sinks.old) (O.contents sinks.new))
         × (I.refusals inputs.new ≡ I.refusals inputs.old) × (I.failures inputs.new ≡ I.failures inputs.old) }
-    ensures missed { result ≡ MISSED → WritesAll script (joined_files I.ahead inputs.old (map string_bytes names.now))
+    ensures missed { result ≡ MISSED → WritesAll task.entry.script (joined_files I.ahead inputs.old (map string_bytes task.entry.names.now))
         (T.text texts.old) (Gained (O.contents sinks.old) (O.contents sinks.new))
         × Rose (I.refusals inputs.old) (I.refusals inputs.new) × (I.failures inputs.new ≡ I.failures inputs.old) }
-    ensures stopped { result ≡ STOPPED → WritesBeginning script
-        (joined_files I.ahead inputs.old (map string_bytes names.now))
+    ensures stopped { result ≡ STOPPED → WritesBeginning task.entry.script
+        (joined_files I.ahead inputs.old (map string_bytes task.entry.names.now))
         (T.text texts.old) (Gained (O.contents sinks.old) (O.contents sinks.new)) }
-    ensures cause { result ≡ STOPPED → StopsEarly limits script
-        (joined_files I.ahead inputs.old (map string_bytes names.now)) (StillGives I.current I.ahead inputs.new)
-        (T.text texts.old) (GainsBy limits (O.contents sinks.old) (O.contents sinks.new))
-        (DevicesAtEnd limits.output (I.failures inputs.old) (I.failures inputs.new) (O.failures sinks.old) (O.failures sinks.new))
-        ⊎ (WritesAll script (joined_files I.ahead inputs.old (map string_bytes names.now))
+    ensures cause { result ≡ STOPPED → StopsEarly task.entry.limits task.entry.script
+        (joined_files I.ahead inputs.old (map string_bytes task.entry.names.now)) (StillGives I.current I.ahead inputs.new)
+        (T.text texts.old) (GainsBy task.entry.limits (O.contents sinks.old) (O.contents sinks.new))
+        (DevicesAtEnd task.entry.limits.output (I.failures inputs.old) (I.failures inputs.new) (O.failures sinks.old) (O.failures sinks.new))
+        ⊎ (WritesAll task.entry.script (joined_files I.ahead inputs.old (map string_bytes task.entry.names.now))
         (T.text texts.old) (Gained (O.contents sinks.old) (O.contents sinks.new))
         × SinkFailed (O.failures sinks.old) (O.failures sinks.new)
         × (I.failures inputs.new ≡ I.failures inputs.old)) }
@@ -158,20 +175,11 @@ pub(crate) fn run<I: Inputs, O: Sinks, T: Texts, E: Write>(
     ensures unread { result ≡ REFUSED → inputs.new ≡ inputs.old }
     ensures names { O.names sinks.new ≡ O.names sinks.old }
 {
-    let Ok(missed) = vec![in alloc; false; names.len()] else {
+    let Ok(missed) = vec![in alloc; false; task.names.len()] else {
         return out_of_memory(errors);
     };
-    let mut joined = Joined::over(&mut *inputs, names, missed);
-    let status = run_joined(
-        alloc,
-        script,
-        names,
-        limits,
-        &mut joined,
-        sinks,
-        texts,
-        errors,
-    );
+    let mut joined = Joined::over(&mut *inputs, task.names, missed);
+    let status = run_joined(alloc, task, &mut joined, sinks, texts, errors);
     let _inputs = joined.into_inputs();
     status
 }

@@ -1,12 +1,12 @@
 use Rattle.std.proofs.Common.{rules}
 use Rattle.std.proofs.KnownBytes.{prepend_known-nil}
 use Rattle.sededit.proofs.EditLemmas.{Edits-run, Gains-all, Gains-beginning}
-use Rattle.sededit.proofs.editing.edit.Goals as goal
+use Rattle.sededit.proofs.editing.edit_ahead.Goals as goal
 
 pub returns-clause-ending : goal.returns-clause-ending
 returns-clause-ending g c x known files told =
     Edits-run c.args.limits c.args.script files c.in_ok-engine.engine _ x _ _ _ _ _ _ _ _ c.in_ok-engine.ensures (search rules) (rw c.over-lines.ensures (prepend_known-nil _)) (search rules)
-    (c.run-ended.ensures.ends (search rules) (search rules) _ (search rules) files told)
+    (c.run-end.ensures.ends (search rules) (search rules) _ (search rules) files told)
 
 pub returns-clause-output : goal.returns-clause-output
 returns-clause-output g c x known files told =
