@@ -3,6 +3,7 @@ ghost use Rattle.std.specs.Prelude.{◌≡◌, [], None};
 ghost use Rattle.std.specs.Io.{ReadsAtMost};
 
 use crate::devices::Devices;
+use crate::standard_input::StandardInput;
 use sededit::Inputs;
 use sedspace::{Broken, ByteSource, FromReader};
 use std::alloc::{AllocError, Global};
@@ -27,38 +28,41 @@ pub(crate) struct FileInputs<'a> {
     rt: &'a HostRuntime,
     devices: &'a Devices,
     current: Current,
+    standard: StandardInput,
     // Whether a read of the current file may wait, once that was asked.
     may_wait: Option<bool>,
-    is_standard_ended: bool,
     failures: u64,
     refusals: u64,
 }
 
 /// Whether a read of the file of this name may wait, as one of a pipe, a terminal or a device does.
 fn may_wait(rt: &HostRuntime, name: &str) -> bool {
-    is_no_file(fs::metadata(rt, name))
+    !is_file(&fs::metadata(rt, name))
 }
 
-// Whether this is the metadata of anything but an ordinary file.
-fn is_no_file(metadata: io::Result<Metadata>) -> bool {
+// Whether this is the metadata of an ordinary file.
+fn is_file(metadata: &io::Result<Metadata>) -> bool {
     match metadata {
-        Ok(metadata) => !metadata.is_file(),
-        Err(_) => true,
+        Ok(metadata) => metadata.is_file(),
+        Err(_) => false,
     }
 }
 
 impl<'a> FileInputs<'a> {
     /// Inputs of which none is open. What the devices have gathered is written out before a read that may wait.
-    pub(crate) fn new(rt: &'a HostRuntime, devices: &'a Devices) -> FileInputs<'a> {
-        FileInputs {
+    pub(crate) fn new(
+        rt: &'a HostRuntime,
+        devices: &'a Devices,
+    ) -> Result<FileInputs<'a>, AllocError> {
+        Ok(FileInputs {
             rt,
             devices,
             current: Current::Nothing,
+            standard: StandardInput::new(rt.alloc(), rt.stdin())?,
             may_wait: None,
-            is_standard_ended: false,
             failures: 0,
             refusals: 0,
-        }
+        })
     }
 
     // Whether a read of the current file may wait. The system is asked once for each file.
@@ -72,7 +76,7 @@ impl<'a> FileInputs<'a> {
         let may_wait = match &self.current {
             Current::Nothing => false,
             Current::Standard => may_wait(self.rt, "/dev/stdin"),
-            Current::File(file) => is_no_file(file.metadata()),
+            Current::File(file) => !is_file(&file.metadata()),
         };
         self.may_wait = Some(may_wait);
         may_wait
@@ -103,20 +107,6 @@ impl<'a> FileInputs<'a> {
         }
     }
 
-    // Reads on in the standard input, unless its end was met before.
-    fn read_standard(&mut self, buf: &mut [u8]) -> Result<usize, Broken>
-        ensures bound { ReadsAtMost result buf.new }
-        ensures failures { self.new.failures ≡ self.old.failures }
-        ensures refusals { self.new.refusals ≡ self.old.refusals }
-    {
-        if self.is_standard_ended {
-            return Ok(0);
-        }
-        let count = FromReader::new(self.rt.stdin()).read(buf)?;
-        self.is_standard_ended = count == 0 && !buf.is_empty();
-        Ok(count)
-    }
-
     // Reads on in the current file.
     fn read_current(&mut self, buf: &mut [u8]) -> Result<usize, Broken>
         ensures bound { ReadsAtMost result buf.new }
@@ -126,7 +116,7 @@ impl<'a> FileInputs<'a> {
         self.prepare_to_read();
         match &self.current {
             Current::Nothing => Ok(0),
-            Current::Standard => self.read_standard(buf),
+            Current::Standard => self.standard.read_on(buf),
             Current::File(file) => FromReader::new(file).read(buf),
         }
     }
@@ -156,6 +146,7 @@ impl<'a> Inputs for FileInputs<'a> {
         self.may_wait = None;
         if name == "-" {
             let metadata = fs::metadata(self.rt, "/dev/stdin");
+            self.standard.set_file(is_file(&metadata));
             self.current = self.unless_written(Current::Standard, metadata);
             return true;
         }
@@ -180,6 +171,12 @@ impl<'a> Inputs for FileInputs<'a> {
                 self.failures = self.failures.saturating_add(1);
                 Err(Broken)
             }
+        }
+    }
+
+    fn give_back(&self, count: usize) {
+        if let Current::Standard = self.current {
+            self.standard.give_back(count);
         }
     }
 

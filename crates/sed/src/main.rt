@@ -12,6 +12,7 @@ mod names;
 mod output;
 mod sinks;
 mod standard;
+mod standard_input;
 
 pub use sededit::{Inputs, Joined, Line, Names, Part, Refused, Sinks, command, edit, line, script};
 use std::process::ExitCode;

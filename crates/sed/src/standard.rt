@@ -83,7 +83,10 @@ fn run_words<E: Write>(rt: &HostRuntime, words: &[String], errors: &mut E) -> u8
         let _ = say_no_memory(errors);
         return REFUSED;
     };
-    let mut inputs = FileInputs::new(rt, &devices);
+    let Ok(mut inputs) = FileInputs::new(rt, &devices) else {
+        let _ = say_no_memory(errors);
+        return REFUSED;
+    };
     let mut names = FileNames::new(rt, &devices);
     command(
         rt.alloc(),
