@@ -2,6 +2,7 @@
 use Rattle.std.proofs.Common.{◌≡◌, ℕ, zero, suc, ◌+◌, ◌≤◌, List, [], Option, Some, None, Result, Ok, Err, length, get_or, replicate, refl}
 use Rattle.std.proofs.Math.Seq.{take-length}
 use Rattle.std.specs.Prelude.{IfSome}
+use Rattle.std.specs.Io.KnownBytes.{prepend_known}
 use Rattle.sedspace.specs.Lines.{lines}
 use Rattle.sedscript.specs.Script.{Program}
 use Rattle.sedengine.specs.Limits.{Limits}
@@ -13,7 +14,7 @@ use Rattle.sedengine.specs.Run.{RunState, Ending, Input, Sends, at_lines, settin
 use Rattle.sedengine.specs.declared.ends.Ended.{Ended}
 use Rattle.sedengine.specs.declared.ends.Ended.TheVariants.{Done, OutputFull}
 use Rattle.sedengine.proofs.Metering.{Cause-as}
-use Rattle.sededit.specs.Editing.{Edits, GainsAll, GainsBeginning, nothing_before, start_over}
+use Rattle.sededit.specs.Editing.{Edits, GainsAll, GainsBeginning, LeavesAhead, nothing_before, start_over}
 
 -- an engine that was opened
 abbrev pub opened : Limits → Program → RunState
@@ -52,6 +53,22 @@ Edits-run l p files e e' x sinks sinks' old new before after now end is same_old
       cause = Cause-as l _ _ _ _ end h'.t (from_start l p e' sinks sinks' (Err end)) h'.cause;
       takes = (let input = h'.takes.input in rw (same_old, same_new) at input);
       broken = λ is. (let part = h'.broken is in rw (none_ahead, same_new) at part);
+    }
+
+-- what it left ahead
+pub Leaves-run : (l : Limits) (p : Program) (files : ℕ → List ℕ) (e e' : RunState) (x : List ℕ) (sinks sinks' : ℕ → Option (List ℕ)) (old new : Option (List ℕ)) (before after : Input) (now : State) (end : Ended) (bytes : List ℕ) (count : ℕ) →
+    e ≡ opened l p → before.all ≡ old → after.source ≡ new → after.all ≡ prepend_known bytes after.source → count ≡ length bytes → Ending e.limits (setting e files) (at_lines e (lines x)) (Sends e e' sinks sinks' (Err end)) before after now end →
+    LeavesAhead l (setting_of p files) (start_over p x) old new count end
+Leaves-run l p files e e' x sinks sinks' old new before after now end bytes count is none_ahead same_new is_ahead counted h =
+    let h' = rw is at h in
+    record {
+      t = h'.t;
+      over = λ done. (let w = rw done at h'.cause in w.cause);
+      lines = h'.takes.input.lines;
+      are = h'.takes.input.are;
+      ahead = bytes;
+      counts = counted;
+      gone = (let part = h'.takes.all in rw (none_ahead, is_ahead, same_new) at part);
     }
 
 -- what the sinks gained is a beginning of what is written

@@ -6,7 +6,7 @@ ghost use Rattle.sedscript.specs.Script.{Faulty, Means};
 ghost use Rattle.sedscript.specs.declared.types.ScriptFault.{ScriptFault};
 ghost use Rattle.sedengine.specs.Devices.{Gained, GainedWithin, SameSinks, SinksAtEnd, SourceAtEnd};
 ghost use Rattle.sedengine.specs.Run.{TellsFiles, setting_of};
-ghost use Rattle.sededit.specs.Editing.{Edits, GainsAll, GainsBeginning, nothing_before, start_over};
+ghost use Rattle.sededit.specs.Editing.{Edits, GainsAll, GainsBeginning, LeavesAhead, nothing_before, start_over};
 
 use sedengine::{Ended, Engine, Limits};
 use sedscript::{Kind, NO_MEMORY, Script, ScriptFault};
@@ -134,7 +134,11 @@ pub(crate) fn edit_ahead<R: ByteSource, O: Outputs, T: Texts>(
     ensures same_texts { (k : ℕ) → Keeps (T.text texts.old k) (T.text texts.new k) }
     ensures untouched { OnErr result ((source.new ≡ source.old) × (outputs.new ≡ outputs.old)
         × (texts.new ≡ texts.old)) }
-    // What is left ahead is what was read ahead.
+    // So many bytes were left ahead, and with them still to come only the lines that were taken are gone.
+    ensures left { IfOk result (λ edited. ForSome (R.remaining source.old) (λ bytes.
+        (files : ℕ → List ℕ) → TellsFiles (T.text texts.old) files →
+        LeavesAhead limits (setting_of script files) (start_over script bytes)
+        (R.remaining source.old) (R.remaining source.new) edited.ahead edited.end)) }
     ensures ahead { IfOk result (λ edited. edited.ahead ≤ limits.look) }
 {
     let room = Room::new(alloc, limits.look())?;
