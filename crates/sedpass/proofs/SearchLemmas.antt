@@ -19,7 +19,6 @@ use Rattle.sedpass.specs.declared.search.Seeking.{Seeking}
 use Rattle.sedpass.specs.declared.nodes.Prepared.{Prepared}
 use Rattle.sedpass.specs.declared.search.Trials.{Trials}
 use Rattle.sedpass.specs.declared.search.Trials.TheVariants.{Nothing, Tired}
-
 use Rattle.sedpass.proofs.LeaveLemmas.{reaches_ends}
 use Rattle.sedpass.proofs.MeetingLemmas.{meets_whole}
 
@@ -146,7 +145,7 @@ pub begins_marked : (p : Prepared) (w : List ℕ) (b : Bool) (r end start : ℕ)
     Reaches p.expr.nodes w r (ends_told b (length w) end) p.root start → (k : ℕ) × Spans (tree p.expr) w start k
 begins_marked p w b r end start arena sweeps root low reaches =
     (begins_at p w arena start low).0 (subst (λ t. Reaches p.expr.nodes w p.root t p.root start) (ends_all b (length w) end sweeps)
-        (subst (λ v. Reaches p.expr.nodes w v (ends_told b (length w) end) p.root start) root reaches))
+    (subst (λ v. Reaches p.expr.nodes w v (ends_told b (length w) end) p.root start) root reaches))
 
 -- or, at the end, where it is null
 pub begins_some : (p : Prepared) (w : List ℕ) (b : Bool) (r end start : ℕ) (begins : Bool) → IsArena p.expr.nodes → IsTrue b → r ≡ p.root → end ≡ length w → start ≤ length w →

@@ -144,7 +144,10 @@ fn begins_there(subject: Subject, start: usize, steps: &mut Steps) -> bool
 {
     let length = subject.text.len();
     let root = subject.prepared.root;
-    start < length || subject.prepared.null_at(root, kind_of(start, length), steps)
+    start < length
+        || subject
+            .prepared
+            .null_at(root, kind_of(start, length), steps)
 }
 
 /// The match from a place on, by the pass from the text's end.

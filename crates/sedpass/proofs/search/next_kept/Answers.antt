@@ -8,11 +8,10 @@ pub returns-then-not-begins_there-clause-answer : goal.returns-then-not-begins_t
 returns-then-not-begins_there-clause-answer c =
     let k = c.args.kept.now in
     let region = c.requires.kept.region in
-    let within = c.seek-start.ensures.within in
-    (
+    let within = c.seek-start.ensures.within in (
       tt,
       kept_none c.args.subject.prepared.now c.args.subject.text.now c.args.back.now.way.sweeps k.region.root k.region.end c.args.from c.seek-start.result c.begins_there.result
-      region.table.expr.arena c.requires.sweeps (region.root.1 c.requires.sweeps) (omega (arith, within, region.inside)) c.seek-start.ensures.passed c.begins_there.ensures.inside c.begins_there.ensures.null (cc),
+          region.table.expr.arena c.requires.sweeps (region.root.1 c.requires.sweeps) (omega (arith, within, region.inside)) c.seek-start.ensures.passed c.begins_there.ensures.inside c.begins_there.ensures.null (cc),
       tt,
     )
 
@@ -28,10 +27,9 @@ returns-clause-answer c =
     let begins = begins_some p w c.args.back.now.way.sweeps k.region.root k.region.end c.seek-start.result c.begins_there.result region.table.expr.arena c.requires.sweeps root (region.whole c.requires.sweeps) low
     c.seek-start.ensures.found c.begins_there.ensures.null (cc) in
     let on = c.cut-end.ensures.ceases.0 in
-    let stop = c.cut-end.ensures.within in
-    (
+    let stop = c.cut-end.ensures.within in (
       kept_found p w c.args.back.now.way.sweeps k.region.root k.region.end c.seek-start.new.table.way.sweeps c.seek-start.new.self.region.root c.seek-start.new.self.region.end c.args.from c.seek-start.result c.cut-end.result
-      region.table.expr.arena c.requires.sweeps root (ap (λ v. v.sweeps) c.seek-start.ensures.shape.0 ∙ c.requires.sweeps) (c.seek-start.ensures.same.root ∙ root) c.seek-start.ensures.after low c.seek-start.ensures.passed begins c.cut-end.ensures.ceases,
+          region.table.expr.arena c.requires.sweeps root (ap (λ v. v.sweeps) c.seek-start.ensures.shape.0 ∙ c.requires.sweeps) (c.seek-start.ensures.same.root ∙ root) c.seek-start.ensures.after low c.seek-start.ensures.passed begins c.cut-end.ensures.ceases,
       tt,
       (on, omega (arith, stop, c.seek-start.ensures.same.end, region.inside)),
     )
@@ -46,13 +44,12 @@ returns-clause-cost c =
     let stop = c.cut-end.ensures.within in
     let seek = c.seek-start.ensures.cost in
     let null = c.begins_there.ensures.cost in
-    let cut = c.cut-end.ensures.cost in
-    (
+    let cut = c.cut-end.ensures.cost in (
       omega (arith, seek, null, cut),
       kept_cost m n c.args.from c.seek-start.result c.cut-end.result c.args.steps.now c.seek-start.new.steps c.begins_there.new.steps c.cut-end.new.steps _ _ _ (omega (arith, last)) c.seek-start.ensures.after on
-      (omega (arith, stop, c.seek-start.ensures.same.end, region.inside)) seek.1 null.1
-      (subst (λ r. c.cut-end.new.steps + (owed m (r - 1) c.cut-end.new.self.region c.cut-end.result + 36 * m * c.seek-start.result) ≤ c.begins_there.new.steps + (owed m (r - 1) c.seek-start.new.self.region c.seek-start.result + 36 * m * (c.cut-end.result + 1)))
-      c.seek-start.ensures.shape.1 cut.1),
+          (omega (arith, stop, c.seek-start.ensures.same.end, region.inside)) seek.1 null.1
+          (subst (λ r. c.cut-end.new.steps + (owed m (r - 1) c.cut-end.new.self.region c.cut-end.result + 36 * m * c.seek-start.result) ≤ c.begins_there.new.steps + (owed m (r - 1) c.seek-start.new.self.region c.seek-start.result + 36 * m * (c.cut-end.result + 1)))
+          c.seek-start.ensures.shape.1 cut.1),
     )
 
 pub returns-then-not-begins_there-clause-cost : goal.returns-then-not-begins_there-clause-cost
@@ -61,11 +58,10 @@ returns-then-not-begins_there-clause-cost c =
     let last = c.args.subject.prepared.now.is_prepared.last in
     let within = c.seek-start.ensures.within in
     let seek = c.seek-start.ensures.cost in
-    let null = c.begins_there.ensures.cost in
-    (
+    let null = c.begins_there.ensures.cost in (
       omega (arith, seek, null),
       none_cost (length c.args.subject.prepared.now.expr.nodes) (length c.args.subject.text.now) c.args.from c.seek-start.result c.args.steps.now c.seek-start.new.steps c.begins_there.new.steps _ _ (omega (arith, last))
-      c.seek-start.ensures.after (omega (arith, within, region.inside)) seek.1 null.1,
+          c.seek-start.ensures.after (omega (arith, within, region.inside)) seek.1 null.1,
     )
 
 pub returns-clause-counts : goal.returns-clause-counts

@@ -34,11 +34,10 @@ returns-in-Hit-clause-alone c begun fresh =
     let last = c.args.subject.prepared.now.is_prepared.last in
     let answer = c.in-Hit.ensures.answer in
     let on = Spans-forward (tree c.args.subject.prepared.now.expr) c.args.subject.text.now i j answer.0.spans in
-    let few = c.in-Hit.ensures.few in
-    (
+    let few = c.in-Hit.ensures.few in (
       c.in-Hit.ensures.cost.0,
       hit_alone m n c.args.from i j c.try_all.new.tried c.args.steps.now c.try_all.new.steps (omega (arith, last)) answer.0.after on answer.1 (omega (arith, few, fresh))
-      (subst (λ v. c.try_all.new.steps + (40 * m * v + c.args.from) ≤ c.args.steps.now + (40 * m * c.try_all.new.tried + (i + 1 + 40 * m * (j + 1 - i)))) fresh c.in-Hit.ensures.cost.1),
+          (subst (λ v. c.try_all.new.steps + (40 * m * v + c.args.from) ≤ c.args.steps.now + (40 * m * c.try_all.new.tried + (i + 1 + 40 * m * (j + 1 - i)))) fresh c.in-Hit.ensures.cost.1),
     )
 
 pub returns-in-Nothing-clause-cost : goal.returns-in-Nothing-clause-cost
@@ -58,11 +57,10 @@ returns-in-Nothing-clause-alone c begun fresh =
     let m = length c.args.subject.prepared.now.expr.nodes in
     let n = length c.args.subject.text.now in
     let last = c.args.subject.prepared.now.is_prepared.last in
-    let few = c.in-Nothing.ensures.few in
-    (
+    let few = c.in-Nothing.ensures.few in (
       c.in-Nothing.ensures.cost.0,
       nothing_alone m n c.args.from c.try_all.new.tried c.args.steps.now c.try_all.new.steps (omega (arith, last)) c.requires.from (omega (arith, few, fresh))
-      (subst (λ v. c.try_all.new.steps + (40 * m * v + c.args.from) ≤ c.args.steps.now + (40 * m * c.try_all.new.tried + (n + 1))) fresh c.in-Nothing.ensures.cost.1),
+          (subst (λ v. c.try_all.new.steps + (40 * m * v + c.args.from) ≤ c.args.steps.now + (40 * m * c.try_all.new.tried + (n + 1))) fresh c.in-Nothing.ensures.cost.1),
     )
 
 pub returns-in-Tired-clause-answer : goal.returns-in-Tired-clause-answer
@@ -94,11 +92,10 @@ returns-in-Tired-clause-alone c begun fresh =
     let answer = c.in-Tired.ensures.answer in
     let few = c.in-Tired.ensures.few in
     let first = c.in-Tired.ensures.cost in
-    let then = c.next_begun-in-Tired.ensures.cost in
-    (
+    let then = c.next_begun-in-Tired.ensures.cost in (
       omega (arith, first.0, then.0),
       tired_alone m n c.args.from c.in-Tired.start c.try_all.new.tried c.args.steps.now c.try_all.new.steps c.next_begun-in-Tired.new.steps _ (omega (arith, last)) answer.0 answer.1 (omega (arith, few, fresh))
-      (subst (λ v. c.try_all.new.steps + (40 * m * v + c.args.from) ≤ c.args.steps.now + (40 * m * c.try_all.new.tried + c.in-Tired.start)) fresh first.1) then.1,
+          (subst (λ v. c.try_all.new.steps + (40 * m * v + c.args.from) ≤ c.args.steps.now + (40 * m * c.try_all.new.tried + c.in-Tired.start)) fresh first.1) then.1,
     )
 
 pub returns-in-Tired-clause-counts : goal.returns-in-Tired-clause-counts

@@ -14,8 +14,7 @@ returns-in-Some-end-clause-answer c =
     let t = c.in-Some.trial in
     let is = c.in-Some.ensures.trial in
     let i = c.loop-start.invariant in
-    let long : Longest (tree e) w t.start (Some c.in-Some-end.end) = subst (Longest (tree e) w t.start) c.in-Some-end.is is.longest in
-    (
+    let long : Longest (tree e) w t.start (Some c.in-Some-end.end) = subst (Longest (tree e) w t.start) c.in-Some-end.is is.longest in (
       found_at e w c.args.from t.start c.in-Some-end.end (omega (arith, i.after, is.after)) (none_on e w c.args.from c.loop-start.start t.start i.none is.none) long,
       Spans-within (tree e) w t.start c.in-Some-end.end (omega (arith, is.passed, is.within)) long.0,
     )
@@ -41,11 +40,10 @@ returns-in-Some-end-clause-cost c =
     let last = c.args.subject.prepared.now.is_prepared.last in
     let long : Longest (tree e) w t.start (Some c.in-Some-end.end) = subst (Longest (tree e) w t.start) c.in-Some-end.is is.longest in
     let on = Spans-forward (tree e) w t.start c.in-Some-end.end long.0 in
-    let cost = c.in-Some.ensures.cost in
-    (
+    let cost = c.in-Some.ensures.cost in (
       omega (arith, i.grows, cost),
       rw c.saturating_sub.ensures (hit_paid (length e.nodes) c.args.from c.loop-start.start t.start t.place c.in-Some-end.end c.loop-start.tried c.args.tried.now c.args.steps.now c.loop-start.steps c.try_next.new.steps
-      (omega (arith, last)) is.after on is.passed i.cost cost.1),
+          (omega (arith, last)) is.after on is.passed i.cost cost.1),
     )
 
 pub returns-then-tried-length-clause-answer : goal.returns-then-tried-length-clause-answer
