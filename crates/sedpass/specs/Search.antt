@@ -1,15 +1,18 @@
 -- Private to the proofs: no contract that `sedmatch` makes public cites what stands here.
 -- Searches in one text, from places that don't fall: what they find, and what they may cost.
 use Rattle.std.specs.Prelude.{ℕ, ◌+◌, ◌-◌, ◌*◌, ◌<◌, ◌≤◌, if◌then◌else◌, List, length, Option, Some, None, IfSome, IsTrue}
+use Rattle.sedre.specs.Arena.{tree}
 use Rattle.sedre.specs.Steps.{TakesAtLeast}
 use Rattle.sedre.specs.Tree.{Tree}
+use Rattle.sedmarks.specs.Answer.{SpanAnswer}
 use Rattle.sedmarks.specs.Reach.{Longest}
 use Rattle.sedmarks.specs.Search.{NoneIn}
 use Rattle.sedmarks.specs.Spans.{Found, NotFound}
-use Rattle.sedpass.specs.Table.{IsTable}
+use Rattle.sedpass.specs.Table.{IsTable, SameShape}
 use Rattle.sedpass.specs.Kept.{IsKept, KeptRoom, owed}
 use Rattle.sedpass.specs.declared.nodes.Prepared.{Prepared}
 use Rattle.sedpass.specs.declared.table.Table.{Table}
+use Rattle.sedpass.specs.declared.kept.Kept.{Kept}
 use Rattle.sedpass.specs.declared.kept.Region.{Region}
 use Rattle.sedpass.specs.declared.search.Seeking.{Seeking}
 use Rattle.sedpass.specs.declared.search.Trial.{Trial}
@@ -42,6 +45,13 @@ TrialsAnswer e w from (Tired k) = (from < k) × (k ≤ length w) × NoneIn e w f
 abbrev pub LooksAtHit : ℕ → ℕ → Trials → Type 0
 LooksAtHit before after (Hit i j) = TakesAtLeast before after (j - i)
 LooksAtHit before after other = Unit {0}
+
+-- what is kept is right, the table has its shape, and the answer is the match from the place on, which was looked at byte by byte
+pub record IsNext (p : Prepared) (w : List ℕ) (from : ℕ) (old back : Table) (k : Kept) (before after : ℕ) (r : Option (ℕ × ℕ)) : Type 0 where
+  pub kept : IsKept p w back k
+  pub shape : SameShape old back
+  pub answer : SpanAnswer (tree p.expr) w from r
+  pub counts : IfSome r (λ f. TakesAtLeast before after (f.1 - f.0))
 
 -- Costs, with m nodes in a text of n bytes.
 

@@ -65,6 +65,12 @@ pub record Names (m : ℕ) (t : Table) (P : State → Type 0) (v : ℕ) : Type 0
 abbrev pub IsOffset : Table → ℕ → Type 0
 IsOffset t offset = (offset / 2 ^ t.layout.shift < t.count) × (offset ≡ offset / 2 ^ t.layout.shift * 2 ^ t.layout.shift)
 
+-- the number is the code of the state after the one whose cells begin at the offset, and this byte, where the text's edge comes after it,
+-- or doesn't
+abbrev pub NamesNext : Prepared → (old new : Table) → (offset byte : ℕ) → Bool → ℕ → Type 0
+NamesNext p old new offset byte edge v =
+    Names (length p.expr.nodes) new (LeadsOn (nodes_of old.way p.expr) old.way (state_of (length p.expr.nodes) old (offset / 2 ^ old.layout.shift)) byte edge) v
+
 -- Cells.
 
 -- what stands in the cell of a state and a column

@@ -6,7 +6,7 @@ ghost use Rattle.sedmarks.specs.Spans.{SomeFound};
 ghost use Rattle.sedre.specs.Arena.{tree};
 ghost use Rattle.sedre.specs.Steps.{Takes, TakesAtLeast};
 ghost use Rattle.sedpass.specs.Rows.{nodes_of};
-ghost use Rattle.sedpass.specs.Table.{state_of, LeadsOn, Names, IsOffset, IsTable, SameShape};
+ghost use Rattle.sedpass.specs.Table.{Names, NamesNext, IsOffset, IsTable, SameShape};
 ghost use Rattle.sedpass.specs.Forwards.{Arrives, EndsBelow, PassIs};
 
 use crate::cells::{PLAIN, offset_of};
@@ -131,8 +131,7 @@ impl Table {
         requires offset { IsOffset self.old offset }
         ensures table { IsTable prepared.now self.new }
         ensures shape { SameShape self.old self.new }
-        ensures names { Names (length prepared.now.expr.nodes) self.new (LeadsOn (nodes_of self.old.way prepared.now.expr) self.old.way
-            (state_of (length prepared.now.expr.nodes) self.old (offset / 2 ^ self.old.layout.shift)) byte edge) result }
+        ensures names { NamesNext prepared.now self.old self.new offset byte edge result }
         ensures cost { Takes steps.old steps.new (38 * length prepared.now.expr.nodes) }
         ensures inside { edge ≡ false → Takes steps.old steps.new (37 * length prepared.now.expr.nodes) }
         ensures counts { TakesAtLeast steps.old steps.new 1 }

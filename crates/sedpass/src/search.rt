@@ -13,7 +13,7 @@ ghost use Rattle.sedre.specs.Steps.{Takes, TakesAtLeast};
 ghost use Rattle.sedpass.specs.declared.search.Trials.TheVariants.{Nothing, Tired};
 ghost use Rattle.sedpass.specs.Table.{IsAhead, IsTable, SameShape};
 ghost use Rattle.sedpass.specs.Kept.{IsKept, KeptRoom, owed};
-ghost use Rattle.sedpass.specs.Search.{IsTrial, LooksAtHit, Serves, TrialsAnswer, trial_cost, trials_cost, trials_room, owed_kept, owed_search, owed_after};
+ghost use Rattle.sedpass.specs.Search.{IsNext, IsTrial, LooksAtHit, Serves, TrialsAnswer, trial_cost, trials_cost, trials_room, owed_kept, owed_search, owed_after};
 
 use crate::kept::{Kept, Subject};
 use crate::nodes::kind_of;
@@ -164,12 +164,9 @@ fn next_kept(
     requires kept { IsKept subject.prepared.now subject.text.now back.old kept.old }
     requires sweeps { IsTrue back.old.way.sweeps }
     ensures ahead { IsAhead subject.entry.prepared.now ahead.new }
-    ensures kept { IsKept subject.entry.prepared.now subject.entry.text.now back.new kept.new }
-    ensures shape { SameShape back.old back.new }
-    ensures answer { SpanAnswer (tree subject.entry.prepared.now.expr) subject.entry.text.now from result }
+    ensures next { IsNext subject.entry.prepared.now subject.entry.text.now from back.old back.new kept.new steps.old steps.new result }
     ensures cost { let m = length subject.entry.prepared.now.expr.nodes in let n = length subject.entry.text.now in let width = back.old.room - 1 in
         Pays steps.old steps.new (owed_kept m n width kept.old.region from + 84 * m) (owed_after (λ q. owed_kept m n width kept.new.region q) result) }
-    ensures counts { IfSome result (λ f. TakesAtLeast steps.old steps.new (f.1 - f.0)) }
 {
     let root = subject.prepared.root;
     let start = kept.seek(subject, back, root, from, true, steps);
@@ -195,12 +192,9 @@ fn next_begun(
     requires room { KeptRoom (length subject.prepared.now.expr.nodes) (length subject.text.now) back.old kept.old }
     requires sweeps { IsTrue back.old.way.sweeps }
     ensures ahead { IsAhead subject.entry.prepared.now ahead.new }
-    ensures kept { IsKept subject.entry.prepared.now subject.entry.text.now back.new kept.new }
-    ensures shape { SameShape back.old back.new }
-    ensures answer { SpanAnswer (tree subject.entry.prepared.now.expr) subject.entry.text.now from result }
+    ensures next { IsNext subject.entry.prepared.now subject.entry.text.now from back.old back.new kept.new steps.old steps.new result }
     ensures cost { let m = length subject.entry.prepared.now.expr.nodes in let n = length subject.entry.text.now in let width = back.old.room - 1 in
         Pays steps.old steps.new (142 * m * (n - from) + 84 * m) (owed_after (λ q. owed_kept m n width kept.new.region q) result) }
-    ensures counts { IfSome result (λ f. TakesAtLeast steps.old steps.new (f.1 - f.0)) }
 {
     let length = subject.text.len();
     kept.begin(subject, back, subject.prepared.root, length);

@@ -9,7 +9,7 @@ ghost use Rattle.sedre.specs.Steps.{Takes, TakesAtLeast};
 ghost use Rattle.sedpass.specs.Rows.{nodes_of, bits};
 ghost use Rattle.sedpass.specs.Cells.{stops, code_of};
 ghost use Rattle.sedpass.specs.declared.nodes.Kind.{Kind};
-ghost use Rattle.sedpass.specs.Table.{state_of, HasRow, LeadsOn, BeginsIn, Names, IsOffset, beginning_at, MayBegin, IsTable, SameShape, AddsStates};
+ghost use Rattle.sedpass.specs.Table.{state_of, HasRow, LeadsOn, BeginsIn, Names, NamesNext, IsOffset, beginning_at, MayBegin, IsTable, SameShape, AddsStates};
 
 use crate::cells::{Flags, Layout, clear_cells, code_of, stops};
 use crate::nodes::{Kind, Prepared};
@@ -303,8 +303,7 @@ impl Table {
     fn note_next(&mut self, prepared: &Prepared, offset: usize, byte: u8, edge: bool, next: u32)
         requires table { IsTable prepared.now self.old }
         requires offset { IsOffset self.old offset }
-        requires leads { Names (length prepared.now.expr.nodes) self.old (LeadsOn (nodes_of self.old.way prepared.now.expr) self.old.way
-            (state_of (length prepared.now.expr.nodes) self.old (offset / 2 ^ self.old.layout.shift)) byte edge) next }
+        requires leads { NamesNext prepared.now self.old self.old offset byte edge next }
         requires anywhere { prepared.now.anchors ≡ false → Names (length prepared.now.expr.nodes) self.old (λ b. (end : Bool) → LeadsOn (nodes_of self.old.way prepared.now.expr) self.old.way
             (state_of (length prepared.now.expr.nodes) self.old (offset / 2 ^ self.old.layout.shift)) byte end b) next }
         ensures table { IsTable prepared.now self.new }
@@ -333,8 +332,7 @@ impl Table {
         requires offset { IsOffset self.old offset }
         ensures table { IsTable prepared.now self.new }
         ensures adds { AddsStates (length prepared.now.expr.nodes) self.old self.new }
-        ensures names { Names (length prepared.now.expr.nodes) self.new (LeadsOn (nodes_of self.old.way prepared.now.expr) self.old.way
-            (state_of (length prepared.now.expr.nodes) self.old (offset / 2 ^ self.old.layout.shift)) byte edge) result }
+        ensures names { NamesNext prepared.now self.old self.new offset byte edge result }
         ensures cost { Takes steps.old steps.new (33 * length prepared.now.expr.nodes) }
         ensures counts { TakesAtLeast steps.old steps.new (length prepared.now.expr.nodes) }
     {
@@ -356,8 +354,7 @@ impl Table {
     pub fn known(&self, prepared: &Prepared, offset: usize, byte: u8, edge: bool) -> u32
         requires table { IsTable prepared.now self.now }
         requires offset { IsOffset self.now offset }
-        ensures { 0 < result → Names (length prepared.now.expr.nodes) self.now (LeadsOn (nodes_of self.now.way prepared.now.expr) self.now.way
-            (state_of (length prepared.now.expr.nodes) self.now (offset / 2 ^ self.now.layout.shift)) byte edge) result }
+        ensures { 0 < result → NamesNext prepared.now self.now self.now offset byte edge result }
     {
         let class = prepared.classes[byte as usize] as usize;
         match self.layout.column(class, edge) {
@@ -382,8 +379,7 @@ impl Table {
         requires offset { IsOffset self.old offset }
         ensures table { IsTable prepared.now self.new }
         ensures adds { AddsStates (length prepared.now.expr.nodes) self.old self.new }
-        ensures names { Names (length prepared.now.expr.nodes) self.new (LeadsOn (nodes_of self.old.way prepared.now.expr) self.old.way
-            (state_of (length prepared.now.expr.nodes) self.old (offset / 2 ^ self.old.layout.shift)) byte edge) result }
+        ensures names { NamesNext prepared.now self.old self.new offset byte edge result }
         ensures cost { Takes steps.old steps.new (34 * length prepared.now.expr.nodes) }
         ensures counts { TakesAtLeast steps.old steps.new 1 }
     {

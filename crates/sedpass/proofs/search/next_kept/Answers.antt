@@ -4,19 +4,17 @@ use Rattle.sedpass.proofs.CountLemmas.{least_fewer, least_since}
 use Rattle.sedpass.proofs.SearchLemmas.{begins_some, kept_cost, kept_found, kept_none, none_cost}
 use Rattle.sedpass.proofs.search.next_kept.Goals as goal
 
-pub returns-then-not-begins_there-clause-answer : goal.returns-then-not-begins_there-clause-answer
-returns-then-not-begins_there-clause-answer c =
+pub returns-then-not-begins_there-clause-next : goal.returns-then-not-begins_there-clause-next
+returns-then-not-begins_there-clause-next c =
     let k = c.args.kept.now in
     let region = c.requires.kept.region in
-    let within = c.seek-start.ensures.within in (
-      tt,
-      kept_none c.args.subject.prepared.now c.args.subject.text.now c.args.back.now.way.sweeps k.region.root k.region.end c.args.from c.seek-start.result c.begins_there.result
-          region.table.expr.arena c.requires.sweeps (region.root.1 c.requires.sweeps) (omega (arith, within, region.inside)) c.seek-start.ensures.passed c.begins_there.ensures.inside c.begins_there.ensures.null (cc),
-      tt,
-    )
+    let within = c.seek-start.ensures.within in
+    let none = kept_none c.args.subject.prepared.now c.args.subject.text.now c.args.back.now.way.sweeps k.region.root k.region.end c.args.from c.seek-start.result c.begins_there.result
+    region.table.expr.arena c.requires.sweeps (region.root.1 c.requires.sweeps) (omega (arith, within, region.inside)) c.seek-start.ensures.passed c.begins_there.ensures.inside c.begins_there.ensures.null (cc) in
+    record { kept = c.seek-start.ensures.kept; shape = c.seek-start.ensures.shape; answer = (tt, none, tt); counts = tt }
 
-pub returns-clause-answer : goal.returns-clause-answer
-returns-clause-answer c =
+pub returns-clause-next : goal.returns-clause-next
+returns-clause-next c =
     let p = c.args.subject.prepared.now in
     let w = c.args.subject.text.now in
     let k = c.args.kept.now in
@@ -27,12 +25,20 @@ returns-clause-answer c =
     let begins = begins_some p w c.args.back.now.way.sweeps k.region.root k.region.end c.seek-start.result c.begins_there.result region.table.expr.arena c.requires.sweeps root (region.whole c.requires.sweeps) low
     c.seek-start.ensures.found c.begins_there.ensures.null (cc) in
     let on = c.cut-end.ensures.ceases.0 in
-    let stop = c.cut-end.ensures.within in (
-      kept_found p w c.args.back.now.way.sweeps k.region.root k.region.end c.seek-start.new.table.way.sweeps c.seek-start.new.self.region.root c.seek-start.new.self.region.end c.args.from c.seek-start.result c.cut-end.result
-          region.table.expr.arena c.requires.sweeps root (ap (λ v. v.sweeps) c.seek-start.ensures.shape.0 ∙ c.requires.sweeps) (c.seek-start.ensures.same.root ∙ root) c.seek-start.ensures.after low c.seek-start.ensures.passed begins c.cut-end.ensures.ceases,
-      tt,
-      (on, omega (arith, stop, c.seek-start.ensures.same.end, region.inside)),
-    )
+    let stop = c.cut-end.ensures.within in
+    let seek = c.seek-start.ensures.cost in
+    let null = c.begins_there.ensures.cost in
+    let before = c.seek-start.ensures.shape in
+    let then = c.cut-end.ensures.shape.0 in
+    let found = kept_found p w c.args.back.now.way.sweeps k.region.root k.region.end c.seek-start.new.table.way.sweeps c.seek-start.new.self.region.root c.seek-start.new.self.region.end c.args.from c.seek-start.result c.cut-end.result
+    region.table.expr.arena c.requires.sweeps root (ap (λ v. v.sweeps) before.0 ∙ c.requires.sweeps) (c.seek-start.ensures.same.root ∙ root) c.seek-start.ensures.after low c.seek-start.ensures.passed begins c.cut-end.ensures.ceases in
+    record {
+      kept = c.cut-end.ensures.kept;
+      shape = (then.0 ∙ before.0, then.1 ∙ before.1, then.2 ∙ before.2);
+      answer = (found, tt, (on, omega (arith, stop, c.seek-start.ensures.same.end, region.inside)));
+      counts = least_since c.args.steps.now c.begins_there.new.steps c.cut-end.new.steps (c.cut-end.result - c.seek-start.result) (omega (arith, seek, null))
+          (least_fewer c.begins_there.new.steps c.cut-end.new.steps (2 * (c.cut-end.result - c.seek-start.result) + 1) (c.cut-end.result - c.seek-start.result) (omega arith) c.cut-end.ensures.counts);
+    }
 
 pub returns-clause-cost : goal.returns-clause-cost
 returns-clause-cost c =
@@ -63,10 +69,3 @@ returns-then-not-begins_there-clause-cost c =
       none_cost (length c.args.subject.prepared.now.expr.nodes) (length c.args.subject.text.now) c.args.from c.seek-start.result c.args.steps.now c.seek-start.new.steps c.begins_there.new.steps _ _ (omega (arith, last))
           c.seek-start.ensures.after (omega (arith, within, region.inside)) seek.1 null.1,
     )
-
-pub returns-clause-counts : goal.returns-clause-counts
-returns-clause-counts c =
-    let seek = c.seek-start.ensures.cost in
-    let null = c.begins_there.ensures.cost in
-    least_since c.args.steps.now c.begins_there.new.steps c.cut-end.new.steps (c.cut-end.result - c.seek-start.result) (omega (arith, seek, null))
-    (least_fewer c.begins_there.new.steps c.cut-end.new.steps (2 * (c.cut-end.result - c.seek-start.result) + 1) (c.cut-end.result - c.seek-start.result) (omega arith) c.cut-end.ensures.counts)

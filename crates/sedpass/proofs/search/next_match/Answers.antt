@@ -66,7 +66,7 @@ returns-in-Nothing-clause-alone c begun fresh =
 pub returns-in-Tired-clause-answer : goal.returns-in-Tired-clause-answer
 returns-in-Tired-clause-answer c =
     let answer = c.in-Tired.ensures.answer in
-    later_answer (tree c.args.subject.prepared.now.expr) c.args.subject.text.now c.args.from c.in-Tired.start c.next_begun-in-Tired.result (omega (arith, answer.0)) answer.2 c.next_begun-in-Tired.ensures.answer
+    later_answer (tree c.args.subject.prepared.now.expr) c.args.subject.text.now c.args.from c.in-Tired.start c.next_begun-in-Tired.result (omega (arith, answer.0)) answer.2 c.next_begun-in-Tired.ensures.next.answer
 
 pub returns-in-Tired-clause-cost : goal.returns-in-Tired-clause-cost
 returns-in-Tired-clause-cost c =
@@ -99,4 +99,4 @@ returns-in-Tired-clause-alone c begun fresh =
     )
 
 pub returns-in-Tired-clause-counts : goal.returns-in-Tired-clause-counts
-returns-in-Tired-clause-counts c = found_since c.args.steps.now c.try_all.new.steps _ c.next_begun-in-Tired.result c.in-Tired.ensures.cost.0 c.next_begun-in-Tired.ensures.counts
+returns-in-Tired-clause-counts c = found_since c.args.steps.now c.try_all.new.steps _ c.next_begun-in-Tired.result c.in-Tired.ensures.cost.0 c.next_begun-in-Tired.ensures.next.counts
