@@ -31,6 +31,12 @@ GivesLine None rest line = ⊤
 GivesLine (Some ls) None line = ⊥
 GivesLine (Some ls) (Some rest) line = ls ≡ line ∷ rest
 
+-- the first lines were taken, which are those of these bytes
+abbrev pub GivesLines : Option (List (List ℕ)) → Option (List (List ℕ)) → List ℕ → Type 0
+GivesLines None rest bytes = ⊤
+GivesLines (Some ls) None bytes = ⊥
+GivesLines (Some ls) (Some rest) bytes = ls ≡ lines bytes ++ rest
+
 -- no line is left
 abbrev pub NoneLeft : Option (List (List ℕ)) → Type 0
 NoneLeft None = ⊤

@@ -19,7 +19,7 @@ mod texts;
 
 pub use adapters::{FromReader, ToWriter};
 pub use errors::{Broken, Full, LineFault};
-pub use lines::{Got, Lines, Room};
+pub use lines::{Got, Lines, Room, whole_lines};
 pub use memory::{MemoryOutputs, MemorySource, MemoryTexts};
 pub use outputs::{Outputs, write_all};
 pub use queue::Queue;

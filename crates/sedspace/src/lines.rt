@@ -5,11 +5,11 @@
 //! only when the buffer is used up. The first read asks for few bytes, and after each read that gave all that it asked for
 //! the next asks for twice as many. So of an input of which little is wanted, little is read, and the rest of the buffer's
 //! memory stays untouched.
-ghost use Rattle.std.specs.Prelude.{◌≡◌, ◌↔◌, ◌+◌, ◌-◌, ◌<◌, ◌≤◌, ◌^◌, ℕ, List, [], ◌∷◌, ◌++◌, length, true, false, IsTrue, is_ok, if◌then◌else◌, None, Some, IfOk, OnOk, OnErr, Contains, vec_len, vec_capacity};
+ghost use Rattle.std.specs.Prelude.{◌≡◌, ◌↔◌, ◌+◌, ◌-◌, ◌<◌, ◌≤◌, ◌^◌, ℕ, List, [], ◌∷◌, ◌++◌, length, take, drop, true, false, IsTrue, is_ok, if◌then◌else◌, None, Some, IfOk, OnOk, OnErr, Contains, vec_len, vec_capacity};
 ghost use Rattle.std.specs.List.{position, before_first};
 ghost use Rattle.std.specs.Io.KnownBytes.{Consumes, Keeps, IsAtEnd};
 ghost use Rattle.sedspace.specs.Failures.{FailsAtErr};
-ghost use Rattle.sedspace.specs.Lines.{is_newline, HasNoNewline};
+ghost use Rattle.sedspace.specs.Lines.{is_newline, AreWholeLines, HasNoNewline};
 
 use super::{Broken, ByteSource, Full, LineFault, Space};
 use std::alloc::{AllocError, Global};
@@ -97,7 +97,7 @@ impl<R: ByteSource> Model for Lines<R> {
 }
 
 impl<R: ByteSource> Lines<R> {
-    ghost use Rattle.sedspace.specs.Stream.{Stream, left, lines_left, GivesLine, TakesLine, TakesAtMost, FirstIsLonger, NoneLeft, SeesEnd, LosesPart, FailsIfBroken, TellsLast, KeepsLines, KeepsFault, ReadsForBytes, ReadsOn, RisesAtMost};
+    ghost use Rattle.sedspace.specs.Stream.{Stream, left, lines_left, GivesLine, GivesLines, TakesLine, TakesAtMost, FirstIsLonger, NoneLeft, SeesEnd, LosesPart, FailsIfBroken, TellsLast, KeepsLines, KeepsFault, ReadsForBytes, ReadsOn, RisesAtMost};
     ghost use Rattle.sedspace.specs.Gathering.{Gathers};
 
     /// Makes the lines of the source, and reserves memory to read ahead by at most `look` bytes, from 1 to 2^30. Nothing
@@ -160,6 +160,26 @@ impl<R: ByteSource> Lines<R> {
         ensures bound { length self.now.ahead ≤ self.now.look }
     {
         self.ahead().len()
+    }
+
+    /// The bytes that have been read ahead and not given yet.
+    pub fn ahead(&self) -> &[u8]
+        ensures value { result.now ≡ self.now.ahead }
+        ensures bound { length self.now.ahead ≤ self.now.look }
+    {
+        &self.buffer[self.front..self.filled]
+    }
+
+    /// Takes the first `count` of the bytes that have been read ahead, which are whole lines. Nothing is read or copied.
+    pub fn take_lines(&mut self, count: usize)
+        requires within { count ≤ length self.old.ahead }
+        requires whole { AreWholeLines (take count self.old.ahead) }
+        ensures taken { self.new ≡ record self.old { ahead = drop count self.old.ahead } }
+        ensures lines { GivesLines (lines_left R.remaining self.old) (lines_left R.remaining self.new)
+            (take count self.old.ahead) }
+        ensures bound { length self.new.ahead ≤ self.new.look }
+    {
+        self.front += count;
     }
 
     /// Appends the next line to the space, without its newline, and answers whether there was one. The source isn't read
@@ -250,14 +270,6 @@ impl<R: ByteSource> Lines<R> {
                 Err(LineFault::Broken)
             }
         }
-    }
-
-    // The bytes that were read ahead.
-    fn ahead(&self) -> &[u8]
-        ensures value { result.now ≡ self.now.ahead }
-        ensures bound { length self.now.ahead ≤ self.now.look }
-    {
-        &self.buffer[self.front..self.filled]
     }
 
     // Reads once into the empty buffer, unless the end is known. Says whether there are bytes ahead.
@@ -364,4 +376,16 @@ pub(crate) fn newline_in(bytes: &[u8]) -> Option<usize>
     ensures { result ≡ position is_newline bytes.now }
 {
     memchr::memchr(b'\n', bytes)
+}
+
+/// How many of the bytes are whole lines: those up to and with the last newline.
+pub fn whole_lines(bytes: &[u8]) -> usize
+    ensures within { result ≤ length bytes.now }
+    ensures whole { AreWholeLines (take result bytes.now) }
+    ensures rest { HasNoNewline (drop result bytes.now) }
+{
+    match memchr::memrchr(b'\n', bytes) {
+        Some(at) => at + 1,
+        None => 0,
+    }
 }
