@@ -14,3 +14,4 @@ pub mod FollowLemmas
 pub mod LinearLemmas
 pub mod FirstStartLemmas
 pub mod LongestLemmas
+pub mod CandidateLemmas

@@ -12,6 +12,7 @@ pub mod Ready
 pub mod Between
 pub mod Trail
 pub mod Sight
+pub mod Candidates
 pub mod BackPass
 pub mod NextMatch
 pub mod Occurrences

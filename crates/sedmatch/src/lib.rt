@@ -22,6 +22,7 @@ mod anywhere;
 mod back_pass;
 mod backwards;
 mod between;
+mod candidates;
 mod classes;
 mod linear;
 mod occurrences;

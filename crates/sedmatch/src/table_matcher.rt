@@ -11,12 +11,14 @@ ghost use Rattle.sedmarks.specs.Reach.{Longest, LongestBelow, one_start};
 ghost use Rattle.sedmarks.specs.Answer.{IsComputed, MatchAnswer, SpanAnswer};
 ghost use Rattle.sedmarks.specs.Matching.{found};
 ghost use Rattle.sedmatch.specs.Ready.{AreTables, IsKnown, IsPrepared};
+ghost use Rattle.sedmatch.specs.Candidates.{NoMatchBefore};
 ghost use Rattle.sedmarks.specs.SearchRoom.{FitInto};
 ghost use Rattle.sedmarks.specs.Work.{AreFlat};
 ghost use Rattle.sedmarks.specs.Costs.{Pays};
 ghost use Rattle.sedre.specs.Steps.{StepsWithin, Takes, TakesAtLeast};
 
 use crate::anywhere::{anchored_by, leftmost_by};
+use crate::candidates::{needed_candidate, sight_candidate};
 use crate::linear::first_end_forwards;
 use crate::ready::{Known, Tables, find_known, new_tables};
 use crate::sight::{Sight, sight_find, sight_matches, sight_of, sight_span};
@@ -530,6 +532,19 @@ impl TableMatcher {
         ensures { result ≡ length self.now.nodes }
     {
         self.expr.nodes()
+    }
+
+    /// A place of a text of many lines before which no line has a match, each line taken as a text of its own; None where no
+    /// line has one. It is told by what every match holds, a literal mostly. Where nothing of the kind is known, it is the
+    /// first place.
+    pub fn candidate(&self, text: &Text, steps: &mut Steps) -> Option<usize>
+        ensures before { NoMatchBefore (tree self.now) text.now result }
+        ensures cost { Takes steps.old steps.new (25 * (length text.now + 1)) }
+    {
+        match &self.sight {
+            Some(sight) => sight_candidate(sight, text, steps),
+            None => needed_candidate(&self.known.needed, text, steps),
+        }
     }
 
     /// Whether any match begins at `from` or later. Its steps are in proportion to the text, whatever the expression.
