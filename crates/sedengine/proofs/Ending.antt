@@ -160,6 +160,7 @@ queue_is_run a q k (Ok u) i h ok room err = let same = i.queue_limit in rw ok (r
   matchers = i.matchers;
   seeking = i.seeking;
   nodes = i.nodes;
+  idle = i.idle;
 })
 queue_is_run a q k (Err f) i h ok room err = rw err i
 

@@ -4,6 +4,11 @@ pub mod Writing
 pub mod Streams
 pub mod Moves
 pub mod Runs
+pub mod PassingLemmas
+pub mod BlockLemmas
+pub mod PassingRuns
+pub mod Walking
+pub mod Passes
 pub mod Metering
 pub mod Copies
 pub mod Entries

@@ -64,6 +64,7 @@ replaced_is_run a pattern build scratch seeking matchers e replaced i at within 
   matchers = rw same' i.matchers;
   seeking = λ k s is more j x at. kept a.limits.space (length x.nodes) (i.seeking k s is more j x at);
   nodes = i.nodes;
+  idle = i.idle;
 }
 
 -- a move whose pattern space has no room for what it makes

@@ -60,6 +60,9 @@ emptied_at p.Quit bytes t h = cc
 emptied_at p.Rebegin bytes t h = cc
 emptied_at p.Ended bytes t h = cc
 
+pub begins_empty : (a : Inside) (e : RunState) → run_of a ≡ e → IsConsistent a → e.state.tasks ≡ begin ∷ [] → e.state.pattern ≡ []
+begins_empty a e seen i at = let Q : RunState → Type 0 = λ e. e.state.tasks ≡ begin ∷ [] → e.state.pattern ≡ [] in subst Q seen (λ t. emptied_at a.place a.pattern.bytes t i.empty) at
+
 -- The fields a of an engine that stands before a cycle; `sinks` are what sinks hold, of which none gains anything.
 module _ {R : Type 0} (remaining : R → Option (List ℕ)) (old new : Stream R) (a : Inside) (e : RunState) (seen : run_of a ≡ e) (i : IsConsistent a) (at : e.state.tasks ≡ begin ∷ [])
     (ls : List (List ℕ)) (known : lines_left remaining old ≡ Some ls) (files : ℕ → List ℕ) (sinks : SinkView) where

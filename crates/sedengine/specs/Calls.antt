@@ -1,11 +1,13 @@
 -- Private to the proofs: no contract of a public item cites what stands here.
 -- What the engine's calls do to the devices that they are given.
-use Rattle.std.specs.Prelude.{◌≡◌, ℕ, ◌≤◌, max, Option, Some, None, Result, Ok, Err, OnOk, List, [], length, take, slice_get}
+use Rattle.std.specs.Prelude.{◌≡◌, ℕ, ◌<◌, ◌≤◌, max, Option, Some, None, Result, Ok, Err, OnOk, List, [], length, take, slice_get}
 use Rattle.std.specs.Borrow.{GName}
 use Rattle.sedspace.specs.Stream.{Stream, TakesAtMost}
 use Rattle.sedengine.specs.Devices.{FailedSink, FailedSource}
 use Rattle.sedengine.specs.Ends.{named_sink}
 use Rattle.sedengine.specs.Meters.{SinkView, FullSink}
+use Rattle.sedengine.specs.Move.{to_sink}
+use Rattle.sedengine.specs.declared.meter.Cut.{Cut}
 use Rattle.sedengine.specs.declared.ends.Ended.{Ended}
 use Rattle.sedengine.specs.declared.ends.Ended.TheVariants.{InputBroken, OutputBroken, OutputFull}
 
@@ -14,6 +16,17 @@ abbrev pub Puts : (List (ℕ × ℕ) → Type 0) → List (ℕ × ℕ) → Resul
 Puts gained out (Ok u) = gained out
 Puts gained out (Err end) =
     (k : ℕ) × (b : ℕ) × (byte : ℕ) × (named_sink end ≡ Some k) × (slice_get out b ≡ Some (k, byte)) × gained (take b out)
+
+-- All of these bytes were written to this sink, or it gained so many of them and took no more.
+abbrev pub WritesPart : (List (ℕ × ℕ) → Type 0) → ℕ → List ℕ → Result Unit Cut → Type 0
+WritesPart gained sink bytes (Ok u) = gained (to_sink sink bytes)
+WritesPart gained sink bytes (Err cut) =
+    (cut.done < length bytes) × (named_sink cut.end ≡ Some sink) × gained (to_sink sink (take cut.done bytes))
+
+-- the same answer without the number of bytes
+abbrev pub end_of : Result Unit Cut → Result Unit Ended
+end_of (Ok u) = Ok tt
+end_of (Err cut) = Err cut.end
 
 -- What a call that may write does to the sinks: only what they hold, their failures and the counts change; a sink has failed
 -- only where the answer names it, and one that it names as full has gained exactly the limit.

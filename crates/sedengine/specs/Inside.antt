@@ -1,6 +1,6 @@
 -- Private to the proofs: no contract of a public item cites what stands here.
 -- The fields of the machine, and what they stand for.
-use Rattle.std.specs.Prelude.{◌≡◌, ℕ, ◌<◌, ◌≤◌, Bool, true, false, Option, Some, None, List, [], ◌∷◌, length, map, slice_get}
+use Rattle.std.specs.Prelude.{◌≡◌, ℕ, ◌<◌, ◌≤◌, Bool, true, false, Option, Some, None, List, [], ◌∷◌, length, map, slice_get, IfSome}
 use Rattle.std.specs.Option.{unwrap_or}
 use Rattle.sedscript.specs.declared.types.Command.{Command}
 use Rattle.sedscript.specs.declared.types.Action.{Action}
@@ -10,6 +10,7 @@ use Rattle.sedscript.specs.Script.{Program}
 use Rattle.sedengine.specs.State.{Entry, text, file, Task, begin, rebegin, do_at, print_pattern, flush}
 use Rattle.sedengine.specs.Run.{RunState}
 use Rattle.sedengine.specs.Fitting.{AllFit, RoomToSeek, Seek}
+use Rattle.sedengine.specs.Passing.{IsIdleOf}
 use Rattle.sedengine.specs.declared.place.Place.{Place}
 use Rattle.sedengine.specs.declared.place.Place.TheVariants as p
 use Rattle.sedengine.specs.declared.machine.Machine.TheInside.{Inside}
@@ -112,3 +113,4 @@ pub record IsConsistent (a : Inside) : Type 0 where
   pub matchers : Seek a.script.expressions a.limits.nodes a.matchers.items
   pub seeking : RoomToSeek a.script.substitutions a.script.expressions a.limits.space a.seeking
   pub nodes : a.script.max_nodes ≤ a.limits.nodes
+  pub idle : IfSome a.idle (IsIdleOf a.script)

@@ -14,6 +14,7 @@ pub mod ListingParts
 pub mod Meters
 pub mod Move
 pub mod Parts
+pub mod Passing
 pub mod Queueing
 pub mod Run
 pub mod Select

@@ -1,10 +1,11 @@
 -- Private to the proofs: no contract of a public item cites what stands here.
 -- The parts of a machine at the start of a run.
-use Rattle.std.specs.Prelude.{◌≡◌, ◌<◌, ◌≤◌, false, [], length, replicate}
+use Rattle.std.specs.Prelude.{◌≡◌, ◌<◌, ◌≤◌, false, [], length, replicate, IfSome}
 use Rattle.sedscript.specs.Script.{Program}
 use Rattle.sedengine.specs.Limits.{Limits}
 use Rattle.sedengine.specs.Fitting.{AllFit, RoomToSeek, Seek}
 use Rattle.sedengine.specs.Inside.{FillsHold}
+use Rattle.sedengine.specs.Passing.{IsIdleOf}
 use Rattle.sedengine.specs.declared.machine.parts.Parts.{Parts}
 use Rattle.sedengine.specs.declared.machine.parts.Store.{Store}
 use Rattle.sedengine.specs.declared.machine.parts.Seekers.{Seekers}
@@ -23,6 +24,6 @@ AreSeekers p l s = Seek p.expressions l.nodes s.matchers.items
     × (0 < length p.expressions → s.scratch.text ≡ l.space) × AllFit s.scratch.nodes s.matchers.items
     × RoomToSeek p.substitutions p.expressions l.space s.seeking
 
--- all of them, and no range active
+-- all of them, what was found out of the commands, and no range active
 abbrev pub AreParts : Program → Limits → Parts → Type 0
-AreParts p l s = (s.ranges.items ≡ replicate (length p.commands) false) × IsStore p l s.store × AreSeekers p l s.seekers
+AreParts p l s = (s.ranges.items ≡ replicate (length p.commands) false) × IfSome s.idle (IsIdleOf p) × IsStore p l s.store × AreSeekers p l s.seekers

@@ -7,17 +7,20 @@
 //! addresses of a command, `machine/commands` acts, with a file beside it for each family: `deleting` for `c`, `d` and `D`,
 //! `holding` for `g`, `G`, `h`, `H` and `x`, `next` for `n` and `N`, `queueing` for `a` and `r`, `replacing` for `s`, `t` and
 //! `y`. `substitute` makes the text of `s`, `listing` that of `l`, `flushing` writes the queue, and `machine/moves` goes on to
-//! the end. All of them write through `meter`, which limits what each sink gains. What a machine holds is made in
+//! the end; between cycles `machine/passing` passes over lines that no command touches, with `idle`, `block` and `patience`.
+//! All of them write through `meter`, which limits what each sink gains. What a machine holds is made in
 //! `machine/parts`. `specs/Bringing`, `Calls`, `Choose`, `Fitting`, `Flushing`, `Holding`, `Inside`, `ListingParts`, `Meters`,
-//! `Parts`, `Queueing`, `Steps`, `SubstituteCalls` and `SubstituteParts` are private to this crate: what its calls promise one
+//! `Parts`, `Passing`, `Queueing`, `Steps`, `SubstituteCalls` and `SubstituteParts` are private to this crate: what its calls promise one
 //! another.
 //!
 //! Where a new command goes is told in docs/ARCHITECTURE.md.
 #![tactic(auto)]
 
+mod block;
 mod ends;
 mod engine;
 mod flushing;
+mod idle;
 pub mod laws;
 mod limits;
 mod listing;
@@ -25,6 +28,7 @@ mod machine;
 mod matchers;
 mod meter;
 mod needs;
+mod patience;
 mod place;
 mod select;
 mod substitute;

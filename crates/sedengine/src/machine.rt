@@ -18,13 +18,16 @@ mod holding;
 mod moves;
 mod next;
 mod parts;
+mod passing;
 mod queueing;
 mod replacing;
 mod tasks;
 
 use crate::ends::{Ended, Held, Progress};
+use crate::idle::Idle;
 use crate::limits::Limits;
 use crate::meter::Sinks;
+use crate::patience::Patience;
 use crate::place::Place;
 use parts::Parts;
 use sedmatch::{Occurrences, Scratch, TableMatcher};
@@ -49,6 +52,10 @@ pub(crate) struct Machine {
     matchers: Vec<TableMatcher>,
     // For each command, whether its range is active.
     ranges: Vec<bool>,
+    // What is needed of a line that no command touches, where that is known,
+    idle: Option<Idle>,
+    // and when such lines are sought.
+    patience: Patience,
     // The number of the regular expression last used.
     used: Option<usize>,
     // Whether a substitution was made, as the command `t` sees it.
@@ -105,6 +112,7 @@ impl Machine {
     {
         let Parts {
             ranges,
+            idle,
             store,
             seekers,
         } = parts;
@@ -119,6 +127,8 @@ impl Machine {
             seeking: seekers.seeking,
             matchers: seekers.matchers,
             ranges,
+            idle,
+            patience: Patience::new(),
             used: None,
             replaced: false,
             number: 0,

@@ -4,7 +4,7 @@
 //! gained since the engine was opened; where no limit is set nothing is counted.
 ghost use Rattle.std.specs.Prelude.{◌≡◌, ◌≢◌, ◌<◌, ◌≤◌, ℕ, IfOk, length, min, replicate};
 ghost use Rattle.sedengine.specs.Move.{to_sink};
-ghost use Rattle.sedengine.specs.Calls.{Delivers, Puts};
+ghost use Rattle.sedengine.specs.Calls.{Delivers, Puts, WritesPart, end_of};
 ghost use Rattle.sedengine.specs.Meters.{Counts, Fills, FitsIn, InLimit, Meter, Sent, SinkView, counted};
 
 use crate::ends::Ended;
@@ -77,6 +77,15 @@ impl Meter {
     }
 }
 
+/// Where a write was refused.
+#[derive(Clone, Copy)]
+pub(crate) struct Cut {
+    /// How many bytes the sink had gained by then.
+    pub(crate) done: usize,
+    /// The end of the run.
+    pub(crate) end: Ended,
+}
+
 /// Where the machine's calls write. A write that is refused names the end of the run.
 pub(crate) trait Sinks {
     /// How many sinks there are.
@@ -91,6 +100,12 @@ pub(crate) trait Sinks {
         requires { sink < count self.old }
         ensures puts { Puts (Sent (tally self.old) (tally self.new)) (to_sink sink bytes.now) result }
         ensures devices { Delivers tally count self.old self.new result };
+
+    /// The same, which tells at an `Err` how many bytes the sink has gained.
+    fn write_part(&mut self, sink: usize, bytes: &[u8]) -> Result<(), Cut>
+        requires { sink < count self.old }
+        ensures writes { WritesPart (Sent (tally self.old) (tally self.new)) sink bytes.now result }
+        ensures devices { Delivers tally count self.old self.new (end_of result) };
 }
 
 /// Outputs with a meter.
@@ -117,14 +132,23 @@ impl<'a, O: Outputs> Sinks for Metered<'a, O> {
     } };
 
     fn write_all(&mut self, sink: usize, bytes: &[u8]) -> Result<(), Ended> {
+        match self.write_part(sink, bytes) {
+            Ok(()) => Ok(()),
+            Err(cut) => Err(cut.end),
+        }
+    }
+
+    fn write_part(&mut self, sink: usize, bytes: &[u8]) -> Result<(), Cut> {
         let room = self.meter.room(sink, bytes.len());
         if let Err(done) = write_all(&mut *self.outputs, sink, &bytes[..room]) {
             self.meter.add(sink, done);
-            return Err(Ended::OutputBroken(sink));
+            let end = Ended::OutputBroken(sink);
+            return Err(Cut { done, end });
         }
         self.meter.add(sink, room);
         if room < bytes.len() {
-            return Err(Ended::OutputFull(sink));
+            let end = Ended::OutputFull(sink);
+            return Err(Cut { done: room, end });
         }
         Ok(())
     }

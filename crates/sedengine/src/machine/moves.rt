@@ -64,6 +64,9 @@ impl Machine {
         // The engine is open from here on, so its state is known to be within the limits.
         let _ = &self.turns;
         'moves: loop {
+            if let Err(end) = self.pass_over(lines, outputs) {
+                return end;
+            }
             if let Err(end) = self.step(lines, outputs, texts) {
                 return end;
             }

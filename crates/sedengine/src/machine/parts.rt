@@ -3,6 +3,7 @@
 ghost use Rattle.std.specs.Prelude.{◌≡◌, ◌≤◌, IfOk, false, replicate};
 ghost use Rattle.sedengine.specs.Parts.{AreParts, AreSeekers, IsStore};
 
+use crate::idle::{Idle, idle_of};
 use crate::limits::Limits;
 use crate::matchers::{matchers_of, room_to_search, room_to_seek};
 use crate::needs::{build_room, hold_room};
@@ -15,6 +16,7 @@ use std::alloc::{AllocError, Global};
 #[derive(Drop)]
 pub(super) struct Parts {
     pub(super) ranges: Vec<bool>,
+    pub(super) idle: Option<Idle>,
     pub(super) store: Store,
     pub(super) seekers: Seekers,
 }
@@ -26,10 +28,12 @@ impl Parts {
         ensures { IfOk result (AreParts script.now limits.now) }
     {
         let ranges = idle_ranges(alloc, script.len())?;
+        let idle = idle_of(alloc, script)?;
         let store = Store::new(alloc, script, limits)?;
         let seekers = Seekers::new(alloc, script, limits)?;
         Ok(Parts {
             ranges,
+            idle,
             store,
             seekers,
         })

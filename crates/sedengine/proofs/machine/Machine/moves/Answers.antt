@@ -4,6 +4,7 @@ use Rattle.sedengine.specs.Run.{RunState, at_lines}
 use Rattle.sedengine.proofs.Writing.{Delivers-none, Delivers-then}
 use Rattle.sedengine.proofs.Streams.{Reads-none, Reads-then}
 use Rattle.sedengine.proofs.Runs.{Reached-none, KeepsRun-then, step_on, stop_on}
+use Rattle.sedengine.proofs.PassingRuns.{pass_on, pass_stop}
 use Rattle.sedengine.proofs.Tasks.{fits_of}
 use Rattle.std.proofs.KnownBytes.{Keeps-refl, Keeps-trans}
 use Rattle.sedengine.proofs.Entries.{tells_on}
@@ -28,19 +29,34 @@ returns-in-Err-clause-ends g c = λ sound ls known files told.
     let h = c.moves.invariant in
     let r = h.reached sound ls known files told in
     let input = Reads-then _ _ _ _ _ _ _ h.input c.in-Err.ensures.input in
-    stop_on g.R.ByteSource.remaining c.args.lines.now c.moves.lines c.step.new.lines files c.args.self.now _ c.moves.self _ _ _ h.same r c.step.new.self c.in-Err.end
-    (c.in-Err.ensures.steps (h.input.sound sound) r.rest r.taken.known files (tells_on _ _ files told h.kept)) input.shrinks input.ahead c.requires.look (λ is. input.broken (ap Err is) sound)
+    pass_stop g.R.ByteSource.remaining c.args.lines.now c.moves.lines c.pass_over.new.lines files c.args.self.now _ c.moves.self _ _ _ h.same r c.pass_over.new.self c.in-Err.end
+    (c.in-Err.ensures.steps r.rest r.taken.known files) input.shrinks input.ahead c.requires.look (λ is. input.broken (ap Err is) sound)
+
+pub returns-in-Err-step-clause-input : goal.returns-in-Err-step-clause-input
+returns-in-Err-step-clause-input g c = Reads-then _ _ _ _ _ _ _ (Reads-then _ _ _ _ _ _ _ c.moves.invariant.input c.in_default.ensures.input) c.in-Err-step.ensures.input
+
+pub returns-in-Err-step-clause-ends : goal.returns-in-Err-step-clause-ends
+returns-in-Err-step-clause-ends g c = λ sound ls known files told.
+    let h = c.moves.invariant in
+    let r = h.reached sound ls known files told in
+    let passed = Reads-then _ _ _ _ _ _ _ h.input c.in_default.ensures.input in
+    let input = Reads-then _ _ _ _ _ _ _ passed c.in-Err-step.ensures.input in
+    let there = pass_on g.R.ByteSource.remaining c.args.lines.now c.moves.lines c.pass_over.new.lines files c.args.self.now _ c.moves.self _ _ _ h.same r c.pass_over.new.self (c.in_default.ensures.steps r.rest r.taken.known files) in
+    stop_on g.R.ByteSource.remaining c.args.lines.now c.pass_over.new.lines c.step.new.lines files c.args.self.now _ c.pass_over.new.self _ _ _ (KeepsRun-then h.same c.in_default.ensures.same) there c.step.new.self c.in-Err-step.end
+    (c.in-Err-step.ensures.steps (passed.sound sound) there.rest there.taken.known files (tells_on _ _ files told h.kept)) input.shrinks input.ahead c.requires.look (λ is. input.broken (ap Err is) sound)
 
 pub moves-preserved : goal.moves-preserved
 moves-preserved g c =
     let h = c.moves.invariant in
+    let passed = Reads-then _ _ _ _ _ _ _ h.input c.in_default.ensures.input in
     record {
-      same = KeepsRun-then h.same c.step.ensures.same;
-      input = Reads-then _ _ _ _ _ _ _ h.input c.in_default.ensures.input;
-      output = Delivers-then _ _ _ _ _ _ h.output c.in_default.ensures.output;
-      kept = λ j. Keeps-trans _ _ _ (h.kept j) (c.in_default.ensures.kept j);
+      same = KeepsRun-then (KeepsRun-then h.same c.in_default.ensures.same) c.step.ensures.same;
+      input = Reads-then _ _ _ _ _ _ _ passed c.in_default-step.ensures.input;
+      output = Delivers-then _ _ _ _ _ _ (Delivers-then _ _ _ _ _ _ h.output c.in_default.ensures.output) c.in_default-step.ensures.output;
+      kept = λ j. Keeps-trans _ _ _ (h.kept j) (c.in_default-step.ensures.kept j);
       reached = λ sound ls known files told.
           let r = h.reached sound ls known files told in
-          step_on g.R.ByteSource.remaining c.args.lines.now c.moves.lines c.step.new.lines files c.args.self.now _ c.moves.self _ _ _ h.same r c.step.new.self
-          (c.in_default.ensures.steps (h.input.sound sound) r.rest r.taken.known files (tells_on _ _ files told h.kept));
+          let there = pass_on g.R.ByteSource.remaining c.args.lines.now c.moves.lines c.pass_over.new.lines files c.args.self.now _ c.moves.self _ _ _ h.same r c.pass_over.new.self (c.in_default.ensures.steps r.rest r.taken.known files) in
+          step_on g.R.ByteSource.remaining c.args.lines.now c.pass_over.new.lines c.step.new.lines files c.args.self.now _ c.pass_over.new.self _ _ _ (KeepsRun-then h.same c.in_default.ensures.same) there c.step.new.self
+          (c.in_default-step.ensures.steps (passed.sound sound) there.rest there.taken.known files (tells_on _ _ files told h.kept));
     }

@@ -6,6 +6,6 @@ use Rattle.sedengine.proofs.machine.Machine.of.Goals as goal
 
 pub returns : goal.returns
 returns c =
-    let (ranges, (pattern, hold, _, _, _, _, queue), _) = c.requires.parts in
+    let (ranges, _, (pattern, hold, _, _, _, _, queue), _) = c.requires.parts in
     let idle = ranges ∙ splat_is_map c.args.script.commands _ false refl in
     opened c.args.script c.args.script c.args.limits _ _ _ _ refl (ap (λ (s : Contents). s.bytes) pattern) hold (ap (λ (s : Entries). s.items) queue) idle

@@ -1,0 +1,356 @@
+-- Private to the proofs: no contract of a public item cites what stands here.
+-- Lines that no command of a script touches.
+use Rattle.std.specs.Prelude.{◌≡◌, ℕ, zero, suc, ◌+◌, ◌*◌, ◌<◌, ◌≤◌, ◌⊎◌, Bool, true, false, Option, Some, None, Result, Ok, Err, List, [], ◌∷◌, ◌++◌, length, take, is_some, slice_get, slice_index_or, nat_eq, if◌then◌else◌}
+use Rattle.std.specs.List.{All, Contains}
+use Rattle.std.specs.Option.{option_or, option_map}
+use Rattle.sedspace.specs.Stream.{Stream, left}
+use Rattle.sedscript.specs.declared.types.Address.{Address}
+use Rattle.sedscript.specs.declared.types.Address.TheVariants.{Line, Last, Match}
+use Rattle.sedscript.specs.declared.types.Command.{Command}
+use Rattle.sedscript.specs.declared.types.Action.{Action}
+use Rattle.sedscript.specs.declared.types.Action.TheVariants.{Block, Branch, Substitute, Test}
+use Rattle.sedscript.specs.declared.substitution.Substitution.{Substitution}
+use Rattle.sedscript.specs.Ranges.{IsOneOf}
+use Rattle.sedscript.specs.Script.{Program}
+use Rattle.sedre.specs.Arena.{Written}
+use Rattle.sedspace.specs.Lines.{lines, AreWholeLines, HasNoNewline}
+use Rattle.sedengine.specs.Limits.{Limits}
+use Rattle.sedengine.specs.State.{begin, do_at, State, Setting}
+use Rattle.sedengine.specs.Move.{after, at_end, newline, none_left, to_sink, written}
+use Rattle.sedengine.specs.Calls.{WritesPart}
+use Rattle.sedengine.specs.declared.meter.Cut.{Cut}
+use Rattle.sedengine.specs.Ends.{Cause, WithinLimits, Within, named_sink}
+use Rattle.sedengine.specs.Held.{HoldsAt}
+use Rattle.sedengine.specs.Run.{RunState, LosesPartAfter, at_lines, finds_in, lost, size_of}
+use Rattle.sedengine.specs.Steps.{TakesLines}
+use Rattle.sedengine.specs.declared.ends.Ended.{Ended}
+use Rattle.sedengine.specs.declared.idle.Need.{Need}
+use Rattle.sedengine.specs.declared.idle.Need.TheVariants.{NoMatch, OtherNumber, NotLast, Nothing}
+use Rattle.sedengine.specs.declared.idle.Idle.{Idle}
+use Rattle.sedengine.specs.declared.block.Extent.{Extent}
+use Rattle.sedengine.specs.declared.machine.passing.IdleLines.{IdleLines}
+
+-- what an address needs to select nothing
+abbrev pub need_of_address : Address → Option Need
+need_of_address (Line n) = Some (OtherNumber n)
+need_of_address Last = Some NotLast
+need_of_address (Match e) = option_map NoMatch e
+
+abbrev pub need_of_substitution : Option Substitution → Option Need
+need_of_substitution None = None
+need_of_substitution (Some t) = option_map NoMatch t.expression
+
+-- without an address: `s` that finds nothing, `t` where nothing was substituted, `{` and `b`, which only go on elsewhere
+abbrev pub need_of_action : List Substitution → Action → Option Need
+need_of_action ts (Substitute k) = need_of_substitution (slice_get ts k)
+need_of_action ts (Test k) = Some Nothing
+need_of_action ts (Block k) = Some Nothing
+need_of_action ts (Branch k) = Some Nothing
+need_of_action ts other = None
+
+abbrev pub need_by : List Substitution → Option Address → Action → Option Need
+need_by ts (Some first) action = need_of_address first
+need_by ts None action = need_of_action ts action
+
+-- what a command needs, if that is known. Of one with two addresses it is known where its range is idle; of one with `!`
+-- nothing is
+abbrev pub need_of : List Substitution → Option Command → Option Need
+need_of ts None = None
+need_of ts (Some c) = if c.negate then None else need_by ts c.first c.action
+
+-- where the script goes on behind command k, if that does nothing
+abbrev pub behind_by : Option Address → Action → ℕ → ℕ
+behind_by (Some first) (Block next) k = next
+behind_by None (Branch target) k = target
+behind_by first action k = k + 1
+
+abbrev pub behind : Option Command → ℕ → ℕ
+behind None k = k
+behind (Some c) k = behind_by c.first c.action k
+
+-- the number of the command of a script that is reached after j others, if these do nothing
+unfoldable pub place_at : List Command → ℕ → ℕ
+place_at cs zero = 0
+place_at cs (suc j) = behind (slice_get cs (place_at cs j)) (place_at cs j)
+
+-- what that command needs, where the script's substitutions are these
+abbrev pub need_at : List Command → List Substitution → ℕ → Option Need
+need_at cs ts j = need_of ts (slice_get cs (place_at cs j))
+
+-- the expression that a command judges
+abbrev pub judged_by : Option Need → Option ℕ
+judged_by (Some (NoMatch e)) = Some e
+judged_by other = None
+
+-- the expression that the first j of these commands judge last
+unfoldable pub judged : List Command → List Substitution → ℕ → Option ℕ
+judged cs ts zero = None
+judged cs ts (suc j) = option_or (judged_by (need_at cs ts j)) (judged cs ts j)
+
+-- A script that leaves lines alone: c commands are reached on such a line, of each it is known what it needs, and then the
+-- script ends.
+pub record IsIdle (cs : List Command) (ts : List Substitution) (c : ℕ) : Type 0 where
+  pub needs : (j : ℕ) → j < c → is_some (need_at cs ts j) ≡ true
+  pub ends : slice_get cs (place_at cs c) ≡ None
+
+-- one of these commands has this need
+abbrev pub Asks : List Command → List Substitution → ℕ → Need → Type 0
+Asks cs ts c need = (j : ℕ) × (j < c) × (need_at cs ts j ≡ Some need)
+
+-- What was found out of the commands that are reached first, as far as all of them are known.
+pub record Walked (cs : List Command) (ts : List Substitution) (i : Idle) : Type 0 where
+  pub place : i.place ≡ place_at cs i.reached
+  pub needs : (j : ℕ) → j < i.reached → is_some (need_at cs ts j) ≡ true
+  pub judged : i.judged ≡ judged cs ts i.reached
+  pub last : Asks cs ts i.reached NotLast → i.asks_last ≡ true
+  pub expressions : (e : ℕ) → Asks cs ts i.reached (NoMatch e) → Contains i.expressions.items e
+
+-- One more command was found to have this need, behind which the script goes on at this place.
+pub record Notes (old new : Idle) (need : Need) (place : ℕ) : Type 0 where
+  pub reached : new.reached ≡ old.reached + 1
+  pub next : new.place ≡ place
+  pub judged : new.judged ≡ option_or (judged_by (Some need)) old.judged
+  pub asks : need ≡ NotLast → new.asks_last ≡ true
+  pub asked : old.asks_last ≡ true → new.asks_last ≡ true
+  pub expression : (e : ℕ) → need ≡ NoMatch e → Contains new.expressions.items e
+  pub expressions : (e : ℕ) → Contains old.expressions.items e → Contains new.expressions.items e
+
+-- What was found out of all of them.
+pub record Describes (cs : List Command) (ts : List Substitution) (i : Idle) : Type 0 where
+  pub idle : IsIdle cs ts i.reached
+  pub judged : i.judged ≡ judged cs ts i.reached
+  pub last : Asks cs ts i.reached NotLast → i.asks_last ≡ true
+  pub expressions : (e : ℕ) → Asks cs ts i.reached (NoMatch e) → Contains i.expressions.items e
+
+-- an expression that is judged is one of so many
+abbrev pub NeedWithin : ℕ → Option Need → Type 0
+NeedWithin n (Some (NoMatch e)) = e < n
+NeedWithin n other = Unit {0}
+
+-- what was found out of the commands of a script
+pub record IsIdleOf (p : Program) (i : Idle) : Type 0 where
+  pub describes : Describes p.commands p.substitutions i
+  pub judged : IsOneOf (length p.expressions) i.judged
+  pub few : i.reached ≤ 64
+
+-- no range of these commands is active
+abbrev pub RangesIdle : List Command → ℕ → List Bool → Type 0
+RangesIdle cs c ranges = (j : ℕ) → j < c → slice_index_or ranges (place_at cs j) false ≡ false
+
+-- none of these commands asks for the number of one of so many lines after the one of this number
+abbrev pub IsClear : List Command → List Substitution → ℕ → ℕ → ℕ → Type 0
+IsClear cs ts c number most = (n : ℕ) → Asks cs ts c (OtherNumber n) → (n ≤ number) ⊎ (number + most < n)
+
+-- What was found out of the first j commands that are reached, after which the one of this place is.
+pub record Cleared (cs : List Command) (ts : List Substitution) (ranges : List Bool) (number j place most : ℕ) : Type 0 where
+  pub at : place ≡ place_at cs j
+  pub idle : RangesIdle cs j ranges
+  pub clear : IsClear cs ts j number most
+
+-- the same in a setting
+abbrev pub IsIdleIn : Setting → ℕ → Type 0
+IsIdleIn g c = IsIdle g.commands g.substitutions c
+
+abbrev pub AsksIn : Setting → ℕ → Need → Type 0
+AsksIn g c need = Asks g.commands g.substitutions c need
+
+abbrev pub judged_in : Setting → ℕ → Option ℕ
+judged_in g c = judged g.commands g.substitutions c
+
+-- a line of a number has what a need asks for; `last` says whether it is the last one
+abbrev pub Meets : Setting → ℕ → Bool → List ℕ → Need → Type 0
+Meets g number last line (NoMatch e) = g.finds e line ≡ false
+Meets g number last line (OtherNumber n) = nat_eq n number ≡ false
+Meets g number last line NotLast = last ≡ false
+Meets g number last line Nothing = Unit {0}
+
+-- a line that each of these commands leaves alone
+abbrev pub LeftAlone : Setting → ℕ → ℕ → Bool → List ℕ → Type 0
+LeftAlone g c number last line = (need : Need) → AsksIn g c need → Meets g number last line need
+
+-- Lines after the one of this number, each of which is left alone; `rest` are those after them.
+abbrev pub AllLeftAlone : Setting → ℕ → ℕ → List (List ℕ) → List (List ℕ) → Type 0
+AllLeftAlone g c number [] rest = Unit {0}
+AllLeftAlone g c number (line ∷ lines) rest =
+    LeftAlone g c (number + 1) (none_left (lines ++ rest)) line × AllLeftAlone g c (number + 1) lines rest
+
+-- What is asked of a block of lines after the one of this number: that no expression has a match in one of them, that no
+-- number is that of one of them, and that lines are left where it matters; `rest` are those after the block.
+pub record BlockLeftAlone (g : Setting) (c number : ℕ) (lines rest : List (List ℕ)) : Type 0 where
+  pub matches : (e : ℕ) → AsksIn g c (NoMatch e) → All (λ line. g.finds e line ≡ false) lines
+  pub numbers : (n : ℕ) → AsksIn g c (OtherNumber n) → (n ≤ number) ⊎ (number + length lines < n)
+  pub last : AsksIn g c NotLast → none_left rest ≡ false
+
+-- an expression that has no match in a text is found nowhere in it
+abbrev pub FindsAsItSearches : Setting → Type 0
+FindsAsItSearches g = (e : ℕ) (w : List ℕ) → g.finds e w ≡ false → g.search e w 0 ≡ None
+
+-- lines, each with its newline
+abbrev pub bytes_of : List (List ℕ) → List ℕ
+bytes_of [] = []
+bytes_of (line ∷ lines) = line ++ newline ∷ bytes_of lines
+
+-- a line that stands in these bytes, with its newline
+pub record IsLineOf (line all : List ℕ) : Type 0 where
+  pub before : List ℕ
+  pub behind : List ℕ
+  pub is : all ≡ before ++ (line ++ newline ∷ behind)
+
+-- what is written of lines that are left alone
+abbrev pub passed_out : Bool → List (List ℕ) → List (ℕ × ℕ)
+passed_out quiet lines = if quiet then [] else to_sink 0 (bytes_of lines)
+
+-- the state after k lines, one or more, that are left alone by c commands
+abbrev pub passed : Setting → ℕ → ℕ → List (List ℕ) → State → State
+passed g c k rest s = record s {
+  lines = rest;
+  number = s.number + k;
+  replaced = false;
+  used = option_or (judged_in g c) s.used;
+  turns = s.turns + k * (c + 1);
+}
+
+-- the engine after k such lines
+abbrev pub engine_after : RunState → Setting → ℕ → ℕ → RunState
+engine_after e g c k = record e { state = record (passed g c k [] e.state) { lines = e.state.lines } }
+
+-- the moves of one cycle in which c commands do nothing: it begins, reaches them and the end of the script, writes the pattern
+-- space and the queue, and empties the pattern space
+abbrev pub moves_of : ℕ → ℕ
+moves_of c = c + 5
+
+-- the first t moves from a state lead to another one within the limits, and write this
+pub record Went (l : Limits) (g : Setting) (s now : State) (out : List (ℕ × ℕ)) (t : ℕ) : Type 0 where
+  pub is : after g s t ≡ now
+  pub wrote : written g s t ≡ out
+  pub within : Within l g s t
+
+-- A state between cycles, from which lines may be passed over.
+pub record CanPass (l : Limits) (g : Setting) (c : ℕ) (s : State) : Type 0 where
+  pub fits : WithinLimits l s
+  pub begins : s.tasks ≡ begin ∷ []
+  pub empty : s.pattern ≡ []
+  pub none : s.queue ≡ []
+  pub ranges : RangesIdle g.commands c s.ranges
+
+-- the state in which the line after k others that are left alone is about to be written
+abbrev pub line_due : Setting → ℕ → ℕ → List ℕ → List (List ℕ) → State → State
+line_due g c k line rest s = record s {
+  lines = rest;
+  number = s.number + k + 1;
+  pattern = line;
+  replaced = false;
+  used = option_or (judged_in g c) s.used;
+  tasks = at_end;
+  turns = s.turns + k * (c + 1) + 1 + c;
+}
+
+-- Moves were made, if any, which led to this state; cycles may have started meanwhile.
+pub record Passed (l : Limits) (g : Setting) (s now : State) (gained : List (ℕ × ℕ) → Type 0) : Type 0 where
+  pub t : ℕ
+  pub is : after g s t ≡ now
+  pub within : Within l g s t
+  pub sinks : gained (written g s t)
+
+-- Moves were made, and then the end came; cycles may have started meanwhile.
+pub record StoppedPassing (l : Limits) (g : Setting) (s now : State) (gained : List (ℕ × ℕ) → Type 0) (end : Ended) : Type 0 where
+  pub t : ℕ
+  pub cause : Cause l g s gained end t
+  pub holds : HoldsAt g s t now (named_sink end)
+  pub lines : (after g s t).lines ≡ now.lines
+
+-- Moves were made that took these lines, and then the end came.
+pub record HaltedPassing {R : Type 0} (remaining : R → Option (List ℕ)) (old new : Stream R) (l : Limits) (g : Setting)
+    (s : State) (e : RunState) (gained : List (ℕ × ℕ) → Type 0) (end : Ended) : Type 0 where
+  pub rest : List (List ℕ)
+  pub stopped : StoppedPassing l g s (at_lines e rest) gained end
+  pub lines : List (List ℕ)
+  pub are : s.lines ≡ lines ++ rest
+  pub bytes : LosesPartAfter (left remaining old) (left remaining new) (size_of lines) (lost l end)
+
+-- What a call answers that makes moves from the state s, of one cycle or more, and may take lines.
+abbrev pub StepsPassing : {R : Type 0} → (R → Option (List ℕ)) → Stream R → Stream R → List (List ℕ) → Limits → Setting →
+    State → RunState → (List (ℕ × ℕ) → Type 0) → Result Unit Ended → Type 0
+StepsPassing remaining old new ls l g s e' gained (Ok u) =
+    (rest : List (List ℕ)) × TakesLines remaining old new ls rest × Passed l g s (at_lines e' rest) gained
+StepsPassing remaining old new ls l g s e' gained (Err end) = HaltedPassing remaining old new l g s e' gained end
+
+-- the first lines of a block, at most so many
+pub record IsExtent (bytes : List ℕ) (most : ℕ) (x : Extent) : Type 0 where
+  pub within : x.bytes ≤ length bytes
+  pub whole : AreWholeLines (take x.bytes bytes)
+  pub count : x.lines ≡ length (lines (take x.bytes bytes))
+  pub few : x.lines ≤ most
+
+-- no line of the text that ends before a place has a match of this expression
+abbrev pub ClearTo : List Written → ℕ → List ℕ → ℕ → Type 0
+ClearTo expressions e text end =
+    (before line behind : List ℕ) → text ≡ before ++ (line ++ newline ∷ behind) → length before + length line < end →
+    finds_in expressions e line ≡ false
+
+-- The first of these bytes, as many as the block has, are lines that no command touches, and which may be passed over.
+pub record PassesOver (e : RunState) (ahead : List ℕ) (b : IdleLines) : Type 0 where
+  pub idle : IsIdle e.script.commands e.script.substitutions b.reached
+  pub ranges : RangesIdle e.script.commands b.reached e.state.ranges
+  pub none : e.state.queue ≡ []
+  pub judged : b.judged ≡ judged e.script.commands e.script.substitutions b.reached
+  pub one : IsOneOf (length e.script.expressions) b.judged
+  pub few : b.reached ≤ 64
+  pub some : 0 < b.lines
+  pub within : b.bytes ≤ length ahead
+  pub whole : AreWholeLines (take b.bytes ahead)
+  pub count : b.lines ≡ length (lines (take b.bytes ahead))
+  pub short : b.bytes ≤ e.limits.space
+  pub turns : e.state.turns + b.lines * (b.reached + 1) ≤ e.limits.turns
+  pub clear : IsClear e.script.commands e.script.substitutions b.reached e.state.number b.lines
+  pub matches : (x : ℕ) → Asks e.script.commands e.script.substitutions b.reached (NoMatch x) →
+      All (λ line. finds_in e.script.expressions x line ≡ false) (lines (take b.bytes ahead))
+  pub last : Asks e.script.commands e.script.substitutions b.reached NotLast → b.bytes < length ahead
+
+-- the engine after a block was passed over
+abbrev pub counted_block : RunState → IdleLines → RunState
+counted_block e b = record e {
+  state = record e.state {
+    number = e.state.number + b.lines;
+    replaced = false;
+    used = option_or b.judged e.state.used;
+    turns = e.state.turns + b.lines * (b.reached + 1);
+  };
+}
+
+-- the engine that has this line in the pattern space, and is to write it
+abbrev pub line_brought : RunState → List ℕ → RunState
+line_brought e line = record e {
+  state = record e.state { pattern = line; tasks = do_at (length e.script.commands) ∷ [] };
+}
+
+-- After `done` of these bytes a sink took no more: the line in which that was, or after which its newline was due, was brought to
+-- the pattern space, and the lines before it are gone.
+pub record BreaksOff {R : Type 0} (old new : Stream R) (e e' : RunState) (done : ℕ) : Type 0 where
+  pub start : ℕ
+  pub line : List ℕ
+  pub rest : List ℕ
+  pub whole : AreWholeLines (take start old.ahead)
+  pub are : old.ahead ≡ take start old.ahead ++ (line ++ newline ∷ rest)
+  pub within : start + length line < length old.ahead
+  pub clear : HasNoNewline line
+  pub before : start ≤ done
+  pub inside : done ≤ start + length line
+  pub taken : new ≡ record old { ahead = rest }
+  pub brought : e' ≡ line_brought e line
+
+-- the same within the first of these bytes
+abbrev pub BreaksOffBy : {R : Type 0} → Stream R → Stream R → RunState → RunState → ℕ → ℕ → Type 0
+BreaksOffBy old new e e' done bytes = (x : BreaksOff old new e e' done) × (x.start + length x.line < bytes)
+
+-- So many lines may be passed over, if no command touches them for what they hold.
+pub record AllowsLines (e : RunState) (c most : ℕ) : Type 0 where
+  pub none : e.state.queue ≡ []
+  pub ranges : RangesIdle e.script.commands c e.state.ranges
+  pub clear : IsClear e.script.commands e.script.substitutions c e.state.number most
+  pub turns : e.state.turns + most * (c + 1) ≤ e.limits.turns
+
+-- Lines were written as they are, unless default output is suppressed, or the standard output took no more after so many bytes.
+abbrev pub WritesLines : (List (ℕ × ℕ) → Type 0) → Bool → List ℕ → Result Unit Cut → Type 0
+WritesLines gained quiet bytes (Ok u) = gained (if quiet then [] else to_sink 0 bytes)
+WritesLines gained quiet bytes (Err cut) = (quiet ≡ false) × WritesPart gained 0 bytes (Err cut)

@@ -1,0 +1,207 @@
+//! Lines that no command touches are passed over, a block at a time.
+ghost use Rattle.std.specs.Prelude.{◌≡◌, ◌<◌, ◌≤◌, ◌+◌, ◌*◌, [], ◌∷◌, None, OnOk, IfSome, IsTrue, ℕ, List, is_some, length, take, true};
+ghost use Rattle.std.specs.Option.{ForSome};
+ghost use Rattle.sedscript.specs.Ranges.{IsOneOf};
+ghost use Rattle.sedspace.specs.Lines.{AreWholeLines};
+ghost use Rattle.sedspace.specs.Stream.{lines_left};
+ghost use Rattle.sedengine.specs.State.{begin};
+ghost use Rattle.sedengine.specs.Meters.{Sent};
+ghost use Rattle.sedengine.specs.Calls.{Reads, Delivers, end_of};
+ghost use Rattle.sedengine.specs.Run.{at_lines, setting};
+ghost use Rattle.sedengine.specs.Steps.{KeepsRun, weight};
+ghost use Rattle.sedengine.specs.Passing.{AllowsLines, BreaksOffBy, PassesOver, StepsPassing, WritesLines, counted_block, need_at};
+
+use super::Machine;
+use crate::block::{clear_end, extent_of, line_length, lines_before};
+use crate::ends::Ended;
+use crate::idle::{Idle, clear_lines};
+use crate::meter::{Cut, Sinks};
+use crate::place::Place;
+use sedspace::{ByteSource, Lines, whole_lines};
+
+/// The first of the bytes ahead, which are lines that no command touches.
+#[derive(Clone, Copy)]
+pub(crate) struct IdleLines {
+    /// How many bytes, with the newlines.
+    pub(crate) bytes: usize,
+    /// How many lines.
+    pub(crate) lines: u64,
+    /// How many commands are reached on each of them.
+    pub(crate) reached: usize,
+    /// The expression that they judge last.
+    pub(crate) judged: Option<usize>,
+}
+
+impl Machine {
+    /// How many lines may be passed over at most, if no command touches them for what they hold.
+    fn most_lines(&self, idle: &Idle) -> Option<u64>
+        requires needs { (j : ℕ) → j < idle.now.reached →
+            is_some (need_at self.now.script.commands self.now.script.substitutions j) ≡ true }
+        requires few { idle.now.reached ≤ 64 }
+        ensures { IfSome result (AllowsLines self.now idle.now.reached) }
+    {
+        if self.queue.len() > 0 {
+            return None;
+        }
+        let most = clear_lines(&self.script, &self.ranges, idle.reached, self.number)?;
+        let turns = self.limits.turns() - self.turns;
+        Some(most.min(turns / (idle.reached as u64 + 1)))
+    }
+
+    /// The first of the lines ahead that no command touches, as far as is told at a look.
+    fn idle_block(&self, ahead: &[u8]) -> Option<IdleLines>
+        ensures { IfSome result (PassesOver self.now ahead.now) }
+    {
+        let Some(idle) = &self.idle else {
+            return None;
+        };
+        let most = self.most_lines(idle)?;
+        let seen = ahead
+            .len()
+            .min(self.limits.space())
+            .min(self.patience.window());
+        let end = clear_end(&self.matchers, &idle.expressions, &ahead[..seen]);
+        let whole = lines_before(ahead, end, idle.asks_last);
+        let extent = extent_of(&ahead[..whole], most);
+        if extent.lines == 0 {
+            return None;
+        }
+        Some(IdleLines {
+            bytes: extent.bytes,
+            lines: extent.lines,
+            reached: idle.reached,
+            judged: idle.judged,
+        })
+    }
+
+    /// The first of the lines ahead that may be passed over. Where there is none, the next try is put off.
+    fn find_block(&mut self, ahead: &[u8]) -> Option<IdleLines>
+        ensures block { IfSome result (PassesOver self.old ahead.now) }
+        ensures same { self.new ≡ self.old }
+    {
+        if whole_lines(ahead) == 0 {
+            return None;
+        }
+        let found = self.idle_block(ahead);
+        if found.is_none() {
+            self.patience.note(0, 0);
+        }
+        found
+    }
+
+    /// Writes lines as they are, unless default output is suppressed.
+    fn write_lines<O: Sinks>(&self, bytes: &[u8], outputs: &mut O) -> Result<(), Cut>
+        requires { 0 < O.count outputs.old }
+        ensures writes { WritesLines (Sent (O.tally outputs.old) (O.tally outputs.new)) self.now.script.quiet bytes.now
+            result }
+        ensures output { Delivers O.tally O.count outputs.old outputs.new (end_of result) }
+    {
+        if self.script.quiet() {
+            return Ok(());
+        }
+        outputs.write_part(0, bytes)
+    }
+
+    /// Counts the block, and goes on after it.
+    fn count_block(&mut self, block: IdleLines)
+        requires turns { self.old.state.turns + block.lines * (block.reached + 1) ≤ self.old.limits.turns }
+        requires few { block.reached ≤ 64 }
+        requires judged { IsOneOf (length self.old.script.expressions) block.judged }
+        ensures { self.new ≡ counted_block self.old block }
+    {
+        // The limit fits its type, so there is room for these turns.
+        let _most = self.limits.turns();
+        self.number += block.lines;
+        self.turns += block.lines * (block.reached as u64 + 1);
+        self.replaced = false;
+        self.used = block.judged.or(self.used);
+        self.patience.note(block.lines, block.bytes);
+    }
+
+    /// Brings the line to the pattern space of which a sink took only a part, after `done` bytes of a block.
+    fn break_off<R: ByteSource>(&mut self, lines: &mut Lines<R>, bytes: usize, done: usize)
+        requires within { bytes ≤ length lines.old.ahead }
+        requires whole { AreWholeLines (take bytes lines.old.ahead) }
+        requires short { bytes ≤ self.old.limits.space }
+        requires done { done < bytes }
+        ensures { BreaksOffBy lines.old lines.new self.old self.new done bytes }
+    {
+        let ahead = lines.ahead();
+        let start = whole_lines(&ahead[..done]);
+        let end = start + line_length(&ahead[start..bytes]);
+        match self.pattern.set(&ahead[start..end]) {
+            Ok(()) => {}
+            Err(_) => unreachable!(),
+        }
+        self.place = Place::Do(self.script.len());
+        lines.take_lines(end + 1);
+    }
+
+    /// Passes over the first of the lines ahead that no command touches.
+    fn pass_ahead<R: ByteSource, O: Sinks>(
+        &mut self,
+        lines: &mut Lines<R>,
+        outputs: &mut O,
+    ) -> Result<(), Ended>
+        requires begins { self.old.state.tasks ≡ begin ∷ [] }
+        requires sink { 0 < O.count outputs.old }
+        ensures steps { ForSome (lines_left R.remaining lines.old) (λ ls. (files : ℕ → List ℕ) →
+            StepsPassing R.remaining lines.old lines.new ls self.old.limits (setting self.old files)
+            (at_lines self.old ls) self.new (Sent (O.tally outputs.old) (O.tally outputs.new)) result) }
+        ensures input { Reads R.remaining R.failures R.reference lines.old lines.new result }
+        ensures output { Delivers O.tally O.count outputs.old outputs.new result }
+        ensures falls { OnOk result (weight self.new ≤ weight self.old) }
+        ensures same { KeepsRun self.old self.new }
+    {
+        // The engine is open from here on, so its state is known to be within the limits.
+        let _ = &self.turns;
+        let ahead = lines.ahead();
+        let Some(block) = self.find_block(ahead) else {
+            return Ok(());
+        };
+        match self.write_lines(&ahead[..block.bytes], outputs) {
+            Ok(()) => {
+                lines.take_lines(block.bytes);
+                self.count_block(block);
+                Ok(())
+            }
+            Err(cut) => {
+                self.break_off(lines, block.bytes, cut.done);
+                Err(cut.end)
+            }
+        }
+    }
+
+    /// Whether lines may be passed over: where a cycle is to begin, and that may pay.
+    #[inline(always)]
+    fn may_pass(&mut self) -> bool
+        ensures begins { IsTrue result → self.old.state.tasks ≡ begin ∷ [] }
+        ensures same { self.new ≡ self.old }
+    {
+        matches!(self.place, Place::Begin) && self.patience.is_due()
+    }
+
+    /// Passes over lines that no command touches, if it may pay.
+    #[inline(always)]
+    pub(super) fn pass_over<R: ByteSource, O: Sinks>(
+        &mut self,
+        lines: &mut Lines<R>,
+        outputs: &mut O,
+    ) -> Result<(), Ended>
+        requires { 0 < O.count outputs.old }
+        ensures steps { ForSome (lines_left R.remaining lines.old) (λ ls. (files : ℕ → List ℕ) →
+            StepsPassing R.remaining lines.old lines.new ls self.old.limits (setting self.old files)
+            (at_lines self.old ls) self.new (Sent (O.tally outputs.old) (O.tally outputs.new)) result) }
+        ensures input { Reads R.remaining R.failures R.reference lines.old lines.new result }
+        ensures output { Delivers O.tally O.count outputs.old outputs.new result }
+        ensures falls { OnOk result (weight self.new ≤ weight self.old) }
+        ensures same { KeepsRun self.old self.new }
+    {
+        // The engine is open from here on, so its state is known to be within the limits.
+        let _ = &self.turns;
+        if self.may_pass() {
+            return self.pass_ahead(lines, outputs);
+        }
+        Ok(())
+    }
+}

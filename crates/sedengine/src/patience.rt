@@ -1,0 +1,61 @@
+//! When lines are worth passing over. No contract hangs on it: whatever is tried, the run is the same.
+
+/// A block of fewer lines than this hardly pays for its search.
+const FEW: u64 = 4;
+
+/// The most cycles that are run before the next try.
+const LONGEST_WAIT: u32 = 1_000;
+
+/// The fewest bytes that a search looks at.
+const LEAST_WINDOW: usize = 8_192;
+
+/// The most.
+const MOST_WINDOW: usize = 1 << 30;
+
+/// How many cycles are run before lines are tried again, and how far a search looks.
+#[derive(Clone, Copy)]
+pub(crate) struct Patience {
+    wait: u32,
+    // How many cycles the last short block made the next one wait.
+    last: u32,
+    window: usize,
+}
+
+impl Patience {
+    /// Nothing was tried yet.
+    pub(crate) fn new() -> Patience {
+        Patience {
+            wait: 0,
+            last: 0,
+            window: LEAST_WINDOW,
+        }
+    }
+
+    /// How many bytes a search looks at.
+    pub(crate) fn window(&self) -> usize {
+        self.window
+    }
+
+    /// Whether lines are to be tried at the start of this cycle.
+    #[inline(always)]
+    pub(crate) fn is_due(&mut self) -> bool {
+        if self.wait == 0 {
+            return true;
+        }
+        self.wait -= 1;
+        false
+    }
+
+    /// Notes how much was passed over: after short blocks more and more cycles are run before the next try. Where several
+    /// expressions are sought, what lies behind the first hit was sought in vain, so the next search looks at a few times
+    /// as many bytes as were passed over.
+    pub(crate) fn note(&mut self, lines: u64, bytes: usize) {
+        if lines < FEW {
+            self.last = (self.last.min(LONGEST_WAIT) * 2 + 1).min(LONGEST_WAIT);
+            self.wait = self.last;
+        } else {
+            self.last = 0;
+        }
+        self.window = bytes.min(MOST_WINDOW / 4).max(LEAST_WINDOW / 4) * 4;
+    }
+}
