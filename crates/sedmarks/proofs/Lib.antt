@@ -2,6 +2,7 @@ pub mod PartLemmas
 pub mod CapsLemmas
 pub mod GroupLemmas
 pub mod MatchingLemmas
+pub mod FollowingLemmas
 pub mod WorkLemmas
 pub mod TailLemmas
 pub mod AheadLemmas

@@ -19,3 +19,5 @@ pub mod RunsAhead
 pub mod Search
 pub mod PartEnds
 pub mod Work
+pub mod NextMatch
+pub mod Following

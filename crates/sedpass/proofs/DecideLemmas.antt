@@ -1,8 +1,8 @@
 -- The groups that are told to be due, as the state of a decision; what nodes and regions cost.
 use Rattle.std.proofs.Common.{◌≡◌, ℕ, zero, suc, ◌+◌, ◌-◌, ◌*◌, ◌<◌, ◌≤◌, ◌↔◌, ◌&&◌, not, Bool, true, false, List, [], ◌∷◌, length, Option, None, Some, IsTrue, refl, sym, ap, ◌∙◌, subst, inl, inr, ⊎_elim, true≢false, arith, mul-le-mul_left}
-use Rattle.std.specs.Prelude.{IfSome, cond, eqb, nat_lt, slice_get, slice_set, slice_index_or}
+use Rattle.std.specs.Prelude.{IfSome, cond, eqb, nat_lt, slice_get, slice_set, slice_index_or, vec_capacity}
 use Rattle.std.specs.Int.{bit_at}
-use Rattle.std.proofs.lemmas.Bool.{and_parts, and_from, or_cases, or_left, or_right, cases_Bool, cases_eq, eqb-true, eq-eqb, lt-ltb, le-ltb}
+use Rattle.std.proofs.lemmas.Bool.{and_parts, and_from, or_cases, or_left, or_right, cases_Bool, cases_eq, cases_lt, eqb-true, eq-eqb, lt-ltb, le-ltb}
 use Rattle.std.proofs.lemmas.Bool.Decides.{eqb_tells}
 use Rattle.std.proofs.lemmas.List.{get_or-set_other, length-set}
 use Rattle.std.proofs.Math.Dec.{ltb}
@@ -19,17 +19,22 @@ use Rattle.sedmarks.specs.Reach.{At, one_start}
 use Rattle.sedre.specs.Arena.{IsArena}
 use Rattle.sedmarks.specs.Spans.{Spans, Copies, no_copy}
 use Rattle.sedmarks.proofs.SpanLemmas.{Spans-forward}
-use Rattle.sedpass.specs.Decide.{found, undecided, HasAll, flags_of, told_of, nodes_in, EndsIn, IsDesk, HasDesk, IsSetAt, owed_in}
-use Rattle.sedpass.specs.Kept.{AllMarked, CeasesAt, IsKept, SameKept, ends_told}
+use Rattle.sedpass.specs.Decide.{found, undecided, HasAll, flags_of, told_of, nodes_in, text_in, EndsIn, IsDesk, HasDesk, IsSetAt, AreGroupTables, AreRoomy, HasSpace, SameRooms, SameTables, owed_in}
+use Rattle.sedpass.specs.Find.{HasGroupRoom}
+use Rattle.sedpass.specs.Kept.{AllMarked, CeasesAt, IsKept, SameKept, SameSpace, ends_told}
 use Rattle.sedpass.specs.Regions.{IsLastIn, all_of, Reaches, StopsAt, RunsTo, IsRunOf, repeated, in_group}
-use Rattle.sedpass.specs.Table.{IsAhead, IsTable, SameShape, MayBegin}
+use Rattle.sedpass.specs.Table.{IsAhead, IsTable, SameRoom, SameShape, MayBegin}
+use Rattle.sedpass.specs.declared.find.Tables.{Tables}
+use Rattle.sedpass.specs.declared.groups.GroupRoom.{GroupRoom}
 use Rattle.sedpass.specs.declared.groups.GroupTables.{GroupTables}
 use Rattle.sedpass.specs.declared.groups.Matched.{Matched}
 use Rattle.sedpass.specs.declared.kept.Kept.{Kept}
 use Rattle.sedpass.specs.declared.kept.Region.{Region}
 use Rattle.sedpass.specs.declared.kept.Subject.{Subject}
 use Rattle.sedpass.specs.declared.table.Table.{Table}
+use Rattle.sedpass.proofs.KeptLemmas.{same_shape}
 use Rattle.sedpass.proofs.LeaveLemmas.{last_inside}
+use Rattle.sedpass.proofs.TableLemmas.{roomy_still}
 use Rattle.sedpass.proofs.OwedLemmas.{owed_small}
 use Rattle.sedpass.proofs.LengthLemmas.{all_long, copies_long}
 use Rattle.sedpass.proofs.MeetingLemmas.{set_early}
@@ -365,6 +370,13 @@ desk_still s inside ahead inside' ahead' kept region table one_end before same s
   };
 }
 
+-- the same tables, and over two calls
+pub tables_same : (t : GroupTables) → SameTables t t
+tables_same t = record { inside = (refl, refl, refl, refl, refl); ahead = (refl, refl, refl, refl, refl) }
+
+pub tables_then : (a b c : GroupTables) → SameTables a b → SameTables b c → SameTables a c
+tables_then a b c one two = record { inside = same_shape a.inside b.inside c.inside one.inside two.inside; ahead = same_shape a.ahead b.ahead c.ahead one.ahead two.ahead }
+
 -- a part that goes on in the region
 pub part_ends : (s : Subject) (old new : Kept) (here : Matched) (part : ℕ) → SameKept old new → IsLastIn (nodes_in s) old.region.root part → EndsIn s old.region here → EndsIn s new.region (record here { node = part })
 part_ends s old new here part same last ends = ends_still s old new (record here { node = part }) same (last, ends.1)
@@ -455,3 +467,70 @@ pub run_told : (nodes : List Node) (groups x : ℕ) (facts : Facts) (run : Optio
     IfSome run (λ c. IsRunOf nodes c x × IsSetAt nodes c)
 run_told nodes groups x facts None expr inside is told = tt
 run_told nodes groups x facts (Some c) expr inside is told = run_found nodes groups x c facts expr inside is told
+
+-- Tables and room that were made.
+
+-- where there is room, groups can be decided
+pub has_desk : (s : Subject) (t : GroupTables) (r : GroupRoom) (text blocks nodes : ℕ) → AreGroupTables s.prepared.now t → HasSpace text blocks nodes r →
+    length (text_in s) ≤ text → length (text_in s) < blocks * (t.inside.room - 1) → length (nodes_in s) ≤ nodes → HasDesk s t r.kept
+has_desk s t r text blocks nodes tables space short cut few = record {
+  inside = tables.inside;
+  places = record {
+    mirrored = ap (λ v. v.mirrored) tables.ways.inside;
+    keeps = ap (λ v. v.keeps) tables.ways.inside;
+    places = (let h = space.places in omega (arith, h, short));
+    blocks = λ b low.
+        let edges = space.edges in
+        ⊎_elim
+        (λ (lt : b < blocks). omega (arith, lt, edges))
+        (λ (ge : blocks ≤ b). let h : blocks * (t.inside.room - 1) ≤ b * (t.inside.room - 1) = mul-le-mul_right (t.inside.room - 1) ge in absurd (omega (arith, h, low, cut)))
+        (cases_lt b blocks);
+    marks = λ q low. (let h = space.marks q low in omega (arith, h, few));
+  };
+  one_end = ap (λ v. v.sweeps) tables.ways.inside;
+  ahead = record {
+    table = tables.ahead;
+    forwards = ap (λ v. v.mirrored) tables.ways.ahead;
+    single = ap (λ v. v.sweeps) tables.ways.ahead;
+    brief = ap (λ v. v.keeps) tables.ways.ahead;
+  };
+}
+
+-- and a match found with its groups
+pub has_group_room : (s : Subject) (t : Tables) (r : GroupRoom) (text blocks nodes : ℕ) → AreGroupTables s.prepared.now t.groups → HasSpace text blocks nodes r →
+    length (text_in s) ≤ text → length (text_in s) < blocks * (t.groups.inside.room - 1) → length (nodes_in s) ≤ nodes → HasGroupRoom s t r
+has_group_room s t r text blocks nodes tables space short cut few = record {
+  desk = has_desk s t.groups r text blocks nodes tables space short cut few;
+  none = space.none;
+  tasks = (let h = space.tasks in omega (arith, h, few));
+}
+
+-- Tables that serve one expression after another.
+
+shape_room : (a b : Table) → SameShape a b → SameRoom a b
+shape_room a b same = (same.0, same.1, same.3, same.4)
+
+room_then : (a b c : Table) → SameRoom a b → SameRoom b c → SameRoom a c
+room_then a b c one two = (two.0 ∙ one.0, two.1 ∙ one.1, two.2 ∙ one.2, two.3 ∙ one.3)
+
+-- after an expression that they were fitted to, they have all their room again
+pub roomy_again : (m : ℕ) (s : Subject) (t fitted after : GroupTables) (kept : Kept) → AreRoomy m t → SameRooms t fitted → SameTables fitted after → HasDesk s after kept → AreRoomy m after
+roomy_again m s t fitted after kept roomy fit used desk =
+    let inside = room_then t.inside fitted.inside after.inside fit.inside (shape_room fitted.inside after.inside used.inside) in
+    let ahead = room_then t.ahead fitted.ahead after.ahead fit.ahead (shape_room fitted.ahead after.ahead used.ahead) in
+    record {
+      ways = record { inside = inside.0 ∙ roomy.ways.inside; ahead = ahead.0 ∙ roomy.ways.ahead };
+      inside = roomy_still m s.prepared.now t.inside after.inside roomy.inside inside desk.inside;
+      ahead = roomy_still m s.prepared.now t.ahead after.ahead roomy.ahead ahead desk.ahead.table;
+    }
+
+-- and so has the room for the groups
+pub space_again : (text blocks nodes : ℕ) (r after : GroupRoom) → HasSpace text blocks nodes r → SameSpace r.kept after.kept → after.tasks.items ≡ [] → vec_capacity r.tasks ≤ vec_capacity after.tasks →
+    HasSpace text blocks nodes after
+space_again text blocks nodes r after space same none grows = record {
+  places = (let h = space.places in let g = same.places in omega (arith, h, g));
+  edges = same.edges ∙ space.edges;
+  marks = λ q low. same.marks q ∙ space.marks q (let g = same.edges in omega (arith, low, g));
+  none = none;
+  tasks = (let h = space.tasks in omega (arith, h, grows));
+}

@@ -1,9 +1,9 @@
 -- What is kept of a pass backwards, and how it comes down by a place.
-use Rattle.std.proofs.Common.{◌≡◌, ℕ, ◌+◌, ◌-◌, ◌*◌, ◌/◌, ◌^◌, ◌<◌, ◌≤◌, ◌↔◌, ◌⊎◌, ⊎_elim, length-set, mul-le-mul_left, mul-le-mul_right, Bool, true, false, List, length, Some, refl, sym, ap, ◌∙◌, subst, arith, true≢false, IsTrue}
+use Rattle.std.proofs.Common.{◌≡◌, ℕ, ◌+◌, ◌-◌, ◌*◌, ◌/◌, ◌^◌, ◌<◌, ◌≤◌, ◌↔◌, ◌⊎◌, ⊎_elim, length-set, mul-le-mul_left, mul-le-mul_right, Bool, true, false, zero, suc, List, [], ◌∷◌, length, Some, refl, sym, ap, ◌∙◌, subst, arith, true≢false, IsTrue}
 use Rattle.std.proofs.Math.Nat.{div-mul-le_self, lt-div-mul-add}
 use Rattle.std.proofs.Math.Bool.{beq}
 use Rattle.std.proofs.lemmas.List.{length-reverse}
-use Rattle.std.specs.Prelude.{min, not, reverse, slice_get, slice_index_or, slice_set}
+use Rattle.std.specs.Prelude.{min, not, reverse, slice_get, slice_index_or, slice_set, vec_capacity}
 use Rattle.std.proofs.lemmas.List.{get_or-set_same, get_or-set_other}
 use Rattle.sedre.specs.Arena.{Written, IsArena}
 use Rattle.sedre.specs.Mirror.{seen}
@@ -18,7 +18,7 @@ use Rattle.sedpass.specs.Regions.{IsLastIn, Opposite, Reaches, Meets}
 use Rattle.sedpass.specs.Prepared.{null_in}
 use Rattle.sedpass.specs.Rows.{bits, RowAt, LeadsTo, IsFirst, SameBytes, at_begin, at_end}
 use Rattle.sedmarks.specs.Words.{AgreeBelow, row_of}
-use Rattle.sedpass.specs.Kept.{starts_told, ends_told, RowKept, KeptAt, IsLive, KeptRoom, IsRegion, Passes, IsEdge, AllMarked, SameKept, EdgesFrom, IsKept}
+use Rattle.sedpass.specs.Kept.{starts_told, ends_told, RowKept, KeptAt, IsLive, KeptRoom, IsRegion, Passes, IsEdge, AllMarked, SameKept, SameSpace, EdgesFrom, IsKept}
 use Rattle.sedpass.specs.Table.{State, state_of, HasRow, LeadsOn, BeginsIn, IsTable, MayBegin, SameShape, AddsStates, IsOffset}
 use Rattle.sedpass.specs.declared.kept.Kept.{Kept}
 use Rattle.sedpass.specs.Rows.{nodes_of}
@@ -142,7 +142,7 @@ kept_down p w way root end q byte edge a b before within got last leads at =
 -- Going back by one byte.
 
 -- the room is as it was
-pub room_kept : (m n : ℕ) (t after : Table) (k other : Kept) → SameShape t after → length other.states.items ≡ length k.states.items → other.edges ≡ k.edges → KeptRoom m n t k → KeptRoom m n after other
+pub room_kept : (m n : ℕ) (t after : Table) (k other : Kept) → SameShape t after → vec_capacity other.states ≡ vec_capacity k.states → other.edges ≡ k.edges → KeptRoom m n t k → KeptRoom m n after other
 room_kept m n t after k other shape places edges room = record {
   mirrored = subst (λ (v : Way). IsTrue v.mirrored) (sym shape.0) room.mirrored;
   keeps = subst (λ (v : Way). IsTrue v.keeps) (sym shape.0) room.keeps;
@@ -152,32 +152,34 @@ room_kept m n t after k other shape places edges room = record {
 }
 
 -- and so is the region
-pub region_kept : (p : Prepared) (w : List ℕ) (t after : Table) (k other : Kept) → SameShape t after → IsTable p after → length other.states.items ≡ length k.states.items → other.edges ≡ k.edges →
+pub region_kept : (p : Prepared) (w : List ℕ) (t after : Table) (k other : Kept) → SameShape t after → IsTable p after → vec_capacity other.states ≡ vec_capacity k.states →
+    length other.states.items ≡ length k.states.items → other.edges ≡ k.edges →
     other.region.root ≡ k.region.root → other.region.end ≡ k.region.end → other.region.to ≤ k.region.end → IsRegion p w t k → IsRegion p w after other
-region_kept p w t after k other shape table places edges root end within region = record {
+region_kept p w t after k other shape table places long edges root end within region = record {
   table = table;
   room = room_kept (length p.expr.nodes) (length w) t after k other shape places edges region.room;
   root = subst (λ v. MayBegin p v other.region.root) (sym shape.0) (subst (λ r. MayBegin p t.way r) (sym root) region.root);
   whole = λ h. end ∙ region.whole (subst (λ (v : Way). IsTrue v.sweeps) shape.0 h);
   inside = rw end region.inside;
   within = rw end within;
+  long = rw long region.long;
 }
 
 -- the pass is at the next place
 pub passes_down : (p : Prepared) (w : List ℕ) (t after : Table) (k other : Kept) (place offset next byte : ℕ) (edge : Bool) →
     Passes p w t k (place + 1) offset → IsTable p after → AddsStates (length p.expr.nodes) t after →
     other.region.root ≡ k.region.root → other.region.end ≡ k.region.end → other.edges ≡ k.edges →
-    other.states.items ≡ slice_set k.states.items place (next / 2 ^ after.layout.shift) →
+    vec_capacity other.states ≡ vec_capacity k.states → other.states.items ≡ slice_set k.states.items place (next / 2 ^ after.layout.shift) →
     ((after.epoch ≡ t.epoch → ⊥) × (other.region.to ≡ place + 1)) ⊎ ((after.epoch ≡ t.epoch) × (other.region.to ≡ k.region.to)) →
     IsOffset after next → slice_get w place ≡ Some byte → (IsTrue edge ↔ (place ≡ 0)) →
     LeadsOn (nodes_of t.way p.expr) t.way (state_of (length p.expr.nodes) t (offset / 2 ^ t.layout.shift)) byte edge (state_of (length p.expr.nodes) after (next / 2 ^ after.layout.shift)) →
     Passes p w after other place next
-passes_down p w t after k other place offset next byte edge old table adds root end edges states to there got last leads =
+passes_down p w t after k other place offset next byte edge old table adds root end edges places states to there got last leads =
     let m = length p.expr.nodes in
     let s = next / 2 ^ after.layout.shift in
     let low : place < k.region.end = (let h = old.within in omega arith) in
-    let inside : place < length k.states.items = (let h = old.region.room.places in let g = old.region.inside in omega arith) in
-    let places : length other.states.items ≡ length k.states.items = ap (λ xs. length xs) states ∙ length-set k.states.items place s in
+    let inside : place < length k.states.items = (let h = old.region.long in let g = old.region.inside in omega arith) in
+    let long : length other.states.items ≡ length k.states.items = ap (λ xs. length xs) states ∙ length-set k.states.items place s in
     let at : KeptAt p w t.way k.region.root k.region.end place (state_of m after s) =
     kept_down p w t.way k.region.root k.region.end place byte edge (state_of m t (offset / 2 ^ t.layout.shift)) (state_of m after s) low old.region.inside got last leads old.at in
     let now : KeptAt p w after.way k.region.root k.region.end place (state_of m after s) = subst (λ v. KeptAt p w v k.region.root k.region.end place (state_of m after s)) (sym adds.shape.0) at in
@@ -195,7 +197,7 @@ passes_down p w t after k other place offset next byte edge old table adds root 
     let above : place < other.region.to = ⊎_elim (λ (h : (after.epoch ≡ t.epoch → ⊥) × (other.region.to ≡ place + 1)). let g = h.1 in omega arith) (λ (h : (after.epoch ≡ t.epoch) × (other.region.to ≡ k.region.to)). let g = h.1 in let f = old.above in omega arith) to in
     let within : other.region.to ≤ k.region.end = ⊎_elim (λ (h : (after.epoch ≡ t.epoch → ⊥) × (other.region.to ≡ place + 1)). let g = h.1 in omega arith) (λ (h : (after.epoch ≡ t.epoch) × (other.region.to ≡ k.region.to)). let g = h.1 in let f = old.region.within in omega arith) to in
     record {
-      region = region_kept p w t after k other adds.shape table places edges root end within old.region;
+      region = region_kept p w t after k other adds.shape table places long edges root end within old.region;
       within = rw end (omega arith);
       above = omega arith;
       there = there;
@@ -256,10 +258,34 @@ down_cost c x place s t b e up most = let h : s + c * (x + 1) ≤ b = subst (λ 
 
 -- the same region, over two calls
 pub same_kept : (a b c : Kept) → SameKept a b → SameKept b c → SameKept a c
-same_kept a b c one two = record { root = two.root ∙ one.root; end = two.end ∙ one.end; places = two.places ∙ one.places; edges = two.edges ∙ one.edges }
+same_kept a b c one two = record { root = two.root ∙ one.root; end = two.end ∙ one.end; places = two.places ∙ one.places; edges = two.edges ∙ one.edges; marks = λ q. two.marks q ∙ one.marks q }
+
+-- the room, over two calls, and that of the same region
+pub space_same : (k : Kept) → SameSpace k k
+space_same k = record { places = refl; edges = refl; marks = λ q. refl }
+
+pub space_then : (a b c : Kept) → SameSpace a b → SameSpace b c → SameSpace a c
+space_then a b c one two = record { places = two.places ∙ one.places; edges = two.edges ∙ one.edges; marks = λ q. two.marks q ∙ one.marks q }
+
+pub kept_space : (a b : Kept) → SameKept a b → SameSpace a b
+kept_space a b same = record { places = same.places; edges = same.edges; marks = same.marks }
+
+-- rows that are as long as they were, over two calls
+row_past : (rows : List (List Bool)) (q : ℕ) → length rows ≤ q → length (row_of rows q) ≡ 0
+row_past [] q past = refl
+row_past (row ∷ rows) zero past = absurd (omega arith)
+row_past (row ∷ rows) (suc q) past = row_past rows q (omega arith)
+
+pub rows_long : (a b c : List (List Bool)) → length b ≡ length a → length c ≡ length b → ((q : ℕ) → q < length a → length (row_of b q) ≡ length (row_of a q)) →
+    ((q : ℕ) → q < length b → length (row_of c q) ≡ length (row_of b q)) → (q : ℕ) → length (row_of c q) ≡ length (row_of a q)
+rows_long a b c one two first second q =
+    ⊎_elim
+    (λ (lt : q < length a). second q (omega (arith, lt, one)) ∙ first q lt)
+    (λ (ge : length a ≤ q). row_past c q (omega (arith, ge, one, two)) ∙ sym (row_past a q ge))
+    (cases_lt q (length a))
 
 pub same_shape : (a b c : Table) → SameShape a b → SameShape b c → SameShape a c
-same_shape a b c one two = (two.0 ∙ one.0, two.1 ∙ one.1, two.2 ∙ one.2)
+same_shape a b c one two = (two.0 ∙ one.0, two.1 ∙ one.1, two.2 ∙ one.2, two.3 ∙ one.3, two.4 ∙ one.4)
 
 -- Blocks.
 
@@ -307,13 +333,13 @@ block_cost m low high s a t less edge pass =
 -- The whole region, and a block of it.
 
 -- a pass begins at the place
-pub passes_first : (p : Prepared) (w : List ℕ) (t after : Table) (k other : Kept) (place offset : ℕ) → IsRegion p w t k → SameShape t after → IsTable p after → other.states.items ≡ k.states.items → other.edges ≡ k.edges →
+pub passes_first : (p : Prepared) (w : List ℕ) (t after : Table) (k other : Kept) (place offset : ℕ) → IsRegion p w t k → SameShape t after → IsTable p after → other.states ≡ k.states → other.edges ≡ k.edges →
     other.region.root ≡ k.region.root → other.region.end ≡ k.region.end → other.region.to ≡ place → place ≤ k.region.end → IsOffset after offset →
     KeptAt p w after.way k.region.root k.region.end place (state_of (length p.expr.nodes) after (offset / 2 ^ after.layout.shift)) → Passes p w after other place offset
 passes_first p w t after k other place offset region shape table states edges root end to within there at =
     let m = length p.expr.nodes in
     record {
-      region = region_kept p w t after k other shape table (ap (λ xs. length xs) states) edges root end (rw to within) region;
+      region = region_kept p w t after k other shape table (ap (λ v. vec_capacity v) states) (ap (λ v. length v.items) states) edges root end (rw to within) region;
       within = rw end within;
       above = omega (arith, to);
       there = there;
@@ -324,16 +350,16 @@ passes_first p w t after k other place offset region shape table states edges ro
 
 -- what a pass came down to is kept
 pub kept_passed : (p : Prepared) (w : List ℕ) (t : Table) (k other : Kept) (place offset : ℕ) → Passes p w t k place offset → EdgesFrom p w t k other.region.low → other.region.low ≤ place → other.region.from ≡ place →
-    other.states.items ≡ k.states.items → other.edges ≡ k.edges → other.region.root ≡ k.region.root → other.region.end ≡ k.region.end → other.region.to ≡ k.region.to → IsKept p w t other
+    other.states ≡ k.states → other.edges ≡ k.edges → other.region.root ≡ k.region.root → other.region.end ≡ k.region.end → other.region.to ≡ k.region.to → IsKept p w t other
 kept_passed p w t k other place offset passes kept low from states edges root end to =
-    let shape : SameShape t t = (refl, refl, refl) in
+    let shape : SameShape t t = (refl, refl, refl, refl, refl) in
     record {
-      region = region_kept p w t t k other shape passes.region.table (ap (λ xs. length xs) states) edges root end (rw to passes.region.within) passes.region;
+      region = region_kept p w t t k other shape passes.region.table (ap (λ v. vec_capacity v) states) (ap (λ v. length v.items) states) edges root end (rw to passes.region.within) passes.region;
       low = omega (arith, low, from);
       from = (let h = passes.within in omega (arith, from, end, h));
       live = λ q above before.
           subst (λ r. IsLive p w t r other.region.end other.states.items q) (sym root) (subst (λ e. IsLive p w t k.region.root e other.states.items q) (sym end)
-          (subst (λ xs. IsLive p w t k.region.root k.region.end xs q) (sym states) (passes.live q (omega (arith, from, above)) (omega (arith, to, before)))));
+          (subst (λ v. IsLive p w t k.region.root k.region.end v.items q) (sym states) (passes.live q (omega (arith, from, above)) (omega (arith, to, before)))));
       edges = edges_same p w t t k other other.region.low other.region.low shape edges root end (omega arith) kept;
     }
 
@@ -385,15 +411,15 @@ kept_mark p w t k x q mark kept inside above before is =
 
 -- where its state stands
 pub kept_row : (p : Prepared) (w : List ℕ) (t : Table) (k : Kept) (q : ℕ) → IsKept p w t k → k.region.from ≤ q → q < k.region.to →
-    (slice_index_or k.states.items q 0 < length t.ends) × (length (row_of t.ends (slice_index_or k.states.items q 0)) ≡ length p.expr.nodes) × (q < length k.states.items)
+    (slice_index_or k.states.items q 0 < length t.ends) × (length p.expr.nodes ≤ length (row_of t.ends (slice_index_or k.states.items q 0))) × (q < length k.states.items)
 kept_row p w t k q kept above before =
     let region : IsRegion p w t k = kept.region in
     let live = (kept.live q above before).0 in
     let most = region.table.room.count in
     let rows = region.table.room.ends in (
       omega (arith, live, most, rows),
-      region.table.room.end_marks (slice_index_or k.states.items q 0) (omega (arith, live, most)),
-      (let h = region.within in let g = region.inside in let f = region.room.places in omega (arith, h, g, f, before)),
+      (let all = region.table.room.end_marks (slice_index_or k.states.items q 0) (omega (arith, live, most)) in let marks = region.table.room.marks in omega (arith, all, marks)),
+      (let h = region.within in let g = region.inside in let f = region.long in omega (arith, h, g, f, before)),
     )
 
 -- a mark that is as asked, and one that isn't
@@ -445,20 +471,20 @@ told_as P n t after k other shape same told =
     (subst (λ e. P k.region.root (ends_told after.way.sweeps n e)) same.end (subst (λ r. P r (ends_told after.way.sweeps n other.region.end)) same.root told))
 
 -- the same, where only the marks for its acts changed
-pub kept_same : (p : Prepared) (w : List ℕ) (t : Table) (k other : Kept) → other.region ≡ k.region → other.states.items ≡ k.states.items → other.edges ≡ k.edges → IsKept p w t k → IsKept p w t other
+pub kept_same : (p : Prepared) (w : List ℕ) (t : Table) (k other : Kept) → other.region ≡ k.region → other.states ≡ k.states → other.edges ≡ k.edges → IsKept p w t k → IsKept p w t other
 kept_same p w t k other region states edges kept =
     let root = ap (λ r. r.root) region in
     let end = ap (λ r. r.end) region in
     let to = ap (λ r. r.to) region in
     let low = ap (λ r. r.low) region in
     let from = ap (λ r. r.from) region in
-    let shape : SameShape t t = (refl, refl, refl) in
+    let shape : SameShape t t = (refl, refl, refl, refl, refl) in
     record {
-      region = region_kept p w t t k other shape kept.region.table (ap (λ xs. length xs) states) edges root end (rw to kept.region.within) kept.region;
+      region = region_kept p w t t k other shape kept.region.table (ap (λ v. vec_capacity v) states) (ap (λ v. length v.items) states) edges root end (rw to kept.region.within) kept.region;
       low = (let h = kept.low in omega (arith, h, low, from));
       from = (let h = kept.from in omega (arith, h, from, end));
       live = λ q above before.
           subst (λ r. IsLive p w t r other.region.end other.states.items q) (sym root) (subst (λ e. IsLive p w t k.region.root e other.states.items q) (sym end)
-          (subst (λ xs. IsLive p w t k.region.root k.region.end xs q) (sym states) (kept.live q (omega (arith, from, above)) (omega (arith, to, before)))));
+          (subst (λ v. IsLive p w t k.region.root k.region.end v.items q) (sym states) (kept.live q (omega (arith, from, above)) (omega (arith, to, before)))));
       edges = edges_same p w t t k other k.region.low other.region.low shape edges root end (omega (arith, low)) kept.edges;
     }

@@ -1,4 +1,5 @@
 pub mod AheadLemmas
+pub mod CellLemmas
 pub mod ClassLemmas
 pub mod CountLemmas
 pub mod DecideLemmas
@@ -9,6 +10,7 @@ pub mod KeptLemmas
 pub mod LeaveLemmas
 pub mod LengthLemmas
 pub mod MeetingLemmas
+pub mod OccurrenceLemmas
 pub mod OverlayLemmas
 pub mod OwedLemmas
 pub mod RowLemmas

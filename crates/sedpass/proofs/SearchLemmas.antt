@@ -1,5 +1,5 @@
 -- What the pass from the text's end tells of matches of the whole expression, and what searches cost.
-use Rattle.std.proofs.Common.{◌≡◌, ℕ, zero, suc, ◌+◌, ◌-◌, ◌*◌, ◌/◌, ◌<◌, ◌≤◌, ◌↔◌, Bool, true, false, List, length, Option, Some, None, IsTrue, refl, sym, ap, ◌∙◌, subst, ⊎_elim, true≢false, arith, mul-le-mul_left}
+use Rattle.std.proofs.Common.{◌≡◌, ℕ, zero, suc, ◌+◌, ◌-◌, ◌*◌, ◌/◌, ◌<◌, ◌≤◌, ◌↔◌, Bool, true, false, max, List, length, Option, Some, None, IsTrue, refl, sym, ap, ◌∙◌, subst, ⊎_elim, true≢false, arith, mul-le-mul_left}
 use Rattle.std.proofs.lemmas.Bool.{cases_lt}
 use Rattle.sedre.specs.Arena.{Written, IsArena, tree, tree_at}
 use Rattle.sedre.specs.Tree.{Tree}
@@ -14,7 +14,9 @@ use Rattle.sedmarks.specs.Spans.{Spans, Found, NotFound}
 use Rattle.sedmarks.proofs.SpanLemmas.{Spans-forward, Spans-within}
 use Rattle.sedpass.specs.Kept.{AllMarked, CeasesAt, ends_told}
 use Rattle.sedpass.specs.Regions.{all_of, Reaches}
-use Rattle.sedpass.specs.Search.{TrialsAnswer, owed_kept, owed_search}
+use Rattle.sedpass.specs.Search.{TrialsAnswer, owed_kept, owed_search, search_cost}
+use Rattle.sedpass.specs.declared.kept.Region.{Region}
+use Rattle.sedpass.proofs.OwedLemmas.{owed_small}
 use Rattle.sedpass.specs.declared.search.Seeking.{Seeking}
 use Rattle.sedpass.specs.declared.nodes.Prepared.{Prepared}
 use Rattle.sedpass.specs.declared.search.Trials.{Trials}
@@ -160,7 +162,7 @@ begins_some p w b r end start begins arena sweeps root whole low found null is =
 -- Costs.
 
 pub kept_cost : (m n from start stop s0 s1 s2 s3 o0 o1 o2 : ℕ) → 1 ≤ m → from ≤ start → start ≤ stop → stop ≤ n → s1 + (o1 + 2 * from) ≤ s0 + (o0 + 2 * start + 2) → s2 ≤ s1 + 1 →
-    s3 + (o2 + 36 * m * start) ≤ s2 + (o1 + 36 * m * (stop + 1)) → s3 + (o2 + 42 * m * (n - stop)) ≤ s0 + (o0 + 42 * m * (n - from) + 84 * m)
+    s3 + (o2 + 36 * m * start) ≤ s2 + (o1 + 36 * m * (stop + 1)) → s3 + (o2 + 42 * m * (n - stop)) ≤ s0 + (o0 + 42 * m * (n - from) + 42 * m)
 kept_cost m n from start stop s0 s1 s2 s3 o0 o1 o2 some low on within seek null cut =
     let d1 = start - from in
     let d2 = stop - start in
@@ -174,18 +176,18 @@ kept_cost m n from start stop s0 s1 s2 s3 o0 o1 o2 some low on within seek null 
     let most = mul-le-mul_left d1 some in
     omega (arith, most, a1, a2, a3)
 
-pub none_cost : (m n from start s0 s1 s2 o0 o1 : ℕ) → 1 ≤ m → from ≤ start → start ≤ n → s1 + (o1 + 2 * from) ≤ s0 + (o0 + 2 * start + 2) → s2 ≤ s1 + 1 → s2 + 0 ≤ s0 + (o0 + 42 * m * (n - from) + 84 * m)
+pub none_cost : (m n from start s0 s1 s2 o0 o1 : ℕ) → 1 ≤ m → from ≤ start → start ≤ n → s1 + (o1 + 2 * from) ≤ s0 + (o0 + 2 * start + 2) → s2 ≤ s1 + 1 → s2 + 0 ≤ s0 + (o0 + 42 * m * (n - from) + 42 * m)
 none_cost m n from start s0 s1 s2 o0 o1 some low within seek null =
     let d = n - from in
     let most = mul-le-mul_left d some in
     omega (arith, most, seek, null)
 
-pub begun_cost : (m n from s t o after : ℕ) → o ≤ 100 * m * (n - from) → t + after ≤ s + (o + 42 * m * (n - from) + 84 * m) → t + after ≤ s + (142 * m * (n - from) + 84 * m)
+pub begun_cost : (m n from s t o after : ℕ) → o ≤ 100 * m * (n - from) → t + after ≤ s + (o + 42 * m * (n - from) + 42 * m) → t + after ≤ s + (142 * m * (n - from) + 42 * m)
 begun_cost m n from s t o after begins pays = omega (arith, begins, pays)
 
 -- a hit
 pub hit_cost : (m n from i j tried tried' s t : ℕ) → 1 ≤ m → from ≤ i → i ≤ j → j ≤ n → tried ≤ n → tried' ≤ 2 * n + 1 → t + (40 * m * tried + from) ≤ s + (40 * m * tried' + (i + 1 + 40 * m * (j + 1 - i))) →
-    t + (40 * m * (2 * n + 1 - tried') + 142 * m * (n - j)) ≤ s + (40 * m * (2 * n + 1 - tried) + 142 * m * (n - from) + 84 * m)
+    t + (40 * m * (2 * n + 1 - tried') + 142 * m * (n - j)) ≤ s + (40 * m * (2 * n + 1 - tried) + 142 * m * (n - from) + 42 * m)
 hit_cost m n from i j tried tried' s t some low on within few few' pays =
     let d1 = i - from in
     let d2 = j - i in
@@ -205,7 +207,7 @@ hit_cost m n from i j tried tried' s t some low on within few few' pays =
 
 -- no match
 pub nothing_cost : (m n from tried tried' s t : ℕ) → 1 ≤ m → from ≤ n → tried ≤ n → tried' ≤ 2 * n + 1 → t + (40 * m * tried + from) ≤ s + (40 * m * tried' + (n + 1)) →
-    t + 0 ≤ s + (40 * m * (2 * n + 1 - tried) + 142 * m * (n - from) + 84 * m)
+    t + 0 ≤ s + (40 * m * (2 * n + 1 - tried) + 142 * m * (n - from) + 42 * m)
 nothing_cost m n from tried tried' s t some low few few' pays =
     let d = n - from in
     let u = 2 * n + 1 - tried in
@@ -219,7 +221,7 @@ nothing_cost m n from tried tried' s t some low few few' pays =
 
 -- a pass from the end after trials
 pub tired_cost : (m n from k tried tried' s t1 t2 after : ℕ) → 1 ≤ m → from < k → k ≤ n → tried ≤ n → tried' ≤ 2 * n + 1 → t1 + (40 * m * tried + from) ≤ s + (40 * m * tried' + k) →
-    t2 + after ≤ t1 + (142 * m * (n - k) + 84 * m) → t2 + after ≤ s + (40 * m * (2 * n + 1 - tried) + 142 * m * (n - from) + 84 * m)
+    t2 + after ≤ t1 + (142 * m * (n - k) + 42 * m) → t2 + after ≤ s + (40 * m * (2 * n + 1 - tried) + 142 * m * (n - from) + 42 * m)
 tired_cost m n from k tried tried' s t1 t2 after some low within few few' pays more =
     let d = k - from in
     let u = 2 * n + 1 - tried in
@@ -233,44 +235,71 @@ tired_cost m n from k tried tried' s t1 t2 after some low within few few' pays m
     let most = mul-le-mul_left d some in
     omega (arith, most, a1, a3, a4)
 
--- and of a first search in a text
-few_tried : (m n z : ℕ) → z ≤ n / 8 + n + 1 → 40 * m * z ≤ 45 * (m * n) + 40 * m
-few_tried m n z few =
+-- and of one search, whatever was found out before it
+few_tried : (m n x tried z : ℕ) → z ≤ max tried (n / 8) + x → 40 * m * z ≤ 40 * m * tried + 5 * (m * n) + 40 * m * x
+few_tried m n x tried z few =
     let q = n / 8 in
     let eight : 8 * q ≤ n = omega arith in
-    let a1 = mul-le-mul_left m few in
+    let most : z ≤ tried + q + x = omega (arith, few) in
+    let a1 = mul-le-mul_left m most in
     let a2 = mul-le-mul_left m eight in
     omega (arith, a1, a2)
 
-pub hit_alone : (m n from i j tried' s t : ℕ) → 1 ≤ m → from ≤ i → i ≤ j → j ≤ n → tried' + (j + 1 - i) ≤ n / 8 + n + 1 → t + (40 * m * 0 + from) ≤ s + (40 * m * tried' + (i + 1 + 40 * m * (j + 1 - i))) →
-    t ≤ s + m * (192 * n + 48)
-hit_alone m n from i j tried' s t some low on within few pays =
-    let z = j + 1 - i in
-    let most = few_tried m n (tried' + z) few in
-    let all = mul-le-mul_left n some in
-    omega (arith, most, all, pays)
+pub hit_each : (m n from i j tried tried' s t : ℕ) → 1 ≤ m → from ≤ i → i ≤ j → j ≤ n → tried' + (j + 1 - i) ≤ max tried (n / 8) + (n + 1 - from) →
+    t + (40 * m * tried + from) ≤ s + (40 * m * tried' + (i + 1 + 40 * m * (j + 1 - i))) → t ≤ s + search_cost m n from
+hit_each m n from i j tried tried' s t some low on within few pays =
+    let x = n - from in
+    let e : n + 1 - from ≡ x + 1 = omega arith in
+    let a : 40 * m * (n + 1 - from) ≡ 40 * m * (x + 1) = ap (λ v. 40 * m * v) e in
+    let most = few_tried m n (n + 1 - from) tried (tried' + (j + 1 - i)) few in
+    let all = mul-le-mul_left x some in
+    omega (arith, most, all, a, pays)
 
-pub nothing_alone : (m n from tried' s t : ℕ) → 1 ≤ m → from ≤ n → tried' ≤ n / 8 + n + 1 → t + (40 * m * 0 + from) ≤ s + (40 * m * tried' + (n + 1)) → t ≤ s + m * (192 * n + 48)
-nothing_alone m n from tried' s t some low few pays =
-    let most = few_tried m n tried' few in
-    let all = mul-le-mul_left n some in
-    omega (arith, most, all, pays)
+pub nothing_each : (m n from tried tried' s t : ℕ) → 1 ≤ m → from ≤ n → tried' ≤ max tried (n / 8) + (n + 1 - from) → t + (40 * m * tried + from) ≤ s + (40 * m * tried' + (n + 1)) → t ≤ s + search_cost m n from
+nothing_each m n from tried tried' s t some low few pays =
+    let x = n - from in
+    let e : n + 1 - from ≡ x + 1 = omega arith in
+    let a : 40 * m * (n + 1 - from) ≡ 40 * m * (x + 1) = ap (λ v. 40 * m * v) e in
+    let most = few_tried m n (n + 1 - from) tried tried' few in
+    let all = mul-le-mul_left x some in
+    omega (arith, most, all, a, pays)
 
-pub tired_alone : (m n from k tried' s t1 t2 after : ℕ) → 1 ≤ m → from < k → k ≤ n → tried' ≤ n / 8 + n + 1 → t1 + (40 * m * 0 + from) ≤ s + (40 * m * tried' + k) →
-    t2 + after ≤ t1 + (142 * m * (n - k) + 84 * m) → t2 ≤ s + m * (192 * n + 48)
-tired_alone m n from k tried' s t1 t2 after some low within few pays more =
-    let d = n - k in
-    let e : n ≡ k + d = omega arith in
-    let a : m * n ≡ m * (k + d) = ap (λ x. m * x) e in
-    let most = few_tried m n tried' few in
-    let one : 1 ≤ k = omega arith in
-    let b = mul-le-mul_left k some in
-    let c = mul-le-mul_left m one in
-    omega (arith, most, a, b, c, pays, more)
+pub tired_each : (m n from k tried tried' s t1 t2 after : ℕ) → 1 ≤ m → from < k → k ≤ n → tried' ≤ max tried (n / 8) + (n + 1 - from) → t1 + (40 * m * tried + from) ≤ s + (40 * m * tried' + k) →
+    t2 + after ≤ t1 + (142 * m * (n - k) + 42 * m) → t2 ≤ s + search_cost m n from
+tired_each m n from k tried tried' s t1 t2 after some low within few pays more =
+    let y = n - from - 1 in
+    let d = k - from - 1 in
+    let e1 : n + 1 - from ≡ y + 2 = omega arith in
+    let e2 : n - k + d ≡ y = omega arith in
+    let e3 : n - from ≡ y + 1 = omega arith in
+    let a1 : 40 * m * (n + 1 - from) ≡ 40 * m * (y + 2) = ap (λ v. 40 * m * v) e1 in
+    let a2 : 142 * m * (n - k + d) ≡ 142 * m * y = ap (λ v. 142 * m * v) e2 in
+    let a3 : m * (n - from) ≡ m * (y + 1) = ap (λ v. m * v) e3 in
+    let most = few_tried m n (n + 1 - from) tried tried' few in
+    let all = mul-le-mul_left d some in
+    omega (arith, most, all, a1, a2, a3, pays, more)
+
+-- of one by a pass from the text's end alone
+pub begun_each : (m n from s t o after : ℕ) → o ≤ 142 * m * (n - from) → t + after ≤ s + (o + 42 * m) → t ≤ s + search_cost m n from
+begun_each m n from s t o after few pays = omega (arith, few, pays)
+
+-- and of all from a place on
+pub kept_small : (m n width : ℕ) (r : Region) (place : ℕ) → r.end ≤ n → owed_kept m n width r place ≤ 142 * m * (n - place)
+kept_small m n width r place inside =
+    let small = owed_small m width r place in
+    let less : r.end - place ≤ n - place = omega arith in
+    let all = mul-le-mul_left (100 * m) less in
+    omega (arith, small, all)
+
+-- of a search in a text, by its length
+pub search_long : (m n from : ℕ) → search_cost m n from ≤ m * (192 * n + 48)
+search_long m n from =
+    let inner : 5 * n + 142 * (n - from) + 40 * (n - from - 1) + 42 ≤ 192 * n + 48 = omega arith in
+    mul-le-mul_left m inner
 
 -- a trial's places: those past its end, and those of the match
-pub hit_room : (tried place end start n most : ℕ) → start ≤ place → place ≤ n → start ≤ end → end ≤ n → tried ≤ most → tried + (place - end) + (end + 1 - start) ≤ most + n + 1
-hit_room tried place end start n most low within on inside few = omega arith
+pub hit_room : (tried place end from start n most : ℕ) → from ≤ start → start ≤ place → place ≤ n → start ≤ end → end ≤ n → tried ≤ most → tried + (place - end) + (end + 1 - start) ≤ most + (n + 1 - from)
+hit_room tried place end from start n most after low within on inside few = omega arith
 
 pub hit_paid : (m from start here place end tried old s0 s1 s2 : ℕ) → 1 ≤ m → start ≤ here → here ≤ end → here ≤ place → s1 + (40 * m * old + from) ≤ s0 + (40 * m * tried + start) →
     s2 + start ≤ s1 + (here + 1 + 40 * m * (place + 1 - here)) → s2 + (40 * m * old + from) ≤ s0 + (40 * m * (tried + (place - end)) + (here + 1 + 40 * m * (end + 1 - here)))

@@ -15,7 +15,7 @@ use Rattle.sedmarks.specs.Words.{AgreeBelow, row_of}
 use Rattle.sedpass.specs.Prepared.{AreClasses}
 use Rattle.sedpass.specs.Rows.{nodes_of, at_begin, at_end, bits, SameBytes, LeadsTo, IsFirst}
 use Rattle.sedpass.specs.Cells.{stops, code_of, ColumnAt, EdgeFits, IsLayout, IsColumn}
-use Rattle.sedpass.specs.Table.{State, state_of, IsTold, HasRow, LeadsOn, BeginsIn, Names, IsOffset, cell_of, LeadsBy, kind_number, beginning_at, beginning_of, MayBegin, HasRoom, IsTable, SameShape, AddsStates}
+use Rattle.sedpass.specs.Table.{State, state_of, IsTold, HasRow, LeadsOn, BeginsIn, Names, IsOffset, cell_of, LeadsBy, kind_number, beginning_at, beginning_of, MayBegin, HasRoom, IsRoomy, IsTable, SameRoom, SameShape, AddsStates}
 use Rattle.sedpass.specs.declared.cells.Flags.{Flags}
 use Rattle.sedpass.specs.declared.cells.Layout.{Layout}
 use Rattle.sedpass.specs.declared.nodes.Kind.{Kind}
@@ -57,6 +57,9 @@ state_same r r' e e' d d' f f' a b c g = ap (λ x. state x e d f) a ∙ ap (λ x
 pub shifted : (q n s : ℕ) → q < n → n ≤ 65535 → s ≤ 8 → (q * 2 ^ s) % 2 ^ 64 ≡ q * 2 ^ s
 shifted q n s lt few small = shl_whole q 16 s 64 (omega arith) (omega arith)
 
+pub one_shifted : (s : ℕ) → s ≤ 8 → (1 * 2 ^ s) % 2 ^ 64 ≡ 2 ^ s
+one_shifted s small = omega (arith, shl_whole 1 16 s 64 (omega arith) (omega arith))
+
 pub few_offset : (q n s : ℕ) → q < n → n ≤ 65535 → s ≤ 8 → q * 2 ^ s < 2147483647
 few_offset q n s lt few small =
     let below = shl_below q 16 s (omega arith) in
@@ -65,7 +68,7 @@ few_offset q n s lt few small =
     let most : 2 ^ (16 + s) ≤ 2 ^ 24 = pow-le-pow_right two up in
     omega (arith, below, most)
 
-pub cell_inside : (size q k n w len : ℕ) → q < n → k < w → w ≤ size → len ≡ n * size → q * size + k < len
+pub cell_inside : (size q k n w len : ℕ) → q < n → k < w → w ≤ size → n * size ≤ len → q * size + k < len
 cell_inside size q k n w len lt small fits is =
     let up : q + 1 ≤ n = omega arith in
     omega (arith, mul-le-mul_left size up, is, small, fits)
@@ -256,7 +259,6 @@ module _ (p : Prepared) (t t' : Table) (adds : AddsStates (length p.expr.nodes) 
         subst (λ v. Names m t' (LeadsBy p t' q k) v) (sym same) (filled_more q k (cell_of t q k) less (table.filled q k less narrow (subst (λ v. 0 < v) same some))))
         (cases_eq q t.count);
     begun = λ root kind. begun_more root kind begins (table.begun root kind);
-    past = λ i. subst (λ n. (beginning_of t' i).epoch ≤ n) (sym epoch) (subst (λ (b : Beginning). b.epoch ≤ t.epoch) (sym (entry_same begins i)) (table.past i));
   }
 
   -- one more cell is filled
@@ -269,7 +271,7 @@ module _ (p : Prepared) (t t' : Table) (adds : AddsStates (length p.expr.nodes) 
       let size = 2 ^ t.layout.shift in
       let wide = table.layout.fits in
       let narrow : k < t.layout.width = column_below t.layout.columns t.layout.width (slice_index_or p.classes byte 0) k p.anchors edge t.layout.edge table.layout.columns table.layout.edge column.0 column.1 in
-      let inside : q * size + k < length t.cells.items = cell_inside size q k t.room t.layout.width (length t.cells.items) (let few = table.room.count in omega arith) narrow wide table.room.cells in
+      let inside : q * size + k < length t.cells.items = cell_inside size q k t.count t.layout.width (length t.cells.items) there narrow wide table.room.cells in
       let other : (b : State) (o : ℕ) (end : Bool) → o < 256 → IsColumn t.layout p.classes o end k → ((end ≡ edge) ⊎ (p.anchors ≡ false) → LeadsOn (nodes_of t.way p.expr) t.way (state_of m t q) byte end b) →
       LeadsOn (nodes_of t.way p.expr) t.way (state_of m t q) o end b =
       (λ b o end low at from.
@@ -309,7 +311,6 @@ module _ (p : Prepared) (t t' : Table) (adds : AddsStates (length p.expr.nodes) 
             subst (λ n. Names m t' (LeadsBy p t' x j) n) (sym same) (filled_more x j (cell_of t x j) less (table.filled x j less near (subst (λ n. 0 < n) same some))))
             (cases_eq (x * size + j) (q * size + k));
         begun = λ root kind. begun_more root kind begins (table.begun root kind);
-        past = λ i. subst (λ n. (beginning_of t' i).epoch ≤ n) (sym epoch) (subst (λ (b : Beginning). b.epoch ≤ t.epoch) (sym (entry_same begins i)) (table.past i));
       }
 
   -- one more beginning is noted
@@ -320,7 +321,7 @@ module _ (p : Prepared) (t t' : Table) (adds : AddsStates (length p.expr.nodes) 
       let none : Beginning = record { epoch = 0; code = 0 } in
       let fresh : Beginning = record { epoch = t.epoch; code = code } in
       let at = beginning_at t.way.sweeps root kind in
-      let inside : at < length t.beginnings.items = table.room.begins root kind may.0 in
+      let inside : at < length t.beginnings.items = table.room.begins root kind (let low = may.0 in let most = table.room.marks in omega (arith, low, most)) in
       let here : beginning_of t' at ≡ fresh = ap (λ l. slice_index_or l at none) is ∙ get_or-set_same t.beginnings.items at fresh none inside in
       let apart : (i : ℕ) → i ≢ at → beginning_of t' i ≡ beginning_of t i = (λ i ne. ap (λ l. slice_index_or l i none) is ∙ get_or-set_other t.beginnings.items at i fresh none ne) in
       record {
@@ -345,24 +346,30 @@ module _ (p : Prepared) (t t' : Table) (adds : AddsStates (length p.expr.nodes) 
             (subst (λ n. Names m t' (BeginsIn (nodes_of t.way p.expr) t.way root n) code) (sym one.1) (names_more (BeginsIn (nodes_of t.way p.expr) t.way root kind) code begins))))
             (λ (ne : i ≢ at). begun_at x other (apart i ne) (table.begun x other) may' now)
             (cases_eq i at));
-        past = λ i. subst (λ n. (beginning_of t' i).epoch ≤ n) (sym epoch)
-            (⊎_elim
-            (λ (e : i ≡ at). let new = ap (λ n. (beginning_of t' n).epoch) e ∙ ap (λ (b : Beginning). b.epoch) here in omega (arith, new))
-            (λ (ne : i ≢ at). subst (λ (b : Beginning). b.epoch ≤ t.epoch) (sym (apart i ne)) (table.past i))
-            (cases_eq i at));
       }
 
+-- the epochs of all beginnings are as asked, where one more is noted
+pub noted_all : (P : ℕ → Type 0) (items : List Beginning) (at epoch code : ℕ) → at < length items → P epoch → ((i : ℕ) → P (slice_index_or items i (record { epoch = 0; code = 0 })).epoch) →
+    (i : ℕ) → P (slice_index_or (slice_set items at (record { epoch = epoch; code = code })) i (record { epoch = 0; code = 0 })).epoch
+noted_all P items at epoch code inside here all i =
+    let none : Beginning = record { epoch = 0; code = 0 } in
+    let fresh : Beginning = record { epoch = epoch; code = code } in
+    ⊎_elim
+    (λ (e : i ≡ at). subst (λ (b : Beginning). P b.epoch) (sym (ap (λ x. slice_index_or (slice_set items at fresh) x none) e ∙ get_or-set_same items at fresh none inside)) here)
+    (λ (ne : i ≢ at). subst (λ (b : Beginning). P b.epoch) (sym (get_or-set_other items at i fresh none ne)) (all i))
+    (cases_eq i at)
+
 -- a table without states
-pub no_states : (p : Prepared) (t t' : Table) → IsTable p t → HasRoom (length p.expr.nodes) t' → t'.layout ≡ t.layout → t'.count ≡ 0 → ((i : ℕ) → (beginning_of t' i).epoch < t'.epoch) → IsTable p t'
-no_states p t t' table room layout none past = record {
-  expr = table.expr;
+pub no_states : (p : Prepared) (t : Table) → IsExpr p.expr.nodes p.expr.groups → HasRoom (length p.expr.nodes) t → IsLayout (length p.expr.nodes) p.anchors t.layout → t.count ≡ 0 →
+    ((i : ℕ) → (beginning_of t i).epoch < t.epoch) → IsTable p t
+no_states p t expr room layout none past = record {
+  expr = expr;
   room = room;
-  layout = subst (λ l. IsLayout (length p.expr.nodes) p.anchors l) (sym layout) table.layout;
+  layout = layout;
   roots = λ q low. absurd (omega arith);
   told = λ q low. absurd (omega arith);
   filled = λ q k low col some. absurd (omega arith);
-  begun = λ root kind may now. let before = past (beginning_at t'.way.sweeps root kind) in absurd (omega (arith, before, now));
-  past = λ i. let before = past i in omega (arith, before);
+  begun = λ root kind may now. let before = past (beginning_at t.way.sweeps root kind) in absurd (omega (arith, before, now));
 }
 
 -- the same states
@@ -483,8 +490,7 @@ module _ (p : Prepared) (t : Table) (table : IsTable p t) (offset byte k : ℕ) 
   pub cell_there : offset + k < length t.cells.items
   cell_there =
       let low = at.0 in
-      let most = table.room.count in
-      let inside = cell_inside (2 ^ t.layout.shift) (offset / 2 ^ t.layout.shift) k t.room t.layout.width (length t.cells.items) (omega arith) column_inside table.layout.fits table.room.cells in
+      let inside = cell_inside (2 ^ t.layout.shift) (offset / 2 ^ t.layout.shift) k t.count t.layout.width (length t.cells.items) low column_inside table.layout.fits table.room.cells in
       let e = at.1 in
       omega (arith, inside, e)
 
@@ -497,7 +503,7 @@ module _ (p : Prepared) (t : Table) (table : IsTable p t) (offset byte k : ℕ) 
       (table.filled q k at.0 column_inside (subst (λ x. 0 < x) same some)))
 
 -- no beginning is noted at first
-none_noted : (items : List Beginning) (n : ℕ) → items ≡ replicate n (record { epoch = 0; code = 0 }) → (i : ℕ) → (slice_index_or items i (record { epoch = 0; code = 0 })).epoch ≡ 0
+pub none_noted : (items : List Beginning) (n : ℕ) → items ≡ replicate n (record { epoch = 0; code = 0 }) → (i : ℕ) → (slice_index_or items i (record { epoch = 0; code = 0 })).epoch ≡ 0
 none_noted items n is i = ap (λ (l : List Beginning). (slice_index_or l i (record { epoch = 0; code = 0 })).epoch) is ∙ same_all n i
   where
     same_all : (k j : ℕ) → (slice_index_or {A = Beginning} (replicate k (record { epoch = 0; code = 0 })) j (record { epoch = 0; code = 0 })).epoch ≡ 0
@@ -505,26 +511,69 @@ none_noted items n is i = ap (λ (l : List Beginning). (slice_index_or l i (reco
     same_all (suc k) zero = refl
     same_all (suc k) (suc j) = same_all k j
 
-pub new_table : (p : Prepared) (t : Table) → IsExpr p.expr.nodes p.expr.groups → HasRoom (length p.expr.nodes) t → IsLayout (length p.expr.nodes) p.anchors t.layout → t.count ≡ 0 → t.epoch ≡ 1 →
-    t.beginnings.items ≡ replicate (length t.beginnings.items) (record { epoch = 0; code = 0 }) → IsTable p t
-new_table p t expr room layout none first is =
-    let noted = none_noted t.beginnings.items (length t.beginnings.items) is in
+-- Room for other expressions.
+
+-- the same room, with other cells and no states
+room_laid : (k m : ℕ) (t : Table) (layout : Layout) → HasRoom k t → 256 * t.room ≤ t.reserved → m ≤ t.marks → layout.shift ≤ 8 → HasRoom m (record t { layout = layout; count = 0 })
+room_laid k m t layout room wide marks small =
+    let two : 0 < 2 = omega arith in
+    let size : 2 ^ layout.shift ≤ 2 ^ 8 = pow-le-pow_right two small in
+    let all : t.room * 2 ^ layout.shift ≤ t.room * 2 ^ 8 = mul-le-mul_left t.room size in
     record {
-      expr = expr;
-      room = room;
-      layout = layout;
-      roots = λ q low. absurd (omega arith);
-      told = λ q low. absurd (omega arith);
-      filled = λ q k low col some. absurd (omega arith);
-      begun = λ root kind may now. let zero = noted (beginning_at t.way.sweeps root kind) in absurd (omega (arith, zero, now));
-      past = λ i. let zero = noted i in omega (arith, zero);
+      count = omega arith;
+      some = room.some;
+      few = room.few;
+      marks = marks;
+      leaves = room.leaves;
+      ends = room.ends;
+      leaf_marks = room.leaf_marks;
+      end_marks = room.end_marks;
+      roots = room.roots;
+      flags = room.flags;
+      cells = omega arith;
+      reserved = omega (arith, all, wide);
+      capacity = room.capacity;
+      index = room.index;
+      begins = room.begins;
+      past = room.past;
+      early = room.early;
     }
+
+-- a table that was made wide has all its room
+pub made_roomy : (m : ℕ) (t : Table) → HasRoom m t → 256 * t.room ≤ t.reserved → IsRoomy m t
+made_roomy m t room wide layout small = room_laid m m t layout room wide room.marks small
+
+-- one that serves an expression has it for others
+pub table_roomy : (m : ℕ) (p : Prepared) (t : Table) → IsTable p t → 256 * t.room ≤ t.reserved → m ≤ t.marks → IsRoomy m t
+table_roomy m p t table wide marks layout small = room_laid (length p.expr.nodes) m t layout table.room wide marks small
+
+abbrev widest : Layout
+widest = record { columns = 0; edge = None; width = 0; shift = 8 }
+
+-- so it has it again, after one expression
+pub roomy_still : (m : ℕ) (p : Prepared) (t t' : Table) → IsRoomy m t → SameRoom t t' → IsTable p t' → IsRoomy m t'
+roomy_still m p t t' roomy same table =
+    let room = roomy widest (omega arith) in
+    let reserved = room.reserved in
+    let marks = room.marks in
+    let rooms = same.1 in
+    let all = same.3 in
+    let most = same.2 in
+    table_roomy m p t' table (omega (arith, reserved, rooms, all)) (omega (arith, marks, most))
+
+-- and for fewer nodes
+pub roomy_fewer : (k m : ℕ) (t : Table) → k ≤ m → IsRoomy m t → IsRoomy k t
+roomy_fewer k m t few roomy layout small =
+    let room = roomy layout small in
+    let wide = (roomy widest (omega arith)).reserved in
+    let marks = room.marks in
+    room_laid m k (record t { layout = layout; count = 0 }) layout room (omega (arith, wide)) (omega (arith, few, marks)) small
 
 -- Steps from table to table.
 
 pub adds_then : (m : ℕ) (a b c : Table) → AddsStates m a b → AddsStates m b c → c.epoch ≡ b.epoch → c.count ≡ b.count → AddsStates m a c
 adds_then m a b c one two epoch count = record {
-  shape = (two.shape.0 ∙ one.shape.0, two.shape.1 ∙ one.shape.1, two.shape.2 ∙ one.shape.2);
+  shape = (two.shape.0 ∙ one.shape.0, two.shape.1 ∙ one.shape.1, two.shape.2 ∙ one.shape.2, two.shape.3 ∙ one.shape.3, two.shape.4 ∙ one.shape.4);
   grows = λ e. let g = one.grows (sym epoch ∙ e) in let up = g.0 in let most = g.1 in (omega arith, omega arith);
   kept = λ e q low. let g = one.grows (sym epoch ∙ e) in let up = g.0 in two.kept epoch q (omega arith) ∙ one.kept (sym epoch ∙ e) q low;
   full = λ room. epoch ∙ one.full room;
@@ -534,7 +583,7 @@ adds_then m a b c one two epoch count = record {
 -- from an emptied table
 pub adds_first : (m : ℕ) (a b c : Table) → SameShape a b → a.count ≡ a.room → b.count ≡ 0 → (b.epoch ≡ a.epoch → ⊥) → AddsStates m b c → c.epoch ≡ b.epoch → AddsStates m a c
 adds_first m a b c shape full none other adds epoch = record {
-  shape = (adds.shape.0 ∙ shape.0, adds.shape.1 ∙ shape.1, adds.shape.2 ∙ shape.2);
+  shape = (adds.shape.0 ∙ shape.0, adds.shape.1 ∙ shape.1, adds.shape.2 ∙ shape.2, adds.shape.3 ∙ shape.3, adds.shape.4 ∙ shape.4);
   grows = λ e. absurd (other (sym epoch ∙ e));
   kept = λ e. absurd (other (sym epoch ∙ e));
   full = λ room. absurd (omega arith);
@@ -544,7 +593,7 @@ adds_first m a b c shape full none other adds epoch = record {
 -- nothing happened
 pub adds_none : (m : ℕ) (t : Table) → AddsStates m t t
 adds_none m t = record {
-  shape = (refl, refl, refl);
+  shape = (refl, refl, refl, refl, refl);
   grows = λ e. (omega arith, omega arith);
   kept = λ e q low. refl;
   full = λ room. refl;

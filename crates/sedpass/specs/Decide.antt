@@ -1,6 +1,6 @@
 -- Private to the proofs: no contract that the engine sees cites what stands here.
 -- What is told of a match's groups while they are decided from its end, and what that costs.
-use Rattle.std.specs.Prelude.{◌≡◌, ℕ, ◌+◌, ◌-◌, ◌*◌, ◌<◌, ◌≤◌, Bool, false, replicate, IsTrue, List, [], ◌∷◌, reverse, length, slice_get, IfSome, Option, None, Some}
+use Rattle.std.specs.Prelude.{◌≡◌, ℕ, ◌+◌, ◌-◌, ◌*◌, ◌<◌, ◌≤◌, Bool, true, false, replicate, IsTrue, List, [], ◌∷◌, reverse, length, slice_get, vec_capacity, IfSome, Option, None, Some}
 use Rattle.sedre.specs.Arena.{tree_at}
 use Rattle.sedre.specs.declared.types.Node.{Node}
 use Rattle.sedre.specs.declared.types.NodeId.{NodeId}
@@ -9,14 +9,16 @@ use Rattle.sedre.specs.Steps.{TakesAtLeast}
 use Rattle.sedre.specs.Tree.{Tree}
 use Rattle.sedmarks.specs.Caps.{Groups}
 use Rattle.sedmarks.specs.Costs.{Pays}
+use Rattle.sedmarks.specs.Words.{row_of}
 use Rattle.sedpass.specs.Groups.{holds}
 use Rattle.sedpass.specs.Kept.{IsKept, KeptRoom, owed}
 use Rattle.sedpass.specs.Lengths.{length_of}
 use Rattle.sedpass.specs.Overlay.{State, state_of, HasGroup}
 use Rattle.sedpass.specs.Regions.{IsLastIn}
-use Rattle.sedpass.specs.Table.{IsAhead, IsTable}
+use Rattle.sedpass.specs.Table.{IsAhead, IsRoomy, IsTable, SameRoom, SameShape}
 use Rattle.sedpass.specs.Turns.{Blank, IsHere, IsTurn, AreReady, AreShort, looks, descents, tasks_of}
 use Rattle.sedpass.specs.declared.group_set.GroupSet.{GroupSet}
+use Rattle.sedpass.specs.declared.groups.GroupRoom.{GroupRoom}
 use Rattle.sedpass.specs.declared.groups.GroupTables.{GroupTables}
 use Rattle.sedpass.specs.declared.groups.Matched.{Matched}
 use Rattle.sedpass.specs.declared.groups.Task.{Task}
@@ -27,6 +29,7 @@ use Rattle.sedpass.specs.declared.groups.Told.{Told}
 use Rattle.sedpass.specs.declared.kept.Kept.{Kept}
 use Rattle.sedpass.specs.declared.kept.Region.{Region}
 use Rattle.sedpass.specs.declared.kept.Subject.{Subject}
+use Rattle.sedpass.specs.declared.nodes.Prepared.{Prepared}
 
 -- the nodes of the expression, and the text
 abbrev pub nodes_in : Subject → List Node
@@ -86,6 +89,41 @@ pub record IsDesk (s : Subject) (tables : GroupTables) (kept : Kept) : Type 0 wh
   pub region : IsKept s.prepared.now s.text.now tables.inside kept
   pub one_end : tables.inside.way.sweeps ≡ false
   pub ahead : IsAhead s.prepared.now tables.ahead
+
+-- the way of each of the tables
+pub record HaveWays (t : GroupTables) : Type 0 where
+  pub inside : t.inside.way ≡ record { mirrored = true; sweeps = false; keeps = true }
+  pub ahead : t.ahead.way ≡ record { mirrored = false; sweeps = false; keeps = false }
+
+-- the tables serve the expression
+pub record AreGroupTables (p : Prepared) (t : GroupTables) : Type 0 where
+  pub ways : HaveWays t
+  pub inside : IsTable p t.inside
+  pub ahead : IsTable p t.ahead
+
+-- they have all their room for expressions of at most m nodes
+pub record AreRoomy (m : ℕ) (t : GroupTables) : Type 0 where
+  pub ways : HaveWays t
+  pub inside : IsRoomy m t.inside
+  pub ahead : IsRoomy m t.ahead
+
+-- there is room for texts of so many bytes, cut into so many blocks, and for expressions of so many nodes, and no task waits
+pub record HasSpace (text blocks nodes : ℕ) (r : GroupRoom) : Type 0 where
+  pub places : text < vec_capacity r.kept.states
+  pub edges : length r.kept.edges ≡ 2 * blocks
+  pub marks : (q : ℕ) → q < length r.kept.edges → length (row_of r.kept.edges q) ≡ nodes
+  pub none : r.tasks.items ≡ []
+  pub tasks : 2 * nodes ≤ vec_capacity r.tasks
+
+-- each of the tables has the room that it had, whatever it serves
+pub record SameRooms (old new : GroupTables) : Type 0 where
+  pub inside : SameRoom old.inside new.inside
+  pub ahead : SameRoom old.ahead new.ahead
+
+-- each of the tables has the room that it had
+pub record SameTables (old new : GroupTables) : Type 0 where
+  pub inside : SameShape old.inside new.inside
+  pub ahead : SameShape old.ahead new.ahead
 
 -- which match comes first in place of a node
 abbrev pub next_of : Then → Option Matched

@@ -1,9 +1,9 @@
 -- Private to the proofs: no contract that `sedmatch` makes public cites what stands here.
 -- What is asked where a match is found with its groups.
 use Rattle.std.specs.Prelude.{◌≡◌, ℕ, ◌*◌, ◌≤◌, false, [], List, length, vec_capacity, IsTrue}
-use Rattle.sedpass.specs.Decide.{HasDesk}
+use Rattle.sedpass.specs.Decide.{HasDesk, SameTables}
 use Rattle.sedpass.specs.Kept.{KeptRoom}
-use Rattle.sedpass.specs.Table.{IsAhead, IsTable}
+use Rattle.sedpass.specs.Table.{IsAhead, IsTable, SameShape}
 use Rattle.sedpass.specs.declared.find.Tables.{Tables}
 use Rattle.sedpass.specs.declared.groups.GroupRoom.{GroupRoom}
 use Rattle.sedpass.specs.declared.kept.Subject.{Subject}
@@ -23,6 +23,11 @@ pub record AreTables (p : Prepared) (t : Tables) : Type 0 where
   pub ahead : IsAhead p t.groups.ahead
   pub back : IsTable p t.back
   pub all_ends : IsTrue t.back.way.sweeps
+
+-- each of them has the room that it had
+pub record SameAll (old new : Tables) : Type 0 where
+  pub back : SameShape old.back new.back
+  pub groups : SameTables old.groups new.groups
 
 -- no search was made in the text yet, and there is room for a pass from its end
 pub record IsNew (p : Prepared) (w : List ℕ) (back : Table) (s : Seeking) : Type 0 where

@@ -1,6 +1,6 @@
 -- Private to the proofs: no contract that `sedmatch` makes public cites what stands here.
 -- What is kept of a pass backwards over a region, and what looks into it may cost.
-use Rattle.std.specs.Prelude.{◌≡◌, ℕ, zero, suc, ◌+◌, ◌-◌, ◌*◌, ◌/◌, ◌^◌, ◌<◌, ◌≤◌, ◌↔◌, nat_le, nat_lt, ◌&&◌, Bool, true, false, if◌then◌else◌, List, length, reverse, slice_index_or, IsTrue}
+use Rattle.std.specs.Prelude.{◌≡◌, ℕ, zero, suc, ◌+◌, ◌-◌, ◌*◌, ◌/◌, ◌^◌, ◌<◌, ◌≤◌, ◌↔◌, nat_le, nat_lt, ◌&&◌, Bool, true, false, if◌then◌else◌, List, length, reverse, slice_index_or, IsTrue, vec_capacity}
 use Rattle.sedre.specs.declared.types.Node.{Node}
 use Rattle.sedmarks.specs.declared.passes.Starts.{Starts}
 use Rattle.sedmarks.specs.Search.{starts_to}
@@ -61,7 +61,7 @@ IsEdge p w way root end edges width b =
 pub record KeptRoom (m n : ℕ) (t : Table) (k : Kept) : Type 0 where
   pub mirrored : IsTrue t.way.mirrored
   pub keeps : IsTrue t.way.keeps
-  pub places : n < length k.states.items
+  pub places : n < vec_capacity k.states
   pub blocks : (b : ℕ) → b * (t.room - 1) ≤ n → 2 * b + 1 < length k.edges
   pub marks : (q : ℕ) → q < length k.edges → m ≤ length (row_of k.edges q)
 
@@ -73,6 +73,7 @@ pub record IsRegion (p : Prepared) (w : List ℕ) (t : Table) (k : Kept) : Type 
   pub whole : IsTrue t.way.sweeps → k.region.end ≡ length w
   pub inside : k.region.end ≤ length w
   pub within : k.region.to ≤ k.region.end
+  pub long : length w < length k.states.items
 
 -- the edges of the blocks that end after a place are kept
 abbrev pub EdgesFrom : Prepared → List ℕ → Table → Kept → ℕ → Type 0
@@ -100,12 +101,19 @@ pub record IsKept (p : Prepared) (w : List ℕ) (t : Table) (k : Kept) : Type 0 
   pub live : LiveFrom p w t k k.region.from
   pub edges : EdgesFrom p w t k k.region.low
 
+-- the room is the same: the places, and the rows for blocks' ends
+pub record SameSpace (old new : Kept) : Type 0 where
+  pub places : vec_capacity new.states ≡ vec_capacity old.states
+  pub edges : length new.edges ≡ length old.edges
+  pub marks : (q : ℕ) → length (row_of new.edges q) ≡ length (row_of old.edges q)
+
 -- the region is the same, and so is the room
 pub record SameKept (old new : Kept) : Type 0 where
   pub root : new.region.root ≡ old.region.root
   pub end : new.region.end ≡ old.region.end
-  pub places : length new.states.items ≡ length old.states.items
+  pub places : vec_capacity new.states ≡ vec_capacity old.states
   pub edges : length new.edges ≡ length old.edges
+  pub marks : (q : ℕ) → length (row_of new.edges q) ≡ length (row_of old.edges q)
 
 -- What a pass ahead over a node a from the place i is beside it: in the state whose cells begin at the offset.
 abbrev pub Follows : Prepared → List ℕ → Table → ℕ → ℕ → ℕ → ℕ → Type 0

@@ -6,6 +6,7 @@ pub mod Forwards
 pub mod Groups
 pub mod Kept
 pub mod Lengths
+pub mod Occurrences
 pub mod Overlay
 pub mod Prepared
 pub mod Regions

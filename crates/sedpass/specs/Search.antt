@@ -71,6 +71,11 @@ abbrev pub trials_room : ℕ → Trials → ℕ
 trials_room tried (Hit i j) = tried + (j + 1 - i)
 trials_room tried other = tried
 
+-- of one search from a place on, whatever was found out before it: by a pass from the text's end over the rest of the text, or by
+-- trials over that rest and an eighth of the text besides, and by such a pass after them, from a later place on
+abbrev pub search_cost : ℕ → ℕ → ℕ → ℕ
+search_cost m n from = m * (5 * n + 142 * (n - from) + 40 * (n - from - 1) + 42)
+
 -- the steps that searches from a place on may still take, over what one search takes besides: by the pass from the text's end,
 abbrev pub owed_kept : ℕ → ℕ → ℕ → Region → ℕ → ℕ
 owed_kept m n width r place = owed m width r place + 42 * m * (n - place)

@@ -1,6 +1,6 @@
 -- Private to the proofs: no contract that `sedmatch` makes public cites what stands here.
 -- A table of the passes of one way: its states, its cells, and the codes by which they name states.
-use Rattle.std.specs.Prelude.{◌≡◌, ℕ, ◌+◌, ◌*◌, ◌/◌, ◌^◌, ◌<◌, ◌≤◌, ◌↔◌, Bool, true, false, List, length, slice_index_or, Some, IsTrue}
+use Rattle.std.specs.Prelude.{◌≡◌, ℕ, ◌+◌, ◌*◌, ◌/◌, ◌^◌, ◌<◌, ◌≤◌, ◌↔◌, Bool, true, false, List, length, slice_index_or, Some, IsTrue, vec_capacity}
 use Rattle.sedre.specs.Arena.{IsExpr}
 use Rattle.sedre.specs.declared.types.Node.{Node}
 use Rattle.sedmarks.specs.declared.passes.Starts.{Starts}
@@ -10,6 +10,7 @@ use Rattle.sedpass.specs.declared.nodes.Kind.{Kind}
 use Rattle.sedpass.specs.declared.nodes.Prepared.{Prepared}
 use Rattle.sedpass.specs.declared.rows.Way.{Way}
 use Rattle.sedpass.specs.declared.cells.Flags.{Flags}
+use Rattle.sedpass.specs.declared.cells.Layout.{Layout}
 use Rattle.sedpass.specs.Cells.{stops, code_of, IsLayout, IsColumn}
 use Rattle.sedpass.specs.declared.table.Beginning.{Beginning}
 use Rattle.sedpass.specs.declared.table.Table.{Table}
@@ -109,16 +110,25 @@ pub record HasRoom (m : ℕ) (t : Table) : Type 0 where
   pub count : t.count ≤ t.room
   pub some : 2 ≤ t.room
   pub few : t.room ≤ 65535
+  pub marks : m ≤ t.marks
   pub leaves : length t.leaves ≡ t.room
   pub ends : length t.ends ≡ t.room
-  pub leaf_marks : (q : ℕ) → q < t.room → length (row_of t.leaves q) ≡ m
-  pub end_marks : (q : ℕ) → q < t.room → length (row_of t.ends q) ≡ m
+  pub leaf_marks : (q : ℕ) → q < t.room → length (row_of t.leaves q) ≡ t.marks
+  pub end_marks : (q : ℕ) → q < t.room → length (row_of t.ends q) ≡ t.marks
   pub roots : length t.roots.items ≡ t.room
   pub flags : length t.flags.items ≡ t.room
-  pub cells : length t.cells.items ≡ t.room * 2 ^ t.layout.shift
+  pub cells : t.count * 2 ^ t.layout.shift ≤ length t.cells.items
+  pub reserved : t.room * 2 ^ t.layout.shift ≤ t.reserved
+  pub capacity : t.reserved ≤ vec_capacity t.cells
   pub index : 2 ≤ length t.index.items
-  pub short : length t.beginnings.items ≤ 4 * m
-  pub begins : (root : ℕ) (kind : Kind) → root < m → beginning_at t.way.sweeps root kind < length t.beginnings.items
+  pub begins : (root : ℕ) (kind : Kind) → root < t.marks → beginning_at t.way.sweeps root kind < length t.beginnings.items
+  -- no beginning is of a later epoch, nor of one of the last two
+  pub past : (i : ℕ) → (beginning_of t i).epoch ≤ t.epoch
+  pub early : (i : ℕ) → (beginning_of t i).epoch < 4294967294
+
+-- the table has all its room for expressions of at most m nodes, however the cells of a state are laid out
+abbrev pub IsRoomy : ℕ → Table → Type 0
+IsRoomy m t = (layout : Layout) → layout.shift ≤ 8 → HasRoom m (record t { layout = layout; count = 0 })
 
 -- what a table says is right for the expression: of each state, each filled cell, and each beginning of this epoch
 pub record IsTable (p : Prepared) (t : Table) : Type 0 where
@@ -130,11 +140,14 @@ pub record IsTable (p : Prepared) (t : Table) : Type 0 where
   pub filled : (q k : ℕ) → q < t.count → k < t.layout.width → 0 < cell_of t q k → Names (length p.expr.nodes) t (LeadsBy p t q k) (cell_of t q k)
   pub begun : (root : ℕ) (kind : Kind) → MayBegin p t.way root → (beginning_of t (beginning_at t.way.sweeps root kind)).epoch ≡ t.epoch →
       Names (length p.expr.nodes) t (BeginsIn (nodes_of t.way p.expr) t.way root kind) (beginning_of t (beginning_at t.way.sweeps root kind)).code
-  pub past : (i : ℕ) → (beginning_of t i).epoch ≤ t.epoch
 
 -- what never changes
+abbrev pub SameRoom : Table → Table → Type 0
+SameRoom old new = (new.way ≡ old.way) × (new.room ≡ old.room) × (new.marks ≡ old.marks) × (new.reserved ≡ old.reserved)
+
+-- nor does this, while the table serves one expression
 abbrev pub SameShape : Table → Table → Type 0
-SameShape old new = (new.way ≡ old.way) × (new.room ≡ old.room) × (new.layout ≡ old.layout)
+SameShape old new = (new.way ≡ old.way) × (new.room ≡ old.room) × (new.layout ≡ old.layout) × (new.marks ≡ old.marks) × (new.reserved ≡ old.reserved)
 
 -- a table of passes forwards, each from one start, which keeps the ends of the root alone
 pub record IsAhead (p : Prepared) (t : Table) : Type 0 where

@@ -1,5 +1,5 @@
 //! How a table names its states by codes, and lays out their cells.
-ghost use Rattle.std.specs.Prelude.{◌≡◌, ℕ, Bool, false, ◌+◌, ◌*◌, ◌^◌, ◌<◌, ◌≤◌, length, slice_index_or, IfSome, vec_len};
+ghost use Rattle.std.specs.Prelude.{◌≡◌, ℕ, Bool, false, ◌+◌, ◌*◌, ◌^◌, ◌<◌, ◌≤◌, length, slice_index_or, IfSome, vec_len, vec_capacity};
 ghost use Rattle.sedre.specs.Steps.{Takes};
 ghost use Rattle.sedpass.specs.Cells.{stops, code_of, IsLayout, ColumnAt};
 
@@ -112,6 +112,18 @@ impl Layout {
         }
     }
 
+    /// That of a table that serves no expression yet, with room for as many cells a state as there are at most.
+    pub fn widest() -> Layout
+        ensures { result.shift ≡ 8 }
+    {
+        Layout {
+            columns: 0,
+            edge: None,
+            width: 0,
+            shift: 8,
+        }
+    }
+
     /// The column of a class of bytes, if its cells are kept. `edge` says whether the text's edge comes after the byte.
     #[inline(always)]
     pub fn column(self, class: usize, edge: bool) -> Option<usize>
@@ -130,16 +142,45 @@ impl Layout {
     }
 }
 
-/// Clears the cells from a place on. Counts a look for each.
-pub fn clear_cells(cells: &mut Vec<u32>, from: usize, count: usize, steps: &mut Steps)
+/// Clears the cells from a place on.
+fn clear_cells(cells: &mut Vec<u32>, from: usize, count: usize)
     requires inside { from + count ≤ vec_len cells.old }
     ensures len { length cells.new.items ≡ length cells.old.items }
+    ensures capacity { vec_capacity cells.new ≡ vec_capacity cells.old }
     ensures clear { (k : ℕ) → k < count → slice_index_or cells.new.items (from + k) 0 ≡ 0 }
     ensures before { (k : ℕ) → k < from → slice_index_or cells.new.items k 0 ≡ slice_index_or cells.old.items k 0 }
-    ensures cost { Takes steps.old steps.new count }
 {
-    steps.add(count);
     for k in 0..count {
         cells[from + k] = 0;
     }
+}
+
+/// Appends empty cells until there are so many.
+fn append_cells(cells: &mut Vec<u32>, count: usize)
+    requires room { count ≤ vec_capacity cells.old }
+    ensures long { count ≤ length cells.new.items }
+    ensures capacity { vec_capacity cells.new ≡ vec_capacity cells.old }
+    ensures same { (k : ℕ) → slice_index_or cells.new.items k 0 ≡ slice_index_or cells.old.items k 0 }
+{
+    while cells.len() < count {
+        cells.push_reserved(0);
+    }
+}
+
+/// Makes the `width` cells of a state empty, which stand from a place on, with room for `size`: those that are there are
+/// cleared, and the others appended. Counts a look for each of the state's cells.
+pub fn empty_cells(cells: &mut Vec<u32>, from: usize, width: usize, size: usize, steps: &mut Steps)
+    requires there { from ≤ length cells.old.items }
+    requires room { from + size ≤ vec_capacity cells.old }
+    requires fits { width ≤ size }
+    ensures long { from + size ≤ length cells.new.items }
+    ensures capacity { vec_capacity cells.new ≡ vec_capacity cells.old }
+    ensures clear { (k : ℕ) → k < width → slice_index_or cells.new.items (from + k) 0 ≡ 0 }
+    ensures before { (k : ℕ) → k < from → slice_index_or cells.new.items k 0 ≡ slice_index_or cells.old.items k 0 }
+    ensures cost { Takes steps.old steps.new width }
+{
+    steps.add(width);
+    let there = width.min(cells.len() - from);
+    clear_cells(cells, from, there);
+    append_cells(cells, from + size);
 }

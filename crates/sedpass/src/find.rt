@@ -1,11 +1,13 @@
 //! Whether an expression matches in a text, and its match with the groups (XBD 9.1).
-ghost use Rattle.std.specs.Prelude.{◌+◌, ◌-◌, ◌*◌, ◌≤◌, ◌↔◌, length, IfSome, IsTrue};
+ghost use Rattle.std.specs.Prelude.{◌+◌, ◌-◌, ◌*◌, ◌≤◌, ◌↔◌, length, vec_capacity, IfSome, IsTrue};
 ghost use Rattle.sedmarks.specs.Answer.{IsComputed, MatchAnswer};
 ghost use Rattle.sedmarks.specs.Beginnings.{AllBegin};
 ghost use Rattle.sedmarks.specs.Spans.{SomeFound};
 ghost use Rattle.sedre.specs.Arena.{tree};
 ghost use Rattle.sedre.specs.Steps.{Takes, TakesAtLeast};
-ghost use Rattle.sedpass.specs.Find.{AreTables, HasGroupRoom, IsNew, IsSweep};
+ghost use Rattle.sedpass.specs.Find.{AreTables, HasGroupRoom, IsNew, IsSweep, SameAll};
+ghost use Rattle.sedpass.specs.Kept.{SameSpace};
+ghost use Rattle.sedpass.specs.Table.{SameShape};
 
 use crate::groups::{GroupRoom, GroupTables, all_groups, decide};
 use crate::kept::Subject;
@@ -38,6 +40,7 @@ pub fn is_match(
     requires begins { AllBegin (tree subject.prepared.now.expr) begins.now }
     requires any { IsSweep subject.prepared.now any.old }
     ensures any { IsSweep subject.entry.prepared.now any.new }
+    ensures shape { SameShape any.old any.new }
     ensures matches { IsTrue result ↔ SomeFound (tree subject.entry.prepared.now.expr) subject.entry.text.now from }
     ensures cost { Takes steps.old steps.new (41 * length subject.entry.prepared.now.expr.nodes * (length subject.entry.text.now + 1)) }
 {
@@ -72,6 +75,9 @@ pub fn find(
     requires seeking { IsNew subject.prepared.now subject.text.now tables.old.back seeking.old }
     requires room { HasGroupRoom subject tables.old room.old }
     ensures tables { AreTables subject.entry.prepared.now tables.new }
+    ensures shape { SameAll tables.old tables.new }
+    ensures space { SameSpace seeking.old.kept seeking.new.kept × SameSpace room.old.kept room.new.kept }
+    ensures tasks { vec_capacity room.old.tasks ≤ vec_capacity room.new.tasks }
     ensures room { HasGroupRoom subject.entry tables.new room.new }
     ensures answer { MatchAnswer (tree subject.entry.prepared.now.expr) subject.entry.text.now from result }
     ensures computed { IsComputed (tree subject.entry.prepared.now.expr) subject.entry.text.now from result }

@@ -2,7 +2,7 @@
 //!
 //! A spine goes from a node to what ends where the node does, in one region of the kept pass, and writes the groups that
 //! are due. What stands left of it waits as a task.
-ghost use Rattle.std.specs.Prelude.{◌≡◌, ℕ, false, [], ◌∷◌, ◌++◌, reverse, ◌+◌, ◌-◌, ◌*◌, ◌<◌, ◌≤◌, ◌↔◌, length, IsTrue, Option, Some, None, IfSome, slice_index_or, vec_len, vec_capacity, slice_get};
+ghost use Rattle.std.specs.Prelude.{◌≡◌, ℕ, false, [], ◌∷◌, ◌++◌, reverse, ◌+◌, ◌-◌, ◌*◌, ◌^◌, ◌<◌, ◌≤◌, ◌↔◌, length, IsTrue, Option, Some, None, IfOk, IfSome, slice_index_or, vec_len, vec_capacity, slice_get};
 ghost use Rattle.sedre.specs.Arena.{IsArena, tree_at, tree};
 ghost use Rattle.sedre.specs.Steps.{Takes, TakesAtLeast};
 ghost use Rattle.sedpass.specs.Regions.{StopsAt, RunsTo, IsRunOf};
@@ -12,11 +12,11 @@ ghost use Rattle.sedmarks.specs.Caps.{Groups, LastCut, LastCopy, IsReport};
 ghost use Rattle.sedmarks.specs.Costs.{Pays};
 ghost use Rattle.sedmarks.specs.Places.{InOrder};
 ghost use Rattle.sedmarks.specs.Reach.{At};
-ghost use Rattle.sedpass.specs.Decide.{found, HasAll, nodes_in, text_in, told_of, IsTold, Stands, Repeats, EndsIn, GoesOn, IsDesk, IsMatch, Turns, waiting, long_of, part_cost, kind_cost, IsOpen, LooksAt, next_of, owed_in, IsSetAt, HasDesk, IsSpent};
+ghost use Rattle.sedpass.specs.Decide.{found, HasAll, nodes_in, text_in, told_of, IsTold, Stands, Repeats, EndsIn, GoesOn, IsDesk, IsMatch, Turns, waiting, long_of, part_cost, kind_cost, IsOpen, LooksAt, next_of, owed_in, IsSetAt, HasDesk, IsSpent, AreGroupTables, AreRoomy, HasSpace, SameRooms, SameTables};
 ghost use Rattle.sedpass.specs.Overlay.{State, settle, drop_groups, NoneDue};
 ghost use Rattle.sedpass.specs.Prepared.{IsFacts};
 ghost use Rattle.sedpass.specs.Turns.{AreReady, Reduces, weights, looks, tasks_of};
-ghost use Rattle.sedpass.specs.Kept.{SameKept};
+ghost use Rattle.sedpass.specs.Kept.{SameKept, SameSpace};
 ghost use Rattle.sedpass.specs.Groups.{holds};
 ghost use Rattle.sedpass.specs.declared.groups.GroupTables.{GroupTables};
 ghost use Rattle.sedpass.specs.declared.kept.Region.{Region};
@@ -24,8 +24,10 @@ ghost use Rattle.sedpass.specs.declared.kept.Region.{Region};
 use crate::group_set::GroupSet;
 use crate::kept::{Kept, Subject};
 use crate::nodes::{Facts, Prepared, kind_of};
+use crate::rows::Way;
 use crate::table::Table;
 use sedre::{Node, NodeId, Steps};
+use std::alloc::{AllocError, Global};
 
 /// The spans of the groups; entry 0 is the whole match.
 pub type Spans = [Option<(usize, usize)>; 10];
@@ -88,6 +90,79 @@ pub struct GroupRoom {
     pub tasks: Vec<Task>,
 }
 
+/// The way of passes ahead, each from one start.
+const AHEAD: Way = Way {
+    mirrored: false,
+    sweeps: false,
+    keeps: false,
+};
+
+/// The way of passes back from a region's end.
+const INSIDE: Way = Way {
+    mirrored: true,
+    sweeps: false,
+    keeps: true,
+};
+
+impl GroupTables {
+    /// Empty tables with room for so many states each. Fails only where a request for memory was refused.
+    pub fn new(alloc: Global, prepared: &Prepared, room: usize) -> Result<GroupTables, AllocError>
+        requires some { 2 ≤ room }
+        requires few { room ≤ 65535 }
+        ensures tables { IfOk result (λ t. AreGroupTables prepared.now t) }
+        ensures room { IfOk result (λ t. (t.inside.room ≡ room) × (t.ahead.room ≡ room)) }
+    {
+        let ahead = Table::new(alloc, prepared, AHEAD, room)?;
+        let inside = Table::new(alloc, prepared, INSIDE, room)?;
+        Ok(GroupTables { ahead, inside })
+    }
+
+    /// Empty tables with room for so many states each of any expression of at most so many nodes, which serve none yet. Fails
+    /// only where a request for memory was refused.
+    pub fn with_room(alloc: Global, room: usize, nodes: usize) -> Result<GroupTables, AllocError>
+        requires some { 2 ≤ room }
+        requires few { room ≤ 65535 }
+        requires nodes { 1 ≤ nodes }
+        requires short { nodes ≤ 65536 }
+        ensures tables { IfOk result (λ t. AreRoomy nodes t) }
+        ensures room { IfOk result (λ t. (t.inside.room ≡ room) × (t.ahead.room ≡ room)) }
+    {
+        let ahead = Table::with_room(alloc, AHEAD, room, nodes)?;
+        let inside = Table::with_room(alloc, INSIDE, room, nodes)?;
+        Ok(GroupTables { ahead, inside })
+    }
+
+    /// Begins to serve an expression, and forgets what was of another one.
+    pub fn fit(&mut self, prepared: &Prepared)
+        requires roomy { AreRoomy (length prepared.now.expr.nodes) self.old }
+        ensures tables { AreGroupTables prepared.now self.new }
+        ensures room { SameRooms self.old self.new }
+    {
+        self.ahead.fit(prepared);
+        self.inside.fit(prepared);
+    }
+}
+
+impl GroupRoom {
+    /// Room for texts of at most `max_text` bytes, which are cut into at most `blocks` blocks, and expressions of at most `nodes`
+    /// nodes. Fails only where a request for memory was refused.
+    pub fn new(
+        alloc: Global,
+        max_text: usize,
+        blocks: usize,
+        nodes: usize,
+    ) -> Result<GroupRoom, AllocError>
+        requires text { max_text ≤ 2 ^ 30 }
+        requires blocks { blocks ≤ 32768 }
+        requires nodes { nodes ≤ 65536 }
+        ensures { IfOk result (λ r. HasSpace max_text blocks nodes r) }
+    {
+        let kept = Kept::new(alloc, max_text, blocks, nodes)?;
+        let tasks = Vec::with_capacity(alloc, 2 * nodes)?;
+        Ok(GroupRoom { kept, tasks })
+    }
+}
+
 /// What is told of a node.
 fn facts_at(prepared: &Prepared, x: usize) -> Facts
     requires { x < length prepared.now.expr.nodes }
@@ -145,6 +220,8 @@ fn meeting_end(
     ensures within { result ≤ kept.old.region.end }
     ensures same { SameKept kept.old kept.new }
     ensures desk { IsDesk subject.entry tables.new kept.new }
+    ensures shape { SameTables tables.old tables.new }
+    ensures space { SameSpace kept.old kept.new }
     ensures cost { Pays steps.old steps.new (owed_in subject.entry tables.old kept.old.region from + 36 * length (nodes_in subject.entry) * (result + 1))
         (owed_in subject.entry tables.new kept.new.region result + 36 * length (nodes_in subject.entry) * from) }
     ensures counts { TakesAtLeast steps.old steps.new (2 * (result - from) + 1) }
@@ -176,6 +253,8 @@ fn run_end(
     ensures within { result ≤ kept.old.region.end }
     ensures same { SameKept kept.old kept.new }
     ensures desk { IsDesk subject.entry tables.new kept.new }
+    ensures shape { SameTables tables.old tables.new }
+    ensures space { SameSpace kept.old kept.new }
     ensures cost { Pays steps.old steps.new (owed_in subject.entry tables.old kept.old.region from + 2 * result + 2) (owed_in subject.entry tables.new kept.new.region result + 2 * from) }
     ensures counts { TakesAtLeast steps.old steps.new (result - from) }
 {
@@ -197,6 +276,8 @@ fn last_copy(
     requires desk { IsDesk subject tables.old kept.old }
     ensures copy { LastCopy (At (nodes_in subject.entry) (text_in subject.entry) a.index) here.stop here.start result }
     ensures desk { IsDesk subject.entry tables.new kept.new }
+    ensures shape { SameTables tables.old tables.new }
+    ensures space { SameSpace kept.old kept.new }
     ensures cost { Takes steps.old steps.new (part_cost (length (nodes_in subject.entry)) (long_of here)) }
     ensures counts { IsOpen (nodes_in subject.entry) a.index → TakesAtLeast steps.old steps.new (here.stop - here.start) }
 {
@@ -261,6 +342,8 @@ fn last_cut(
     ensures cut { LastCut (At (nodes_in subject.entry) (text_in subject.entry) a.index) (At (nodes_in subject.entry) (text_in subject.entry) b.index) here.start here.stop result }
     ensures same { SameKept kept.old kept.new }
     ensures desk { IsDesk subject.entry tables.new kept.new }
+    ensures shape { SameTables tables.old tables.new }
+    ensures space { SameSpace kept.old kept.new }
     ensures cost { Takes steps.old steps.new (part_cost (length (nodes_in subject.entry)) (long_of here)) }
     ensures counts { IsOpen (nodes_in subject.entry) a.index → IsOpen (nodes_in subject.entry) b.index → TakesAtLeast steps.old steps.new (result - here.start) }
 {
@@ -310,6 +393,8 @@ fn turn_seq(
     ensures turn { (spans : Groups) → Turns subject.entry here (told_of due spans) (told_of due spans) result }
     ensures goes { GoesOn subject.entry kept.new.region (next_of result) }
     ensures desk { IsDesk subject.entry tables.new kept.new }
+    ensures shape { SameTables tables.old tables.new }
+    ensures space { SameSpace kept.old kept.new }
     ensures cost { Takes steps.old steps.new (kind_cost subject.entry here (next_of result)) }
     ensures looks { LooksAt subject.entry here (Seq parts.0 parts.1) (next_of result) steps.old steps.new }
 {
@@ -344,6 +429,8 @@ fn turn_alt(
     ensures turn { (s : State) → Turns subject.entry here s s result }
     ensures goes { GoesOn subject.entry kept.new.region (next_of result) }
     ensures desk { IsDesk subject.entry tables.new kept.new }
+    ensures shape { SameTables tables.old tables.new }
+    ensures space { SameSpace kept.old kept.new }
     ensures cost { Takes steps.old steps.new (kind_cost subject.entry here (next_of result)) }
     ensures looks { LooksAt subject.entry here (Alt a b) (next_of result) steps.old steps.new }
 {
@@ -375,6 +462,8 @@ fn turn_star(
     ensures turn { (s : State) → Turns subject.entry here s s result }
     ensures goes { GoesOn subject.entry kept.new.region (next_of result) }
     ensures desk { IsDesk subject.entry tables.new kept.new }
+    ensures shape { SameTables tables.old tables.new }
+    ensures space { SameSpace kept.old kept.new }
     ensures cost { Takes steps.old steps.new (kind_cost subject.entry here (next_of result)) }
     ensures looks { LooksAt subject.entry here (Star a first) (next_of result) steps.old steps.new }
 {
@@ -430,6 +519,8 @@ fn turn_node(
     ensures turn { Turns subject.entry here (told_of told.old.due told.old.spans) (told_of told.new.due told.new.spans) result }
     ensures goes { GoesOn subject.entry kept.new.region (next_of result) }
     ensures desk { IsDesk subject.entry tables.new kept.new }
+    ensures shape { SameTables tables.old tables.new }
+    ensures space { SameSpace kept.old kept.new }
     ensures told { IsTold told.new }
     ensures few { found told.new.spans ≤ found told.old.spans + 1 }
     ensures cost { Takes steps.old steps.new (kind_cost subject.entry here (next_of result)) }
@@ -469,6 +560,8 @@ fn turn(
     ensures turn { Turns subject.entry here (told_of told.old.due told.old.spans) (told_of told.new.due told.new.spans) result }
     ensures goes { GoesOn subject.entry kept.new.region (next_of result) }
     ensures desk { IsDesk subject.entry tables.new kept.new }
+    ensures shape { SameTables tables.old tables.new }
+    ensures space { SameSpace kept.old kept.new }
     ensures told { IsTold told.new }
     ensures cost { Takes steps.old steps.new (kind_cost subject.entry here (next_of result) + 1) }
     ensures counts { TakesAtLeast steps.old steps.new (found told.new.spans - found told.old.spans) }
@@ -516,6 +609,8 @@ fn spine(
     requires told { IsTold told.old }
     ensures room { vec_capacity room.old.tasks ≤ vec_capacity room.new.tasks }
     ensures desk { HasDesk subject.entry tables.new room.new.kept }
+    ensures shape { SameTables tables.old tables.new }
+    ensures space { SameSpace room.old.kept room.new.kept }
     ensures told { IsTold told.new }
     ensures reduces { Reduces (nodes_in subject.entry) (text_in subject.entry) (waiting (Some here) room.old.tasks.items) (told_of told.old.due told.old.spans)
         (reverse room.new.tasks.items) (told_of told.new.due told.new.spans) }
@@ -547,6 +642,8 @@ fn work(
     requires told { IsTold told.old }
     ensures room { vec_capacity room.old.tasks ≤ vec_capacity room.new.tasks }
     ensures desk { HasDesk subject.entry tables.new room.new.kept }
+    ensures shape { SameTables tables.old tables.new }
+    ensures space { SameSpace room.old.kept room.new.kept }
     ensures told { IsTold told.new }
     ensures reduces { Reduces (nodes_in subject.entry) (text_in subject.entry) (task ∷ reverse room.old.tasks.items) (told_of told.old.due told.old.spans)
         (reverse room.new.tasks.items) (told_of told.new.due told.new.spans) }
@@ -599,6 +696,8 @@ pub fn decide(
     ensures tasks { room.new.tasks.items ≡ [] }
     ensures room { vec_capacity room.old.tasks ≤ vec_capacity room.new.tasks }
     ensures desk { HasDesk subject.entry tables.new room.new.kept }
+    ensures shape { SameTables tables.old tables.new }
+    ensures space { SameSpace room.old.kept room.new.kept }
     ensures cost { let m = length (nodes_in subject.entry) in Takes steps.old steps.new (172 * m * (m - 1) * (stop - start) + 2 * m) }
     ensures counts { TakesAtLeast steps.old steps.new (found result - 1) }
 {

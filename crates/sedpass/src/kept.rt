@@ -3,7 +3,7 @@
 //! The region is cut into blocks, and the table has room for one state more than a block has places. The row at each block's
 //! right end is kept too. Where the states of a block are gone, since the table was emptied after it was made, they are made again
 //! from the block's end down to the place that is looked at, so that looks from left to right make each place again once at most.
-ghost use Rattle.std.specs.Prelude.{◌≡◌, ℕ, Bool, true, false, not, min, ◌+◌, ◌-◌, ◌*◌, ◌/◌, ◌^◌, ◌<◌, ◌≤◌, ◌↔◌, length, slice_index_or, IfOk, IsTrue};
+ghost use Rattle.std.specs.Prelude.{◌≡◌, ℕ, Bool, true, false, not, min, ◌+◌, ◌-◌, ◌*◌, ◌/◌, ◌^◌, ◌<◌, ◌≤◌, ◌↔◌, length, slice_index_or, vec_capacity, IfOk, IsTrue};
 ghost use Rattle.sedmarks.specs.Costs.{Pays};
 ghost use Rattle.sedmarks.specs.Reach.{At, one_start};
 ghost use Rattle.sedmarks.specs.Words.{row_of};
@@ -11,7 +11,7 @@ ghost use Rattle.sedre.specs.Steps.{Takes, TakesAtLeast};
 ghost use Rattle.sedpass.specs.Regions.{IsLastIn, Meets, Reaches};
 ghost use Rattle.sedpass.specs.Rows.{nodes_of};
 ghost use Rattle.sedpass.specs.Table.{AddsStates, IsOffset, IsTable, MayBegin, SameShape, StateAt, state_of};
-ghost use Rattle.sedpass.specs.Kept.{AllMarked, CeasesAt, EdgesFrom, Follows, IsKept, IsRegion, KeptAt, KeptRoom, Meet, Passes, SameKept, again, ends_told, owed};
+ghost use Rattle.sedpass.specs.Kept.{AllMarked, CeasesAt, EdgesFrom, Follows, IsKept, IsRegion, KeptAt, KeptRoom, Meet, Passes, SameKept, SameSpace, again, ends_told, owed};
 
 use crate::cells::offset_of;
 use crate::nodes::{Prepared, kind_of};
@@ -50,12 +50,24 @@ pub struct Region {
 pub struct Kept {
     /// The region.
     pub region: Region,
-    /// For each place the number of its state.
+    /// For each place the number of its state. There is room for one at each place of the longest text; how many stand
+    /// there grows as texts need them, so that memory is touched only then.
     pub states: Vec<u16>,
     /// For each block the row at its right end: the leaves entered, and then the nodes that end there.
     pub edges: Rows,
     /// Marks for the acts of the pass.
     pub work: Work,
+}
+
+/// Appends zeros until there is a state's number for each place of a text of so many bytes.
+fn extend_states(states: &mut Vec<u16>, text: usize)
+    requires room { text < vec_capacity states.old }
+    ensures long { text < length states.new.items }
+    ensures capacity { vec_capacity states.new ≡ vec_capacity states.old }
+{
+    while states.len() <= text {
+        states.push_reserved(0);
+    }
 }
 
 impl Kept {
@@ -70,7 +82,7 @@ impl Kept {
         requires text { max_text ≤ 2 ^ 30 }
         requires blocks { blocks ≤ 32768 }
         requires nodes { nodes ≤ 65536 }
-        ensures places { IfOk result (λ k. length k.states.items ≡ max_text + 1) }
+        ensures places { IfOk result (λ k. max_text < vec_capacity k.states) }
         ensures edges { IfOk result (λ k. length k.edges ≡ 2 * blocks) }
         ensures marks { IfOk result (λ k. (q : ℕ) → q < length k.edges → length (row_of k.edges q) ≡ nodes) }
     {
@@ -82,7 +94,7 @@ impl Kept {
                 from: 0,
                 to: 0,
             },
-            states: vec![in alloc; 0; max_text + 1]?,
+            states: Vec::with_capacity(alloc, max_text + 1)?,
             edges: Rows::new(alloc, 2 * blocks, nodes)?,
             work: Work::new(alloc)?,
         })
@@ -99,11 +111,11 @@ impl Kept {
         ensures kept { IsKept subject.entry.prepared.now subject.entry.text.now table.now self.new }
         ensures root { self.new.region.root ≡ root }
         ensures end { self.new.region.end ≡ end }
-        ensures places { length self.new.states.items ≡ length self.old.states.items }
-        ensures edges { length self.new.edges ≡ length self.old.edges }
+        ensures space { SameSpace self.old self.new }
         ensures owed { (i : ℕ) → i ≤ end → owed (length subject.entry.prepared.now.expr.nodes) (table.now.room - 1) self.new.region i
             ≤ 100 * length subject.entry.prepared.now.expr.nodes * (end - i) }
     {
+        extend_states(&mut self.states, subject.text.len());
         self.region = Region {
             root,
             end,
@@ -276,7 +288,7 @@ impl Kept {
         ensures adds { AddsStates (length subject.entry.prepared.now.expr.nodes) table.old table.new }
         ensures region { self.new.region ≡ self.old.region }
         ensures edges { self.new.edges ≡ self.old.edges }
-        ensures states { self.new.states.items ≡ self.old.states.items }
+        ensures states { self.new.states ≡ self.old.states }
         ensures there { IsOffset table.new result }
         ensures at { KeptAt subject.entry.prepared.now subject.entry.text.now table.new.way self.old.region.root self.old.region.end self.old.region.end
             (state_of (length subject.entry.prepared.now.expr.nodes) table.new (result / 2 ^ table.new.layout.shift)) }
@@ -334,7 +346,7 @@ impl Kept {
         ensures shape { SameShape table.old table.new }
         ensures region { self.new.region ≡ self.old.region }
         ensures edges { self.new.edges ≡ self.old.edges }
-        ensures states { self.new.states.items ≡ self.old.states.items }
+        ensures states { self.new.states ≡ self.old.states }
         ensures there { IsOffset table.new result }
         ensures at { KeptAt subject.entry.prepared.now subject.entry.text.now table.new.way self.old.region.root self.old.region.end place
             (state_of (length subject.entry.prepared.now.expr.nodes) table.new (result / 2 ^ table.new.layout.shift)) }
@@ -342,7 +354,7 @@ impl Kept {
         ensures cost { Takes steps.old steps.new (37 * length subject.entry.prepared.now.expr.nodes) }
         ensures inside { place < self.old.region.end → Takes steps.old steps.new (24 * length subject.entry.prepared.now.expr.nodes) }
     {
-        table.empty(subject.prepared, steps);
+        table.empty(subject.prepared);
         if place == self.region.end {
             return self.last_state(subject, table, steps);
         }

@@ -1,10 +1,10 @@
-//! A matcher of one kind of pass, which takes the place of `sedmarks`, `sedneedles` and `sedmatch` when its searches stand; nothing
-//! uses it yet.
+//! A matcher of one kind of pass. `sedmatch` decides groups by it; its searches, which are to take the place of those of `sedmarks`
+//! and `sedmatch`, aren't used yet.
 //!
 //! One act goes from the row of a place and the next byte to that of the next place ([`rows`]), forwards or from the text's end.
 //! A table remembers what acts found out ([`table`], [`cells`]); a pass forwards for the whole expression is in [`forwards`]. Of a pass
 //! backwards over a region the states of all places are kept ([`kept`]); by looks into it the groups of a match are decided from its
-//! end ([`groups`]).
+//! end ([`groups`]). Searches stand over these: [`search`], [`occurrences`] and [`find`].
 #![tactic(auto)]
 
 pub mod cells;
@@ -15,6 +15,8 @@ pub mod group_set;
 pub mod groups;
 pub mod kept;
 pub mod nodes;
+pub mod occurrences;
 pub mod rows;
 pub mod search;
 pub mod table;
+pub mod width;

@@ -12,8 +12,8 @@ ghost use Rattle.sedre.specs.Arena.{tree};
 ghost use Rattle.sedre.specs.Steps.{Takes, TakesAtLeast};
 ghost use Rattle.sedpass.specs.declared.search.Trials.TheVariants.{Nothing, Tired};
 ghost use Rattle.sedpass.specs.Table.{IsAhead, IsTable, SameShape};
-ghost use Rattle.sedpass.specs.Kept.{IsKept, KeptRoom, owed};
-ghost use Rattle.sedpass.specs.Search.{IsNext, IsTrial, LooksAtHit, Serves, TrialsAnswer, trial_cost, trials_cost, trials_room, owed_kept, owed_search, owed_after};
+ghost use Rattle.sedpass.specs.Kept.{IsKept, KeptRoom, SameSpace, owed};
+ghost use Rattle.sedpass.specs.Search.{IsNext, IsTrial, LooksAtHit, Serves, TrialsAnswer, trial_cost, trials_cost, trials_room, owed_kept, owed_search, owed_after, search_cost};
 
 use crate::kept::{Kept, Subject};
 use crate::nodes::kind_of;
@@ -68,6 +68,7 @@ fn try_next(
     requires begins { AllBegin (tree subject.prepared.now.expr) begins.now }
     requires ahead { IsAhead subject.prepared.now ahead.old }
     ensures ahead { IsAhead subject.entry.prepared.now ahead.new }
+    ensures ahead_shape { SameShape ahead.old ahead.new }
     ensures none { IfNone result (NotFound (tree subject.entry.prepared.now.expr) subject.entry.text.now from) }
     ensures trial { IfSome result (IsTrial (tree subject.entry.prepared.now.expr) subject.entry.text.now from) }
     ensures cost { Pays steps.old steps.new (trial_cost (length subject.entry.prepared.now.expr.nodes) (length subject.entry.text.now) result) from }
@@ -109,8 +110,9 @@ fn try_all(
     requires ahead { IsAhead subject.prepared.now ahead.old }
     requires tried { tried.old ≤ length subject.text.now }
     ensures ahead { IsAhead subject.entry.prepared.now ahead.new }
+    ensures ahead_shape { SameShape ahead.old ahead.new }
     ensures answer { TrialsAnswer (tree subject.entry.prepared.now.expr) subject.entry.text.now from result }
-    ensures few { trials_room tried.new result ≤ max tried.old (length subject.entry.text.now / 8) + length subject.entry.text.now + 1 }
+    ensures few { trials_room tried.new result ≤ max tried.old (length subject.entry.text.now / 8) + (length subject.entry.text.now + 1 - from) }
     ensures cost { let m = length subject.entry.prepared.now.expr.nodes in
         Pays steps.old steps.new (40 * m * tried.new + trials_cost m (length subject.entry.text.now) result) (40 * m * tried.old + from) }
     ensures counts { LooksAtHit steps.old steps.new result }
@@ -164,9 +166,11 @@ fn next_kept(
     requires kept { IsKept subject.prepared.now subject.text.now back.old kept.old }
     requires sweeps { IsTrue back.old.way.sweeps }
     ensures ahead { IsAhead subject.entry.prepared.now ahead.new }
+    ensures ahead_shape { SameShape ahead.old ahead.new }
+    ensures space { SameSpace kept.old kept.new }
     ensures next { IsNext subject.entry.prepared.now subject.entry.text.now from back.old back.new kept.new steps.old steps.new result }
     ensures cost { let m = length subject.entry.prepared.now.expr.nodes in let n = length subject.entry.text.now in let width = back.old.room - 1 in
-        Pays steps.old steps.new (owed_kept m n width kept.old.region from + 84 * m) (owed_after (λ q. owed_kept m n width kept.new.region q) result) }
+        Pays steps.old steps.new (owed_kept m n width kept.old.region from + 42 * m) (owed_after (λ q. owed_kept m n width kept.new.region q) result) }
 {
     let root = subject.prepared.root;
     let start = kept.seek(subject, back, root, from, true, steps);
@@ -192,9 +196,11 @@ fn next_begun(
     requires room { KeptRoom (length subject.prepared.now.expr.nodes) (length subject.text.now) back.old kept.old }
     requires sweeps { IsTrue back.old.way.sweeps }
     ensures ahead { IsAhead subject.entry.prepared.now ahead.new }
+    ensures ahead_shape { SameShape ahead.old ahead.new }
+    ensures space { SameSpace kept.old kept.new }
     ensures next { IsNext subject.entry.prepared.now subject.entry.text.now from back.old back.new kept.new steps.old steps.new result }
     ensures cost { let m = length subject.entry.prepared.now.expr.nodes in let n = length subject.entry.text.now in let width = back.old.room - 1 in
-        Pays steps.old steps.new (142 * m * (n - from) + 84 * m) (owed_after (λ q. owed_kept m n width kept.new.region q) result) }
+        Pays steps.old steps.new (142 * m * (n - from) + 42 * m) (owed_after (λ q. owed_kept m n width kept.new.region q) result) }
 {
     let length = subject.text.len();
     kept.begin(subject, back, subject.prepared.root, length);
@@ -216,14 +222,14 @@ pub fn next_match(
     requires ahead { IsAhead subject.prepared.now ahead.old }
     requires serves { Serves subject.prepared.now subject.text.now back.old seeking.old }
     ensures ahead { IsAhead subject.entry.prepared.now ahead.new }
+    ensures ahead_shape { SameShape ahead.old ahead.new }
+    ensures space { SameSpace seeking.old.kept seeking.new.kept }
     ensures serves { Serves subject.entry.prepared.now subject.entry.text.now back.new seeking.new }
     ensures shape { SameShape back.old back.new }
     ensures answer { SpanAnswer (tree subject.entry.prepared.now.expr) subject.entry.text.now from result }
     ensures cost { let m = length subject.entry.prepared.now.expr.nodes in let n = length subject.entry.text.now in let width = back.old.room - 1 in
-        Pays steps.old steps.new (owed_search m n width seeking.old from + 84 * m) (owed_after (owed_search m n width seeking.new) result) }
-    // A first search in a text.
-    ensures alone { let m = length subject.entry.prepared.now.expr.nodes in let n = length subject.entry.text.now in
-        seeking.old.begun ≡ false → seeking.old.tried ≡ 0 → Takes steps.old steps.new (m * (192 * n + 48)) }
+        Pays steps.old steps.new (owed_search m n width seeking.old from + 42 * m) (owed_after (owed_search m n width seeking.new) result) }
+    ensures each { Takes steps.old steps.new (search_cost (length subject.entry.prepared.now.expr.nodes) (length subject.entry.text.now) from) }
     ensures counts { IfSome result (λ f. TakesAtLeast steps.old steps.new (f.1 - f.0)) }
 {
     if seeking.begun {

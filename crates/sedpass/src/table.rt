@@ -9,14 +9,18 @@ ghost use Rattle.sedre.specs.Steps.{Takes, TakesAtLeast};
 ghost use Rattle.sedpass.specs.Rows.{nodes_of, bits};
 ghost use Rattle.sedpass.specs.Cells.{stops, code_of};
 ghost use Rattle.sedpass.specs.declared.nodes.Kind.{Kind};
-ghost use Rattle.sedpass.specs.Table.{state_of, HasRow, LeadsOn, BeginsIn, Names, NamesNext, IsOffset, beginning_at, MayBegin, IsTable, SameShape, AddsStates};
+ghost use Rattle.sedpass.specs.Table.{state_of, HasRow, LeadsOn, BeginsIn, Names, NamesNext, IsOffset, beginning_at, beginning_of, MayBegin, HasRoom, IsRoomy, IsTable, SameRoom, SameShape, AddsStates};
 
-use crate::cells::{Flags, Layout, clear_cells, code_of, stops};
+use crate::cells::{Flags, Layout, code_of, empty_cells, stops};
 use crate::nodes::{Kind, Prepared};
 use crate::rows::{Way, Work, first, step};
 use sedmarks::counted::Rows;
 use sedre::Steps;
 use std::alloc::{AllocError, Global};
+
+/// From this epoch on no beginning is noted or trusted: a table that comes to the greatest number goes to and fro between
+/// the last two.
+const LAST_EPOCHS: u32 = u32::MAX - 1;
 
 /// What is known of where a pass begins: in which epoch of the table, and the code of the state.
 #[derive(Clone, Copy)]
@@ -33,18 +37,22 @@ struct Slot {
     state: u16,
 }
 
-/// A lazy table of the passes of one way over one expression.
+/// A lazy table of the passes of one way over one expression; by [`Table::fit`] it comes to serve another one.
 #[derive(Drop)]
 pub struct Table {
     /// The way of its passes.
     pub way: Way,
     /// How many states it has room for.
     pub room: usize,
+    /// For how many nodes a row has room.
+    pub marks: usize,
+    /// For how many cells there is room.
+    pub reserved: usize,
     /// How the cells of a state are laid out.
     pub layout: Layout,
     /// How many states there are.
     pub count: usize,
-    /// Changes where the table is emptied.
+    /// Changes where the table is emptied: then no beginning that was noted has this number.
     pub epoch: u32,
     /// For each state the leaves entered.
     pub leaves: Rows,
@@ -54,22 +62,23 @@ pub struct Table {
     pub roots: Vec<usize>,
     /// For each state what is told of it.
     pub flags: Vec<Flags>,
-    /// For each state and column the code of the state that comes next, or 0 where it isn't known yet.
+    /// For each state and column the code of the state that comes next, or 0 where it isn't known yet. There is room for all
+    /// states; the cells of a state stand there once it was added, so that memory is touched only then.
     pub cells: Vec<u32>,
     index: Vec<Slot>,
     /// For each root and kind of place where a pass begins.
     pub beginnings: Vec<Beginning>,
 }
 
-/// Forgets all beginnings. Counts a look for each.
-fn forget_beginnings(beginnings: &mut Vec<Beginning>, steps: &mut Steps)
-    ensures len { length beginnings.new.items ≡ length beginnings.old.items }
-    ensures none { (i : ℕ) → (slice_index_or beginnings.new.items i (record { epoch = 0; code = 0 })).epoch ≡ 0 }
-    ensures cost { Takes steps.old steps.new (length beginnings.old.items) }
+/// The epoch after one, which no beginning noted so far has.
+fn next_epoch(epoch: u32) -> u32
+    ensures other { result ≡ epoch → ⊥ }
+    ensures later { (noted : ℕ) → noted ≤ epoch → noted < 4294967294 → noted < result }
 {
-    steps.add(beginnings.len());
-    for k in 0..beginnings.len() {
-        beginnings[k] = Beginning { epoch: 0, code: 0 };
+    if epoch < u32::MAX {
+        epoch + 1
+    } else {
+        LAST_EPOCHS
     }
 }
 
@@ -77,13 +86,59 @@ fn forget_beginnings(beginnings: &mut Vec<Beginning>, steps: &mut Steps)
 fn count_beginnings(sweeps: bool, nodes: usize) -> usize
     requires some { 0 < nodes }
     requires few { nodes ≤ 65536 }
-    ensures short { result ≤ 4 * nodes }
     ensures begins { (root : ℕ) (kind : Kind) → root < nodes → beginning_at sweeps root kind < result }
 {
     if sweeps { 4 } else { 4 * nodes }
 }
 
 impl Table {
+    /// An empty table with room for so many states, for rows of so many nodes, and for cells that are laid out so.
+    fn made(
+        alloc: Global,
+        way: Way,
+        room: usize,
+        nodes: usize,
+        layout: Layout,
+    ) -> Result<Table, AllocError>
+        requires some { 2 ≤ room }
+        requires few { room ≤ 65535 }
+        requires nodes { 1 ≤ nodes }
+        requires short { nodes ≤ 65536 }
+        requires layout { layout.shift ≤ 8 }
+        ensures has { IfOk result (λ t. HasRoom nodes t) }
+        ensures none { IfOk result (λ t. t.count ≡ 0) }
+        ensures begun { IfOk result (λ t. (i : ℕ) → (beginning_of t i).epoch < t.epoch) }
+        ensures way { IfOk result (λ t. t.way ≡ way) }
+        ensures room { IfOk result (λ t. t.room ≡ room) }
+        ensures layout { IfOk result (λ t. t.layout ≡ layout) }
+        ensures marks { IfOk result (λ t. t.marks ≡ nodes) }
+        ensures reserved { IfOk result (λ t. t.reserved ≡ room * 2 ^ layout.shift) }
+    {
+        let reserved = room << layout.shift;
+        Ok(Table {
+            way,
+            room,
+            marks: nodes,
+            reserved,
+            layout,
+            count: 0,
+            epoch: 1,
+            leaves: Rows::new(alloc, room, nodes)?,
+            ends: Rows::new(alloc, room, nodes)?,
+            roots: vec![in alloc; 0; room]?,
+            flags: vec![in alloc; Flags {
+                ends: false,
+                dead: false
+            }; room]?,
+            cells: Vec::with_capacity(alloc, reserved)?,
+            // An odd number and one: by a power of two only a digest's last bits would count.
+            index: vec![in alloc; Slot { epoch: 0, state: 0 }; 2 * room + 2]?,
+            beginnings: vec![in alloc; Beginning { epoch: 0, code: 0 }; count_beginnings(
+                way.sweeps, nodes
+            )]?,
+        })
+    }
+
     /// An empty table with room for so many states. Fails only where a request for memory was refused.
     pub fn new(
         alloc: Global,
@@ -99,45 +154,52 @@ impl Table {
     {
         let nodes = prepared.nodes();
         let layout = Layout::new(prepared);
-        Ok(Table {
-            way,
-            room,
-            layout,
-            count: 0,
-            epoch: 1,
-            leaves: Rows::new(alloc, room, nodes)?,
-            ends: Rows::new(alloc, room, nodes)?,
-            roots: vec![in alloc; 0; room]?,
-            flags: vec![in alloc; Flags {
-                ends: false,
-                dead: false
-            }; room]?,
-            cells: vec![in alloc; 0; room << layout.shift]?,
-            // An odd number and one: by a power of two only a digest's last bits would count.
-            index: vec![in alloc; Slot { epoch: 0, state: 0 }; 2 * room + 2]?,
-            beginnings: vec![in alloc; Beginning { epoch: 0, code: 0 }; count_beginnings(
-                way.sweeps, nodes
-            )]?,
-        })
+        let empty = Table::made(alloc, way, room, nodes, layout)?;
+        Ok(empty)
+    }
+
+    /// An empty table with room for so many states of any expression of at most so many nodes, which serves none yet. Fails only
+    /// where a request for memory was refused.
+    pub fn with_room(
+        alloc: Global,
+        way: Way,
+        room: usize,
+        nodes: usize,
+    ) -> Result<Table, AllocError>
+        requires some { 2 ≤ room }
+        requires few { room ≤ 65535 }
+        requires nodes { 1 ≤ nodes }
+        requires short { nodes ≤ 65536 }
+        ensures table { IfOk result (λ t. IsRoomy nodes t × (t.way ≡ way) × (t.room ≡ room)) }
+    {
+        let empty = Table::made(alloc, way, room, nodes, Layout::widest())?;
+        Ok(empty)
+    }
+
+    /// Begins to serve an expression: lays the cells out anew, and forgets all states.
+    pub fn fit(&mut self, prepared: &Prepared)
+        requires roomy { IsRoomy (length prepared.now.expr.nodes) self.old }
+        ensures table { IsTable prepared.now self.new }
+        ensures room { SameRoom self.old self.new }
+    {
+        // What always holds of an expression is told with the number of its nodes.
+        let _nodes = prepared.nodes();
+        self.layout = Layout::new(prepared);
+        self.count = 0;
+        self.epoch = next_epoch(self.epoch);
     }
 
     /// Forgets all states.
-    pub fn empty(&mut self, prepared: &Prepared, steps: &mut Steps)
+    pub fn empty(&mut self, prepared: &Prepared)
         requires table { IsTable prepared.now self.old }
         ensures table { IsTable prepared.now self.new }
         ensures none { self.new.count ≡ 0 }
         ensures epoch { self.new.epoch ≡ self.old.epoch → ⊥ }
         ensures shape { SameShape self.old self.new }
         ensures index { self.new.index ≡ self.old.index }
-        ensures cost { Takes steps.old steps.new (4 * length prepared.now.expr.nodes) }
     {
         self.count = 0;
-        if self.epoch < u32::MAX {
-            self.epoch += 1;
-        } else {
-            forget_beginnings(&mut self.beginnings, steps);
-            self.epoch = 1;
-        }
+        self.epoch = next_epoch(self.epoch);
     }
 
     /// The number of the state whose cells begin at a place.
@@ -246,7 +308,8 @@ impl Table {
             dead: work.leaves.is_clear(nodes, steps),
         };
         self.flags[state] = flags;
-        clear_cells(&mut self.cells, offset, self.layout.width, steps);
+        let size = 1usize << self.layout.shift;
+        empty_cells(&mut self.cells, offset, self.layout.width, size, steps);
         self.index[slot] = Slot {
             epoch: (self.epoch % 65536) as u16,
             state: state as u16,
@@ -285,7 +348,7 @@ impl Table {
         ensures adds { AddsStates (length prepared.now.expr.nodes) self.old self.new }
         ensures names { Names (length prepared.now.expr.nodes) self.new (HasRow root (bits (length prepared.now.expr.nodes) work.now.leaves)
             (bits (length prepared.now.expr.nodes) work.now.ends)) result }
-        ensures cost { Takes steps.old steps.new (15 * length prepared.now.expr.nodes + 3) }
+        ensures cost { Takes steps.old steps.new (11 * length prepared.now.expr.nodes + 3) }
         ensures counts { TakesAtLeast steps.old steps.new (2 * length prepared.now.expr.nodes) }
     {
         let slot = self.slot_of(prepared.nodes(), root, work, steps);
@@ -293,7 +356,7 @@ impl Table {
             return self.code(prepared, state);
         }
         if self.count == self.room {
-            self.empty(prepared, steps);
+            self.empty(prepared);
         }
         let at = if self.notes(slot) { slot + 1 } else { slot };
         self.add(prepared, root, at, work, steps)
@@ -401,6 +464,25 @@ impl Table {
         if self.way.sweeps { k } else { 4 * root + k }
     }
 
+    /// Notes the state in which a pass for a root begins, at a place of a kind; in the last epochs nothing is noted.
+    fn note_first(&mut self, prepared: &Prepared, root: usize, kind: Kind, code: u32)
+        requires table { IsTable prepared.now self.old }
+        requires root { MayBegin prepared.now self.old.way root }
+        requires begins { Names (length prepared.now.expr.nodes) self.old (BeginsIn (nodes_of self.old.way prepared.now.expr) self.old.way root kind) code }
+        ensures table { IsTable prepared.now self.new }
+        ensures adds { AddsStates (length prepared.now.expr.nodes) self.old self.new }
+        ensures epoch { self.new.epoch ≡ self.old.epoch }
+        ensures count { self.new.count ≡ self.old.count }
+    {
+        if self.epoch < LAST_EPOCHS {
+            let at = self.beginning_at(root, kind);
+            self.beginnings[at] = Beginning {
+                epoch: self.epoch,
+                code,
+            };
+        }
+    }
+
     /// Makes the state in which a pass for a root begins, at a place of a kind, and notes it.
     #[inline(never)]
     fn begin(
@@ -420,11 +502,7 @@ impl Table {
     {
         first(prepared, self.way, root, kind, work, steps);
         let code = self.intern(prepared, root, work, steps);
-        let at = self.beginning_at(root, kind);
-        self.beginnings[at] = Beginning {
-            epoch: self.epoch,
-            code,
-        };
+        self.note_first(prepared, root, kind, code);
         code
     }
 

@@ -7,7 +7,8 @@ use Rattle.sedre.specs.Arena.{tree_at, tree}
 use Rattle.sedpass.specs.declared.groups.Task.{Task}
 use Rattle.sedpass.specs.declared.groups.Task.TheVariants.{Apart}
 use Rattle.sedpass.proofs.SpineLemmas.{decides, decides_due, all_paid, first_paid, least_same, least_on}
-use Rattle.sedpass.proofs.DecideLemmas.{starts_due, starts_blank}
+use Rattle.sedpass.proofs.KeptLemmas.{space_same, space_then}
+use Rattle.sedpass.proofs.DecideLemmas.{starts_due, starts_blank, tables_same, tables_then}
 use Rattle.sedpass.proofs.groups.decide.Goals as goal
 
 pub all-init : goal.all-init
@@ -27,6 +28,8 @@ all-init c =
     let most = part_cost (length nodes) long * (length nodes - 1) + 2 * length nodes in
     record {
       desk = c.requires.desk;
+      shape = tables_same c.args.tables.now;
+      space = space_same c.args.room.now.kept;
       told = record { blank = starts_blank c.args.start c.args.stop c.args.due c.requires.whole; whole = c.requires.whole };
       room = omega arith;
       ready = subst (AreReady nodes w) (sym begun) (inside, c.requires.order.0, c.requires.order.1, c.requires.spans, tt);
@@ -62,6 +65,8 @@ all-preserved c =
     let before = subst (λ ts. c.all.steps + tasks_cost nodes long ts ≤ c.args.steps.now + (part_cost m long * (m - 1) + 2 * m)) popped inv.cost.1 in
     record {
       desk = c.work.ensures.desk;
+      shape = tables_then c.args.tables.now c.all.tables c.work.new.tables inv.shape c.work.ensures.shape;
+      space = space_then c.args.room.now.kept c.all.room.kept c.work.new.room.kept inv.space c.work.ensures.space;
       told = c.work.ensures.told;
       room = omega (arith, inv.room, c.pop.ensures.capacity, c.work.ensures.room);
       ready = c.work.ensures.reduces.1;

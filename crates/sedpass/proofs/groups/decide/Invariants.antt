@@ -1,7 +1,8 @@
 use Rattle.std.proofs.Common.{◌+◌, ◌-◌, ◌*◌, ◌≤◌, [], ◌∷◌, length, reverse, vec_capacity}
 use Rattle.sedre.specs.Steps.{TakesAtLeast}
 use Rattle.sedmarks.specs.Costs.{Pays}
-use Rattle.sedpass.specs.Decide.{nodes_in, text_in, told_of, undecided, found, IsTold, HasDesk, part_cost, tasks_cost}
+use Rattle.sedpass.specs.Kept.{SameSpace}
+use Rattle.sedpass.specs.Decide.{nodes_in, text_in, told_of, undecided, found, IsTold, HasDesk, part_cost, tasks_cost, SameTables}
 use Rattle.sedpass.specs.Overlay.{State}
 use Rattle.sedpass.specs.Turns.{Runs, AreReady, AreShort, weights}
 use Rattle.sedpass.specs.declared.groups.Task.TheVariants.{Apart}
@@ -10,6 +11,8 @@ use Rattle.sedpass.proofs.groups.decide.Given as goal
 abbrev pub invariant-all : goal.invariant-all
 invariant-all l = record {
   desk : HasDesk l.subject l.tables l.room.kept;
+  shape : SameTables l.initial.tables l.tables;
+  space : SameSpace l.initial.room.kept l.room.kept;
   told : IsTold l.told;
   room : vec_capacity l.initial.room.tasks ≤ vec_capacity l.room.tasks;
   ready : AreReady (nodes_in l.subject) (text_in l.subject) (reverse l.room.tasks.items);

@@ -4,7 +4,8 @@ use Rattle.sedmarks.specs.Reach.{At}
 use Rattle.sedpass.specs.Lengths.{length_of}
 use Rattle.sedpass.specs.Decide.{nodes_in, text_in}
 use Rattle.sedpass.specs.Regions.{StopsAt}
-use Rattle.sedpass.proofs.DecideLemmas.{long_at, copy_fits, copy_named, part_low, ends_still, copy_pays, owed_here, least_none, least_then, least_less, not_open}
+use Rattle.sedpass.proofs.KeptLemmas.{space_same, space_then}
+use Rattle.sedpass.proofs.DecideLemmas.{long_at, copy_fits, copy_named, part_low, ends_still, copy_pays, owed_here, least_none, least_then, least_less, not_open, tables_same, tables_then}
 use Rattle.sedpass.proofs.LengthLemmas.{copies_long}
 use Rattle.sedpass.proofs.MeetingLemmas.{copy_walk}
 use Rattle.sedpass.proofs.TurnLemmas.{star_parts, star_spine}
@@ -33,6 +34,8 @@ returns-in-Some-clause-copy c =
 pub copies-init : goal.copies-init
 copies-init c = record {
   desk = c.requires.desk;
+  shape = tables_same c.args.tables.now;
+  space = space_same c.args.kept.now;
   ends = c.requires.ends;
   within = omega arith;
   rest = (star_parts _ _ _ _ _ _ _ _ c.requires.here.1 c.index-part.ensures).1;
@@ -75,6 +78,8 @@ copies-preserved c =
     c.requires.here.1 c.index-part.ensures inv.ends.0 inv.rest c.copies-test.true stops in
     record {
       desk = c.meeting_end-end.ensures.desk;
+      shape = tables_then c.args.tables.now c.copies.tables c.meeting_end-end.new.tables inv.shape c.meeting_end-end.ensures.shape;
+      space = space_then c.args.kept.now c.copies.kept c.meeting_end-end.new.kept inv.space c.meeting_end-end.ensures.space;
       ends = ends_still c.args.subject c.copies.kept c.meeting_end-end.new.kept here c.meeting_end-end.ensures.same inv.ends;
       within = next.within;
       rest = next.rest;

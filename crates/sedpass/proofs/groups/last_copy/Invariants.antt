@@ -4,12 +4,15 @@ use Rattle.sedre.specs.Steps.{TakesAtLeast}
 use Rattle.sedmarks.specs.Costs.{Pays}
 use Rattle.sedmarks.specs.Reach.{At}
 use Rattle.sedmarks.specs.Spans.{Copies}
-use Rattle.sedpass.specs.Decide.{nodes_in, text_in, EndsIn, IsDesk, owed_in}
+use Rattle.sedpass.specs.Kept.{SameSpace}
+use Rattle.sedpass.specs.Decide.{nodes_in, text_in, EndsIn, IsDesk, owed_in, SameTables}
 use Rattle.sedpass.proofs.groups.last_copy.Given as goal
 
 abbrev pub invariant-copies : goal.invariant-copies
 invariant-copies l = record {
   desk : IsDesk l.subject l.tables l.kept;
+  shape : SameTables l.initial.tables l.tables;
+  space : SameSpace l.initial.kept l.kept;
   ends : EndsIn l.subject l.kept.region l.here;
   within : l.end ≤ l.here.stop;
   rest : Copies (At (nodes_in l.subject) (text_in l.subject) l.part) l.here.stop l.end;

@@ -2,6 +2,7 @@ use Rattle.std.proofs.Common.{sym, subst, ◌+◌, ◌-◌, ◌*◌, length}
 use Rattle.sedmarks.specs.Costs.{Pays}
 use Rattle.sedpass.specs.Decide.{nodes_in}
 use Rattle.sedpass.specs.Kept.{owed}
+use Rattle.sedpass.proofs.KeptLemmas.{kept_space}
 use Rattle.sedpass.proofs.DecideLemmas.{stops_at, desk_still}
 use Rattle.sedpass.proofs.groups.meeting_end.Goals as goal
 
@@ -20,3 +21,6 @@ returns-clause-cost c =
     let t = c.args.tables.now in
     subst (λ room. Pays c.args.steps.now c.cut.new.steps (owed m (t.inside.room - 1) c.args.kept.now.region c.args.from + 36 * m * (c.cut.result + 1)) (owed m (room - 1) c.cut.new.self.region c.cut.result + 36 * m * c.args.from))
     (sym c.cut.ensures.shape.0.1) c.cut.ensures.cost
+
+pub returns-clause-space : goal.returns-clause-space
+returns-clause-space c = kept_space c.args.kept.now c.cut.new.self c.cut.ensures.same

@@ -2,7 +2,8 @@ use Rattle.std.proofs.Common.{◌≡◌, ◌<◌, ◌≤◌, Some, length, rever
 use Rattle.std.proofs.lemmas.List.{length-reverse}
 use Rattle.sedpass.specs.Decide.{nodes_in, told_of, waiting, found}
 use Rattle.sedpass.specs.Turns.{weights}
-use Rattle.sedpass.proofs.DecideLemmas.{may_begin, begun_ends, desk_begun, desk_has}
+use Rattle.sedpass.proofs.KeptLemmas.{space_same, space_then}
+use Rattle.sedpass.proofs.DecideLemmas.{may_begin, begun_ends, desk_begun, desk_has, tables_same, tables_then}
 use Rattle.sedpass.proofs.SpineLemmas.{Spined, spine_begins, spine_goes, spine_less, spine_reduces, least_same, least_on}
 use Rattle.sedpass.proofs.TurnLemmas.{room}
 use Rattle.sedpass.proofs.groups.spine.Goals as goal
@@ -20,6 +21,8 @@ nodes-init c =
     let r = c.begin.new.self.region in
     record {
       desk = desk_begun s c.args.tables.now c.args.room.now.kept c.begin.new.self c.requires.desk c.begin.ensures.kept;
+      shape = tables_same c.args.tables.now;
+      space = space_same c.begin.new.self;
       told = c.requires.told;
       room = omega arith;
       spined = spine_begins s r (told_of c.args.told.now.due c.args.told.now.spans) here c.args.room.now.tasks.items c.args.steps.now
@@ -57,6 +60,8 @@ nodes-preserved c =
     let spined = subst (λ v. Spined s start begin c.args.steps.now c.nodes.room.kept.region old v stack c.nodes.steps) c.in-Some.is c.nodes.invariant.spined in
     record {
       desk = c.turn-then.ensures.desk;
+      shape = tables_then c.args.tables.now c.nodes.tables c.turn-then.new.tables c.nodes.invariant.shape c.turn-then.ensures.shape;
+      space = space_then c.begin.new.self c.nodes.room.kept c.turn-then.new.kept c.nodes.invariant.space c.turn-then.ensures.space;
       told = c.turn-then.ensures.told;
       room = omega (arith, c.nodes.invariant.room, c.put-at.ensures.room);
       spined = spine_goes s start begin old new c.args.steps.now c.nodes.steps c.turn-then.new.steps c.nodes.room.kept.region c.turn-then.new.kept.region
@@ -78,3 +83,6 @@ returns-clause-cost c =
     let spined = subst (λ v. Spined c.args.subject (waiting (Some c.args.here) c.args.room.now.tasks.items) (told_of c.args.told.now.due c.args.told.now.spans) c.args.steps.now c.nodes.room.kept.region
     (told_of c.nodes.told.due c.nodes.told.spans) v c.nodes.room.tasks.items c.nodes.steps) c.in_default.is c.nodes.invariant.spined in
     spined.spent
+
+pub returns-clause-space : goal.returns-clause-space
+returns-clause-space c = space_then c.args.room.now.kept c.begin.new.self c.nodes.room.kept c.begin.ensures.space c.nodes.invariant.space

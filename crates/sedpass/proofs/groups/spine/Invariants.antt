@@ -1,5 +1,6 @@
 use Rattle.std.proofs.Common.{◌-◌, ◌≤◌, Some, vec_capacity}
-use Rattle.sedpass.specs.Decide.{found, told_of, waiting, IsTold, IsDesk}
+use Rattle.sedpass.specs.Kept.{SameSpace}
+use Rattle.sedpass.specs.Decide.{found, told_of, waiting, IsTold, IsDesk, SameTables}
 use Rattle.sedre.specs.Steps.{TakesAtLeast}
 use Rattle.sedpass.proofs.SpineLemmas.{Spined}
 use Rattle.sedpass.specs.Turns.{weights}
@@ -8,6 +9,8 @@ use Rattle.sedpass.proofs.groups.spine.Given as goal
 abbrev pub invariant-nodes : goal.invariant-nodes
 invariant-nodes l = record {
   desk : IsDesk l.subject l.tables l.room.kept;
+  shape : SameTables l.initial.tables l.tables;
+  space : SameSpace l.initial.room.kept l.room.kept;
   told : IsTold l.told;
   room : vec_capacity l.initial.room.tasks ≤ vec_capacity l.room.tasks;
   spined : Spined l.subject (waiting (Some l.fn.here) l.initial.room.tasks.items) (told_of l.initial.told.due l.initial.told.spans) l.initial.steps

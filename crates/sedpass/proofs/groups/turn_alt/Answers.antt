@@ -45,13 +45,13 @@ pub returns-then-spans-clause-desk : goal.returns-then-spans-clause-desk
 returns-then-spans-clause-desk c =
     let t = c.args.tables.now in
     let desk = c.requires.desk in
-    desk_still c.args.subject t.inside t.ahead c.spans-spans.new.table t.ahead c.spans-spans.new.self c.spans-spans.ensures.kept desk.ahead.table desk.one_end desk.ahead c.spans-spans.ensures.shape (refl, refl, refl)
+    desk_still c.args.subject t.inside t.ahead c.spans-spans.new.table t.ahead c.spans-spans.new.self c.spans-spans.ensures.kept desk.ahead.table desk.one_end desk.ahead c.spans-spans.ensures.shape (refl, refl, refl, refl, refl)
 
 pub returns-else-spans-clause-desk : goal.returns-else-spans-clause-desk
 returns-else-spans-clause-desk c =
     let t = c.args.tables.now in
     let desk = c.requires.desk in
-    desk_still c.args.subject t.inside t.ahead c.spans-spans.new.table t.ahead c.spans-spans.new.self c.spans-spans.ensures.kept desk.ahead.table desk.one_end desk.ahead c.spans-spans.ensures.shape (refl, refl, refl)
+    desk_still c.args.subject t.inside t.ahead c.spans-spans.new.table t.ahead c.spans-spans.new.self c.spans-spans.ensures.kept desk.ahead.table desk.one_end desk.ahead c.spans-spans.ensures.shape (refl, refl, refl, refl, refl)
 
 pub returns-then-spans-clause-cost : goal.returns-then-spans-clause-cost
 returns-then-spans-clause-cost c =

@@ -34,7 +34,7 @@ returns-clause-next c =
     region.table.expr.arena c.requires.sweeps root (ap (λ v. v.sweeps) before.0 ∙ c.requires.sweeps) (c.seek-start.ensures.same.root ∙ root) c.seek-start.ensures.after low c.seek-start.ensures.passed begins c.cut-end.ensures.ceases in
     record {
       kept = c.cut-end.ensures.kept;
-      shape = (then.0 ∙ before.0, then.1 ∙ before.1, then.2 ∙ before.2);
+      shape = (then.0 ∙ before.0, then.1 ∙ before.1, then.2 ∙ before.2, then.3 ∙ before.3, then.4 ∙ before.4);
       answer = (found, tt, (on, omega (arith, stop, c.seek-start.ensures.same.end, region.inside)));
       counts = least_since c.args.steps.now c.begins_there.new.steps c.cut-end.new.steps (c.cut-end.result - c.seek-start.result) (omega (arith, seek, null))
           (least_fewer c.begins_there.new.steps c.cut-end.new.steps (2 * (c.cut-end.result - c.seek-start.result) + 1) (c.cut-end.result - c.seek-start.result) (omega arith) c.cut-end.ensures.counts);

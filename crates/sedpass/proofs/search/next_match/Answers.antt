@@ -1,8 +1,19 @@
-use Rattle.std.proofs.Common.{◌≡◌, ◌+◌, ◌-◌, ◌*◌, ◌≤◌, false, length, subst, arith}
+use Rattle.std.proofs.Common.{◌≡◌, ◌-◌, ◌≤◌, false, length, arith}
 use Rattle.sedre.specs.Arena.{tree}
 use Rattle.sedmarks.proofs.SpanLemmas.{Spans-forward}
-use Rattle.sedpass.proofs.SearchLemmas.{found_since, hit_alone, hit_cost, later_answer, nothing_alone, nothing_cost, tired_alone, tired_cost, unbegun}
+use Rattle.sedpass.specs.Search.{owed_kept}
+use Rattle.sedpass.proofs.SearchLemmas.{begun_each, found_since, hit_cost, hit_each, kept_small, later_answer, nothing_cost, nothing_each, tired_cost, tired_each, unbegun}
 use Rattle.sedpass.proofs.search.next_match.Goals as goal
+
+pub returns-then-seeking-clause-each : goal.returns-then-seeking-clause-each
+returns-then-seeking-clause-each c =
+    let m = length c.args.subject.prepared.now.expr.nodes in
+    let n = length c.args.subject.text.now in
+    let width = c.args.back.now.room - 1 in
+    let region = c.args.seeking.now.kept.region in
+    let kept = c.requires.serves.kept c.if-seeking.true in
+    let cost = c.next_kept.ensures.cost in
+    (cost.0, begun_each m n c.args.from c.args.steps.now c.next_kept.new.steps (owed_kept m n width region c.args.from) _ (kept_small m n width region c.args.from kept.region.inside) cost.1)
 
 pub returns-in-Hit-clause-answer : goal.returns-in-Hit-clause-answer
 returns-in-Hit-clause-answer c =
@@ -25,19 +36,17 @@ returns-in-Hit-clause-cost c =
     (omega (arith, few, low)) c.in-Hit.ensures.cost.1 in
     (c.in-Hit.ensures.cost.0, omega (arith, cost, old, new))
 
-pub returns-in-Hit-clause-alone : goal.returns-in-Hit-clause-alone
-returns-in-Hit-clause-alone c begun fresh =
+pub returns-in-Hit-clause-each : goal.returns-in-Hit-clause-each
+returns-in-Hit-clause-each c =
     let m = length c.args.subject.prepared.now.expr.nodes in
     let n = length c.args.subject.text.now in
     let i = c.in-Hit.start in
     let j = c.in-Hit.end in
     let last = c.args.subject.prepared.now.is_prepared.last in
     let answer = c.in-Hit.ensures.answer in
-    let on = Spans-forward (tree c.args.subject.prepared.now.expr) c.args.subject.text.now i j answer.0.spans in
-    let few = c.in-Hit.ensures.few in (
+    let on = Spans-forward (tree c.args.subject.prepared.now.expr) c.args.subject.text.now i j answer.0.spans in (
       c.in-Hit.ensures.cost.0,
-      hit_alone m n c.args.from i j c.try_all.new.tried c.args.steps.now c.try_all.new.steps (omega (arith, last)) answer.0.after on answer.1 (omega (arith, few, fresh))
-          (subst (λ v. c.try_all.new.steps + (40 * m * v + c.args.from) ≤ c.args.steps.now + (40 * m * c.try_all.new.tried + (i + 1 + 40 * m * (j + 1 - i)))) fresh c.in-Hit.ensures.cost.1),
+      hit_each m n c.args.from i j c.args.seeking.now.tried c.try_all.new.tried c.args.steps.now c.try_all.new.steps (omega (arith, last)) answer.0.after on answer.1 c.in-Hit.ensures.few c.in-Hit.ensures.cost.1,
     )
 
 pub returns-in-Nothing-clause-cost : goal.returns-in-Nothing-clause-cost
@@ -52,15 +61,13 @@ returns-in-Nothing-clause-cost c =
     let cost = nothing_cost m n c.args.from c.args.seeking.now.tried c.try_all.new.tried c.args.steps.now c.try_all.new.steps (omega (arith, last)) c.requires.from low (omega (arith, few, low)) c.in-Nothing.ensures.cost.1 in
     (c.in-Nothing.ensures.cost.0, omega (arith, cost, old))
 
-pub returns-in-Nothing-clause-alone : goal.returns-in-Nothing-clause-alone
-returns-in-Nothing-clause-alone c begun fresh =
+pub returns-in-Nothing-clause-each : goal.returns-in-Nothing-clause-each
+returns-in-Nothing-clause-each c =
     let m = length c.args.subject.prepared.now.expr.nodes in
     let n = length c.args.subject.text.now in
-    let last = c.args.subject.prepared.now.is_prepared.last in
-    let few = c.in-Nothing.ensures.few in (
+    let last = c.args.subject.prepared.now.is_prepared.last in (
       c.in-Nothing.ensures.cost.0,
-      nothing_alone m n c.args.from c.try_all.new.tried c.args.steps.now c.try_all.new.steps (omega (arith, last)) c.requires.from (omega (arith, few, fresh))
-          (subst (λ v. c.try_all.new.steps + (40 * m * v + c.args.from) ≤ c.args.steps.now + (40 * m * c.try_all.new.tried + (n + 1))) fresh c.in-Nothing.ensures.cost.1),
+      nothing_each m n c.args.from c.args.seeking.now.tried c.try_all.new.tried c.args.steps.now c.try_all.new.steps (omega (arith, last)) c.requires.from c.in-Nothing.ensures.few c.in-Nothing.ensures.cost.1,
     )
 
 pub returns-in-Tired-clause-answer : goal.returns-in-Tired-clause-answer
@@ -84,18 +91,17 @@ returns-in-Tired-clause-cost c =
     (omega (arith, few, low)) first.1 then.1 in
     (omega (arith, first.0, then.0), omega (arith, cost, old))
 
-pub returns-in-Tired-clause-alone : goal.returns-in-Tired-clause-alone
-returns-in-Tired-clause-alone c begun fresh =
+pub returns-in-Tired-clause-each : goal.returns-in-Tired-clause-each
+returns-in-Tired-clause-each c =
     let m = length c.args.subject.prepared.now.expr.nodes in
     let n = length c.args.subject.text.now in
     let last = c.args.subject.prepared.now.is_prepared.last in
     let answer = c.in-Tired.ensures.answer in
-    let few = c.in-Tired.ensures.few in
     let first = c.in-Tired.ensures.cost in
     let then = c.next_begun-in-Tired.ensures.cost in (
       omega (arith, first.0, then.0),
-      tired_alone m n c.args.from c.in-Tired.start c.try_all.new.tried c.args.steps.now c.try_all.new.steps c.next_begun-in-Tired.new.steps _ (omega (arith, last)) answer.0 answer.1 (omega (arith, few, fresh))
-          (subst (λ v. c.try_all.new.steps + (40 * m * v + c.args.from) ≤ c.args.steps.now + (40 * m * c.try_all.new.tried + c.in-Tired.start)) fresh first.1) then.1,
+      tired_each m n c.args.from c.in-Tired.start c.args.seeking.now.tried c.try_all.new.tried c.args.steps.now c.try_all.new.steps c.next_begun-in-Tired.new.steps _ (omega (arith, last)) answer.0 answer.1 c.in-Tired.ensures.few first.1
+          then.1,
     )
 
 pub returns-in-Tired-clause-counts : goal.returns-in-Tired-clause-counts

@@ -28,7 +28,7 @@ returns-in-Some-end-clause-few c =
     let long : Longest (tree e) w t.start (Some c.in-Some-end.end) = subst (Longest (tree e) w t.start) c.in-Some-end.is is.longest in
     let on = Spans-forward (tree e) w t.start c.in-Some-end.end long.0 in
     let within = Spans-within (tree e) w t.start c.in-Some-end.end (omega (arith, is.passed, is.within)) long.0 in
-    rw c.saturating_sub.ensures (hit_room c.loop-start.tried t.place c.in-Some-end.end t.start (length w) _ is.passed is.within on within c.loop-start.invariant.few)
+    rw c.saturating_sub.ensures (hit_room c.loop-start.tried t.place c.in-Some-end.end c.args.from t.start (length w) _ (let i = c.loop-start.invariant in omega (arith, i.after, is.after)) is.passed is.within on within c.loop-start.invariant.few)
 
 pub returns-in-Some-end-clause-cost : goal.returns-in-Some-end-clause-cost
 returns-in-Some-end-clause-cost c =

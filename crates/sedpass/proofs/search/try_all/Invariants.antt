@@ -1,12 +1,13 @@
 use Rattle.std.proofs.Common.{◌+◌, ◌-◌, ◌*◌, ◌/◌, ◌≤◌, max, length}
 use Rattle.sedmarks.specs.Search.{NoneIn}
 use Rattle.sedre.specs.Arena.{tree}
-use Rattle.sedpass.specs.Table.{IsAhead}
+use Rattle.sedpass.specs.Table.{IsAhead, SameShape}
 use Rattle.sedpass.proofs.search.try_all.Given as goal
 
 abbrev pub invariant-loop-start : goal.invariant-loop-start
 invariant-loop-start l = record {
   ahead : IsAhead l.subject.prepared.now l.ahead;
+  ahead_shape : SameShape l.initial.ahead l.ahead;
   none : NoneIn (tree l.subject.prepared.now.expr) l.subject.text.now l.from l.start;
   after : l.from ≤ l.start;
   within : l.start ≤ length l.subject.text.now + 1;

@@ -23,9 +23,9 @@ loop-place-init c =
       below = c.requires.from;
       kept = kept_same p w c.args.table.now c.args.self.now _ refl refl refl c.requires.kept;
       ahead = first.table;
-      shape = (refl, refl, refl);
-      ahead_shape = (refl, refl, refl);
-      same = record { root = refl; end = refl; places = refl; edges = refl };
+      shape = (refl, refl, refl, refl, refl);
+      ahead_shape = (refl, refl, refl, refl, refl);
+      same = record { root = refl; end = refl; places = refl; edges = refl; marks = λ q. refl };
       offset = names_offset p c.first-code.new.self first.table _ _ _ first.names c.offset_of-offset.ensures;
       follows = follows_first p w c.args.ahead.now c.first-code.new.self c.args.a c.args.from c.offset_of-offset.result c.kind_of-kind.result c.requires.forwards.0 first.adds.shape.0
           c.kind_of-kind.ensures.begin (subst (λ n. IsTrue c.kind_of-kind.result.end ↔ (c.args.from ≡ n)) c.len.ensures.is c.kind_of-kind.ensures.end)
@@ -83,7 +83,7 @@ returns-then-place-to-clause-ceases c =
     let meet = c.meet-reached.ensures in
     let reached = c.meet-reached.result.0 in
     let shape : SameShape c.args.table.now c.ready-to.new.table = same_shape c.args.table.now c.loop-place.table c.ready-to.new.table before.shape ready.shape in
-    let same : SameKept c.args.self.now c.ready-to.new.self = (let h = same_kept _ c.loop-place.self c.ready-to.new.self before.same ready.same in record { root = h.root; end = h.end; places = h.places; edges = h.edges }) in
+    let same : SameKept c.args.self.now c.ready-to.new.self = (let h = same_kept _ c.loop-place.self c.ready-to.new.self before.same ready.same in record { root = h.root; end = h.end; places = h.places; edges = h.edges; marks = h.marks }) in
     let root : c.args.a ≤ c.ready-to.new.self.region.root = (let h = c.requires.a in let g = same.root in omega (arith, h, g)) in
     let on = meet.meets c.args.a c.args.from root before.above before.follows in
     let under : reached < c.ready-to.new.self.region.to = (let h = c.if-place-to.true in let g = ready.to.0 in omega (arith, h, g)) in (
@@ -94,6 +94,11 @@ returns-then-place-to-clause-ceases c =
           (cases_lt q c.loop-place.place),
       told_as (λ r t. Meets p.expr.nodes w r t c.args.a (one_start c.args.from) reached → ⊥) (length w) c.args.table.now c.ready-to.new.table c.args.self.now c.ready-to.new.self shape same (on.2 under),
     )
+
+pub returns-then-place-to-clause-same : goal.returns-then-place-to-clause-same
+returns-then-place-to-clause-same c =
+    let h = same_kept _ c.ready-to.new.self c.meet-reached.new.self (same_kept _ c.loop-place.self c.ready-to.new.self c.loop-place.invariant.same c.ready-to.ensures.same) c.meet-reached.ensures.same in
+    record { root = h.root; end = h.end; places = h.places; edges = h.edges; marks = h.marks }
 
 pub returns-then-place-to-clause-cost : goal.returns-then-place-to-clause-cost
 returns-then-place-to-clause-cost c =

@@ -1,8 +1,8 @@
-use Rattle.std.proofs.Common.{◌+◌, ◌-◌, ◌*◌, ◌/◌, ◌^◌, ◌<◌, subst, arith}
+use Rattle.std.proofs.Common.{◌+◌, ◌-◌, ◌*◌, ◌/◌, ◌^◌, ◌<◌, refl, ◌∙◌, subst, arith}
 use Rattle.std.specs.Prelude.{length}
 use Rattle.sedmarks.specs.Words.{AgreeBelow, row_of}
 use Rattle.sedpass.specs.Kept.{IsRegion}
-use Rattle.sedpass.proofs.KeptLemmas.{edges_more}
+use Rattle.sedpass.proofs.KeptLemmas.{edges_more, rows_long}
 use Rattle.sedpass.proofs.kept.Kept.keep_edge.Goals as goal
 
 pub returns-clause-edges : goal.returns-clause-edges
@@ -21,3 +21,9 @@ returns-clause-edges c b after before =
     (subst (λ x. AgreeBelow m c.load-2.new.marks (row_of t.ends x)) c.state_at-state.ensures (subst (λ n. AgreeBelow n c.load-2.new.marks (row_of t.ends c.state_at-state.result)) c.nodes-nodes.ensures.value c.load-2.ensures.same))
     (λ x low ne. c.store-2.ensures.other x low ne) c.requires.passes.at.1 c.requires.edges
     (λ x low. region.room.blocks x (let g = region.inside in omega arith)) b after before
+
+pub returns-clause-same : goal.returns-clause-same
+returns-clause-same c =
+    let one = c.store.ensures in
+    let two = c.store-2.ensures in
+    record { root = refl; end = refl; places = refl; edges = two.len ∙ one.len; marks = rows_long c.args.self.now.edges c.store.new.self c.store-2.new.self one.len two.len one.lens two.lens }

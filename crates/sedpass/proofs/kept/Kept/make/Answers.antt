@@ -16,8 +16,8 @@ loop-place-init c =
           c.requires.kept.region first.adds.shape first.table first.states first.edges (ap (λ r. r.root) first.region) end_is refl (omega arith) first.there first.at;
       edges = λ b above before. absurd (omega (arith, above, before, end_is));
       right = λ some before. absurd (omega arith);
-      shape = (refl, refl, refl);
-      same = record { root = refl; end = refl; places = refl; edges = refl };
+      shape = (refl, refl, refl, refl, refl);
+      same = record { root = refl; end = refl; places = refl; edges = refl; marks = λ q. refl };
       to = λ before. absurd (omega arith);
       grows = omega arith;
       cost = omega arith;
@@ -49,7 +49,7 @@ returns-clause-kept c =
     let w = c.args.subject.text.now in
     let last = c.loop-place.invariant in
     let edges : EdgesFrom p w c.loop-place.table c.loop-place.self c.args.low =
-    edges_same p w c.loop-place.table c.loop-place.table c.loop-place.self c.loop-place.self c.loop-place.place c.args.low (refl, refl, refl) refl refl refl (omega arith) last.edges in
+    edges_same p w c.loop-place.table c.loop-place.table c.loop-place.self c.loop-place.self c.loop-place.place c.args.low (refl, refl, refl, refl, refl) refl refl refl (omega arith) last.edges in
     kept_passed p w c.loop-place.table c.loop-place.self _ c.loop-place.place c.loop-place.offset last.passes edges (omega arith) (omega arith) refl refl refl refl refl
 
 pub returns-clause-cost : goal.returns-clause-cost

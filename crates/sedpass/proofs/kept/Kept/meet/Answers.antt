@@ -17,7 +17,7 @@ loop-place-init c = record {
   states = refl;
   edges = refl;
   ahead = c.requires.ahead;
-  shape = (refl, refl, refl);
+  shape = (refl, refl, refl, refl, refl);
   offset = c.requires.offset;
   meets = λ a i low start follows. (follows, λ q after before. absurd (omega (arith, after, before)));
   grows = omega arith;
@@ -36,8 +36,8 @@ meets-requires-clause-other_row c =
     let above : k.region.from ≤ place = (let h = old.above in let g = c.requires.from in omega (arith, h, g)) in
     let before : place < k.region.to = (let h = ap (λ r. r.to) old.region in let g = c.loop-place-test.true in omega (arith, h, g)) in
     let row = kept_row p w t k place c.requires.kept above before in
-    let inside : place < length c.loop-place.self.states.items = subst (λ xs. place < length xs) (sym old.states) row.2 in
-    let is : c.index.result.now ≡ slice_index_or k.states.items place 0 = c.index.ensures ∙ default_same c.loop-place.self.states.items place c.index.result.now 0 inside ∙ ap (λ xs. slice_index_or xs place 0) old.states in
+    let inside : place < length c.loop-place.self.states.items = subst (λ v. place < length v.items) (sym old.states) row.2 in
+    let is : c.index.result.now ≡ slice_index_or k.states.items place 0 = c.index.ensures ∙ default_same c.loop-place.self.states.items place c.index.result.now 0 inside ∙ ap (λ v. slice_index_or v.items place 0) old.states in
     rw is row.0
 
 pub meets-requires-clause-there : goal.meets-requires-clause-there
@@ -51,8 +51,8 @@ meets-requires-clause-there c =
     let above : k.region.from ≤ place = (let h = old.above in let g = c.requires.from in omega (arith, h, g)) in
     let before : place < k.region.to = (let h = ap (λ r. r.to) old.region in let g = c.loop-place-test.true in omega (arith, h, g)) in
     let row = kept_row p w t k place c.requires.kept above before in
-    let inside : place < length c.loop-place.self.states.items = subst (λ xs. place < length xs) (sym old.states) row.2 in
-    let is : c.index.result.now ≡ slice_index_or k.states.items place 0 = c.index.ensures ∙ default_same c.loop-place.self.states.items place c.index.result.now 0 inside ∙ ap (λ xs. slice_index_or xs place 0) old.states in
+    let inside : place < length c.loop-place.self.states.items = subst (λ v. place < length v.items) (sym old.states) row.2 in
+    let is : c.index.result.now ≡ slice_index_or k.states.items place 0 = c.index.ensures ∙ default_same c.loop-place.self.states.items place c.index.result.now 0 inside ∙ ap (λ v. slice_index_or v.items place 0) old.states in
     let count = c.nodes-nodes.ensures.value in
     rw is (omega (arith, row.1, count))
 
@@ -67,8 +67,8 @@ returns-then-not-meets-clause-meets c a i low start follows =
     let above : k.region.from ≤ place = (let h = old.above in let g = c.requires.from in omega (arith, h, g)) in
     let before : place < k.region.to = (let h = ap (λ r. r.to) old.region in let g = c.loop-place-test.true in omega (arith, h, g)) in
     let row = kept_row p w t k place c.requires.kept above before in
-    let inside : place < length c.loop-place.self.states.items = subst (λ xs. place < length xs) (sym old.states) row.2 in
-    let is : c.index.result.now ≡ slice_index_or k.states.items place 0 = c.index.ensures ∙ default_same c.loop-place.self.states.items place c.index.result.now 0 inside ∙ ap (λ xs. slice_index_or xs place 0) old.states in
+    let inside : place < length c.loop-place.self.states.items = subst (λ v. place < length v.items) (sym old.states) row.2 in
+    let is : c.index.result.now ≡ slice_index_or k.states.items place 0 = c.index.ensures ∙ default_same c.loop-place.self.states.items place c.index.result.now 0 inside ∙ ap (λ v. slice_index_or v.items place 0) old.states in
     let on = old.meets a i low start follows in
     let read = meet_read p w t c.loop-place.ahead k a i place c.loop-place.offset c.nodes-nodes.result c.state_at.result c.index.result.now c.meets.result c.requires.kept above before on.0
     c.nodes-nodes.ensures.value c.state_at.ensures is c.meets.ensures.meets in
@@ -88,8 +88,8 @@ loop-place-preserved c =
     let above : k.region.from ≤ place = (let h = old.above in let g = c.requires.from in omega (arith, h, g)) in
     let before : place < k.region.to = (let h = ap (λ r. r.to) old.region in let g = c.loop-place-test.true in omega (arith, h, g)) in
     let row = kept_row p w t k place c.requires.kept above before in
-    let inside : place < length c.loop-place.self.states.items = subst (λ xs. place < length xs) (sym old.states) row.2 in
-    let is : c.index.result.now ≡ slice_index_or k.states.items place 0 = c.index.ensures ∙ default_same c.loop-place.self.states.items place c.index.result.now 0 inside ∙ ap (λ xs. slice_index_or xs place 0) old.states in
+    let inside : place < length c.loop-place.self.states.items = subst (λ v. place < length v.items) (sym old.states) row.2 in
+    let is : c.index.result.now ≡ slice_index_or k.states.items place 0 = c.index.ensures ∙ default_same c.loop-place.self.states.items place c.index.result.now 0 inside ∙ ap (λ v. slice_index_or v.items place 0) old.states in
     let m = length p.expr.nodes in
     let next = c.next-code.ensures in
     let some : 1 ≤ m = (let h = c.requires.kept.region.root.0 in omega (arith, h)) in

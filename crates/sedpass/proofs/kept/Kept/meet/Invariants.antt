@@ -10,7 +10,7 @@ invariant-loop-place l = record {
   above : l.from ≤ l.place;
   below : l.place ≤ l.self.region.to;
   region : l.self.region ≡ l.initial.self.region;
-  states : l.self.states.items ≡ l.initial.self.states.items;
+  states : l.self.states ≡ l.initial.self.states;
   edges : l.self.edges ≡ l.initial.self.edges;
   ahead : IsTable l.subject.prepared.now l.ahead;
   shape : SameShape l.initial.ahead l.ahead;

@@ -9,8 +9,8 @@ loop-place-init c = record {
   order = omega arith;
   below = omega arith;
   passes = c.requires.passes;
-  shape = (refl, refl, refl);
-  same = record { root = refl; end = refl; places = refl; edges = refl };
+  shape = (refl, refl, refl, refl, refl);
+  same = record { root = refl; end = refl; places = refl; edges = refl; marks = λ q. refl };
   low_is = refl;
   from_is = refl;
   edges = refl;

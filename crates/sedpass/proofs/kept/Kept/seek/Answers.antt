@@ -15,8 +15,8 @@ loop-place-init c = record {
   above = omega arith;
   below = c.requires.from;
   kept = c.requires.kept;
-  shape = (refl, refl, refl);
-  same = record { root = refl; end = refl; places = refl; edges = refl };
+  shape = (refl, refl, refl, refl, refl);
+  same = record { root = refl; end = refl; places = refl; edges = refl; marks = λ q. refl };
   passed = λ q after before. absurd (omega arith);
   grows = omega arith;
   cost = omega arith;

@@ -7,20 +7,35 @@ use Rattle.sedpass.specs.Rows.{bits}
 use Rattle.sedpass.specs.Table.{State, IsTold, HasRow, AddsStates, HasRoom, cell_of}
 use Rattle.sedpass.specs.declared.cells.Flags.{Flags}
 use Rattle.sedpass.specs.declared.table.Table.{Table}
-use Rattle.sedpass.proofs.TableLemmas.{shifted, few_offset, cell_inside, bits_at, bits_clear, state, state_added, state_adds, one_more}
+use Rattle.sedpass.proofs.TableLemmas.{shifted, one_shifted, few_offset, cell_inside, bits_at, bits_clear, state, state_added, state_adds, one_more}
 use Rattle.sedpass.proofs.table.Table.add.Goals as goal
 
 pub overflow_shl-offset : goal.overflow_shl-offset
 overflow_shl-offset c = omega (arith, c.requires.table.layout.small)
 
-pub clear_cells-requires : goal.clear_cells-requires
-clear_cells-requires c =
+pub overflow_shl-size : goal.overflow_shl-size
+overflow_shl-size c = omega (arith, c.requires.table.layout.small)
+
+pub empty_cells-requires-clause-there : goal.empty_cells-requires-clause-there
+empty_cells-requires-clause-there c =
+    let T = c.args.self.now in
+    let t = c.requires.table in
+    omega (arith, shifted T.count T.room T.layout.shift c.requires.room t.room.few t.layout.small, t.room.cells)
+
+pub empty_cells-requires-clause-room : goal.empty_cells-requires-clause-room
+empty_cells-requires-clause-room c =
     let T = c.args.self.now in
     let t = c.requires.table in
     let place = shifted T.count T.room T.layout.shift c.requires.room t.room.few t.layout.small in
     let up : T.count + 1 ≤ T.room = omega (arith, c.requires.room) in
     let all = mul-le-mul_left (2 ^ T.layout.shift) up in
-    omega (arith, place, all, t.room.cells, t.layout.fits, T.cells.ok)
+    omega (arith, place, all, t.room.reserved, t.room.capacity, one_shifted T.layout.shift t.layout.small)
+
+pub empty_cells-requires-clause-fits : goal.empty_cells-requires-clause-fits
+empty_cells-requires-clause-fits c =
+    let T = c.args.self.now in
+    let t = c.requires.table in
+    omega (arith, t.layout.fits, one_shifted T.layout.shift t.layout.small)
 
 pub code_of-requires : goal.code_of-requires
 code_of-requires c =
@@ -39,6 +54,8 @@ returns-clause-table c =
     let N : Table = record {
       way = T.way;
       room = T.room;
+      marks = T.marks;
+      reserved = T.reserved;
       layout = T.layout;
       count = T.count + 1;
       epoch = T.epoch;
@@ -46,36 +63,40 @@ returns-clause-table c =
       ends = c.store-2.new.self;
       roots = with_item T.roots T.count c.args.root;
       flags = with_item T.flags T.count flags;
-      cells = c.clear_cells.new.cells;
+      cells = c.empty_cells.new.cells;
       index = with_item T.index c.args.slot (record { epoch = T.epoch % 65536; state = T.count });
       beginnings = T.beginnings;
     } in
     let nodes = c.nodes-nodes.ensures.value in
     let leaves : AgreeBelow m (row_of c.store.new.self T.count) L = subst (λ n. AgreeBelow n (row_of c.store.new.self T.count) L) nodes c.store.ensures.same in
     let ends : AgreeBelow m (row_of c.store-2.new.self T.count) E = subst (λ n. AgreeBelow n (row_of c.store-2.new.self T.count) E) nodes c.store-2.ensures.same in
-    let adds : AddsStates m T N = state_adds m T N c.args.root L E flags c.requires.room t.room (refl, refl, refl) refl refl c.store.ensures.other leaves c.store-2.ensures.other ends refl refl in
-    let added = state_added m T N c.args.root L E flags c.requires.room t.room (refl, refl, refl) refl refl c.store.ensures.other leaves c.store-2.ensures.other ends refl refl in
+    let adds : AddsStates m T N = state_adds m T N c.args.root L E flags c.requires.room t.room (refl, refl, refl, refl, refl) refl refl c.store.ensures.other leaves c.store-2.ensures.other ends refl refl in
+    let added = state_added m T N c.args.root L E flags c.requires.room t.room (refl, refl, refl, refl, refl) refl refl c.store.ensures.other leaves c.store-2.ensures.other ends refl refl in
+    let place = shifted T.count T.room T.layout.shift c.requires.room t.room.few t.layout.small in
     let room : HasRoom m N = record {
       count = omega (arith, c.requires.room);
       some = t.room.some;
       few = t.room.few;
+      marks = t.room.marks;
       leaves = c.store.ensures.len ∙ t.room.leaves;
       ends = c.store-2.ensures.len ∙ t.room.ends;
       leaf_marks = λ q lt. c.store.ensures.lens q (omega (arith, lt, t.room.leaves)) ∙ t.room.leaf_marks q lt;
       end_marks = λ q lt. c.store-2.ensures.lens q (omega (arith, lt, t.room.ends)) ∙ t.room.end_marks q lt;
       roots = length-set T.roots.items T.count c.args.root ∙ t.room.roots;
       flags = length-set T.flags.items T.count flags ∙ t.room.flags;
-      cells = c.clear_cells.ensures.len ∙ t.room.cells;
+      cells = omega (arith, place, c.empty_cells.ensures.long, one_shifted T.layout.shift t.layout.small);
+      reserved = t.room.reserved;
+      capacity = omega (arith, t.room.capacity, c.empty_cells.ensures.capacity);
       index = omega (arith, length-set T.index.items c.args.slot (record { epoch = T.epoch % 65536; state = T.count }), t.room.index);
-      short = t.room.short;
       begins = t.room.begins;
+      past = t.room.past;
+      early = t.room.early;
     } in
     let size = 2 ^ T.layout.shift in
-    let place = shifted T.count T.room T.layout.shift c.requires.room t.room.few t.layout.small in
     let before : (q k : ℕ) → q < T.count → k < T.layout.width → cell_of N q k ≡ cell_of T q k =
-    (λ q k lt low. c.clear_cells.ensures.before (q * size + k) (let inside = cell_inside size q k T.count T.layout.width (T.count * size) lt low t.layout.fits refl in omega (arith, inside, place))) in
+    (λ q k lt low. c.empty_cells.ensures.before (q * size + k) (let inside = cell_inside size q k T.count T.layout.width (T.count * size) lt low t.layout.fits (omega arith) in omega (arith, inside, place))) in
     let clear : (k : ℕ) → k < T.layout.width → cell_of N T.count k ≡ 0 =
-    (λ k low. subst (λ x. slice_index_or c.clear_cells.new.cells.items (x + k) 0 ≡ 0) place (c.clear_cells.ensures.clear k low)) in
+    (λ k low. subst (λ x. slice_index_or c.empty_cells.new.cells.items (x + k) 0 ≡ 0) place (c.empty_cells.ensures.clear k low)) in
     let dead : IsTrue c.is_clear.result ↔ ((k : ℕ) → k < m → slice_index_or L k false ≡ false) =
     subst (λ n. IsTrue c.is_clear.result ↔ ((k : ℕ) → k < n → slice_index_or L k false ≡ false)) nodes c.is_clear.ensures.clear in
     let law = bits_clear m L in
@@ -95,6 +116,8 @@ returns-clause-adds c =
     let N : Table = record {
       way = T.way;
       room = T.room;
+      marks = T.marks;
+      reserved = T.reserved;
       layout = T.layout;
       count = T.count + 1;
       epoch = T.epoch;
@@ -102,14 +125,14 @@ returns-clause-adds c =
       ends = c.store-2.new.self;
       roots = with_item T.roots T.count c.args.root;
       flags = with_item T.flags T.count flags;
-      cells = c.clear_cells.new.cells;
+      cells = c.empty_cells.new.cells;
       index = with_item T.index c.args.slot (record { epoch = T.epoch % 65536; state = T.count });
       beginnings = T.beginnings;
     } in
     let nodes = c.nodes-nodes.ensures.value in
     let leaves : AgreeBelow m (row_of c.store.new.self T.count) L = subst (λ n. AgreeBelow n (row_of c.store.new.self T.count) L) nodes c.store.ensures.same in
     let ends : AgreeBelow m (row_of c.store-2.new.self T.count) E = subst (λ n. AgreeBelow n (row_of c.store-2.new.self T.count) E) nodes c.store-2.ensures.same in
-    state_adds m T N c.args.root L E flags c.requires.room t.room (refl, refl, refl) refl refl c.store.ensures.other leaves c.store-2.ensures.other ends refl refl
+    state_adds m T N c.args.root L E flags c.requires.room t.room (refl, refl, refl, refl, refl) refl refl c.store.ensures.other leaves c.store-2.ensures.other ends refl refl
 
 pub returns-clause-names : goal.returns-clause-names
 returns-clause-names c =
@@ -122,6 +145,8 @@ returns-clause-names c =
     let N : Table = record {
       way = T.way;
       room = T.room;
+      marks = T.marks;
+      reserved = T.reserved;
       layout = T.layout;
       count = T.count + 1;
       epoch = T.epoch;
@@ -129,14 +154,14 @@ returns-clause-names c =
       ends = c.store-2.new.self;
       roots = with_item T.roots T.count c.args.root;
       flags = with_item T.flags T.count flags;
-      cells = c.clear_cells.new.cells;
+      cells = c.empty_cells.new.cells;
       index = with_item T.index c.args.slot (record { epoch = T.epoch % 65536; state = T.count });
       beginnings = T.beginnings;
     } in
     let nodes = c.nodes-nodes.ensures.value in
     let leaves : AgreeBelow m (row_of c.store.new.self T.count) L = subst (λ n. AgreeBelow n (row_of c.store.new.self T.count) L) nodes c.store.ensures.same in
     let ends : AgreeBelow m (row_of c.store-2.new.self T.count) E = subst (λ n. AgreeBelow n (row_of c.store-2.new.self T.count) E) nodes c.store-2.ensures.same in
-    let added = state_added m T N c.args.root L E flags c.requires.room t.room (refl, refl, refl) refl refl c.store.ensures.other leaves c.store-2.ensures.other ends refl refl in
+    let added = state_added m T N c.args.root L E flags c.requires.room t.room (refl, refl, refl, refl, refl) refl refl c.store.ensures.other leaves c.store-2.ensures.other ends refl refl in
     let place = shifted T.count T.room T.layout.shift c.requires.room t.room.few t.layout.small in
     record {
       to = T.count;

@@ -1,4 +1,4 @@
-use Rattle.std.proofs.Common.{◌+◌, ◌/◌, ◌^◌, ◌∙◌, length, length-set, refl, ap, arith}
+use Rattle.std.proofs.Common.{◌+◌, ◌/◌, ◌^◌, length, length-set, refl, ap, arith}
 use Rattle.std.specs.Prelude.{slice_set}
 use Rattle.std.specs.Vec.{with_item}
 use Rattle.sedpass.specs.Table.{HasRoom}
@@ -27,19 +27,23 @@ returns-in-Some-clause-table c =
       count = old.count;
       some = old.some;
       few = old.few;
+      marks = old.marks;
       leaves = old.leaves;
       ends = old.ends;
       leaf_marks = old.leaf_marks;
       end_marks = old.end_marks;
       roots = old.roots;
       flags = old.flags;
-      cells = length-set T.cells.items at c.args.next ∙ old.cells;
+      cells = omega (arith, length-set T.cells.items at c.args.next, old.cells);
+      reserved = old.reserved;
+      capacity = old.capacity;
       index = old.index;
-      short = old.short;
       begins = old.begins;
+      past = old.past;
+      early = old.early;
     } in
     let q = c.args.offset / 2 ^ T.layout.shift in
-    note_cell c.args.prepared.now T N (adds_same m T N (refl, refl, refl) refl refl (λ x. refl)) refl c.requires.table room refl refl c.args.prepared.now.is_prepared.classes
+    note_cell c.args.prepared.now T N (adds_same m T N (refl, refl, refl, refl, refl) refl refl (λ x. refl)) refl c.requires.table room refl refl c.args.prepared.now.is_prepared.classes
     q c.in-Some.column c.args.next c.args.byte c.args.edge c.requires.offset.0 (omega arith) c.in-Some.ensures
     (ap (λ x. slice_set T.cells.items (x + c.in-Some.column) c.args.next) c.requires.offset.1) c.requires.leads c.requires.anywhere
 
@@ -48,7 +52,7 @@ returns-in-Some-clause-adds c =
     let T = c.args.self.now in
     let m = length c.args.prepared.now.expr.nodes in
     let N : Table = record T { cells = with_item T.cells (c.args.offset + c.in-Some.column) c.args.next } in
-    adds_same m T N (refl, refl, refl) refl refl (λ x. refl)
+    adds_same m T N (refl, refl, refl, refl, refl) refl refl (λ x. refl)
 
 pub returns-in_default-clause-adds : goal.returns-in_default-clause-adds
 returns-in_default-clause-adds c = adds_none (length c.args.prepared.now.expr.nodes) c.args.self.now

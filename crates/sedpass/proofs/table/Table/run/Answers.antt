@@ -47,7 +47,7 @@ loop-at-preserved c =
     let moved = go.after in
     record {
       table = go.table;
-      shape = (go.shape.0 ∙ i.shape.0, go.shape.1 ∙ i.shape.1, go.shape.2 ∙ i.shape.2);
+      shape = (go.shape.0 ∙ i.shape.0, go.shape.1 ∙ i.shape.1, go.shape.2 ∙ i.shape.2, go.shape.3 ∙ i.shape.3, go.shape.4 ∙ i.shape.4);
       offset = go.offset;
       passes = go.passes (subst (λ (x : Way). x.keeps ≡ false) (sym i.shape.0) c.requires.keeps) c.args.from i.passes;
       grown = omega (arith, grown, cost);

@@ -1,0 +1,160 @@
+-- What the searches for all occurrences in one text find, and what they cost together.
+use Rattle.std.proofs.Common.{◌≡◌, ℕ, zero, suc, ◌+◌, ◌-◌, ◌*◌, ◌<◌, ◌≤◌, Bool, true, false, List, length, Option, Some, None, IfSome, sym, ap, ◌∙◌, subst, ⊎_elim, true≢false, arith, mul-le-mul_left}
+use Rattle.std.specs.Prelude.{nat_lt, if◌then◌else◌}
+use Rattle.std.proofs.lemmas.Bool.{cases_lt}
+use Rattle.std.proofs.lemmas.Bool.Decides.{nat_tests}
+use Rattle.sedre.specs.Tree.{Tree}
+use Rattle.sedmarks.specs.Answer.{SpanAnswer}
+use Rattle.sedmarks.specs.Following.{LiesOn}
+use Rattle.sedmarks.specs.Matching.{found}
+use Rattle.sedmarks.specs.NextMatch.{unless_null_at}
+use Rattle.sedmarks.proofs.MatchingLemmas.{found-iff, not_found-iff}
+use Rattle.sedpass.specs.Occurrences.{further_cost, owed_next}
+use Rattle.sedpass.specs.Search.{owed_after, owed_kept, owed_search, search_cost}
+use Rattle.sedpass.specs.declared.search.Seeking.{Seeking}
+use Rattle.sedpass.proofs.OwedLemmas.{owed_falls}
+use Rattle.sedpass.proofs.SearchLemmas.{alone_square, search_long, unbegun}
+
+-- What is found.
+
+-- the answer of a search is the match that is computed
+pub answer_found : (e : Tree) (w : List ℕ) (from : ℕ) (r : Option (ℕ × ℕ)) → from ≤ length w → SpanAnswer e w from r → r ≡ found e w from
+answer_found e w from None low is = sym ((not_found-iff e w from low).1 is.1)
+answer_found e w from (Some f) low is = sym ((found-iff e w from f.0 f.1 low).1 is.0)
+
+pub answer_lies : (e : Tree) (w : List ℕ) (from : ℕ) (r : Option (ℕ × ℕ)) → SpanAnswer e w from r → IfSome r (λ f. (from ≤ f.0) × (f.0 ≤ f.1) × (f.1 ≤ length w))
+answer_lies e w from None is = tt
+answer_lies e w from (Some f) is = (is.0.after, is.2.0, is.2.1)
+
+pub answer_further : (e : Tree) (w : List ℕ) (at : ℕ) (r : Option (ℕ × ℕ)) → SpanAnswer e w (at + 1) r → IfSome r (λ f. (at < f.0) × (f.0 ≤ f.1) × (f.1 ≤ length w))
+answer_further e w at None is = tt
+answer_further e w at (Some f) is = let after = is.0.after in (omega (arith, after), is.2.0, is.2.1)
+
+-- one byte further on, where the text goes on
+pub further_found : (n at : ℕ) (r x : Option (ℕ × ℕ)) → at < n → r ≡ x → r ≡ (if nat_lt at n then x else None)
+further_found n at r x on is = by (nat_lt at n) (let h : nat_lt at n ≡ true = grind (arith, nat_tests) in h)
+  where
+    by : (b : Bool) → b ≡ true → r ≡ (if b then x else None)
+    by true goes = is
+    by false goes = absurd (true≢false (sym goes))
+
+-- the first match stands, or the other one, as the test says
+pub passed_by : (at : ℕ) (first sought other r : Option (ℕ × ℕ)) (b b' : Bool) → first ≡ sought → unless_null_at (λ (f : ℕ × ℕ). f) at first other ≡ (if b then other else first) → b ≡ b' →
+    r ≡ (if b' then other else first) → r ≡ unless_null_at (λ (f : ℕ × ℕ). f) at sought other
+passed_by at first sought other r b b' same passed is last =
+    subst (λ x. r ≡ unless_null_at (λ (f : ℕ × ℕ). f) at x other) same (last ∙ sym (subst (λ v. unless_null_at (λ (f : ℕ × ℕ). f) at first other ≡ (if v then other else first)) is passed))
+
+pub lies_behind : (n at : ℕ) (r : Option (ℕ × ℕ)) → IfSome r (λ f. (at ≤ f.0) × (f.0 ≤ f.1) × (f.1 ≤ n)) → IfSome r (λ f. at ≤ f.0 → f.0 ≤ f.1 → at < f.1) → IfSome r (LiesOn n (Some at))
+lies_behind n at None lies after = tt
+lies_behind n at (Some f) lies after = let high = after lies.0 lies.1 in (lies.1, lies.2, (lies.0, omega (arith, high)))
+
+pub lies_further : (n at : ℕ) (r : Option (ℕ × ℕ)) → IfSome r (λ f. (at < f.0) × (f.0 ≤ f.1) × (f.1 ≤ n)) → IfSome r (LiesOn n (Some at))
+lies_further n at None lies = tt
+lies_further n at (Some f) lies = let low = lies.0 in let on = lies.1 in (on, lies.2, (omega arith, omega arith))
+
+pub lies_first : (n : ℕ) (r : Option (ℕ × ℕ)) → IfSome r (λ f. (0 ≤ f.0) × (f.0 ≤ f.1) × (f.1 ≤ n)) → IfSome r (LiesOn n None)
+lies_first n None lies = tt
+lies_first n (Some f) lies = (lies.1, lies.2, tt)
+
+-- What it costs.
+
+-- less from a later place
+pub search_falls : (m n width : ℕ) (s : Seeking) (i k : ℕ) → i ≤ k → owed_search m n width s k ≤ owed_search m n width s i
+search_falls m n width s i k up =
+    let rest : n - k ≤ n - i = omega arith in
+    let kept = owed_falls m width s.kept.region i k up in
+    let passed = mul-le-mul_left (42 * m) rest in
+    let tried = mul-le-mul_left (142 * m) rest in
+    by s.begun (omega (arith, kept, passed)) (omega (arith, tried))
+  where
+    by : (b : Bool) → owed_kept m n width s.kept.region k ≤ owed_kept m n width s.kept.region i →
+        40 * m * (2 * n + 1 - s.tried) + 142 * m * (n - k) ≤ 40 * m * (2 * n + 1 - s.tried) + 142 * m * (n - i) →
+        (if b then owed_kept m n width s.kept.region k else 40 * m * (2 * n + 1 - s.tried) + 142 * m * (n - k))
+        ≤ (if b then owed_kept m n width s.kept.region i else 40 * m * (2 * n + 1 - s.tried) + 142 * m * (n - i))
+    by true kept tried = kept
+    by false kept tried = tried
+
+-- before the first search
+pub begun_owed : (m n width : ℕ) (s : Seeking) → s.begun ≡ false → owed_next m n width None s ≤ 416 * m * (n + 1)
+begun_owed m n width s is =
+    let owed = unbegun m n width s 0 is in
+    let few : 2 * n + 1 - s.tried ≤ 2 * n + 1 = omega arith in
+    let tried = mul-le-mul_left (40 * m) few in
+    let e1 : n - 0 ≡ n = omega arith in
+    let e2 : n + 1 - 0 ≡ n + 1 = omega arith in
+    let a1 : 142 * m * (n - 0) ≡ 142 * m * n = ap (λ v. 142 * m * v) e1 in
+    let a2 : 84 * m * (n + 1 - 0) ≡ 84 * m * (n + 1) = ap (λ v. 84 * m * v) e2 in
+    omega (arith, owed, tried, a1, a2)
+
+-- what is left is paid where the match ends behind the place
+rest_paid : (m n at end : ℕ) → at < end → end ≤ n → 84 * m * (n + 1 - end) + 84 * m ≤ 84 * m * (n + 1 - at)
+rest_paid m n at end high within =
+    let x = n + 1 - end in
+    let more : x + 1 ≤ n + 1 - at = omega arith in
+    let all = mul-le-mul_left (84 * m) more in
+    omega (arith, all)
+
+pub behind_paid : (m n at o s t : ℕ) (due : ℕ → ℕ) (r : Option (ℕ × ℕ)) → at ≤ n → IfSome r (LiesOn n (Some at)) → t + owed_after due r ≤ s + (o + 84 * m) →
+    t + owed_after (λ q. due q + 84 * m * (n + 1 - q)) r ≤ s + (o + 84 * m * (n + 1 - at))
+behind_paid m n at o s t due None low lies pays =
+    let more : 1 ≤ n + 1 - at = omega arith in
+    let all = mul-le-mul_left (84 * m) more in
+    omega (arith, all, pays)
+behind_paid m n at o s t due (Some f) low lies pays =
+    let all = rest_paid m n at f.1 (let h = lies.2.1 in omega (arith, h)) lies.1 in
+    omega (arith, all, pays)
+
+pub first_paid : (m n o s t : ℕ) (due : ℕ → ℕ) (r : Option (ℕ × ℕ)) → t + owed_after due r ≤ s + (o + 42 * m) → t + owed_after (λ q. due q + 84 * m * (n + 1 - q)) r ≤ s + (o + 84 * m * (n + 1 - 0) + 42 * m)
+first_paid m n o s t due None pays = omega (arith, pays)
+first_paid m n o s t due (Some f) pays =
+    let less : n + 1 - f.1 ≤ n + 1 - 0 = omega arith in
+    let all = mul-le-mul_left (84 * m) less in
+    omega (arith, all, pays)
+
+-- two searches, of which the first one found the null string at the place
+pub both_paid : (m at o a s u t : ℕ) (due due' : ℕ → ℕ) (first r : Option (ℕ × ℕ)) → first ≡ Some (at, at) → a ≤ due at → u + owed_after due first ≤ s + (o + 42 * m) → t + owed_after due' r ≤ u + (a + 42 * m) →
+    t + owed_after due' r ≤ s + (o + 84 * m)
+both_paid m at o a s u t due due' first r is falls one two =
+    let before : u + due at ≤ s + (o + 42 * m) = subst (λ x. u + owed_after due x ≤ s + (o + 42 * m)) is one in
+    omega (arith, before, two, falls)
+
+-- One call.
+
+pub one_square : (m n at : ℕ) → 1 ≤ m → search_cost m n at ≤ 64 * m * m * (n + 1) * (n + 1)
+one_square m n at some =
+    let a = search_long m n at in
+    let b = alone_square m n some in
+    omega (arith, a, b)
+
+twice : (k : ℕ) → 2 * k ≤ k * k + 1
+twice zero = omega arith
+twice (suc k) = omega arith
+
+both_inner : (k at : ℕ) → at ≤ k →
+    (5 * (k + 1) + 142 * (k + 1 - at) + 40 * (k + 1 - at - 1) + 42) + (5 * (k + 1) + 142 * (k + 1 - (at + 1)) + 40 * (k + 1 - (at + 1) - 1) + 42) ≤ 64 * (k + 2) * (k + 2)
+both_inner k at low = let h = twice k in omega (arith, h)
+
+pub further : (m n at : ℕ) → at < n → further_cost m n at ≡ search_cost m n (at + 1)
+further m n at on = grind (arith, nat_tests)
+
+further_none : (m n at : ℕ) → n ≤ at → further_cost m n at ≡ 0
+further_none m n at end = grind (arith, nat_tests)
+
+pub both_square : (m n at : ℕ) → 1 ≤ m → at ≤ n → search_cost m n at + further_cost m n at ≤ 64 * m * m * (n + 1) * (n + 1)
+both_square m n at some low =
+    ⊎_elim
+    (λ (on : at < n).
+    let k = n - 1 in
+    let is : n ≡ k + 1 = omega arith in
+    let inner = mul-le-mul_left m (both_inner k at (omega arith)) in
+    let two = further m n at on in
+    let more = mul-le-mul_left (m * (64 * (k + 2) * (k + 2))) some in
+    let all : search_cost m (k + 1) at + search_cost m (k + 1) (at + 1) ≤ 64 * m * m * (k + 1 + 1) * (k + 1 + 1) = omega (arith, inner, more) in
+    let whole : search_cost m n at + search_cost m n (at + 1) ≤ 64 * m * m * (n + 1) * (n + 1) =
+    subst (λ v. search_cost m v at + search_cost m v (at + 1) ≤ 64 * m * m * (v + 1) * (v + 1)) (sym is) all in
+    omega (arith, two, whole))
+    (λ (end : n ≤ at).
+    let one = one_square m n at some in
+    let none = further_none m n at end in
+    omega (arith, one, none))
+    (cases_lt at n)

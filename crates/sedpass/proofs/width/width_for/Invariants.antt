@@ -1,0 +1,12 @@
+use Rattle.std.proofs.Common.{◌*◌, ◌-◌, ◌<◌, ◌≤◌}
+use Rattle.sedpass.proofs.width.width_for.Given as goal
+
+abbrev pub invariant-loop-width : goal.invariant-loop-width
+invariant-loop-width l = record {
+  least : 512 ≤ l.width;
+  most : l.width ≤ 65536;
+  no_wider : 512 < l.width → l.width * l.width ≤ 4 * l.max_text;
+}
+
+abbrev pub decreases-loop-width : goal.decreases-loop-width
+decreases-loop-width l = 65536 - l.width
