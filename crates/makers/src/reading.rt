@@ -3,7 +3,7 @@
 use crate::given::{NODES, expression_of};
 use crate::marks::{begin, end};
 use anyhow::Result;
-use sedmatch::{Occurrences, Scratch, TableMatcher};
+use sedmatch::{Occurrences, Scratch, TableMatcher, TableRoom};
 use sedre::{Expr, ExprFault, Kind, Steps};
 use sedscript::{Script, ScriptFault};
 
@@ -93,7 +93,8 @@ fn occurrences(rt: &HostRuntime) -> Result<()> {
 fn matcher(rt: &HostRuntime, text: &[u8]) -> Result<()> {
     let expr = expression_of(rt.alloc(), text)?;
     begin(rt);
-    let is_made = TableMatcher::new(rt.alloc(), &expr, &mut Steps::new()).is_ok();
+    let room = TableRoom::ample();
+    let is_made = TableMatcher::new(rt.alloc(), &expr, room, &mut Steps::new()).is_ok();
     end(rt);
     println!(rt; "{is_made}")?;
     Ok(())

@@ -11,7 +11,7 @@
 ghost use Rattle.std.specs.Prelude.{◌≡◌, ◌<◌, ◌≤◌, length};
 
 use anyhow::{Context, Result, bail, ensure};
-use sedmatch::{Scratch, TableMatcher, Text, find, find_span, is_match};
+use sedmatch::{Scratch, TableMatcher, TableRoom, Text, find, find_span, is_match};
 use sedre::{Expr, Kind, Steps, read};
 use std::alloc::Global;
 use std::env;
@@ -178,7 +178,8 @@ impl Job {
         ensure!(nodes <= MAX_NODES, "EXPRESSION has too many nodes");
         let mut scratch = Scratch::new(alloc, self.size, MAX_NODES)?;
         let mut steps = Steps::new();
-        let mut tables = TableMatcher::new(alloc, &self.expr, &mut steps)?;
+        let room = TableRoom::ample();
+        let mut tables = TableMatcher::new(alloc, &self.expr, room, &mut steps)?;
         let hits = self.call.rounds(
             self.rounds,
             &self.expr,

@@ -27,6 +27,7 @@ pub mod Holding
 pub mod Occurrences
 pub mod PieceLemmas
 pub mod Due
+pub mod Telling
 pub mod ListingLemmas
 pub mod ListingLines
 pub mod ListingTokens

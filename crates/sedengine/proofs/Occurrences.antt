@@ -8,7 +8,7 @@ use Rattle.std.proofs.lemmas.Bool.Decides.{nat_tests}
 use Rattle.sedre.specs.Arena.{Written, tree}
 use Rattle.sedmatch.specs.Matching.{found}
 use Rattle.sedmatch.specs.NextMatch.{unless_null_at}
-use Rattle.sedmatch.specs.Occurrences.{EndsWithin, LiesOn}
+use Rattle.sedmatch.specs.Following.{EndsWithin, LiesOn}
 use Rattle.sedmatch.proofs.MatchingLemmas.{found-iff, Found-within}
 use Rattle.sedmatch.proofs.SpanLemmas.{Spans-forward, Spans-within}
 use Rattle.sedengine.specs.Substitute.{Occurrence, whole_span, next_occurrence, with_rest, occurrences_from}

@@ -5,7 +5,8 @@ use Rattle.std.specs.Prelude.{Option, Some, None, IfSome, Result, Ok, Err, if◌
 use Rattle.sedre.specs.Arena.{Written, tree}
 use Rattle.sedmatch.specs.Caps.{Groups}
 use Rattle.sedmatch.specs.Matching.{report}
-use Rattle.sedmatch.specs.Occurrences.{EndsWithin, KeepsRoom, LiesOn, Serves, owed}
+use Rattle.sedmatch.specs.Following.{EndsWithin, LiesOn}
+use Rattle.sedmatch.specs.Occurrences.{KeepsRoom, Serves, owed}
 use Rattle.sedmatch.specs.Parts.{SpanIn, span_of}
 use Rattle.sedmatch.specs.SearchRoom.{SearchRoom}
 use Rattle.sedmatch.specs.declared.occurrences.Occurrences.{Occurrences}
@@ -91,6 +92,21 @@ owed_skipped m n (Some last) o = owed m n last o
 abbrev pub told_cost : Option (ℕ × ℕ) → Bool → ℕ → ℕ
 told_cost None wanted k = 0
 told_cost (Some span) wanted k = if wanted then k else 0
+
+-- what telling the groups of an occurrence takes for each place that it takes, with m nodes; a null match takes 2 m
+abbrev pub place_cost : ℕ → ℕ
+place_cost m = 172 * m * (m - 1) + 2 * m
+
+-- The steps that telling groups may still take after an occurrence that ended at the place, if there is one, with m nodes in a
+-- text of n bytes: each takes places that no other does, but for a null match at the beginning.
+abbrev pub owed_groups : ℕ → ℕ → Option ℕ → ℕ
+owed_groups m n None = place_cost m * n + 2 * m
+owed_groups m n (Some q) = place_cost m * (n - q)
+
+-- the steps that telling groups may still take after an answer: none where there is no occurrence
+abbrev pub owed_groups_after : ℕ → ℕ → Option (ℕ × ℕ) → ℕ
+owed_groups_after m n None = 0
+owed_groups_after m n (Some span) = owed_groups m n (Some span.1)
 
 -- the most that telling the groups of all occurrences but the first takes, where those of one take k
 abbrev pub later_cost : ℕ → List Occurrence → ℕ

@@ -5,7 +5,7 @@ ghost use Rattle.sedscript.specs.declared.substitution.Substitution.{Substitutio
 ghost use Rattle.sedengine.specs.Fitting.{AllFit, RoomToSeek, Seek, seeks_more};
 
 use crate::limits::Limits;
-use sedmatch::{Occurrences, Scratch, StateLimit, TableMatcher};
+use sedmatch::{Occurrences, Scratch, StateLimit, TableMatcher, TableRoom};
 use sedre::Steps;
 use sedscript::Script;
 use std::alloc::{AllocError, Global};
@@ -34,7 +34,8 @@ fn states_for(expressions: usize) -> usize
     each.clamp(FEWEST_STATES, MOST_STATES)
 }
 
-/// A matcher for each expression of the script, in its order. What one finds out at a line serves at all later lines.
+/// A matcher for each expression of the script, in its order. What one finds out at a line serves at all later lines. Where there
+/// is room for the tables of some expressions alone, these are the first.
 pub(crate) fn matchers_of(
     alloc: Global,
     script: &Script,
@@ -45,12 +46,16 @@ pub(crate) fn matchers_of(
     ensures { IfOk result (λ ms. Seek script.now.expressions most_nodes ms.items) }
 {
     let count = script.expressions();
-    let limit = StateLimit::new(states_for(count));
+    let states = StateLimit::new(states_for(count));
+    let mut bytes = TableRoom::ample().bytes;
     // What is found out once is counted, and the count let go of.
     let mut steps = Steps::new();
     let mut matchers = Vec::with_capacity(alloc, count)?;
     for k in 0..count {
-        matchers.push(TableMatcher::with_states(alloc, script.expr(k), limit, &mut steps)?)?;
+        let room = TableRoom { states, bytes };
+        let matcher = TableMatcher::new(alloc, script.expr(k), room, &mut steps)?;
+        bytes = bytes.saturating_sub(matcher.size_of_tables());
+        matchers.push(matcher)?;
     }
     Ok(matchers)
 }

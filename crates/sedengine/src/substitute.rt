@@ -1,9 +1,10 @@
 //! The command `s` (XCU sed, "Editing Commands in sed"): which occurrences it replaces, and the text that it makes.
-ghost use Rattle.std.specs.Prelude.{◌≡◌, ◌+◌, ◌*◌, ◌<◌, ◌≤◌, [], ◌∷◌, length, true, Some, None, IfSome, IsTrue};
+ghost use Rattle.std.specs.Prelude.{◌≡◌, ◌+◌, ◌-◌, ◌*◌, ◌<◌, ◌≤◌, [], ◌∷◌, length, true, Some, None, IfSome, IsTrue};
 ghost use Rattle.sedre.specs.Arena.{tree};
 ghost use Rattle.sedmatch.specs.Costs.{Pays};
 ghost use Rattle.sedre.specs.Steps.{Takes};
-ghost use Rattle.sedmatch.specs.Occurrences.{EndsWithin, KeepsRoom, LiesOn, RoomFor, Serves, ServesOn, owed, owed_after};
+ghost use Rattle.sedmatch.specs.Following.{EndsWithin, LiesOn};
+ghost use Rattle.sedmatch.specs.Occurrences.{KeepsRoom, RoomFor, Serves, ServesOn, owed, owed_after};
 ghost use Rattle.sedmatch.specs.SearchRoom.{FitInto};
 ghost use Rattle.sedmatch.specs.Matching.{report};
 ghost use Rattle.sedmatch.specs.Parts.{part_of, span_of};
@@ -14,7 +15,7 @@ ghost use Rattle.sedengine.specs.Fitting.{seeks_more};
 ghost use Rattle.sedengine.specs.Run.{search_for};
 ghost use Rattle.sedengine.specs.SubstituteParts.{Appends, GroupsIn, GroupsOf, IsNext, Replaces};
 ghost use Rattle.sedengine.specs.SubstituteParts.{SeeksAsBefore, ServesAfter, Skips, has_group, later_cost, owed_skipped};
-ghost use Rattle.sedengine.specs.SubstituteParts.{pending, told_cost, with_groups};
+ghost use Rattle.sedengine.specs.SubstituteParts.{owed_groups, owed_groups_after, pending, told_cost, with_groups};
 
 use sedmatch::{Occurrences, Scratch, TableMatcher, Text};
 use sedre::Steps;
@@ -28,7 +29,7 @@ type Groups = [Option<(usize, usize)>; 10];
 /// any.
 ///
 /// Its searches together take steps in proportion to the text, counted in `steps`. Groups are told within each occurrence
-/// that is replaced; their steps are counted in `group_steps`.
+/// that is replaced; their steps, counted in `group_steps`, are in proportion to the text together too.
 pub(crate) fn build_text(
     substitution: &Substitution,
     matcher: &mut TableMatcher,
@@ -56,6 +57,8 @@ pub(crate) fn build_text(
         Takes group_steps.old group_steps.new (51 * m * m * (n + 1) * (n + 1)
         * length (to_replace substitution.now.number substitution.now.global
         (occurrences (search_for (Some matcher.old) text.now) n))) }
+    ensures linear_group_cost { let m = length matcher.old.nodes in let n = length text.now in
+        Takes group_steps.old group_steps.new (172 * m * m * (n + 1)) }
 {
     seeking.begin(matcher, &Text::new(text), scratch);
     let skipped = substitution.number - 1;
@@ -176,6 +179,8 @@ fn next_occurrence(
         Pays steps.old steps.new (owed m n last seeking.old) (owed_after m n result seeking.new) }
     ensures group_cost { let m = length matcher.old.nodes in let n = length text.now in
         Takes group_steps.old group_steps.new (told_cost result wanted (51 * m * m * (n + 1) * (n + 1))) }
+    ensures linear_group_cost { let m = length matcher.old.nodes in let n = length text.now in
+        Pays group_steps.old group_steps.new (owed_groups m n last) (owed_groups_after m n result) }
 {
     let span = matcher.next_occurrence(&Text::new(text), last, seeking, scratch, steps)?;
     if wanted {
@@ -188,7 +193,7 @@ fn next_occurrence(
 // It is no part of its caller, which would clear the room for the groups at each call.
 #[inline(never)]
 fn tell_groups(
-    matcher: &TableMatcher,
+    matcher: &mut TableMatcher,
     text: &[u8],
     span: (usize, usize),
     groups: &mut Groups,
@@ -196,14 +201,17 @@ fn tell_groups(
     steps: &mut Steps,
 )
     requires text { length text.now ≤ scratch.old.text }
-    requires nodes { length matcher.now.nodes ≤ scratch.old.nodes }
+    requires nodes { length matcher.old.nodes ≤ scratch.old.nodes }
     requires lies { (span.0 ≤ span.1) × (span.1 ≤ length text.now) }
-    requires spans { Spans (tree matcher.now) text.now span.0 span.1 }
-    ensures groups { groups.new ≡ report (tree matcher.now) text.now span.0 span.1 }
+    requires spans { Spans (tree matcher.old) text.now span.0 span.1 }
+    ensures same { matcher.new ≡ matcher.old }
+    ensures groups { groups.new ≡ report (tree matcher.old) text.now span.0 span.1 }
     ensures groups_in { GroupsIn (length text.now) groups.new }
     ensures scratch { scratch.new ≡ scratch.old }
-    ensures cost { let m = length matcher.now.nodes in let n = length text.now in
+    ensures cost { let m = length matcher.old.nodes in let n = length text.now in
         Takes steps.old steps.new (51 * m * m * (n + 1) * (n + 1)) }
+    ensures linear_cost { let m = length matcher.old.nodes in
+        Takes steps.old steps.new (172 * m * (m - 1) * (span.1 - span.0) + 2 * m) }
 {
     let told = matcher.groups_of(&Text::new(text), span.0, span.1, scratch, steps);
     *groups = told;
@@ -239,6 +247,8 @@ fn append_replaced(
     ensures group_cost { let m = length matcher.old.nodes in let n = length text.now in
         Takes group_steps.old group_steps.new (later_cost (51 * m * m * (n + 1) * (n + 1))
         (pending matcher.old text.now substitution.now.global (Some first))) }
+    ensures linear_group_cost { let m = length matcher.old.nodes in let n = length text.now in
+        Takes group_steps.old group_steps.new (owed_groups m n (Some first.1)) }
 {
     let parts = substitution.replacement.parts();
     let wanted = needs_groups(parts);

@@ -15,3 +15,4 @@ pub mod LinearLemmas
 pub mod FirstStartLemmas
 pub mod LongestLemmas
 pub mod CandidateLemmas
+pub mod GroupMatcherLemmas

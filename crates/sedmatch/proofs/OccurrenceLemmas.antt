@@ -1,15 +1,11 @@
 -- What the searches for all occurrences in one text cost together.
-use Rattle.std.proofs.Common.{Bool, true, List, length, ◌≡◌, ℕ, ◌+◌, ◌-◌, ◌*◌, ◌<◌, ◌≤◌, false, Option, Some, None, IsTrue, IfSome, refl, sym, ap, subst, arith, mul-le-mul_left}
-use Rattle.std.specs.Prelude.{◌&&◌, nat_eq, nat_lt, if◌then◌else◌}
+use Rattle.std.proofs.Common.{Bool, true, ◌≡◌, ℕ, ◌+◌, ◌-◌, ◌*◌, ◌<◌, ◌≤◌, false, Option, Some, None, IsTrue, IfSome, refl, sym, ap, subst, arith, mul-le-mul_left, List, length}
+use Rattle.std.specs.Prelude.{nat_eq, if◌then◌else◌}
 use Rattle.std.proofs.lemmas.Bool.Decides.{nat_tests}
-use Rattle.sedre.specs.Tree.{Tree}
-use Rattle.sedmarks.specs.Spans.{Spans}
-use Rattle.sedmarks.specs.Matching.{found}
-use Rattle.sedmarks.proofs.MatchingLemmas.{found-iff}
+use Rattle.sedre.specs.Arena.{Written}
 use Rattle.sedmatch.specs.declared.occurrences.Occurrences.{Occurrences}
-use Rattle.sedmatch.specs.BackPass.{blocks_cost, end_to}
-use Rattle.sedmatch.specs.NextMatch.{unless_null_at}
-use Rattle.sedmatch.specs.Occurrences.{EndsWithin, LiesOn, Occurs, next_span, owed_met, owed_apart, owed_together, owed_from, owed_after}
+use Rattle.sedmatch.specs.BackPass.{Served, blocks_cost, end_to}
+use Rattle.sedmatch.specs.Occurrences.{Keeps, owed_met, owed_apart, owed_together, owed_from, owed_after}
 
 -- what is owed after an answer, where c is what the blocks may cost
 abbrev pub owed_end : ℕ → ℕ → ℕ → Option (ℕ × ℕ) → ℕ
@@ -76,30 +72,10 @@ pub after_is_met : (m n : ℕ) (r : Option (ℕ × ℕ)) (o : Occurrences) → I
 after_is_met m n None o is = refl
 after_is_met m n (Some f) o is = behind_is_met m n f.1 o is
 
--- the next occurrence is a match
-unless_spans : (e : Tree) (w : List ℕ) (q : ℕ) (r other : Option (ℕ × ℕ)) (f : ℕ × ℕ) → q ≤ length w → found e w q ≡ r →
-    (other ≡ Some f → Spans e w f.0 f.1) → unless_null_at (λ (f : ℕ × ℕ). f) q r other ≡ Some f → Spans e w f.0 f.1
-unless_spans e w q None other f inside is rest next = let none : None ≡ Some f = next in cc
-unless_spans e w q (Some g) other f inside is rest next = here (nat_eq g.0 q && nat_eq g.1 q) next
-  where
-    here : (b : Bool) → (if b then other else Some g) ≡ Some f → Spans e w f.0 f.1
-    here true next = rest next
-    here false next =
-        let same : g ≡ f = cc in
-        subst (λ (v : ℕ × ℕ). Spans e w v.0 v.1) same ((found-iff e w q g.0 g.1 inside).0 is).spans
-
-pub next_spans : (e : Tree) (w : List ℕ) (last : Option ℕ) (f : ℕ × ℕ) → EndsWithin (length w) last →
-    next_span (found e w) (length w) last ≡ Some f → Spans e w f.0 f.1
-next_spans e w None f inside next =
-    let low : 0 ≤ length w = omega arith in
-    ((found-iff e w 0 f.0 f.1 low).0 next).spans
-next_spans e w (Some q) f inside next = unless_spans e w q (found e w q) _ f inside refl (on (nat_lt q (length w)) (λ yes. grind (arith, nat_tests))) next
-  where
-    on : (b : Bool) → (b ≡ true → q + 1 ≤ length w) → (if b then found e w (q + 1) else None) ≡ Some f → Spans e w f.0 f.1
-    on true fits is = ((found-iff e w (q + 1) f.0 f.1 (fits refl)).0 is).spans
-    on false fits is = let none : None ≡ Some f = is in cc
-
-pub if_occurs : (e : Tree) (w : List ℕ) (last : Option ℕ) (r : Option (ℕ × ℕ)) → EndsWithin (length w) last →
-    r ≡ next_span (found e w) (length w) last → IfSome r (LiesOn (length w) last) → IfSome r (Occurs e w last)
-if_occurs e w last None inside is lies = tt
-if_occurs e w last (Some f) inside is lies = (next_spans e w last f inside (sym is), lies)
+-- what is kept serves after the match found, whatever the expression's view
+pub keeps_after : (inside e : Written) (w : List ℕ) (root : ℕ) (found : Option (ℕ × ℕ)) (o : Occurrences) → inside ≡ e → root + 1 ≡ length inside.nodes →
+    IfSome found (λ f. Served inside w root f.1 o.back_pass) → IfSome found (λ f. Keeps e w f.1 o)
+keeps_after inside e w root None o is last served = tt
+keeps_after inside e w root (Some f) o is last served =
+    let whole : root ≡ length inside.nodes - 1 = omega (arith, last) in
+    subst (λ (v : Written). Keeps v w f.1 o) is (λ met. subst (λ r. Served inside w r f.1 o.back_pass) whole served)

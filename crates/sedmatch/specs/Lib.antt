@@ -5,6 +5,8 @@ pub use Rattle.sedmarks.specs.Answer
 pub use Rattle.sedmarks.specs.Matching
 pub use Rattle.sedmarks.specs.SearchRoom
 pub use Rattle.sedmarks.specs.Costs
+pub use Rattle.sedmarks.specs.NextMatch
+pub use Rattle.sedmarks.specs.Following
 pub mod Tables
 pub mod Longest
 pub mod Linear
@@ -14,5 +16,5 @@ pub mod Trail
 pub mod Sight
 pub mod Candidates
 pub mod BackPass
-pub mod NextMatch
 pub mod Occurrences
+pub mod GroupMatcher

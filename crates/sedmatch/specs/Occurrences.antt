@@ -1,33 +1,8 @@
--- All occurrences in one text, one after another (XCU sed, "s/BRE/replacement/flags").
-use Rattle.std.specs.Prelude.{◌≡◌, ℕ, ◌+◌, ◌-◌, ◌*◌, ◌<◌, ◌≤◌, false, List, length, Option, Some, None, IfSome, IsTrue, nat_eq, if◌then◌else◌}
+-- What the searches for all occurrences in one text keep, and what they may cost.
+use Rattle.std.specs.Prelude.{◌≡◌, ℕ, ◌+◌, ◌-◌, ◌*◌, ◌<◌, false, List, length, Option, Some, None, IfSome, IsTrue, nat_eq, if◌then◌else◌}
 use Rattle.sedre.specs.Arena.{Written}
-use Rattle.sedre.specs.Tree.{Tree}
-use Rattle.sedmarks.specs.Spans.{Spans}
 use Rattle.sedmatch.specs.declared.occurrences.Occurrences.{Occurrences}
 use Rattle.sedmatch.specs.BackPass.{HasBackPass, Served, blocks_cost}
-use Rattle.sedmatch.specs.NextMatch.{next_match}
-
--- the span of the next match in a text of n bytes, after one that ended at a place, where there was one
-abbrev pub next_span : (ℕ → Option (ℕ × ℕ)) → ℕ → Option ℕ → Option (ℕ × ℕ)
-next_span search n last = next_match (λ f. f) search n last
-
--- the place, if there is one, is in a text of n bytes, or its end
-abbrev pub EndsWithin : ℕ → Option ℕ → Type 0
-EndsWithin n None = Unit {0}
-EndsWithin n (Some q) = q ≤ n
-
--- the span, if there is one, ends after the place, if there is one, and begins there or later
-abbrev pub LiesAfter : Option ℕ → Option (ℕ × ℕ) → Type 0
-LiesAfter (Some q) (Some f) = (q ≤ f.0) × (q + 1 ≤ f.1)
-LiesAfter last found = Unit {0}
-
--- the span lies in a text of n bytes, after the last occurrence
-abbrev pub LiesOn : ℕ → Option ℕ → ℕ × ℕ → Type 0
-LiesOn n last f = (f.0 ≤ f.1) × (f.1 ≤ n) × LiesAfter last (Some f)
-
--- the span is one that the expression matches, and lies in the text, after the last occurrence
-abbrev pub Occurs : Tree → List ℕ → Option ℕ → ℕ × ℕ → Type 0
-Occurs e w last f = Spans e w f.0 f.1 × LiesOn (length w) last f
 
 -- there is room for texts of `text` bytes and expressions of `nodes` nodes
 abbrev pub RoomFor : ℕ → ℕ → Occurrences → Type 0

@@ -8,9 +8,11 @@ use Rattle.sedmarks.specs.Beginnings.{AllBegin}
 use Rattle.sedneedles.specs.Needed.{IsNeeded}
 use Rattle.sedmarks.specs.Nodes.{IsRoot}
 use Rattle.sedneedles.specs.Rare.{AllRare}
+use Rattle.sedmatch.specs.GroupMatcher.{IsGroupMatcherOf}
 use Rattle.sedmatch.specs.Sight.{IsSightOf}
 use Rattle.sedmatch.specs.Tables.{IsSingle, IsSweep}
 use Rattle.sedmarks.specs.Work.{AreFlat}
+use Rattle.sedmatch.specs.declared.group_matcher.GroupMatcher.{GroupMatcher}
 use Rattle.sedmatch.specs.declared.sight.Sight.{Sight}
 use Rattle.sedmatch.specs.declared.ready.Known.{Known}
 use Rattle.sedmatch.specs.declared.ready.Tables.{Tables}
@@ -32,10 +34,11 @@ abbrev pub IsPrepared : Written → ℕ → Known → Tables → Type 0
 IsPrepared e root k t = IsRoot e.nodes root × IsKnown (tree e) k × AreTables e root t
 
 -- what a matcher holds is of its expression
-pub record IsReady (e : Written) (root : ℕ) (known : Known) (sight : Option Sight) (tables : Tables) : Type 0 where
+pub record IsReady (e : Written) (root : ℕ) (known : Known) (sight : Option Sight) (tables : Tables) (groups : Option GroupMatcher) : Type 0 where
   pub arena : IsArena e.nodes
   pub whole : IsRoot e.nodes root
   pub known_so : IsKnown (tree e) known
   pub flat_so : IsTrue known.flat → AreFlat e.nodes
   pub sight_so : IsSightOf (tree e) sight
   pub tables_so : AreTables e root tables
+  pub groups_so : IsGroupMatcherOf e groups

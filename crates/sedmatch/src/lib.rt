@@ -24,19 +24,24 @@ mod backwards;
 mod between;
 mod candidates;
 mod classes;
+mod group_matcher;
 mod linear;
 mod occurrences;
 mod ready;
+mod scratch;
 mod sight;
 mod state_limit;
 mod table_matcher;
+mod table_room;
 mod tables;
 mod trail;
+mod whole;
 mod word;
 
 pub use occurrences::Occurrences;
-pub use sedmarks::{
-    Found, Marks, Scratch, Text, find, find_span, found_law, groups_law, is_match, spans_law,
-};
+pub use scratch::Scratch;
+pub use sedmarks::{Found, Marks, Text, found_law, groups_law, spans_law};
 pub use state_limit::StateLimit;
 pub use table_matcher::TableMatcher;
+pub use table_room::TableRoom;
+pub use whole::{find, find_span, is_match};

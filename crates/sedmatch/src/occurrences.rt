@@ -1,10 +1,11 @@
 //! All occurrences in one text, one after another.
-ghost use Rattle.std.specs.Prelude.{◌≡◌, ℕ, false, ◌+◌, ◌*◌, ◌^◌, ◌<◌, ◌≤◌, length, nat_lt, if◌then◌else◌, None, Some, IfOk, IfSome, IsTrue};
+ghost use Rattle.std.specs.Prelude.{◌≡◌, ℕ, false, ◌+◌, ◌-◌, ◌*◌, ◌^◌, ◌<◌, ◌≤◌, length, nat_lt, if◌then◌else◌, None, Some, IfOk, IfSome, IsTrue};
 ghost use Rattle.sedre.specs.Arena.{tree};
+ghost use Rattle.sedmarks.specs.Following.{EndsWithin, LiesOn, Occurs, next_span};
 ghost use Rattle.sedmarks.specs.Matching.{found, report};
 ghost use Rattle.sedmatch.specs.BackPass.{HasBackPass, KeepsBackPass, Served};
-ghost use Rattle.sedmatch.specs.Occurrences.{EndsWithin, Keeps, KeepsOn, KeepsRoom, LiesOn, Occurs, RoomFor, Serves, ServesOn};
-ghost use Rattle.sedmatch.specs.Occurrences.{next_span, owed, owed_after, owed_apart, owed_met, owed_together};
+ghost use Rattle.sedmatch.specs.Occurrences.{Keeps, KeepsOn, KeepsRoom, RoomFor, Serves, ServesOn};
+ghost use Rattle.sedmatch.specs.Occurrences.{owed, owed_after, owed_apart, owed_met, owed_together};
 ghost use Rattle.sedmarks.specs.Nodes.{IsRoot};
 ghost use Rattle.sedmarks.specs.Parts.{SpanIn, span_of};
 ghost use Rattle.sedmarks.specs.Spans.{Spans};
@@ -13,10 +14,11 @@ ghost use Rattle.sedmarks.specs.Costs.{Pays};
 ghost use Rattle.sedre.specs.Steps.{Takes};
 
 use crate::back_pass::{BackPass, is_null_at, keep_back_pass, new_back_pass, next_after};
+use crate::group_matcher::groups_told;
+use crate::scratch::Scratch;
 use crate::table_matcher::TableMatcher;
 use sedmarks::counted::Text;
 use sedmarks::groups::report;
-use sedmarks::scratch::Scratch;
 use sedre::{Expr, Steps};
 use std::alloc::{AllocError, Global};
 
@@ -214,7 +216,7 @@ impl TableMatcher {
             text,
             at,
             &mut occurrences.back_pass,
-            &mut scratch.sets,
+            &mut scratch.marks.sets,
             steps,
         )
     }
@@ -257,7 +259,7 @@ impl TableMatcher {
 
     /// What each group reports of a match that begins and ends at these places. Entry 0 is the whole match.
     pub fn groups_of(
-        &self,
+        &mut self,
         text: &Text,
         start: usize,
         end: usize,
@@ -266,24 +268,38 @@ impl TableMatcher {
     ) -> [Option<(usize, usize)>; 10]
         requires order { start ≤ end }
         requires inside { end ≤ length text.now }
-        requires spans { Spans (tree self.now) text.now start end }
-        requires fits { FitInto (length text.now) (length self.now.nodes) scratch.old }
+        requires spans { Spans (tree self.old) text.now start end }
+        requires fits { FitInto (length text.now) (length self.old.nodes) scratch.old }
+        ensures same { self.new ≡ self.old }
         ensures scratch { scratch.new ≡ scratch.old }
-        ensures groups { result ≡ report (tree self.now) text.now start end }
+        ensures groups { result ≡ report (tree self.old) text.now start end }
         ensures lies { (k : ℕ) → SpanIn (length text.now) (span_of result k) }
-        ensures none_cost { self.now.groups ≡ 0 → steps.new ≡ steps.old }
-        ensures cost { let m = length self.now.nodes in let n = length text.now in
+        ensures none_cost { self.old.groups ≡ 0 → steps.new ≡ steps.old }
+        ensures cost { let m = length self.old.nodes in let n = length text.now in
             Takes steps.old steps.new (51 * m * m * (n + 1) * (n + 1)) }
+        ensures linear_cost { let m = length self.old.nodes in
+            Takes steps.old steps.new (172 * m * (m - 1) * (end - start) + 2 * m) }
     {
+        let told = groups_told(
+            &self.expr,
+            &mut self.groups,
+            text,
+            (start, end),
+            &mut scratch.desk,
+            steps,
+        );
+        if let Some(spans) = told {
+            return spans;
+        }
         report(
             &self.expr,
             self.known.flat,
             text,
             start,
             end,
-            &mut scratch.plan,
-            &mut scratch.sets,
-            &mut scratch.places,
+            &mut scratch.marks.plan,
+            &mut scratch.marks.sets,
+            &mut scratch.marks.places,
             steps,
         )
     }

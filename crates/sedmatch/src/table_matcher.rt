@@ -19,10 +19,13 @@ ghost use Rattle.sedre.specs.Steps.{StepsWithin, Takes, TakesAtLeast};
 
 use crate::anywhere::{anchored_by, leftmost_by};
 use crate::candidates::{needed_candidate, sight_candidate};
+use crate::group_matcher::{GroupMatcher, group_matcher_of, size_of_own};
 use crate::linear::first_end_forwards;
 use crate::ready::{Known, Tables, find_known, new_tables};
+use crate::scratch::Scratch;
 use crate::sight::{Sight, sight_find, sight_matches, sight_of, sight_span};
 use crate::state_limit::StateLimit;
+use crate::table_room::TableRoom;
 use crate::tables::{
     NO_ENDS, Next, PLAIN, Table, add_looks, first_state, follow_to, go, state_at, stay_on,
 };
@@ -31,7 +34,7 @@ use sedmarks::beginnings::Begins;
 use sedmarks::counted::{Bytes, Tally, Text};
 use sedmarks::groups::report;
 use sedmarks::matcher::{Found, find, find_span};
-use sedmarks::scratch::{Scratch, Sets};
+use sedmarks::scratch::Sets;
 use sedmarks::search::{better, longest_on};
 use sedmarks::states::{Ends, ends_at};
 use sedneedles::needed::narrowed;
@@ -423,7 +426,7 @@ fn find_by(
     text: &Text,
     from: usize,
     tables: &mut Tables,
-    scratch: &mut Scratch,
+    scratch: &mut sedmarks::Scratch,
     steps: &mut Steps,
 ) -> Option<Found>
     requires ready { (2 ≤ length expr.now.nodes) × IsPrepared expr.now root known.now tables.old }
@@ -457,9 +460,6 @@ fn find_by(
     Some(Found { start, end, groups })
 }
 
-/// How many states a table has room for, where no other number is asked for.
-const STATES: usize = 64;
-
 /// An expression with tables of the states that its searches reach: what was found out at one place of a text is
 /// used at all others, and in later texts, so that a byte mostly costs a few looks, whatever the expression.
 ///
@@ -476,6 +476,7 @@ pub struct TableMatcher {
     // Where a look at the text tells as much as the tables would.
     sight: Option<Sight>,
     tables: Tables,
+    pub(crate) groups: Option<GroupMatcher>,
 }
 
 impl Model for TableMatcher {
@@ -487,25 +488,16 @@ impl Model for TableMatcher {
 
     ghost view = { λ m. m.expr };
 
-    ghost invariant = { λ m. IsReady m.expr m.root m.known m.sight m.tables };
+    ghost invariant = { λ m. IsReady m.expr m.root m.known m.sight m.tables m.groups };
 }
 
 impl TableMatcher {
-    /// The expression with empty tables. Looks at the expression's nodes are counted in `steps`; no text is searched, so
-    /// no bound is told of them. Fails only where a request for memory was refused.
-    pub fn new(alloc: Global, expr: &Expr, steps: &mut Steps) -> Result<TableMatcher, AllocError>
-        ensures { IfOk result (λ m. m ≡ expr.now) }
-    {
-        TableMatcher::with_states(alloc, expr, StateLimit::new(STATES), steps)
-    }
-
-    /// The expression with empty tables, as [`TableMatcher::new`] makes it, each with room for at most as many states as
-    /// the limit says. The answers don't depend on the limit: fewer states take less room, and more time for an expression
-    /// that reaches more of them.
-    pub fn with_states(
+    /// The expression with empty tables, which take no more than the room that is given. Looks at the expression's nodes are
+    /// counted in `steps`; no text is searched, so no bound is told of them. Fails only where a request for memory was refused.
+    pub fn new(
         alloc: Global,
         expr: &Expr,
-        limit: StateLimit,
+        room: TableRoom,
         steps: &mut Steps,
     ) -> Result<TableMatcher, AllocError>
         ensures { IfOk result (λ m. m ≡ expr.now) }
@@ -515,8 +507,14 @@ impl TableMatcher {
         let sight = sight_of(alloc, expr, steps)?;
         let seen = sight.is_some();
         let known = find_known(alloc, expr, seen, steps)?;
-        // A table that no search uses has no states. The tables are made last, so that no later request can fail.
-        let limit = if seen { StateLimit::new(0) } else { limit };
+        // A table that no search uses has no states.
+        let limit = if seen {
+            StateLimit::new(0)
+        } else {
+            room.states
+        };
+        let groups = group_matcher_of(alloc, expr, room, steps)?;
+        // The tables are made last, so that no later request can fail.
         let tables = new_tables(alloc, expr, root, limit, steps)?;
         Ok(TableMatcher {
             expr: copy,
@@ -524,7 +522,16 @@ impl TableMatcher {
             known,
             sight,
             tables,
+            groups,
         })
+    }
+
+    /// How many bytes its own tables for groups take at most.
+    pub fn size_of_tables(&self) -> usize {
+        match &self.groups {
+            Some(groups) => size_of_own(groups),
+            None => 0,
+        }
     }
 
     /// How many nodes the expression has.
@@ -573,7 +580,7 @@ impl TableMatcher {
             text,
             from,
             &mut self.tables,
-            &mut scratch.sets,
+            &mut scratch.marks.sets,
             steps,
         )
     }
@@ -601,7 +608,7 @@ impl TableMatcher {
             IfNone result (StepsWithin steps.old steps.new (64 * m * (n + 1))) }
     {
         if self.root == 0 && self.sight.is_none() {
-            return find_span(&self.expr, text, from, scratch, steps);
+            return find_span(&self.expr, text, from, &mut scratch.marks, steps);
         }
         if let Some(sight) = &self.sight {
             return sight_span(sight, text, from, steps);
@@ -613,7 +620,7 @@ impl TableMatcher {
             text,
             from,
             &mut self.tables,
-            &mut scratch.sets,
+            &mut scratch.marks.sets,
             steps,
         )
     }
@@ -641,10 +648,10 @@ impl TableMatcher {
             IfNone result (StepsWithin steps.old steps.new (64 * m * (n + 1))) }
     {
         if let Some(sight) = &self.sight {
-            return sight_find(&self.expr, sight, text, from, scratch, steps);
+            return sight_find(&self.expr, sight, text, from, &mut scratch.marks, steps);
         }
         if self.root == 0 {
-            return find(&self.expr, text, from, scratch, steps);
+            return find(&self.expr, text, from, &mut scratch.marks, steps);
         }
         find_by(
             &self.expr,
@@ -653,7 +660,7 @@ impl TableMatcher {
             text,
             from,
             &mut self.tables,
-            scratch,
+            &mut scratch.marks,
             steps,
         )
     }

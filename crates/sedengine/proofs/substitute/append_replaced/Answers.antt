@@ -59,6 +59,10 @@ occurrences-preserved-then-substitution c =
       groups_grow = omega (arith, i.groups_grow, next.ensures.group_cost.0);
       group_cost = groups_paid _ _ _ _ e w s.global c.needs_groups-wanted.result l.occurrence span next.result c.in-Some.is more i.group_cost
           (rw i.matcher at next.ensures.group_cost.1);
+      linear_group_cost =
+          let paid = rw i.matcher at next.ensures.linear_group_cost.1 in
+          let before = rw c.in-Some.is at i.linear_group_cost in
+          omega (arith, paid, before);
       limit = due.0;
       copied = lies.2;
       lies = lies_on (length w) span.1 next.result next.ensures.next.1;
@@ -89,6 +93,7 @@ occurrences-preserved c =
       cost = (let before = i.cost in omega (arith, before));
       groups_grow = i.groups_grow;
       group_cost = (let before = i.group_cost in omega (arith, before));
+      linear_group_cost = (let before = i.linear_group_cost in omega (arith, before));
       limit = due.0;
       copied = lies.2;
       lies = tt;

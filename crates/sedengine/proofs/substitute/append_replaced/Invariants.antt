@@ -2,7 +2,7 @@ use Rattle.std.proofs.Common.{◌≡◌, ◌≤◌, ℕ, ◌+◌, ◌-◌, ◌*�
 use Rattle.std.specs.Prelude.{IfSome}
 use Rattle.sedmatch.specs.Occurrences.{KeepsRoom, Serves, owed, owed_after}
 use Rattle.sedengine.specs.Substitute.{replaced_from}
-use Rattle.sedengine.specs.SubstituteParts.{GroupsIn, GroupsOf, has_group, later_cost, pending}
+use Rattle.sedengine.specs.SubstituteParts.{GroupsIn, GroupsOf, has_group, later_cost, owed_groups, owed_groups_after, pending}
 use Rattle.sedengine.proofs.substitute.append_replaced.Given as goal
 
 -- what the groups of one occurrence take at most, for m nodes and n bytes
@@ -23,6 +23,8 @@ invariant-occurrences l = record {
       + later_cost (each (length l.fn.matcher.nodes) (length l.text)) (pending l.fn.matcher l.text l.substitution.global l.occurrence)
       ≤ l.fn.group_steps
       + later_cost (each (length l.fn.matcher.nodes) (length l.text)) (pending l.fn.matcher l.text l.substitution.global (Some l.fn.first));
+  linear_group_cost : l.group_steps + owed_groups_after (length l.fn.matcher.nodes) (length l.text) l.occurrence
+      ≤ l.fn.group_steps + owed_groups (length l.fn.matcher.nodes) (length l.text) (Some l.fn.first.1);
   limit : l.build.limit ≡ l.fn.build.limit;
   copied : l.copied ≤ length l.text;
   lies : IfSome l.occurrence (λ span. (l.copied ≤ span.0) × (span.0 ≤ span.1) × (span.1 ≤ length l.text));

@@ -2,6 +2,7 @@ use Rattle.std.proofs.Common.{Some, None, length, arith}
 use Rattle.sedengine.proofs.Fitting.{more_of_all, more_of_later, room_later}
 use Rattle.sedengine.specs.SubstituteParts.{pending}
 use Rattle.sedengine.proofs.Due.{to_replace_is, groups_took, replaces_full, replaces_made}
+use Rattle.sedengine.proofs.Telling.{all_took}
 use Rattle.sedengine.proofs.substitute.build_text.Goals as goal
 
 pub returns-in_default-next_occurrence-clause-replaces : goal.returns-in_default-next_occurrence-clause-replaces
@@ -91,3 +92,15 @@ returns-clause-group_cost c =
     groups_took _ _ _ _ e w s.global c.needs_groups-wanted.result first _ same
     (rw (c.in-Some.ensures.same.0, c.in-Some.ensures.no_groups) at c.in-Some-next_occurrence.ensures.group_cost)
     (rw (c.in-Some-next_occurrence.ensures.same.0, c.in-Some.ensures.same.0) at c.in_ok-append_replaced.ensures.group_cost)
+
+pub returns-in_err-append_replaced-clause-linear_group_cost : goal.returns-in_err-append_replaced-clause-linear_group_cost
+returns-in_err-append_replaced-clause-linear_group_cost c =
+    all_took (length c.args.matcher.now.nodes) (length c.args.text.now) _ _ _ c.in-Some.last c.in-Some-next_occurrence.first
+    (rw (c.in-Some.ensures.same.0, c.in-Some.ensures.no_groups) at c.in-Some-next_occurrence.ensures.linear_group_cost)
+    (rw (c.in-Some-next_occurrence.ensures.same.0, c.in-Some.ensures.same.0) at c.in_err-append_replaced.ensures.linear_group_cost)
+
+pub returns-clause-linear_group_cost : goal.returns-clause-linear_group_cost
+returns-clause-linear_group_cost c =
+    all_took (length c.args.matcher.now.nodes) (length c.args.text.now) _ _ _ c.in-Some.last c.in-Some-next_occurrence.first
+    (rw (c.in-Some.ensures.same.0, c.in-Some.ensures.no_groups) at c.in-Some-next_occurrence.ensures.linear_group_cost)
+    (rw (c.in-Some-next_occurrence.ensures.same.0, c.in-Some.ensures.same.0) at c.in_ok-append_replaced.ensures.linear_group_cost)

@@ -1,5 +1,6 @@
 use Rattle.std.proofs.Common.{◌≡◌, ◌+◌, ◌*◌, ◌≤◌, length, drop, None}
-use Rattle.sedmatch.specs.Occurrences.{EndsWithin, KeepsRoom, Serves, owed}
+use Rattle.sedmatch.specs.Following.{EndsWithin}
+use Rattle.sedmatch.specs.Occurrences.{KeepsRoom, Serves, owed}
 use Rattle.sedengine.specs.SubstituteParts.{occurrences_after}
 use Rattle.sedengine.proofs.substitute.end_of_skipped.Given as goal
 

@@ -1,7 +1,7 @@
 use Rattle.std.proofs.Common.{IfSome, Option, ℕ, Some, length, sym, subst, rules}
 use Rattle.sedre.specs.Arena.{tree}
-use Rattle.sedmatch.specs.Occurrences.{EndsWithin, Occurs}
-use Rattle.sedmatch.proofs.OccurrenceLemmas.{if_occurs}
+use Rattle.sedmarks.specs.Following.{EndsWithin, Occurs}
+use Rattle.sedmarks.proofs.FollowingLemmas.{if_occurs}
 use Rattle.sedmatch.proofs.table_matcher.TableMatcher.next_occurrence.Goals as goal
 use Rattle.sedmatch.proofs.table_matcher.TableMatcher.next_occurrence.Goals.{in-Some+else-occurrences-eq0, in_default}
 

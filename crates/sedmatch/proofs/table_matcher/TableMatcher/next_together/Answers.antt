@@ -2,7 +2,7 @@ use Rattle.std.proofs.Common.{◌+◌, ◌≤◌, length, sym, subst, arith, rul
 use Rattle.sedmatch.specs.declared.occurrences.Occurrences.{Occurrences}
 use Rattle.sedmatch.specs.BackPass.{HasBackPass, blocks_cost}
 use Rattle.sedmatch.specs.Occurrences.{owed_after, owed_together}
-use Rattle.sedmatch.proofs.OccurrenceLemmas.{search_paid, after_is_met}
+use Rattle.sedmatch.proofs.OccurrenceLemmas.{keeps_after, search_paid, after_is_met}
 use Rattle.sedmatch.proofs.table_matcher.TableMatcher.next_together.Goals as goal
 
 pub next_after-requires-clause-room : goal.next_after-requires-clause-room
@@ -14,7 +14,8 @@ pub returns-clause-keeps : goal.returns-clause-keeps
 returns-clause-keeps c = (
   (λ text nodes has. c.next_after.ensures.kept text nodes (c.see_met.ensures.kept text nodes has)),
   search rules,
-  search rules,
+  keeps_after c.self.inside.expr c.args.self.now c.args.text.now c.self.inside.root c.next_after.result
+      (record { back_pass = c.next_after.new.back_pass; left = c.see_met.new.occurrences.left; met = c.see_met.new.occurrences.met }) c.self.view_is c.self.invariant.whole.0 c.next_after.ensures.served,
 )
 
 pub returns-clause-cost : goal.returns-clause-cost

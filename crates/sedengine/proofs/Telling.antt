@@ -1,0 +1,68 @@
+-- What telling the groups of the occurrences in a text takes together.
+use Rattle.std.proofs.Common.{◌≡◌, ℕ, zero, suc, ◌+◌, ◌-◌, ◌*◌, ◌≤◌, Option, Some, None, subst, arith, mul-le-mul_left}
+use Rattle.std.specs.Prelude.{IfSome}
+use Rattle.sedre.specs.Steps.{Takes}
+use Rattle.sedmatch.specs.Costs.{Pays}
+use Rattle.sedmatch.specs.Following.{LiesOn}
+use Rattle.sedengine.specs.SubstituteParts.{owed_groups, owed_groups_after, place_cost}
+
+-- an occurrence of `long` bytes pays by the places that it takes
+by_places : (k t long places rest : ℕ) → long ≤ places → 1 ≤ places → k * long + t + (k + t) * rest ≤ (k + t) * (rest + places)
+by_places k t long places rest most some = omega (arith, mul-le-mul_left k most, mul-le-mul_left t some)
+
+-- the first one may take no place
+at_first : (k t long places rest : ℕ) → long ≤ places → k * long + t + (k + t) * rest ≤ (k + t) * (rest + places) + t
+at_first k t long places rest most = omega (arith, mul-le-mul_left k most)
+
+-- the groups of the occurrence that comes next are paid by the places up to its end
+pub told_paid : (m n s t : ℕ) (last : Option ℕ) (span : ℕ × ℕ) → LiesOn n last span →
+    Takes s t (172 * m * (m - 1) * (span.1 - span.0) + 2 * m) →
+    Pays s t (owed_groups m n last) (owed_groups_after m n (Some span))
+told_paid m n s t None span lies told =
+    let parted : n - span.1 + span.1 ≡ n = omega (arith, lies.1) in
+    let paid = at_first (172 * m * (m - 1)) (2 * m) (span.1 - span.0) span.1 (n - span.1) (omega arith) in
+    let all = subst (λ (places : ℕ). 172 * m * (m - 1) * (span.1 - span.0) + 2 * m + place_cost m * (n - span.1)
+    ≤ place_cost m * places + 2 * m) parted paid in
+    (told.0, omega (arith, told.1, all))
+told_paid m n s t (Some q) span lies told =
+    let parted : n - span.1 + (span.1 - q) ≡ n - q = omega (arith, lies.1, lies.2.1) in
+    let paid = by_places (172 * m * (m - 1)) (2 * m) (span.1 - span.0) (span.1 - q) (n - span.1) (omega (arith, lies.2.0))
+    (omega (arith, lies.2.1)) in
+    let all = subst (λ (places : ℕ). 172 * m * (m - 1) * (span.1 - span.0) + 2 * m + place_cost m * (n - span.1)
+    ≤ place_cost m * places) parted paid in
+    (told.0, omega (arith, told.1, all))
+
+-- where none are told, no more is owed after the occurrence that comes next
+pub untold_paid : (m n s : ℕ) (last : Option ℕ) (r : Option (ℕ × ℕ)) → IfSome r (LiesOn n last) →
+    Pays s s (owed_groups m n last) (owed_groups_after m n r)
+untold_paid m n s last None lies = (omega arith, omega arith)
+untold_paid m n s None (Some span) lies =
+    let fewer : n - span.1 ≤ n = omega arith in
+    (omega arith, omega (arith, mul-le-mul_left (place_cost m) fewer))
+untold_paid m n s (Some q) (Some span) lies =
+    let fewer : n - span.1 ≤ n - q = omega (arith, lies.2.1) in
+    (omega arith, omega (arith, mul-le-mul_left (place_cost m) fewer))
+
+more_in_all : (m p n : ℕ) → m ≡ p + 1 → (172 * m * p + 2 * m) * n + 2 * m ≤ 172 * m * m * (n + 1)
+more_in_all m p n is = rw is (more p n)
+  where
+    more : (p n : ℕ) → (172 * (p + 1) * p + 2 * (p + 1)) * n + 2 * (p + 1) ≤ 172 * (p + 1) * (p + 1) * (n + 1)
+    more p n = omega arith
+
+owed_in_all : (m n : ℕ) → owed_groups m n None ≤ 172 * m * m * (n + 1)
+owed_in_all zero n = omega arith
+owed_in_all (suc m) n = more_in_all (suc m) (suc m - 1) n (omega arith)
+
+-- the most that is owed
+owed_most : (m n : ℕ) (last : Option ℕ) → owed_groups m n last ≤ 172 * m * m * (n + 1)
+owed_most m n None = owed_in_all m n
+owed_most m n (Some q) =
+    let fewer : n - q ≤ n = omega arith in
+    omega (arith, mul-le-mul_left (place_cost m) fewer, owed_in_all m n)
+
+-- what telling the groups of all that is replaced takes
+pub all_took : (m n a b c : ℕ) (last : Option ℕ) (first : ℕ × ℕ) →
+    Pays a b (owed_groups m n last) (owed_groups_after m n (Some first)) → Takes b c (owed_groups m n (Some first.1)) →
+    Takes a c (172 * m * m * (n + 1))
+all_took m n a b c last first paid later =
+    (omega (arith, paid.0, later.0), omega (arith, paid.1, later.1, owed_most m n last))

@@ -1,0 +1,84 @@
+//! The room that searches work in, made once.
+ghost use Rattle.std.specs.Prelude.{◌≡◌, ◌^◌, ◌≤◌, IfOk};
+ghost use Rattle.sedmatch.specs.GroupMatcher.{IsDesk};
+
+use sedpass::groups::{GroupRoom, GroupTables};
+use sedpass::width::width_for;
+use std::alloc::{AllocError, Global};
+use std::marker::Model;
+
+/// Where groups are decided: the room for it, and tables that serve each expression that has none of its own.
+#[derive(Drop)]
+pub struct Desk {
+    /// The room.
+    pub room: GroupRoom,
+    /// The tables.
+    pub shared: GroupTables,
+    /// How many bytes a text has at most,
+    pub max_text: usize,
+    /// and how many nodes an expression.
+    pub max_nodes: usize,
+}
+
+/// The room for searches in texts, and for the groups of what they find: they take no other memory.
+#[derive(Drop)]
+pub struct Scratch {
+    /// The room of searches by marks.
+    pub(crate) marks: sedmarks::Scratch,
+    /// Where groups are decided.
+    pub(crate) desk: Desk,
+}
+
+impl Model for Scratch {
+    ghost use Rattle.sedmarks.specs.SearchRoom.{SearchRoom};
+
+    ghost Value = { SearchRoom };
+
+    ghost use Rattle.std.specs.Prelude.{◌≡◌};
+    ghost use Rattle.sedmatch.specs.GroupMatcher.{IsDesk};
+
+    ghost view = { λ s. s.marks };
+
+    ghost invariant = { λ s. IsDesk s.desk × (s.desk.max_text ≡ s.marks.text) × (s.desk.max_nodes ≡ s.marks.nodes) };
+}
+
+/// Where the groups of expressions of at most so many nodes are decided, in texts of at most so many bytes.
+fn new_desk(alloc: Global, max_text: usize, max_nodes: usize) -> Result<Desk, AllocError>
+    requires text { max_text ≤ 2 ^ 30 }
+    requires some_node { 1 ≤ max_nodes }
+    requires nodes { max_nodes ≤ 65536 }
+    ensures desk { IfOk result (λ d. IsDesk d × (d.max_text ≡ max_text) × (d.max_nodes ≡ max_nodes)) }
+{
+    let block = width_for(max_text);
+    let room = GroupRoom::new(alloc, max_text, max_text / block + 1, max_nodes)?;
+    let shared = GroupTables::with_room(alloc, block + 1, max_nodes)?;
+    Ok(Desk {
+        room,
+        shared,
+        max_text,
+        max_nodes,
+    })
+}
+
+impl Scratch {
+    /// Room for texts of at most `max_text` bytes, which is 2^30 or less, and expressions of at most `max_nodes` nodes,
+    /// from 1 to 65,536. Fails only where a request for memory was refused.
+    pub fn new(alloc: Global, max_text: usize, max_nodes: usize) -> Result<Scratch, AllocError>
+        requires text { max_text ≤ 2 ^ 30 }
+        requires some_node { 1 ≤ max_nodes }
+        requires nodes { max_nodes ≤ 65536 }
+        ensures { IfOk result (λ s. (s.text ≡ max_text) × (s.nodes ≡ max_nodes)) }
+    {
+        let desk = new_desk(alloc, max_text, max_nodes)?;
+        let marks = sedmarks::Scratch::new(alloc, max_text, max_nodes)?;
+        Ok(Scratch { marks, desk })
+    }
+
+    /// For proofs: how long a text and how large an expression can be.
+    pub fn bounds(&self)
+        ensures text { self.now.text ≤ 2 ^ 30 }
+        ensures nodes { self.now.nodes ≤ 65536 }
+    {
+        self.marks.bounds();
+    }
+}
