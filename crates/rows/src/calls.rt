@@ -1,46 +1,22 @@
-//! Calls of the program over files in memory: what they write, and their status.
-//!
-//! A row: the words of the command line, parted by a blank; the standard input; what is written to the standard output;
-//! the status. In a word `~` is a blank, and the word `''` is the empty one; an empty field is no word. Options:
-//!
-//! * `errors=TEXT`: what is written to the standard error; `errors_begin=TEXT`, `output_begins=TEXT`: a beginning alone
-//! * `f:NAME=TEXT`: a file that can be read, as an input, as a script or by the command `r`
-//! * `w:NAME=TEXT`: a file that can be created, and what it gets; in the order in which the script first names them
-//! * `space=3`, `queue=`, `turns=`, `nodes=`: limits other than the program's; `output=4`: the most bytes that each sink gains
-//! * `fails=2`: the second read of the inputs fails; `room=3`: a sink takes three bytes and then fails;
-//!   `refuses=1`: a write to this sink fails, the first one, or with `write=3` the third; a flush is a write too
+//! Calls of the program over files in memory: what they write, and their status. The head of the table tells its fields.
 //!
 //! Each row runs with reads of any length and of 1, 2 and 3 bytes, with writes of any length and of one byte, and with 1
-//! and 65,536 bytes read ahead; where a read or a write fails, as the program reads and writes. A call of status 1 reads
-//! no input.
+//! and 65,536 bytes read ahead; where a read or a write fails, as the program reads and writes. A flush is a write too. A
+//! call of status 1 reads no input.
 
 ghost use Rattle.std.specs.Prelude.{◌≡◌, ◌<◌, [], IfSome};
 
-use crate::files::put_copy;
+use crate::devices::Way;
 use crate::job::limits_of;
-use crate::options::{Options, name_and_value};
+use crate::options::Options;
 use crate::report::{NO_MEMORY, Report};
-use crate::shape::Shape;
+use crate::sheet::put_copy;
 use crate::table::Row;
 use sededit::{MemoryFile, MemoryInputs, MemoryNames, MemorySinks, command};
 use sedengine::Limits;
 use sedspace::Outputs;
 use std::alloc::Global;
 use std::str;
-
-/// What a row looks like.
-pub(crate) const SHAPE: Shape<'static> = Shape {
-    fields: "* * * #",
-    options: "errors=* errors_begin=* output_begins=* f:* w:* space=# queue=# turns=# nodes=# output=# fails=# room=# refuses=# write=#",
-};
-
-/// The most bytes of a read, of a write, and ahead.
-#[derive(Clone, Copy)]
-struct Pieces {
-    read: usize,
-    write: usize,
-    look: usize,
-}
 
 /// The devices of a call.
 #[derive(Drop)]
@@ -54,74 +30,50 @@ struct Devices {
 /// The most bytes of a read.
 const READS: [usize; 4] = [usize::MAX, 1, 2, 3];
 
-/// The bytes read ahead, the last those of the program.
-const LOOKS: [usize; 2] = [1, 65536];
-
 /// Runs a row, to the first difference.
-pub(crate) fn run(alloc: Global, row: &Row, report: &mut Report) {
-    for read in READS {
-        run_reads(alloc, row, read, report);
-    }
-    let pieces = Pieces {
-        read: usize::MAX,
-        write: usize::MAX,
-        look: 65536,
-    };
-    run_call(alloc, row, pieces, report);
-}
-
-/// Runs it in reads of at most so many bytes, and in writes of one byte.
-fn run_reads(alloc: Global, row: &Row, read: usize, report: &mut Report) {
-    for look in LOOKS {
-        let pieces = Pieces {
-            read,
-            write: 1,
-            look,
-        };
-        run_pieces(alloc, row, pieces, report);
-    }
-}
-
-/// Runs it in such pieces, where no device is told to fail.
-fn run_pieces(alloc: Global, row: &Row, pieces: Pieces, report: &mut Report) {
+pub(crate) fn run(row: &Row, report: &mut Report) {
     let options = row.options(4);
+    let way = Way::of(options);
     if !options.has(b"fails") && !options.has(b"refuses") {
-        run_call(alloc, row, pieces, report);
+        for read in READS {
+            run_read(row, Way { read, ..way }, report);
+        }
     }
+    run_way(row, way, report);
 }
 
-/// Runs it in such pieces, where nothing was told before.
-fn run_call(alloc: Global, row: &Row, pieces: Pieces, report: &mut Report) {
+/// Runs it with writes of one byte, and one byte ahead or as many as the program.
+fn run_read(row: &Row, way: Way, report: &mut Report) {
+    let way = Way { write: 1, ..way };
+    run_way(row, Way { look: 1, ..way }, report);
+    run_way(row, way, report);
+}
+
+/// Runs it so, where nothing was told before.
+fn run_way(row: &Row, way: Way, report: &mut Report) {
     if !report.is_empty() {
         return;
     }
-    let Some(limits) = limits_of(row.options(4), pieces.look) else {
-        return report.tell("a limit is out of its range");
-    };
-    match words_of(alloc, row.field(0)) {
-        Some(words) => run_words(alloc, row, words.as_slice(), limits, pieces, report),
-        None => report.tell("a word is no text"),
+    match limits_of(row.options(4), way.look) {
+        Ok(limits) => run_within(row, limits, way, report),
+        Err(message) => report.tell(message),
     }
+    way.note(report);
 }
 
-/// Calls the program with these words.
-fn run_words(
-    alloc: Global,
-    row: &Row,
-    words: &[String],
-    limits: Limits,
-    pieces: Pieces,
-    report: &mut Report,
-) {
-    match devices_of(alloc, row, pieces) {
-        Some(mut devices) => run_over(alloc, row, words, limits, &mut devices, report),
+/// Runs it within these limits.
+fn run_within(row: &Row, limits: Limits, way: Way, report: &mut Report) {
+    let Some(words) = words_of(row.alloc, row.field(0)) else {
+        return report.tell("a word is no text");
+    };
+    match devices_of(row, way) {
+        Some(mut devices) => run_words(row, words.as_slice(), limits, &mut devices, report),
         None => report.tell(NO_MEMORY),
     }
 }
 
 /// Calls the program with these words over these devices.
-fn run_over(
-    alloc: Global,
+fn run_words(
     row: &Row,
     words: &[String],
     limits: Limits,
@@ -131,193 +83,145 @@ fn run_over(
     requires created { devices.old.sinks.created ≡ 0 }
     requires named { devices.old.names.named ≡ [] }
 {
-    let status = call(alloc, words, limits, devices);
-    report.compare_numbers("the status", usize::from(status), row.number(3));
-    compare_written(devices, row, report);
-    if status == 1 && devices.inputs.calls() > 0 {
+    let Devices {
+        inputs,
+        sinks,
+        names,
+        errors,
+    } = devices;
+    let status = command(row.alloc, words, limits, inputs, sinks, names, errors);
+    report.compare_numbers("the status", u128::from(status), row.number(3));
+    let options = row.options(4);
+    let begun = options.value(b"output_begins");
+    compare_stream("the output", sinks.bytes(0), row.field(2), begun, report);
+    compare_files(sinks, options, report);
+    let wanted = options.value(b"errors").unwrap_or(b"");
+    let begun = options.value(b"errors_begin");
+    compare_stream("the errors", errors.as_slice(), wanted, begun, report);
+    if status == 1 && inputs.calls() > 0 {
         report.tell("an input is read");
     }
 }
 
-/// Whether what was written is what the row says.
-fn compare_written(devices: &Devices, row: &Row, report: &mut Report) {
-    compare_output(&devices.sinks, row, report);
-    compare_files(&devices.sinks, row.options(4), report);
-    compare_errors(devices.errors.as_slice(), row.options(4), report);
-}
-
-/// Calls the program.
-fn call(alloc: Global, words: &[String], limits: Limits, devices: &mut Devices) -> u8
-    requires created { devices.old.sinks.created ≡ 0 }
-    requires named { devices.old.names.named ≡ [] }
-{
-    command(
-        alloc,
-        words,
-        limits,
-        &mut devices.inputs,
-        &mut devices.sinks,
-        &mut devices.names,
-        &mut devices.errors,
-    )
-}
-
-/// The words of a command line.
+/// The words of a command line. None where they are no text, and for want of memory.
 fn words_of(alloc: Global, written: &[u8]) -> Option<Vec<String>> {
     let text = str::from_utf8(written).ok()?;
     let mut words = Vec::new(alloc);
     if text.is_empty() {
         return Some(words);
     }
-    for word in text.split(' ') {
-        put_word(alloc, word, &mut words)?;
+    for written in text.split(' ') {
+        let word = word_of(alloc, written)?;
+        words.push(word).ok()?;
     }
     Some(words)
 }
 
-/// Adds a word as it is meant. None for want of memory.
-fn put_word(alloc: Global, written: &str, words: &mut Vec<String>) -> Option<()> {
-    let word = word_of(alloc, written)?;
-    words.push(word).ok()
-}
-
 /// A word as it is meant.
 fn word_of(alloc: Global, written: &str) -> Option<String> {
-    if written == "''" {
-        return Some(String::new(alloc));
-    }
     let mut word = String::new(alloc);
+    if written == "''" {
+        return Some(word);
+    }
     for c in written.chars() {
         word.push(if c == '~' { ' ' } else { c }).ok()?;
     }
     Some(word)
 }
 
-/// The devices of a row, with reads and writes of at most so many bytes.
-fn devices_of(alloc: Global, row: &Row, pieces: Pieces) -> Option<Devices>
+/// The devices of a row.
+fn devices_of(row: &Row, way: Way) -> Option<Devices>
     ensures created { IfSome result (λ d. d.sinks.created ≡ 0) }
     ensures named { IfSome result (λ d. d.names.named ≡ []) }
 {
-    let options = row.options(4);
     Some(Devices {
-        inputs: inputs_of(alloc, row, pieces.read)?,
-        sinks: sinks_of(alloc, options, pieces.write)?,
-        names: MemoryNames::new(alloc, files_of(alloc, options)?),
-        errors: Vec::new(alloc),
+        inputs: inputs_of(row, way)?,
+        sinks: sinks_of(row, way)?,
+        names: MemoryNames::new(row.alloc, files_of(row)?),
+        errors: Vec::new(row.alloc),
     })
 }
 
-/// The inputs, in reads of at most so many bytes.
-fn inputs_of(alloc: Global, row: &Row, most: usize) -> Option<MemoryInputs> {
-    let options = row.options(4);
-    let standard = row.field(1).to_vec(alloc).ok()?;
-    let mut inputs = MemoryInputs::new(standard, files_of(alloc, options)?);
-    if most > 0 {
-        inputs.give_at_most(most);
-    }
-    if let Some(read) = options.number(b"fails") {
-        inputs.fail_at(read as u64);
-    }
+/// The inputs.
+fn inputs_of(row: &Row, way: Way) -> Option<MemoryInputs> {
+    let standard = row.field(1).to_vec(row.alloc).ok()?;
+    let mut inputs = MemoryInputs::new(standard, files_of(row)?);
+    inputs.give_at_most(way.read.max(1));
+    inputs.fail_at(way.failing_read as u64);
     Some(inputs)
 }
 
 /// The files of the options `f:NAME=TEXT`.
-fn files_of(alloc: Global, options: Options<'_>) -> Option<Vec<MemoryFile>> {
-    let mut files = Vec::new(alloc);
-    for option in options.written {
-        if let Some(file) = option.as_slice().strip_prefix(b"f:") {
-            files.push(file_in(alloc, file)?).ok()?;
-        }
+fn files_of(row: &Row) -> Option<Vec<MemoryFile>> {
+    let options = row.options(4);
+    let mut files = Vec::new(row.alloc);
+    for k in 0..options.files(b"f:") {
+        let (name, text) = options.file(b"f:", k)?;
+        files.push(file_of(row.alloc, name, text)?).ok()?;
     }
     Some(files)
 }
 
-/// The file that `NAME=TEXT` says.
-fn file_in(alloc: Global, written: &[u8]) -> Option<MemoryFile> {
-    let (name, text) = name_and_value(written);
-    let name = text_of(alloc, name)?;
+/// The file of a name with this text.
+fn file_of(alloc: Global, name: &[u8], text: &[u8]) -> Option<MemoryFile> {
+    let name = String::from_str(alloc, str::from_utf8(name).ok()?).ok()?;
     match text.to_vec(alloc) {
         Ok(text) => Some(MemoryFile::new(name, text)),
         Err(_) => None,
     }
 }
 
-/// Bytes as a text.
-fn text_of(alloc: Global, bytes: &[u8]) -> Option<String> {
-    match str::from_utf8(bytes) {
-        Ok(text) => String::from_str(alloc, text).ok(),
-        Err(_) => None,
+/// The sinks. None where no sink of that number can be told to fail, and for want of memory.
+fn sinks_of(row: &Row, way: Way) -> Option<MemorySinks>
+    ensures { IfSome result (λ s. s.created ≡ 0) }
+{
+    let names = names_of(row)?;
+    let count = names.len();
+    let room = row.options(4).number_or(b"room", 4096);
+    let mut sinks = MemorySinks::with_room(row.alloc, names, room).ok()?;
+    sinks.take_at_most(way.write.max(1));
+    if way.failing_sink > count {
+        return None;
     }
+    sinks.fail_at(way.failing_sink, way.failing_write as u64);
+    Some(sinks)
 }
 
 /// The names of the options `w:NAME=TEXT`.
-fn names_of(alloc: Global, options: Options<'_>) -> Option<Vec<Vec<u8>>> {
-    let mut names = Vec::new(alloc);
-    for option in options.written {
-        if let Some(file) = option.as_slice().strip_prefix(b"w:") {
-            let (name, _) = name_and_value(file);
-            put_copy(alloc, name, &mut names)?;
-        }
+fn names_of(row: &Row) -> Option<Vec<Vec<u8>>> {
+    let options = row.options(4);
+    let mut names = Vec::new(row.alloc);
+    for k in 0..options.files(b"w:") {
+        let (name, _) = options.file(b"w:", k)?;
+        put_copy(row.alloc, name, &mut names)?;
     }
     Some(names)
 }
 
-/// The sinks, in writes of at most so many bytes. None where no sink of that number can be told to fail, and for want of
-/// memory.
-fn sinks_of(alloc: Global, options: Options<'_>, most: usize) -> Option<MemorySinks>
-    ensures { IfSome result (λ s. s.created ≡ 0) }
-{
-    let names = names_of(alloc, options)?;
-    let count = names.len();
-    let room = options.number_or(b"room", 4096);
-    let mut sinks = MemorySinks::with_room(alloc, names, room).ok()?;
-    if most > 0 {
-        sinks.take_at_most(most);
-    }
-    if let Some(sink) = options.number(b"refuses") {
-        if sink > count {
-            return None;
-        }
-        sinks.fail_at(sink, options.number_or(b"write", 1) as u64);
-    }
-    Some(sinks)
-}
-
-/// Whether the standard output has what it should, or begins so.
-fn compare_output(sinks: &MemorySinks, row: &Row, report: &mut Report) {
-    let written = sinks.bytes(0);
-    match row.options(4).value(b"output_begins") {
-        Some(wanted) => compare_beginning("the output", written, wanted, report),
-        None => report.compare("the output", written, row.field(2)),
-    }
-}
-
 /// Whether all files are created, and have what they should.
 fn compare_files(sinks: &MemorySinks, options: Options<'_>, report: &mut Report) {
-    let mut sink = 0usize;
-    for option in options.written {
-        if let Some(file) = option.as_slice().strip_prefix(b"w:") {
-            sink = sink.saturating_add(1);
-            let (_, wanted) = name_and_value(file);
-            report.compare("a file", sinks.bytes(sink), wanted);
+    let count = options.files(b"w:");
+    for k in 0..count {
+        if let Some((_, wanted)) = options.file(b"w:", k) {
+            report.compare("a file", sinks.bytes(k + 1), wanted);
         }
     }
-    report.compare_numbers("files created", sinks.sinks() - 1, sink);
+    report.compare_numbers("files created", sinks.sinks() as u128 - 1, count);
 }
 
-/// Whether the standard error has what it should, or begins so.
-fn compare_errors(written: &[u8], options: Options<'_>, report: &mut Report) {
-    if let Some(wanted) = options.value(b"errors_begin") {
-        return compare_beginning("the errors", written, wanted, report);
+/// Whether what was written is what is wanted, or begins as is told.
+fn compare_stream(
+    what: &str,
+    written: &[u8],
+    wanted: &[u8],
+    beginning: Option<&[u8]>,
+    report: &mut Report,
+) {
+    match beginning {
+        Some(begun) => {
+            let count = begun.len().min(written.len());
+            report.compare(what, &written[..count], begun);
+        }
+        None => report.compare(what, written, wanted),
     }
-    match options.value(b"errors") {
-        Some(wanted) => report.compare("the errors", written, wanted),
-        None => report.compare("the errors", written, b""),
-    }
-}
-
-/// Whether the bytes begin so.
-fn compare_beginning(what: &str, written: &[u8], wanted: &[u8], report: &mut Report) {
-    let count = wanted.len().min(written.len());
-    report.compare(what, &written[..count], wanted);
 }

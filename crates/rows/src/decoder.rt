@@ -10,187 +10,107 @@
 //!
 //! Any other byte stands for itself, a backslash too, so that an expression or a script stands as it is typed.
 
+use crate::options::parted;
+use crate::shape::number_in;
 use crate::sheet::Sheet;
-use anyhow::{Context, Result};
+use anyhow::{Context, Result, ensure};
 use std::alloc::Global;
 
 /// The most copies of one part, so that a mistake in a table doesn't take all memory.
 const MAX_COPIES: usize = 10_000_000;
 
+/// The number of a copy, from 0, and how many follow it.
+#[derive(Clone, Copy)]
+struct Turn {
+    number: usize,
+    left: usize,
+}
+
 /// The bytes that a field stands for.
 pub(crate) fn decoded(alloc: Global, written: &[u8]) -> Result<Vec<u8>> {
-    let mut decoder = Decoder::new(alloc);
-    for b in written {
-        decoder.take(*b);
-    }
-    decoder.into_bytes().context("an escape that means nothing, or isn't closed, or no memory")
+    let mut sheet = Sheet::new(alloc);
+    let is_sound = put_field(&mut sheet, written).is_some();
+    ensure!(is_sound, "an escape means nothing, or isn't closed");
+    sheet.into_bytes().context("no memory")
 }
 
-/// How far an escape was read.
-#[derive(Clone, Copy)]
-enum State {
-    /// There is none.
-    Plain,
-    /// Its `%` was read.
-    Escape,
-    /// Its `%x` was read.
-    High,
-    /// So was its first digit.
-    Low(u8),
-    /// A number of copies was begun.
-    Copies(usize),
+/// Writes what a field stands for. None where an escape means nothing, or isn't closed.
+fn put_field(sheet: &mut Sheet, written: &[u8]) -> Option<()> {
+    let mut rest = written;
+    for _ in 0..written.len() {
+        rest = match rest {
+            [] => return Some(()),
+            [b'%', b'0'..=b'9', ..] => put_copies(sheet, &rest[1..])?,
+            _ => put_item(sheet, rest, None)?,
+        };
+    }
+    Some(())
 }
 
-/// What stands in braces.
-#[derive(Clone, Copy)]
-enum Item {
-    Byte(u8),
-    /// The number of the copy.
-    Up,
-    /// The number of copies that follow.
-    Down,
+/// Writes the copies that a number asks for of what stands in braces after it. Gives what follows them.
+fn put_copies<'a>(sheet: &mut Sheet, written: &'a [u8]) -> Option<&'a [u8]> {
+    let (count, rest) = parted(written, b'{')?;
+    let (part, rest) = parted(rest, b'}')?;
+    let count = number_in(count)?;
+    if count > MAX_COPIES {
+        return None;
+    }
+    for number in 0..count {
+        let left = count - number - 1;
+        put_part(sheet, part, Turn { number, left })?;
+    }
+    Some(rest)
 }
 
-/// A field that is being read.
-#[derive(Drop)]
-struct Decoder {
-    sheet: Sheet,
-    part: Vec<Item>,
-    copies: Option<usize>,
-    state: State,
-    // Whether all had a meaning so far.
-    is_sound: bool,
+/// Writes one copy.
+fn put_part(sheet: &mut Sheet, part: &[u8], turn: Turn) -> Option<()> {
+    let mut rest = part;
+    for _ in 0..part.len() {
+        if rest.is_empty() {
+            return Some(());
+        }
+        rest = put_item(sheet, rest, Some(turn))?;
+    }
+    Some(())
 }
 
-impl Decoder {
-    /// Nothing is read yet.
-    fn new(alloc: Global) -> Decoder {
-        Decoder {
-            sheet: Sheet::new(alloc),
-            part: Vec::new(alloc),
-            copies: None,
-            state: State::Plain,
-            is_sound: true,
-        }
+/// Writes what the first byte or escape stands for, in a copy where there is a turn. Gives what follows it.
+fn put_item<'a>(sheet: &mut Sheet, written: &'a [u8], turn: Option<Turn>) -> Option<&'a [u8]> {
+    let (first, rest) = written.split_first()?;
+    if *first != b'%' {
+        sheet.put_byte(*first);
+        return Some(rest);
     }
-
-    /// Takes the next byte.
-    fn take(&mut self, b: u8) {
-        match self.state {
-            State::Plain => self.plain(b),
-            State::Escape => self.escape(b),
-            State::High => self.high(b),
-            State::Low(high) => self.low(high, b),
-            State::Copies(count) => self.count(count, b),
+    match rest {
+        [b'x', high, low, rest @ ..] => {
+            sheet.put_byte(
+                digit_of(*high)?
+                    .wrapping_mul(16)
+                    .wrapping_add(digit_of(*low)?),
+            );
+            Some(rest)
         }
-    }
-
-    /// Takes a byte outside an escape.
-    fn plain(&mut self, b: u8) {
-        match b {
-            b'%' => self.state = State::Escape,
-            b'}' if self.copies.is_some() => self.copy(),
-            _ => self.put(Item::Byte(b)),
+        [letter, rest @ ..] => {
+            put_escape(sheet, *letter, turn)?;
+            Some(rest)
         }
-    }
-
-    /// Takes the byte after a `%`.
-    fn escape(&mut self, b: u8) {
-        self.state = State::Plain;
-        match b {
-            b'n' => self.put(Item::Byte(b'\n')),
-            b't' => self.put(Item::Byte(b'\t')),
-            b's' => self.put(Item::Byte(b' ')),
-            b'%' => self.put(Item::Byte(b'%')),
-            b'+' => self.put(Item::Up),
-            b'-' => self.put(Item::Down),
-            b'e' => {}
-            b'x' => self.state = State::High,
-            b'0'..=b'9' => self.count(0, b),
-            _ => self.is_sound = false,
-        }
-    }
-
-    /// Takes the first digit of a byte's number.
-    fn high(&mut self, b: u8) {
-        match digit_of(b) {
-            Some(digit) => self.state = State::Low(digit),
-            None => self.is_sound = false,
-        }
-    }
-
-    /// Takes the second digit of a byte's number.
-    fn low(&mut self, high: u8, b: u8) {
-        self.state = State::Plain;
-        match digit_of(b) {
-            Some(low) => self.put(Item::Byte(high.wrapping_mul(16).wrapping_add(low))),
-            None => self.is_sound = false,
-        }
-    }
-
-    /// Takes a byte of a number of copies, or the brace after it.
-    fn count(&mut self, count: usize, b: u8) {
-        match b {
-            b'0'..=b'9' => {
-                let more = usize::from(b.wrapping_sub(b'0'));
-                self.state = State::Copies(count.saturating_mul(10).saturating_add(more));
-            }
-            b'{' if self.copies.is_none() && count <= MAX_COPIES => {
-                self.copies = Some(count);
-                self.state = State::Plain;
-            }
-            _ => self.is_sound = false,
-        }
-    }
-
-    /// Takes what stands for bytes.
-    fn put(&mut self, item: Item) {
-        if self.copies.is_some() {
-            if self.part.push(item).is_err() {
-                self.is_sound = false;
-            }
-            return;
-        }
-        match item {
-            Item::Byte(b) => self.sheet.put_byte(b),
-            _ => self.is_sound = false,
-        }
-    }
-
-    /// Writes the copies of what stood in braces.
-    fn copy(&mut self) {
-        let count = self.copies.take().unwrap_or(0);
-        for number in 0..count {
-            let left = count.saturating_sub(number).saturating_sub(1);
-            copy_part(&mut self.sheet, self.part.as_slice(), number, left);
-        }
-        self.part.clear();
-    }
-
-    /// The bytes, where nothing is left open.
-    fn into_bytes(self) -> Option<Vec<u8>> {
-        let is_open = self.copies.is_some() || !matches!(self.state, State::Plain);
-        let Decoder {
-            sheet,
-            is_sound,
-            ..
-        } = self;
-        if is_open || !is_sound {
-            return None;
-        }
-        sheet.into_bytes()
+        [] => None,
     }
 }
 
-/// Writes one copy, of this number and with so many left.
-fn copy_part(sheet: &mut Sheet, part: &[Item], number: usize, left: usize) {
-    for item in part {
-        match item {
-            Item::Byte(b) => sheet.put_byte(*b),
-            Item::Up => sheet.put_number(number as u128),
-            Item::Down => sheet.put_number(left as u128),
-        }
+/// Writes what a letter after a `%` stands for.
+fn put_escape(sheet: &mut Sheet, letter: u8, turn: Option<Turn>) -> Option<()> {
+    match letter {
+        b'n' => sheet.put_byte(b'\n'),
+        b't' => sheet.put_byte(b'\t'),
+        b's' => sheet.put_byte(b' '),
+        b'%' => sheet.put_byte(b'%'),
+        b'+' => sheet.put_number(turn?.number as u128),
+        b'-' => sheet.put_number(turn?.left as u128),
+        b'e' => {}
+        _ => return None,
     }
+    Some(())
 }
 
 /// What a hexadecimal digit stands for.

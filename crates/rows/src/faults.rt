@@ -10,7 +10,7 @@ pub(crate) fn put_expression_fault(sheet: &mut Sheet, fault: &ExprFault) {
     sheet.put(b"E");
     sheet.put_number(u128::from(fault.reason.number()));
     sheet.put(b" ");
-    sheet.put_text(fault.reason.name());
+    sheet.put(fault.reason.name().as_bytes());
 }
 
 /// The number and the name of a script's fault, as `S15 TrailingBytes`, of an expression's both.
@@ -18,7 +18,7 @@ pub(crate) fn put_script_fault(sheet: &mut Sheet, fault: &ScriptFault) {
     sheet.put(b"S");
     sheet.put_number(u128::from(fault.reason.number()));
     sheet.put(b" ");
-    sheet.put_text(fault.reason.name());
+    sheet.put(fault.reason.name().as_bytes());
     if let Reason::Expression(inner) = fault.reason {
         sheet.put(b": ");
         put_expression_fault(sheet, &inner);
@@ -27,35 +27,24 @@ pub(crate) fn put_script_fault(sheet: &mut Sheet, fault: &ScriptFault) {
 
 /// How a run ended, as `F1 line 2` or `F7 sink 0`.
 pub(crate) fn put_end(sheet: &mut Sheet, end: Ended) {
-    sheet.put_text(cause_of(end));
-    if let Some(place) = place_of(end) {
+    let (cause, place) = cause_and_place(end);
+    sheet.put(cause.as_bytes());
+    if let Some(place) = place {
         sheet.put_number(u128::from(place));
     }
 }
 
-/// The cause of an end, and what its place is a number of.
-fn cause_of(end: Ended) -> &'static str {
+/// The cause of an end, and the number of its line or sink, where it has one.
+fn cause_and_place(end: Ended) -> (&'static str, Option<u64>) {
     match end {
-        Ended::Done => "F0",
-        Ended::PatternFull(_) => "F1 line ",
-        Ended::HoldFull(_) => "F2 line ",
-        Ended::QueueFull(_) => "F3 line ",
-        Ended::TurnsSpent => "F4",
-        Ended::NoPrevious(_) => "F5 line ",
-        Ended::InputBroken => "F6",
-        Ended::OutputBroken(_) => "F7 sink ",
-        Ended::OutputFull(_) => "F8 sink ",
-    }
-}
-
-/// The place of an end, where its cause has one.
-fn place_of(end: Ended) -> Option<u64> {
-    match end {
-        Ended::PatternFull(line)
-        | Ended::HoldFull(line)
-        | Ended::QueueFull(line)
-        | Ended::NoPrevious(line) => Some(line),
-        Ended::OutputBroken(sink) | Ended::OutputFull(sink) => Some(sink as u64),
-        Ended::Done | Ended::TurnsSpent | Ended::InputBroken => None,
+        Ended::Done => ("F0", None),
+        Ended::PatternFull(line) => ("F1 line ", Some(line)),
+        Ended::HoldFull(line) => ("F2 line ", Some(line)),
+        Ended::QueueFull(line) => ("F3 line ", Some(line)),
+        Ended::TurnsSpent => ("F4", None),
+        Ended::NoPrevious(line) => ("F5 line ", Some(line)),
+        Ended::InputBroken => ("F6", None),
+        Ended::OutputBroken(sink) => ("F7 sink ", Some(sink as u64)),
+        Ended::OutputFull(sink) => ("F8 sink ", Some(sink as u64)),
     }
 }

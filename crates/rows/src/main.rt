@@ -5,24 +5,21 @@
 //! what the row says. The status is 0 where no row failed.
 #![tactic(auto)]
 
-mod by_tables;
 mod calls;
 mod cycles;
 mod decoder;
-mod delimiters;
-mod engines;
+mod devices;
 mod expressions;
 mod failing;
 mod faults;
-mod files;
 mod job;
-mod limits;
-mod lists;
 mod matches;
+mod occurrences;
 mod options;
 mod readings;
 mod refusals;
 mod report;
+mod runner;
 mod runs;
 mod shape;
 mod sheet;
@@ -32,15 +29,8 @@ mod table;
 use anyhow::{Context, Result, ensure};
 use report::Report;
 use std::{fs, str};
-use subject::Subject;
+use subject::{run, shape_of};
 use table::{Row, rows_of};
-
-/// How many rows there were, and how many failed.
-#[derive(Clone, Copy)]
-struct Count {
-    rows: usize,
-    failed: usize,
-}
 
 /// The rows of the table in a file.
 fn table_in(rt: &HostRuntime, name: &str) -> Result<Vec<Row>> {
@@ -49,81 +39,58 @@ fn table_in(rt: &HostRuntime, name: &str) -> Result<Vec<Row>> {
 }
 
 /// Runs a row of a table, and names it where it fails. Says whether it holds.
-fn run_row(rt: &HostRuntime, subject: Subject, name: &str, row: &Row) -> Result<bool> {
+fn run_row(rt: &HostRuntime, subject: &str, name: &str, row: &Row) -> Result<bool> {
     let line = row.line;
+    let (rules, options) = shape_of(subject, row).context("no rows are of this kind")?;
     ensure!(
-        row.has(subject.shape_of(row)),
+        row.keeps(rules, options),
         "line {line}: a field or an option isn't as it has to be"
     );
     let mut report = Report::new(rt.alloc());
-    subject.run(rt.alloc(), row, &mut report);
+    run(subject, row, &mut report);
     if report.is_empty() {
         return Ok(true);
     }
-    let difference = str::from_utf8(report.bytes()).unwrap_or("a difference");
+    let difference = str::from_utf8(report.sheet.bytes()).unwrap_or("a difference");
     println!(rt; "{name}:{line}: {difference}")?;
     Ok(false)
 }
 
-/// Runs rows of a table, and names those that fail. Says how many these are.
-fn run_rows(rt: &HostRuntime, subject: Subject, name: &str, table: &[Row]) -> Result<usize> {
+/// Runs the rows of a table, names those that fail, and writes how many there are and how many fail. Gives both.
+fn run_rows(rt: &HostRuntime, subject: &str, name: &str, table: &[Row]) -> Result<(usize, usize)> {
     let mut failed = 0usize;
     for row in table {
         if !run_row(rt, subject, name, row)? {
             failed = failed.saturating_add(1);
         }
     }
-    Ok(failed)
+    println!(rt; "{name}: {} rows, {failed} failed", table.len())?;
+    Ok((table.len(), failed))
 }
 
-/// Runs the rows of a table, and writes how many there are and how many fail.
-fn run_table(rt: &HostRuntime, subject: Subject, name: &str) -> Result<Count> {
-    let table = table_in(rt, name)?;
-    let failed = run_rows(rt, subject, name, table.as_slice())?;
-    put_count(
-        rt,
-        name,
-        Count {
-            rows: table.len(),
-            failed,
-        },
-    )
-}
-
-/// Writes how many rows a table has and how many failed. Gives the same.
-fn put_count(rt: &HostRuntime, name: &str, count: Count) -> Result<Count> {
-    let Count { rows, failed } = count;
-    println!(rt; "{name}: {rows} rows, {failed} failed")?;
-    Ok(count)
-}
-
-/// Runs the table that a row of the file `tables` names.
-fn run_named(rt: &HostRuntime, row: &Row) -> Result<Count> {
-    let subject = Subject::named(row.field(0))?;
+/// Runs the table that a row of the file `tables` names. Gives how many rows there are, and how many fail.
+fn run_named(rt: &HostRuntime, row: &Row) -> Result<(usize, usize)> {
+    let subject = str::from_utf8(row.field(0)).context("a subject is no text")?;
     let name = str::from_utf8(row.field(1)).context("a name is no text")?;
-    run_table(rt, subject, name).context(format_args!("{name}"))
+    let table = table_in(rt, name).context(format_args!("{name}"))?;
+    run_rows(rt, subject, name, table.as_slice()).context(format_args!("{name}"))
 }
 
-/// Runs the tables that these rows name.
-fn run_all(rt: &HostRuntime, tables: &[Row]) -> Result<Count> {
+/// Runs the tables that these rows name. Gives the same of all.
+fn run_all(rt: &HostRuntime, tables: &[Row]) -> Result<(usize, usize)> {
     let mut rows = 0usize;
     let mut failed = 0usize;
     for row in tables {
         let count = run_named(rt, row)?;
-        rows = rows.saturating_add(count.rows);
-        failed = failed.saturating_add(count.failed);
+        rows = rows.saturating_add(count.0);
+        failed = failed.saturating_add(count.1);
     }
-    Ok(Count { rows, failed })
-}
-
-/// Runs the tables that the file `tables` names.
-fn run_tables(rt: &HostRuntime) -> Result<Count> {
-    let tables = table_in(rt, "tables").context("tables")?;
-    run_all(rt, tables.as_slice())
+    Ok((rows, failed))
 }
 
 fn main(rt: HostRuntime) -> Result<()> {
-    let Count { rows, failed } = run_tables(&rt)?;
+    let tables = table_in(&rt, "tables").context("tables")?;
+    let (rows, failed) = run_all(&rt, tables.as_slice())?;
     println!(rt; "{rows} rows, {failed} failed")?;
     ensure!(failed == 0, "{failed} rows failed");
     Ok(())

@@ -1,116 +1,174 @@
-//! Expressions over texts: the match and its groups.
+//! Expressions over texts: the match and its groups. The head of the table tells its fields.
 //!
-//! A row: the kind, `basic` or `extended`; the expression; the text; where the search begins; the spans of the whole
-//! match and of each group, as `(0,2)(1,2)`, `(?,?)` of a group without a match; or `none`. Options: `most=9` and
-//! `least=9` steps of `find`. `find_span` and `is_match` have to tell the same as `find`. All this has to hold by tables
-//! as well: of 64 states, of two, which are emptied again and again, and of none.
+//! `find_span` and `is_match` have to tell the same as `find`. All this has to hold by tables as well: of 64 states, of
+//! two, which are emptied again and again, and of none.
 
 ghost use Rattle.std.specs.Prelude.{◌≡◌, ◌≤◌, length};
+ghost use Rattle.sedmatch.specs.SearchRoom.{FitInto};
 
-use crate::by_tables::compare_tables;
 use crate::expressions::kind_named;
 use crate::options::Options;
 use crate::report::{NO_MEMORY, Report};
-use crate::shape::Shape;
 use crate::sheet::Sheet;
 use crate::table::Row;
-use sedmatch::{Found, Scratch, Text, find, find_span, is_match};
-use sedre::{Expr, Steps, read};
-use std::alloc::Global;
-
-/// What a row looks like.
-pub(crate) const SHAPE: Shape<'static> = Shape {
-    fields: "basic|extended * * # *",
-    options: "most=# least=#",
+use sedmatch::{
+    Found, Scratch, StateLimit, TableMatcher, TableRoom, Text, find, find_span, is_match,
 };
+use sedre::{Expr, Steps, read};
+
+/// What the calls of one search answer.
+#[derive(Clone, Copy)]
+struct Answers {
+    found: Option<Found>,
+    steps: u128,
+    span: Option<(usize, usize)>,
+    is_match: bool,
+}
 
 /// Runs a row.
-pub(crate) fn run(alloc: Global, row: &Row, report: &mut Report) {
-    match read(alloc, kind_named(row.field(0)), row.field(1), None, 65536) {
-        Ok(expr) => run_over(alloc, &expr, row, report),
+pub(crate) fn run(row: &Row, report: &mut Report) {
+    match read(
+        row.alloc,
+        kind_named(row.field(0)),
+        row.field(1),
+        None,
+        65536,
+    ) {
+        Ok(expr) => run_over(row, &expr, row.field(2), row.number(3), report),
         Err(_) => report.tell("the expression has a fault"),
     }
 }
 
-/// Searches the text of the row.
-fn run_over(alloc: Global, expr: &Expr, row: &Row, report: &mut Report) {
-    let text = row.field(2);
-    let from = row.number(3);
+/// Searches the text from this place on.
+fn run_over(row: &Row, expr: &Expr, text: &[u8], from: usize, report: &mut Report) {
     let nodes = expr.nodes();
     if nodes < 1 || nodes > 65536 || text.len() > 1 << 20 || from > text.len() {
         return report.tell("the text is too long, or the search begins past it");
     }
-    match Scratch::new(alloc, text.len(), nodes) {
-        Ok(mut scratch) => compare(alloc, expr, text, from, &mut scratch, row, report),
-        Err(_) => report.tell(NO_MEMORY),
+    let Ok(mut scratch) = Scratch::new(row.alloc, text.len(), nodes) else {
+        return report.tell(NO_MEMORY);
+    };
+    let answers = by_marks(expr, text, from, &mut scratch);
+    compare(row, &answers, expr.groups(), report);
+    run_table(row, expr, 64, text, from, &mut scratch, report);
+    run_table(row, expr, 2, text, from, &mut scratch, report);
+    run_table(row, expr, 0, text, from, &mut scratch, report);
+}
+
+/// What the search by marks answers.
+fn by_marks(expr: &Expr, text: &[u8], from: usize, scratch: &mut Scratch) -> Answers
+    requires from { from ≤ length text.now }
+    requires fits { FitInto (length text.now) (length expr.now.nodes) scratch.old }
+    ensures { scratch.new ≡ scratch.old }
+{
+    let text = Text::new(text);
+    let mut steps = Steps::new();
+    let found = find(expr, &text, from, scratch, &mut steps);
+    Answers {
+        found,
+        steps: steps.count(),
+        span: find_span(expr, &text, from, scratch, &mut Steps::new()),
+        is_match: is_match(expr, &text, from, scratch, &mut Steps::new()),
+    }
+}
+
+/// Searches by tables of at most so many states, where nothing was told before.
+fn run_table(
+    row: &Row,
+    expr: &Expr,
+    states: usize,
+    text: &[u8],
+    from: usize,
+    scratch: &mut Scratch,
+    report: &mut Report,
+)
+    requires from { from ≤ length text.now }
+    requires fits { FitInto (length text.now) (length expr.now.nodes) scratch.old }
+    ensures { scratch.new ≡ scratch.old }
+{
+    if !report.is_empty() {
+        return;
+    }
+    let room = TableRoom {
+        states: StateLimit::new(states),
+        bytes: states.saturating_mul(1 << 20),
+        ..TableRoom::ample()
+    };
+    let made = TableMatcher::new(row.alloc, expr, room, &mut Steps::new());
+    let Ok(mut matcher) = made else {
+        return report.tell(NO_MEMORY);
+    };
+    let answers = by_tables(&mut matcher, text, from, scratch);
+    // by a call, since letting it go at the end would be proved here field by field
+    drop(matcher);
+    compare(row, &answers, expr.groups(), report);
+    report.note(" by tables of at most so many states: ", states);
+}
+
+/// What a matcher answers; `find` comes last, with the states that the other calls left.
+fn by_tables(matcher: &mut TableMatcher, text: &[u8], from: usize, scratch: &mut Scratch) -> Answers
+    requires from { from ≤ length text.now }
+    requires fits { FitInto (length text.now) (length matcher.old.nodes) scratch.old }
+    ensures { scratch.new ≡ scratch.old }
+{
+    let text = Text::new(text);
+    let span = matcher.find_span(&text, from, scratch, &mut Steps::new());
+    let is_match = matcher.is_match(&text, from, scratch, &mut Steps::new());
+    let mut steps = Steps::new();
+    let found = matcher.find(&text, from, scratch, &mut steps);
+    Answers {
+        found,
+        steps: steps.count(),
+        span,
+        is_match,
     }
 }
 
 /// Whether the three calls tell the same, and what the row says.
-fn compare(
-    alloc: Global,
-    expr: &Expr,
-    text: &[u8],
-    from: usize,
-    scratch: &mut Scratch,
-    row: &Row,
-    report: &mut Report,
-)
-    requires from { from ≤ length text.now }
-    requires text { length text.now ≤ scratch.old.text }
-    requires nodes { length expr.now.nodes ≤ scratch.old.nodes }
-    requires few { length expr.now.nodes ≤ 65536 }
-{
-    let (found, steps) = found_in(expr, text, from, scratch);
-    let span = span_in(expr, text, from, scratch);
-    let is_one = is_in(expr, text, from, scratch);
-    if !is_same(&found, span, is_one) {
+fn compare(row: &Row, answers: &Answers, groups: usize, report: &mut Report) {
+    if !are_same(answers) {
         report.tell("find, find_span and is_match don't agree");
     }
-    compare_steps(steps, row.options(5), report);
-    compare_spans(alloc, &found, expr.groups(), row.field(4), report);
-    compare_tables(alloc, expr, text, from, scratch, row, report);
+    compare_steps("most", "least", answers.steps, row.options(5), report);
+    let mut came = Sheet::new(row.alloc);
+    match &answers.found {
+        Some(found) => put_spans(&mut came, &found.groups, groups),
+        None => came.put(b"none"),
+    }
+    report.compare_sheet("the match", &came, row.field(4));
 }
 
 /// Whether the three calls tell the same.
-pub(crate) fn is_same(found: &Option<Found>, span: Option<(usize, usize)>, is_one: bool) -> bool {
-    match (found, span) {
-        (Some(found), Some((start, end))) => { is_one && start == found.start && end == found.end }
-        (None, None) => !is_one,
+fn are_same(answers: &Answers) -> bool {
+    match (&answers.found, answers.span) {
+        (Some(found), Some((start, end))) => {
+            answers.is_match && start == found.start && end == found.end
+        }
+        (None, None) => !answers.is_match,
         _ => false,
     }
 }
 
-/// Whether there are as many steps as the options say.
-pub(crate) fn compare_steps(steps: u128, options: Options<'_>, report: &mut Report) {
-    let least = options.number_or(b"least", 0);
-    let most = options.number_or(b"most", usize::MAX);
+/// Whether there are as many steps as the options of these names say.
+pub(crate) fn compare_steps(
+    most: &str,
+    least: &str,
+    steps: u128,
+    options: Options<'_>,
+    report: &mut Report,
+) {
+    let least = options.number_or(least.as_bytes(), 0);
+    let most = options.number_or(most.as_bytes(), usize::MAX);
     if steps < least as u128 || (most as u128) < steps {
         report.tell_number("steps", steps);
     }
 }
 
-/// Whether the spans are the wanted ones.
-pub(crate) fn compare_spans(
-    alloc: Global,
-    found: &Option<Found>,
-    groups: usize,
-    wanted: &[u8],
-    report: &mut Report,
-) {
-    let mut came = Sheet::new(alloc);
-    match found {
-        Some(found) => put_spans(&mut came, found, groups),
-        None => came.put(b"none"),
-    }
-    report.compare_sheet("the match", &came, wanted);
-}
-
 /// The spans of a match and of so many groups, of nine at most.
-fn put_spans(sheet: &mut Sheet, found: &Found, groups: usize) {
+pub(crate) fn put_spans(sheet: &mut Sheet, spans: &[Option<(usize, usize)>; 10], groups: usize) {
     let count = groups.min(9).saturating_add(1);
-    for group in found.groups.iter().take(count) {
-        put_span(sheet, *group);
+    for span in spans.iter().take(count) {
+        put_span(sheet, *span);
     }
 }
 
@@ -126,39 +184,4 @@ fn put_span(sheet: &mut Sheet, span: Option<(usize, usize)>) {
         }
         None => sheet.put(b"(?,?)"),
     }
-}
-
-/// What `find` answers, and the steps that it takes.
-fn found_in(expr: &Expr, text: &[u8], from: usize, scratch: &mut Scratch) -> (Option<Found>, u128)
-    requires from { from ≤ length text.now }
-    requires text { length text.now ≤ scratch.old.text }
-    requires nodes { length expr.now.nodes ≤ scratch.old.nodes }
-    ensures { scratch.new ≡ scratch.old }
-{
-    let text = Text::new(text);
-    let mut steps = Steps::new();
-    let found = find(expr, &text, from, scratch, &mut steps);
-    (found, steps.count())
-}
-
-/// What `find_span` answers.
-fn span_in(expr: &Expr, text: &[u8], from: usize, scratch: &mut Scratch) -> Option<(usize, usize)>
-    requires from { from ≤ length text.now }
-    requires text { length text.now ≤ scratch.old.text }
-    requires nodes { length expr.now.nodes ≤ scratch.old.nodes }
-    ensures { scratch.new ≡ scratch.old }
-{
-    let mut steps = Steps::new();
-    find_span(expr, &Text::new(text), from, scratch, &mut steps)
-}
-
-/// What `is_match` answers.
-fn is_in(expr: &Expr, text: &[u8], from: usize, scratch: &mut Scratch) -> bool
-    requires from { from ≤ length text.now }
-    requires text { length text.now ≤ scratch.old.text }
-    requires nodes { length expr.now.nodes ≤ scratch.old.nodes }
-    ensures { scratch.new ≡ scratch.old }
-{
-    let mut steps = Steps::new();
-    is_match(expr, &Text::new(text), from, scratch, &mut steps)
 }

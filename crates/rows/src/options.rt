@@ -48,17 +48,6 @@ impl<'a> Options<'a> {
         }
     }
 
-    /// `w:NAME=TEXT`: how many sinks there are, the standard output and one for each file that is written.
-    pub(crate) fn sinks(self) -> usize {
-        let mut count = 1usize;
-        for option in self.written {
-            if option.starts_with(b"w:") {
-                count = count.saturating_add(1);
-            }
-        }
-        count
-    }
-
     /// `delimiter=/`: the delimiter.
     pub(crate) fn delimiter(self) -> Option<u8> {
         match self.value(b"delimiter") {
@@ -66,14 +55,56 @@ impl<'a> Options<'a> {
             _ => None,
         }
     }
+
+    /// How many files are of a kind, as `w:` of those written `w:NAME=TEXT`.
+    pub(crate) fn files(self, kind: &[u8]) -> usize {
+        let mut count = 0usize;
+        for option in self.written {
+            if option.starts_with(kind) {
+                count = count.saturating_add(1);
+            }
+        }
+        count
+    }
+
+    /// The name and the text of the file of a kind that has this number, counted from 0.
+    pub(crate) fn file(self, kind: &[u8], number: usize) -> Option<(&'a [u8], &'a [u8])> {
+        let mut before = number;
+        for option in self.written {
+            if let Some(file) = option.as_slice().strip_prefix(kind) {
+                if before == 0 {
+                    return Some(name_and_value(file));
+                }
+                before -= 1;
+            }
+        }
+        None
+    }
+
+    /// The text of the file `r:NAME=TEXT` of a name; one that isn't given is empty.
+    pub(crate) fn text_read(self, wanted: &[u8]) -> &'a [u8] {
+        for k in 0..self.files(b"r:") {
+            if let Some((name, text)) = self.file(b"r:", k)
+                && name == wanted
+            {
+                return text;
+            }
+        }
+        b""
+    }
 }
 
 /// The name of an option, and what follows its `=`.
-pub(crate) fn name_and_value(option: &[u8]) -> (&[u8], &[u8]) {
-    for k in 0..option.len() {
-        if option[k] == b'=' {
-            return (&option[..k], &option[k + 1..]);
+fn name_and_value(option: &[u8]) -> (&[u8], &[u8]) {
+    parted(option, b'=').unwrap_or((option, b""))
+}
+
+/// What stands before the first such byte, and after it.
+pub(crate) fn parted(bytes: &[u8], wanted: u8) -> Option<(&[u8], &[u8])> {
+    for k in 0..bytes.len() {
+        if bytes[k] == wanted {
+            return Some((&bytes[..k], &bytes[k + 1..]));
         }
     }
-    (option, b"")
+    None
 }

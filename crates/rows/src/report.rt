@@ -6,16 +6,16 @@ use std::alloc::Global;
 /// So many bytes of a field are shown at most.
 const MOST_SHOWN: usize = 400;
 
-/// What is told where a request for memory was refused.
-pub(crate) const NO_MEMORY: &str = "no memory";
+/// What is told where a row can't be run.
+pub(crate) type Message = &'static str;
 
-/// What is told where an input can't be made.
-pub(crate) const NO_INPUT: &str = "no input in such reads, or no memory";
+/// What is told where a request for memory was refused.
+pub(crate) const NO_MEMORY: Message = "no memory";
 
 /// What running a row comes to: nothing where the row holds, else the first thing that came in place of what it says.
 #[derive(Drop)]
 pub(crate) struct Report {
-    sheet: Sheet,
+    pub sheet: Sheet,
 }
 
 impl Report {
@@ -31,27 +31,28 @@ impl Report {
         self.sheet.is_empty()
     }
 
-    /// What is told.
-    pub(crate) fn bytes(&self) -> &[u8] {
-        self.sheet.bytes()
-    }
-
-    /// What is told, to be written on.
-    pub(crate) fn sheet(&mut self) -> &mut Sheet {
-        &mut self.sheet
+    /// Adds to what is told, where anything is, how the row was run. The greatest number stands for any.
+    pub(crate) fn note(&mut self, what: &str, number: usize) {
+        if !self.is_empty() {
+            self.sheet.put(what.as_bytes());
+            match number {
+                usize::MAX => self.sheet.put(b"any"),
+                _ => self.sheet.put_number(number as u128),
+            }
+        }
     }
 
     /// Tells this, where nothing was told before.
     pub(crate) fn tell(&mut self, text: &str) {
         if self.is_empty() {
-            self.sheet.put_text(text);
+            self.sheet.put(text.as_bytes());
         }
     }
 
     /// Notes where what came isn't what the row says.
     pub(crate) fn compare(&mut self, what: &str, came: &[u8], wanted: &[u8]) {
         if came != wanted && self.is_empty() {
-            self.sheet.put_text(what);
+            self.sheet.put(what.as_bytes());
             self.sheet.put(b": came ");
             show(came, &mut self.sheet);
             self.sheet.put(b", expected ");
@@ -68,11 +69,9 @@ impl Report {
     }
 
     /// Notes where a number isn't the one that the row says.
-    pub(crate) fn compare_numbers(&mut self, what: &str, came: usize, wanted: usize) {
-        if came != wanted && self.is_empty() {
-            self.sheet.put_text(what);
-            self.sheet.put(b": came ");
-            self.sheet.put_number(came as u128);
+    pub(crate) fn compare_numbers(&mut self, what: &str, came: u128, wanted: usize) {
+        if came != wanted as u128 && self.is_empty() {
+            self.tell_number(what, came);
             self.sheet.put(b", expected ");
             self.sheet.put_number(wanted as u128);
         }
@@ -81,26 +80,20 @@ impl Report {
     /// Tells a number that the row doesn't allow.
     pub(crate) fn tell_number(&mut self, what: &str, came: u128) {
         if self.is_empty() {
-            self.sheet.put_text(what);
-            self.sheet.put(b"=");
+            self.sheet.put(what.as_bytes());
+            self.sheet.put(b": came ");
             self.sheet.put_number(came);
         }
     }
 
     /// Whether a fault is the wanted one: a row says its number and name, or the number alone.
     pub(crate) fn compare_faults(&mut self, came: &Sheet, wanted: &[u8]) {
-        if !begins_with(came.bytes(), wanted) {
+        if !matches!(
+            came.bytes().strip_prefix(wanted),
+            Some([] | [b' ' | b':', ..])
+        ) {
             self.compare_sheet("the fault", came, wanted);
         }
-    }
-}
-
-/// Whether what is told of a fault begins with a whole word or two.
-fn begins_with(told: &[u8], words: &[u8]) -> bool {
-    match told.strip_prefix(words) {
-        Some([]) => true,
-        Some([next, ..]) => *next == b' ' || *next == b':',
-        None => false,
     }
 }
 
@@ -127,18 +120,10 @@ fn show_byte(b: u8, sheet: &mut Sheet) {
         b'%' => sheet.put(b"%%"),
         b' '..=b'~' => sheet.put_byte(b),
         _ => {
+            let digits = b"0123456789abcdef";
             sheet.put(b"%x");
-            sheet.put_byte(hexadecimal(b / 16));
-            sheet.put_byte(hexadecimal(b % 16));
+            sheet.put_byte(digits[usize::from(b / 16)]);
+            sheet.put_byte(digits[usize::from(b % 16)]);
         }
-    }
-}
-
-/// The digit of a number below 16.
-fn hexadecimal(number: u8) -> u8 {
-    if number < 10 {
-        number.wrapping_add(b'0')
-    } else {
-        number.wrapping_add(b'a' - 10)
     }
 }

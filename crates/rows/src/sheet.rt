@@ -57,11 +57,6 @@ impl Sheet {
         }
     }
 
-    /// Writes a text.
-    pub(crate) fn put_text(&mut self, text: &str) {
-        self.put(text.as_bytes());
-    }
-
     /// Writes a number in decimal digits.
     pub(crate) fn put_number(&mut self, number: u128) {
         match format!(in *self.bytes.allocator(); "{number}") {
@@ -69,4 +64,10 @@ impl Sheet {
             Err(_) => self.is_whole = false,
         }
     }
+}
+
+/// Adds a copy of the bytes. None for want of memory.
+pub(crate) fn put_copy(alloc: Global, bytes: &[u8], copies: &mut Vec<Vec<u8>>) -> Option<()> {
+    let copy = bytes.to_vec(alloc).ok()?;
+    copies.push(copy).ok()
 }

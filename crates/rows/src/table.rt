@@ -5,9 +5,8 @@
 //! A row begins with the fields that its subject asks for; options follow, as `-n` or `space=3`.
 
 use crate::decoder::decoded;
-use crate::files::put_copy;
 use crate::options::Options;
-use crate::shape::{Shape, number_in};
+use crate::shape::{have_shape, number_in};
 use anyhow::{Context, Result};
 use std::alloc::Global;
 
@@ -16,27 +15,16 @@ use std::alloc::Global;
 pub(crate) struct Row {
     /// Its line in the file, counted from 1.
     pub line: usize,
+    /// Where its run takes memory from.
+    pub alloc: Global,
     fields: Vec<Vec<u8>>,
 }
 
 impl Row {
-    /// Whether its fields and options are those of the shape. What follows tells of a field that isn't, or is missing,
-    /// that it is empty or 0.
-    pub(crate) fn has(&self, shape: Shape<'_>) -> bool {
-        shape.has(self.fields.as_slice())
-    }
-
-    /// The row with an option more. None for want of memory.
-    pub(crate) fn with(&self, alloc: Global, option: &[u8]) -> Option<Row> {
-        let mut fields = Vec::new(alloc);
-        for field in &self.fields {
-            put_copy(alloc, field.as_slice(), &mut fields)?;
-        }
-        put_copy(alloc, option, &mut fields)?;
-        Some(Row {
-            line: self.line,
-            fields,
-        })
+    /// Whether its fields and options keep to the rules. What follows tells of a field that doesn't, or is missing, that
+    /// it is empty or 0.
+    pub(crate) fn keeps(&self, rules: &str, options: &str) -> bool {
+        have_shape(self.fields.as_slice(), rules, options)
     }
 
     /// The field of a number, counted from 0.
@@ -54,12 +42,9 @@ impl Row {
 
     /// The fields from a number on.
     pub(crate) fn options(&self, from: usize) -> Options<'_> {
-        let written = if from <= self.fields.len() {
-            &self.fields[from..]
-        } else {
-            &[]
-        };
-        Options { written }
+        Options {
+            written: &self.fields[from.min(self.fields.len())..],
+        }
     }
 }
 
@@ -69,17 +54,16 @@ pub(crate) fn rows_of(alloc: Global, text: &str) -> Result<Vec<Row>> {
     let mut line = 0usize;
     for content in text.lines() {
         line = line.saturating_add(1);
-        if !is_remark(content) {
+        if !content.is_empty() && content != "#" && !content.starts_with("# ") {
             let fields = fields_of(alloc, content).context(format_args!("line {line}"))?;
-            rows.push(Row { line, fields })?;
+            rows.push(Row {
+                line,
+                alloc,
+                fields,
+            })?;
         }
     }
     Ok(rows)
-}
-
-/// Whether a line is no row.
-fn is_remark(line: &str) -> bool {
-    line.is_empty() || line == "#" || line.starts_with("# ")
 }
 
 /// The fields of a row.
