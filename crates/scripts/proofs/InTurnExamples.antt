@@ -12,13 +12,14 @@ use Rattle.sedre.specs.Brackets.{list_at, list_end}
 use Rattle.sedre.specs.declared.types.Kind.TheVariants.{Basic}
 use Rattle.sedscript.specs.declared.types.Action.TheVariants as action
 use Rattle.sedscript.specs.declared.types.Address.TheVariants.{Match}
+use Rattle.sedscript.specs.declared.types.Reason.TheVariants.{RepeatedLabel}
 use Rattle.sedscript.specs.declared.substitution.Piece.TheVariants.{Literal}
 use Rattle.sedscript.specs.Addresses.{address_at, match_at, second_at, addresses_at}
 use Rattle.sedscript.specs.Between.{substituted, transliterate_at}
 use Rattle.sedscript.specs.Bytes.{past}
 use Rattle.sedscript.specs.Functions.{name_from, text_from}
 use Rattle.sedscript.specs.Items.{function_at, item_at, substitute_at}
-use Rattle.sedscript.specs.Script.{Program, Means}
+use Rattle.sedscript.specs.Script.{Faulty, Program, Means}
 use Rattle.sedscript.specs.Transliteration.{table_of}
 use Rattle.sedmatch.specs.Matching.{any, caps, copies, cut, first_copy, found, found_from, greatest, last_start, longest, report, spans}
 use Rattle.sedspace.specs.Lines.{is_newline, lines}
@@ -27,9 +28,11 @@ use Rattle.sedengine.specs.Select.{selects}
 use Rattle.sedengine.specs.Substitute.{occurrences_from}
 use Rattle.examples.proofs.ComputedReading.{outcome, rest_of, written}
 use Rattle.examples.proofs.ComputedRun.{course, ends_after, Writes}
-use Rattle.examples.proofs.ComputedScript.{verdict, cutting, walked, is_script}
-use Rattle.examples.proofs.ScriptWords.{always, at, substitution}
+use Rattle.examples.proofs.ComputedScript.{verdict, cutting, walked, has_fault, is_script}
+use Rattle.examples.proofs.ScriptWords.{fault_at, always, at, substitution}
 use Rattle.scripts.specs.InTurn.{BreaksNoLine, OnlyEdits, in_turn}
+use Rattle.scripts.specs.OneText.{EditInTurn}
+use Rattle.scripts.proofs.Colons.{label_law}
 use Rattle.scripts.proofs.Meanings.{of_commands, meant}
 
 -- ---- what the text of both means
@@ -77,6 +80,18 @@ no_table (suc k) b h = h
 first_breaks : BreaksNoLine first
 first_breaks = record { replacements = refl; tables = no_table }
 
+pair : EditInTurn (codes "/x/d\ns/a/b/") (codes "s/c/d/\ny/e/f/")
+pair = record {
+  p = first;
+  q = second;
+  first = first_means;
+  second = second_means;
+  first_edits = first_edits;
+  second_edits = second_edits;
+  breaks_none = first_breaks;
+  labels = λ name here there. let bad = label_law Basic 65536 (codes "/x/d\ns/a/b/") name here in absurd cc;
+}
+
 -- ---- a number, and `$`, in the second script
 
 first_number : Writes (codes "1d") (codes "a\nb\n") (codes "b\n")
@@ -112,6 +127,26 @@ second_broken = is_script (ends_after 100 refl refl)
 both_broken : Writes (codes "s/a/x\\ny/\ns/^y/z/") (codes "a\nb\n") (codes "x\ny\nb\n")
 unfolding verdict cutting walked item_at past function_at addresses_at address_at second_at text_from name_from lines course move selects match_at substitute_at substituted delimiter_at outcome rest_of expression_item_at interval set_of tree_at tree_within list_at list_end found found_from longest greatest spans any copies report caps cut first_copy last_start occurrences_from
 both_broken = is_script (ends_after 100 refl refl)
+
+-- ---- a name that is a label in both, and `#n`, which is a comment where it stands in a later line
+
+both_labels : Faulty (codes ":x\n:x") Basic 65536 (fault_at 3 RepeatedLabel)
+unfolding verdict cutting walked item_at past function_at addresses_at address_at second_at text_from name_from
+both_labels = has_fault refl
+
+second_quiet : Writes (codes "#n") (codes "b\nb\n") (codes "")
+unfolding verdict cutting walked item_at past function_at addresses_at address_at second_at text_from name_from lines course move selects
+second_quiet = is_script (ends_after 60 refl refl)
+
+both_quiet : Writes (codes "y/a/b/\n#n") (codes "a\nb\n") (codes "b\nb\n")
+unfolding verdict cutting walked item_at past function_at addresses_at address_at second_at text_from name_from lines course move selects transliterate_at table_of
+both_quiet = is_script (ends_after 60 refl refl)
+
+-- ---- a file that both write: it has one number
+
+both_files : Means (codes "w f\nw f") Basic 65536 (of_commands (always (action.WriteFile 1) ∷ always (action.WriteFile 1) ∷ []) (codes "f" ∷ []))
+unfolding verdict cutting walked item_at past function_at addresses_at address_at second_at text_from name_from
+both_files = meant _ _ refl
 
 -- ---- a branch to the end, and what the first one writes by itself
 

@@ -64,7 +64,7 @@ one_alone t [] h = absurd cc
 one_alone t (e ∷ []) h = (e, refl, cc)
 one_alone t (e ∷ f ∷ es) h = absurd cc
 
-found_by : (e : Written) (w : List ℕ) (o : Option (ℕ × ℕ)) → match_with_span e w o ≡ match_with (tree e) w o
+pub found_by : (e : Written) (w : List ℕ) (o : Option (ℕ × ℕ)) → match_with_span e w o ≡ match_with (tree e) w o
 found_by e w None = refl
 found_by e w (Some span) = refl
 

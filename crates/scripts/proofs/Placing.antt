@@ -24,8 +24,10 @@ use Rattle.sedengine.specs.Substitute.{Occurrence, occurrences, to_replace}
 use Rattle.sedengine.proofs.Writing.{slice_get-append_add}
 use Rattle.examples.proofs.ComputedEnds.{both}
 use Rattle.scripts.specs.Edited.{RunsTo}
-use Rattle.scripts.specs.InTurn.{Before, BreaksNoLine, OnlyEdits, action_behind, address_behind, all_of, asks_own, command_behind, edits, in_turn, is_break, is_own, only_edits, replaces_only, substitution_behind}
+use Rattle.scripts.specs.InTurn.{Before, BreaksNoLine, OnlyEdits, action_behind, address_behind, all_of, asks_own, command_behind, edits, in_turn, is_break, is_own, only_edits, replaces_only, sink_behind, substitution_behind}
 use Rattle.scripts.proofs.Truth.{not_so}
+use Rattle.scripts.proofs.LongerText.{in_front}
+use Rattle.scripts.proofs.NoneBefore.{none_before, same_command, same_substitution}
 use Rattle.scripts.proofs.Edits.{Test, Between, Chosen, Edit, Makes, Replaces, block, change, delete, with_found}
 use Rattle.scripts.proofs.EditedLines.{AreAlike, Both, Fits, Matches, placed}
 use Rattle.scripts.proofs.OneAfterOther.{AnyLines, SameLines, in_turn_run}
@@ -51,12 +53,6 @@ found_below : {A : Type 0} (xs : List A) (k : ℕ) → k < length xs → (x : A)
 found_below [] k h = absurd (omega arith)
 found_below (x ∷ xs) zero h = (x, refl)
 found_below (x ∷ xs) (suc k) h = found_below xs k (omega arith)
-
-in_front : {A : Type 0} (xs ys : List A) (k : ℕ) (x : A) → slice_get xs k ≡ Some x → slice_get (xs ++ ys) k ≡ Some x
-in_front [] ys zero x h = absurd cc
-in_front [] ys (suc k) x h = absurd cc
-in_front (y ∷ xs) ys zero x h = h
-in_front (y ∷ xs) ys (suc k) x h = in_front xs ys k x h
 
 behind_all : {A : Type 0} (f : A → A) (xs ys : List A) (k : ℕ) (y : A) → slice_get ys k ≡ Some y → slice_get (xs ++ map f ys) (length xs + k) ≡ Some (f y)
 behind_all f xs ys k y h = slice_get-append_add xs (map f ys) k ∙ slice_get-map f ys k ∙ ap (option_map f) h
@@ -289,7 +285,7 @@ module _ (p : Program) (files : ℕ → List ℕ) where
         let by : (w : List ℕ) → with_found put w (to_replace_in g put (b.expressions + s.0) w) ≡ substituted_by g1 (Some t) w =
         λ w. ap (λ f. with_found t w (to_replace t.number t.global (occurrences f (length w)))) (same_search s.0 s.1 w s.3) ∙ ap (λ e. by_expression g1 t e w) (sym s.2) in
         subst (λ o. Replaces g o (substituted_by g1 (Some t))) (sym (is.substitutions k t at))
-        (b.expressions + s.0, ap (option_map (λ e. b.expressions + e)) s.2, s.4, s.5, by)
+        (b.expressions + s.0, ap (option_map (λ e. b.expressions + e)) s.2, s.4, ap (option_map (sink_behind b)) s.5, by)
 
     makes_there : (a : Action) → edits p a ≡ true → Makes g (action_behind b a) (placed to (edit_of g1 a))
     makes_there (Block n) h = refl
@@ -326,38 +322,14 @@ module _ (p : Program) (files : ℕ → List ℕ) where
 
 -- ---- the two scripts in the one of both
 
-abbrev none_before : Before
-none_before = record { commands = 0; expressions = 0; substitutions = 0; tables = 0 }
-
-same_address : (a : Option Address) → address_behind none_before a ≡ a
-same_address None = refl
-same_address (Some (Match (Some e))) = ap (λ e. Some (Match (Some e))) (zero-add e)
-same_address (Some (Match None)) = refl
-same_address (Some (Line i)) = refl
-same_address (Some Last) = refl
-
-same_action : (p : Program) (a : Action) → edits p a ≡ true → action_behind none_before a ≡ a
-same_action p (Block n) h = ap Block (zero-add n)
-same_action p Delete h = refl
-same_action p (Substitute k) h = ap Substitute (zero-add k)
-same_action p (Transliterate k) h = ap Transliterate (zero-add k)
-same_action p other h = absurd cc
-
-same_expression : (o : Option ℕ) → option_map (λ e. 0 + e) o ≡ o
-same_expression None = refl
-same_expression (Some e) = ap (λ e. Some e) (zero-add e)
-
-same_command : (counts : Bool) (p : Program) (c : Command) → only_edits counts p c ≡ true → command_behind none_before c ≡ c
-same_command counts p c h = let three = tests counts p c h in ap₂ (λ first action. record c { first = first; second = address_behind none_before c.second; action = action }) (same_address c.first) (same_action p c.action three.2) ∙ ap (λ second. record c { second = second }) (same_address c.second)
-
 in_first : {A : Type 0} (xs ys : List A) (k : ℕ) (x : A) → slice_get xs k ≡ Some x → slice_get (xs ++ ys) (0 + k) ≡ Some x
 in_first xs ys k x h = ap (slice_get (xs ++ ys)) (zero-add k) ∙ in_front xs ys k x h
 
 first_placed : (p q : Program) → Placed p (in_turn p q) none_before
 first_placed p q = record {
-  commands = λ k c counts h test. in_first p.commands (map (command_behind (all_of p)) q.commands) k c h ∙ ap (λ c. Some c) (sym (same_command counts p c test));
+  commands = λ k c counts h test. in_first p.commands (map (command_behind (all_of p)) q.commands) k c h ∙ ap (λ c. Some c) (sym (same_command c));
   expressions = λ e x h. in_first p.expressions q.expressions e x h;
-  substitutions = λ k t h. in_first p.substitutions (map (substitution_behind (all_of p)) q.substitutions) k t h ∙ ap (λ e. Some (record t { expression = e })) (sym (same_expression t.expression));
+  substitutions = λ k t h. in_first p.substitutions (map (substitution_behind (all_of p)) q.substitutions) k t h ∙ ap (λ t. Some t) (sym (same_substitution t));
   tables = λ k x h. in_first p.tables q.tables k x h;
 }
 

@@ -1,5 +1,5 @@
 -- Two scripts that only edit their lines, one after the other (XCU sed, Options: scripts of -e are added in their order).
-use Rattle.std.specs.Prelude.{◌≡◌, ℕ, ◌+◌, Bool, true, false, not, ◌&&◌, ◌||◌, Option, Some, None, ◌++◌, length, map, is_some, is_none, nat_le, slice_get}
+use Rattle.std.specs.Prelude.{◌≡◌, ℕ, zero, suc, ◌+◌, Bool, true, false, not, ◌&&◌, ◌||◌, Option, Some, None, ◌++◌, length, map, is_some, is_none, nat_le, slice_get}
 use Rattle.std.specs.List.{list_all, list_any}
 use Rattle.std.specs.Option.{option_map}
 use Rattle.sedspace.specs.Lines.{is_newline}
@@ -7,7 +7,7 @@ use Rattle.sedscript.specs.declared.types.Address.{Address}
 use Rattle.sedscript.specs.declared.types.Address.TheVariants.{Last, Line, Match}
 use Rattle.sedscript.specs.declared.types.Command.{Command}
 use Rattle.sedscript.specs.declared.types.Action.{Action}
-use Rattle.sedscript.specs.declared.types.Action.TheVariants.{Block, Delete, Substitute, Transliterate}
+use Rattle.sedscript.specs.declared.types.Action.TheVariants.{Append, Block, Branch, Change, Delete, Insert, ReadFile, Substitute, Test, Transliterate, WriteFile}
 use Rattle.sedscript.specs.declared.substitution.Piece.{Piece}
 use Rattle.sedscript.specs.declared.substitution.Piece.TheVariants.{Literal}
 use Rattle.sedscript.specs.declared.substitution.Substitution.{Substitution}
@@ -58,19 +58,25 @@ pub record BreaksNoLine (p : Program) : Type 0 where
   pub replacements : list_all (λ t. not (list_any is_break t.replacement)) p.substitutions ≡ true
   pub tables : (k b : ℕ) → is_newline b ≡ false → is_newline (in_table (slice_get p.tables k) b) ≡ false
 
--- how many commands, expressions, substitutions and tables stand before those of a script
+-- how many commands, expressions and so on stand before those of a script
 pub record Before : Type 0 where
   pub commands : ℕ
   pub expressions : ℕ
+  pub texts : ℕ
   pub substitutions : ℕ
   pub tables : ℕ
+  pub rfiles : ℕ
+  pub wfiles : ℕ
 
 abbrev pub all_of : Program → Before
 all_of p = record {
   commands = length p.commands;
   expressions = length p.expressions;
+  texts = length p.texts;
   substitutions = length p.substitutions;
   tables = length p.tables;
+  rfiles = length p.rfiles;
+  wfiles = length p.wfiles;
 }
 
 -- the numbers in such addresses, commands and substitutions, where so many stand before
@@ -78,17 +84,29 @@ abbrev pub address_behind : Before → Option Address → Option Address
 address_behind b (Some (Match (Some e))) = Some (Match (Some (b.expressions + e)))
 address_behind b other = other
 
+-- 0 is the standard output
+abbrev pub sink_behind : Before → ℕ → ℕ
+sink_behind b zero = zero
+sink_behind b (suc k) = b.wfiles + suc k
+
 abbrev pub action_behind : Before → Action → Action
 action_behind b (Block next) = Block (b.commands + next)
+action_behind b (Branch next) = Branch (b.commands + next)
+action_behind b (Test next) = Test (b.commands + next)
+action_behind b (Append k) = Append (b.texts + k)
+action_behind b (Insert k) = Insert (b.texts + k)
+action_behind b (Change k) = Change (b.texts + k)
 action_behind b (Substitute k) = Substitute (b.substitutions + k)
 action_behind b (Transliterate k) = Transliterate (b.tables + k)
+action_behind b (ReadFile k) = ReadFile (b.rfiles + k)
+action_behind b (WriteFile sink) = WriteFile (sink_behind b sink)
 action_behind b other = other
 
 abbrev pub command_behind : Before → Command → Command
 command_behind b c = record c { first = address_behind b c.first; second = address_behind b c.second; action = action_behind b c.action }
 
 abbrev pub substitution_behind : Before → Substitution → Substitution
-substitution_behind b t = record t { expression = option_map (λ e. b.expressions + e) t.expression }
+substitution_behind b t = record t { expression = option_map (λ e. b.expressions + e) t.expression; file = option_map (sink_behind b) t.file }
 
 -- the commands of one script, and then those of another
 abbrev pub in_turn : Program → Program → Program

@@ -4,3 +4,4 @@ pub mod Alone
 pub mod Slashed
 pub mod Ampleness
 pub mod InTurn
+pub mod OneText

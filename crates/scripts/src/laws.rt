@@ -4,12 +4,15 @@ ghost use Rattle.std.specs.Prelude.{◌≡◌, ◌<◌, ◌-◌, ◌^◌, ℕ, L
 ghost use Rattle.std.specs.List.{filter, flat_map, list_any};
 ghost use Rattle.sedre.specs.Tree.{Tree};
 ghost use Rattle.sedscript.specs.Replacement.{GroupsWithin};
-ghost use Rattle.sedscript.specs.Script.{Program};
+ghost use Rattle.sedre.specs.declared.types.Kind.{Kind};
+ghost use Rattle.sedscript.specs.Script.{Means, Program};
 ghost use Rattle.sedengine.specs.Limits.{Limits};
 ghost use Rattle.sedengine.specs.Move.{to_sink};
 ghost use Rattle.sedengine.specs.declared.ends.Ended.{Ended};
 ghost use Rattle.sedengine.specs.declared.ends.Ended.TheVariants.{Done};
 ghost use Rattle.scripts.specs.Ampleness.{Ample, ComesTo};
+ghost use Rattle.sedscript.specs.ScriptText.{with_part};
+ghost use Rattle.sedscript.specs.Transliteration.{is_among};
 ghost use Rattle.sedscript.specs.declared.substitution.Piece.{Piece};
 ghost use Rattle.sedspace.specs.Lines.{lines};
 ghost use Rattle.sedengine.specs.Devices.{Gained, part};
@@ -18,6 +21,7 @@ ghost use Rattle.examples.specs.WrittenReplacements.{written_pieces};
 ghost use Rattle.scripts.specs.Alone.{EachLooksAtLine, EndsLine};
 ghost use Rattle.scripts.specs.Edited.{RunsTo, Sends, Writes, text_of};
 ghost use Rattle.scripts.specs.InTurn.{BreaksNoLine, OnlyEdits, in_turn, is_break};
+ghost use Rattle.scripts.specs.OneText.{EditInTurn, HasLabel, IsOpen, LeadsInside, ShareNoFile, ShareNoLabel};
 ghost use Rattle.scripts.specs.Slashed.{IsSlashed};
 ghost use Rattle.scripts.specs.Words.{HasWayBack, by_table, has_none, in_one, numbered, odd_ones, replaced, y_of};
 
@@ -156,6 +160,34 @@ pub fn one_after_other()
     ensures { (p q : Program) (files : ℕ → List ℕ) (input middle : List ℕ) (out : List (ℕ × ℕ)) → OnlyEdits true p → OnlyEdits false q → BreaksNoLine p →
         RunsTo p files input (to_sink 0 middle) → RunsTo q files middle out → RunsTo (in_turn p q) files input out }
 {}
+
+/// Two texts of scripts, with a newline between them, mean the script of both: the commands of the first and then those of the second, where
+/// no `b` or `t` leads to the end of the first, no file and no label is in both, and the second doesn't begin with the line `#n`.
+pub fn texts_in_turn()
+    ensures { (a b : List ℕ) (kind : Kind) (max_nodes : ℕ) (p q : Program) → Means a kind max_nodes p → Means b kind max_nodes q →
+        LeadsInside p → ShareNoFile p q → q.quiet ≡ false → ShareNoLabel kind max_nodes a b → Means (a ++ 10 ∷ b) kind max_nodes (in_turn p q) }
+{}
+
+/// A text with a label has a colon.
+pub fn label_has_colon()
+    ensures { (kind : Kind) (max_nodes : ℕ) (text name : List ℕ) → HasLabel kind max_nodes text name → is_among text 58 ≡ true }
+{}
+
+/// Two texts of scripts that only edit their lines, with a newline between them, write what the second writes over what the first wrote.
+pub fn texts_one_after_other()
+    ensures { (a b input middle : List ℕ) (out : List (ℕ × ℕ)) → EditInTurn a b →
+        Sends false a input (to_sink 0 middle) → Sends false b middle out → Sends false (a ++ 10 ∷ b) input out }
+{
+    one_meaning();
+}
+
+/// And so `sed -e A -e B` writes what B writes over what A wrote, where neither ends with a newline.
+pub fn words_one_after_other()
+    ensures { (a b input middle : List ℕ) (out : List (ℕ × ℕ)) → EditInTurn a b → IsOpen a → IsOpen b →
+        Sends false a input (to_sink 0 middle) → Sends false b middle out → Sends false (with_part (with_part [] a) b) input out }
+{
+    one_meaning();
+}
 
 /// Within ample limits, an edit by `1!G;h;$!d` in which no device fails or is full comes to the ordinary end, and its sinks have
 /// gained the lines in reverse order.

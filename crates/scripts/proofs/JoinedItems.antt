@@ -1,0 +1,336 @@
+-- What items of a text become, where it stands in a longer one with other items before them and behind.
+use Rattle.std.proofs.Common.{◌⊎◌, inl, inr, ◌≡◌, ℕ, suc, ◌+◌, ◌≤◌, ◌&&◌, ◌==◌, Bool, true, false, List, [], ◌∷◌, ◌++◌, length, map, Option, Some, None, is_none, option_map, unwrap_or, refl, sym, ap, ap₂, subst, ◌∙◌, arith, if◌then◌else◌}
+use Rattle.sedscript.specs.declared.types.Address.{Address}
+use Rattle.sedscript.specs.declared.types.Address.TheVariants.{Match, Last}
+use Rattle.sedscript.specs.declared.types.Address.TheVariants as address
+use Rattle.sedscript.specs.declared.types.Action.{Action}
+use Rattle.sedscript.specs.declared.types.Action.TheVariants as action
+use Rattle.sedscript.specs.declared.types.Command.{Command}
+use Rattle.sedscript.specs.declared.substitution.Substitution.{Substitution}
+use Rattle.sedscript.specs.declared.items.Addresses.{Addresses}
+use Rattle.sedscript.specs.declared.items.BranchUse.{BranchUse}
+use Rattle.sedscript.specs.declared.items.BranchUse.TheVariants.{Always, IfReplaced}
+use Rattle.sedscript.specs.declared.items.Counts.{Counts}
+use Rattle.sedscript.specs.declared.items.Flags.{Flags}
+use Rattle.sedscript.specs.declared.items.Simple.{Simple}
+use Rattle.sedscript.specs.declared.items.Simple.TheVariants.{AppendHold, AppendNext, CopyHold, Delete, DeleteFirst, Exchange, Hold, HoldMore, LineNumber, List as ListSpace, NextLine, Print, PrintFirst, Quit}
+use Rattle.sedscript.specs.declared.items.Strings.{Strings}
+use Rattle.sedscript.specs.declared.items.TextUse.{TextUse}
+use Rattle.sedscript.specs.declared.items.TextUse.TheVariants.{Append, Insert, Change}
+use Rattle.sedscript.specs.declared.items.Item.{Item}
+use Rattle.sedscript.specs.declared.items.Function.{Function}
+use Rattle.sedscript.specs.declared.items.Function.TheVariants.{Plain, Open, Close, Label, Branch, Text, File, Comment, Substitute, Transliterate}
+use Rattle.sedscript.specs.declared.items.FileUse.{FileUse}
+use Rattle.sedscript.specs.declared.items.FileUse.TheVariants.{Read, Write}
+use Rattle.sedscript.specs.Files.{number_in}
+use Rattle.sedscript.specs.Bytes.{bytes_between}
+use Rattle.sedscript.specs.Replacement.{pieces_of}
+use Rattle.sedscript.specs.Targets.{leaves, counted, commands_in, is_open, is_close, depth_after, close_in, block_end, label_in}
+use Rattle.sedscript.specs.Transliteration.{chars_from, bytes_of, table_of}
+use Rattle.sedscript.specs.Script.{with_text, texts_of, with_substitution, substitutions_of, with_table, tables_of, substitution_of, sink_of, table_between, counts_with, action_of, simple_action, text_action, with_action, commands_of, unescaped_from, branch_action, file_action}
+use Rattle.sedscript.proofs.Chars.{same_bytes}
+use Rattle.sedscript.proofs.Labels.{commands_snoc, counted_in}
+use Rattle.scripts.specs.InTurn.{Before, address_behind, action_behind, command_behind, substitution_behind, sink_behind}
+use Rattle.scripts.proofs.LongerStrings.{NextOn}
+use Rattle.scripts.proofs.LongerFlags.{move_span, SpanIn, same_test, FileIn}
+use Rattle.scripts.proofs.LongerFunctions.{move_strings, move_function, StringsIn, FunctionIn}
+use Rattle.scripts.proofs.LongerReading.{move_address, move_item}
+use Rattle.scripts.proofs.JoinedCuts.{ItemsIn}
+
+-- a block that opens there is closed by these items
+abbrev pub ClosesIn : Function → List Item → Type 0
+ClosesIn Open is = (n : ℕ) → is_none (close_in 0 n is) ≡ false
+ClosesIn other is = Unit {0}
+
+abbrev pub AllClose : List Item → Type 0
+AllClose [] = Unit {0}
+AllClose (i ∷ is) = ClosesIn i.function is × AllClose is
+
+-- a branch leads to the end of both texts, or to a label, so many commands later
+abbrev pub BranchOn : (t : List ℕ) (all : List Item) (whole : List ℕ) (every : List Item) (more : ℕ) → Function → Type 0
+BranchOn t all whole every more (Branch u from to) =
+    (((from == to) ≡ true) × (commands_in every ≡ more + commands_in all))
+    ⊎ ((k : ℕ) × ((from == to) ≡ false) × (label_in t (bytes_between t from to) 0 all ≡ Some k) × (label_in whole (bytes_between t from to) 0 every ≡ Some (more + k)))
+BranchOn t all whole every more other = Unit {0}
+
+abbrev pub BranchesOn : (t : List ℕ) (all : List Item) (whole : List ℕ) (every : List Item) (more : ℕ) → List Item → Type 0
+BranchesOn t all whole every more [] = Unit {0}
+BranchesOn t all whole every more (i ∷ is) = BranchOn t all whole every more i.function × BranchesOn t all whole every more is
+
+-- a file's number, where so many stand before
+abbrev pub file_behind : Before → FileUse → ℕ → ℕ
+file_behind b Read k = b.rfiles + k
+file_behind b Write k = sink_behind b k
+
+-- a name has the number that it has, where so many files stand before
+abbrev pub NumberOn : (t : List ℕ) (all : List Item) (whole : List ℕ) (every : List Item) → Before → FileUse → List ℕ → Type 0
+NumberOn t all whole every b u name = number_in u whole every name ≡ file_behind b u (number_in u t all name)
+
+abbrev pub SinkOn : (t : List ℕ) (all : List Item) (whole : List ℕ) (every : List Item) → Before → Option (ℕ × ℕ) → Type 0
+SinkOn t all whole every b None = Unit {0}
+SinkOn t all whole every b (Some x) = NumberOn t all whole every b Write (bytes_between t x.0 x.1)
+
+abbrev pub FileOn : (t : List ℕ) (all : List Item) (whole : List ℕ) (every : List Item) → Before → Function → Type 0
+FileOn t all whole every b (File u from to) = NumberOn t all whole every b u (bytes_between t from to)
+FileOn t all whole every b (Substitute s e f) = SinkOn t all whole every b f.file
+FileOn t all whole every b other = Unit {0}
+
+abbrev pub FilesOn : (t : List ℕ) (all : List Item) (whole : List ℕ) (every : List Item) → Before → List Item → Type 0
+FilesOn t all whole every b [] = Unit {0}
+FilesOn t all whole every b (i ∷ is) = FileOn t all whole every b i.function × FilesOn t all whole every b is
+
+module _ (base count : ℕ) where
+  pub leaves_same : (f : Function) → leaves (move_function base count f) ≡ leaves f
+  leaves_same Close = refl
+  leaves_same (Label from to) = refl
+  leaves_same Comment = refl
+  leaves_same other = refl
+
+  pub open_same : (f : Function) → is_open (move_function base count f) ≡ is_open f
+  open_same Open = refl
+  open_same other = refl
+
+  pub close_same : (f : Function) → is_close (move_function base count f) ≡ is_close f
+  close_same Close = refl
+  close_same other = refl
+
+  pub depth_same : (depth : ℕ) (f : Function) → depth_after depth (move_function base count f) ≡ depth_after depth f
+  depth_same depth Open = refl
+  depth_same depth Close = refl
+  depth_same depth other = refl
+
+  pub counted_same : (more n m : ℕ) (i : Item) → m ≡ more + n → counted m (move_item base count i) ≡ more + counted n i
+  counted_same more n m i e = ap (λ (t : Bool). if t then suc m else m) (leaves_same i.function) ∙ by_test (leaves i.function)
+    where
+      by_test : (t : Bool) → (if t then suc m else m) ≡ more + (if t then suc n else n)
+      by_test true = omega (arith, e)
+      by_test false = e
+
+  -- a block that is closed is closed there too
+  pub closing_on : (depth more n m : ℕ) (is rest : List Item) → m ≡ more + n → NextOn more (close_in depth n is) (close_in depth m (map (move_item base count) is ++ rest))
+  closing_on depth more n m [] rest e = tt
+  closing_on depth more n m (i ∷ is) rest e =
+      let on = closing_on (depth_after depth i.function) more (counted n i) (counted m (move_item base count i)) is rest (counted_same more n m i e) in
+      let deep : close_in (depth_after depth (move_function base count i.function)) (counted m (move_item base count i)) (map (move_item base count) is ++ rest) ≡ close_in (depth_after depth i.function) (counted m (move_item base count i)) (map (move_item base count) is ++ rest) =
+      ap (λ (d : ℕ). close_in d (counted m (move_item base count i)) (map (move_item base count) is ++ rest)) (depth_same depth i.function) in
+      by_test (is_close i.function && depth == 0) (is_close (move_function base count i.function) && depth == 0) (ap (λ t. t && depth == 0) (close_same i.function)) _ _ _ deep on
+    where
+      by_test : (s t : Bool) → t ≡ s → (x y z : Option ℕ) → z ≡ y → NextOn more x y → NextOn more (if s then Some n else x) (if t then Some m else z)
+      by_test true true same x y z f h = ap (λ k. Some k) e
+      by_test false false same x y z f h = subst (NextOn more x) (sym f) h
+      by_test true false same x y z f h = absurd cc
+      by_test false true same x y z f h = absurd cc
+
+simple_same : (b : Before) (s : Simple) → action_behind b (simple_action s) ≡ simple_action s
+simple_same b AppendHold = refl
+simple_same b AppendNext = refl
+simple_same b CopyHold = refl
+simple_same b Delete = refl
+simple_same b DeleteFirst = refl
+simple_same b Exchange = refl
+simple_same b Hold = refl
+simple_same b HoldMore = refl
+simple_same b LineNumber = refl
+simple_same b ListSpace = refl
+simple_same b NextLine = refl
+simple_same b Print = refl
+simple_same b PrintFirst = refl
+simple_same b Quit = refl
+
+text_same : (b : Before) (u : TextUse) (k : ℕ) → action_behind b (text_action u k) ≡ text_action u (b.texts + k)
+text_same b Append k = refl
+text_same b Insert k = refl
+text_same b Change k = refl
+
+file_same : (b : Before) (u : FileUse) (k : ℕ) → action_behind b (file_action u k) ≡ file_action u (file_behind b u k)
+file_same b Read k = refl
+file_same b Write k = refl
+
+branch_same : (b : Before) (u : BranchUse) (k : ℕ) → action_behind b (branch_action u k) ≡ branch_action u (b.commands + k)
+branch_same b Always k = refl
+branch_same b IfReplaced k = refl
+
+address_same : (b : Before) (a : Option Address) → move_address b.expressions a ≡ address_behind b a
+address_same b None = refl
+address_same b (Some (Match None)) = refl
+address_same b (Some (Match (Some k))) = refl
+address_same b (Some (address.Line n)) = refl
+address_same b (Some Last) = refl
+
+-- so many texts, substitutions and tables more
+abbrev pub Later : Before → Counts → Counts → Type 0
+Later b n m = (m.texts ≡ b.texts + n.texts) × (m.substitutions ≡ b.substitutions + n.substitutions) × (m.tables ≡ b.tables + n.tables)
+
+module _ (t whole : List ℕ) (base : ℕ) (b : Before) (between : (from to : ℕ) → from ≤ to → to ≤ length t → bytes_between whole (base + from) (base + to) ≡ bytes_between t from to) where
+  abbrev moved : Item → Item
+  moved = move_item base b.expressions
+
+  abbrev made : Function → Function
+  made = move_function base b.expressions
+
+  second_string : (s : Strings) → StringsIn (length t) s → bytes_between whole (base + s.middle + 1) (base + s.to) ≡ bytes_between t (s.middle + 1) s.to
+  second_string s h =
+      let one : base + s.middle + 1 ≡ base + (s.middle + 1) = omega arith in
+      ap (λ (n : ℕ). bytes_between whole n (base + s.to)) one ∙ between (s.middle + 1) s.to (omega (arith, h.1)) (omega (arith, h.2))
+
+  -- ---- texts and tables
+
+  text_on : (f : Function) (xs ys : List (List ℕ)) → FunctionIn (length t) f → with_text whole (made f) (xs ++ ys) ≡ with_text t f xs ++ ys
+  text_on (Text u from to) xs ys h = ap (λ (bs : List ℕ). unescaped_from false bs ∷ (xs ++ ys)) (between from to h.0 h.1)
+  text_on other xs ys h = refl
+
+  pub texts_on : (is rest : List Item) → ItemsIn (length t) is → texts_of whole (map moved is ++ rest) ≡ texts_of t is ++ texts_of whole rest
+  texts_on [] rest h = refl
+  texts_on (i ∷ is) rest h = ap (with_text whole (made i.function)) (texts_on is rest h.1) ∙ text_on i.function (texts_of t is) (texts_of whole rest) h.0
+
+  table_same : (s : Strings) → StringsIn (length t) s → table_between whole (move_strings base s) ≡ table_between t s
+  table_same s h =
+      ap₂ (λ xs ys. table_of xs ys)
+      (ap (λ (bs : List ℕ). bytes_of (chars_from s.delimiter false (base + s.from) bs)) (between s.from s.middle h.0 (omega (arith, h.1, h.2))) ∙ same_bytes s.delimiter (base + s.from) s.from false (bytes_between t s.from s.middle))
+      (ap (λ (bs : List ℕ). bytes_of (chars_from s.delimiter false (base + s.middle + 1) bs)) (second_string s h) ∙ same_bytes s.delimiter (base + s.middle + 1) (s.middle + 1) false (bytes_between t (s.middle + 1) s.to))
+
+  table_on : (f : Function) (xs ys : List (List ℕ)) → FunctionIn (length t) f → with_table whole (made f) (xs ++ ys) ≡ with_table t f xs ++ ys
+  table_on (Transliterate s) xs ys h = ap (λ (bs : List ℕ). bs ∷ (xs ++ ys)) (table_same s h)
+  table_on other xs ys h = refl
+
+  pub tables_on : (is rest : List Item) → ItemsIn (length t) is → tables_of whole (map moved is ++ rest) ≡ tables_of t is ++ tables_of whole rest
+  tables_on [] rest h = refl
+  tables_on (i ∷ is) rest h = ap (with_table whole (made i.function)) (tables_on is rest h.1) ∙ table_on i.function (tables_of t is) (tables_of whole rest) h.0
+
+  -- ---- substitutions
+
+  sink_same : (every all : List Item) (o : Option (ℕ × ℕ)) → FileIn (length t) o → SinkOn t all whole every b o → sink_of whole every (option_map (move_span base) o) ≡ option_map (sink_behind b) (sink_of t all o)
+  sink_same every all None h on = refl
+  sink_same every all (Some x) h on = ap (λ k. Some k) (ap (number_in Write whole every) (between x.0 x.1 h.0 h.1) ∙ on)
+
+  substitution_same : (every all : List Item) (s : Strings) (e : Option ℕ) (f : Flags) → StringsIn (length t) s → FileIn (length t) f.file → SinkOn t all whole every b f.file →
+      substitution_of whole every (move_strings base s) (option_map (λ k. b.expressions + k) e) (record f { file = option_map (move_span base) f.file }) ≡ substitution_behind b (substitution_of t all s e f)
+  substitution_same every all s e f h inner on =
+      ap₂ (λ bs sink. record {
+        expression = option_map (λ k. b.expressions + k) e;
+        replacement = pieces_of s.delimiter bs;
+        number = unwrap_or f.number 1;
+        global = f.global;
+        print = f.print;
+        file = sink;
+      }) (second_string s h) (sink_same every all f.file inner on)
+
+  substitution_on : (every all : List Item) (f : Function) (xs : List Substitution) (ys : List Substitution) → FunctionIn (length t) f → FileOn t all whole every b f →
+      with_substitution whole every (made f) (map (substitution_behind b) xs ++ ys) ≡ map (substitution_behind b) (with_substitution t all f xs) ++ ys
+  substitution_on every all (Substitute s e f) xs ys h on = ap (λ x. x ∷ (map (substitution_behind b) xs ++ ys)) (substitution_same every all s e f h.0 h.1 on)
+  substitution_on every all other xs ys h on = refl
+
+  pub substitutions_on : (every all is rest : List Item) → ItemsIn (length t) is → FilesOn t all whole every b is →
+      substitutions_of whole every (map moved is ++ rest) ≡ map (substitution_behind b) (substitutions_of t all is) ++ substitutions_of whole every rest
+  substitutions_on every all [] rest h k = refl
+  substitutions_on every all (i ∷ is) rest h k =
+      ap (with_substitution whole every (made i.function)) (substitutions_on every all is rest h.1 k.1) ∙ substitution_on every all i.function (substitutions_of t all is) (substitutions_of whole every rest) h.0 k.0
+
+  -- ---- commands
+
+  block_on : (before there after rest : List Item) → commands_in there ≡ b.commands + commands_in before → ((n : ℕ) → is_none (close_in 0 n after) ≡ false) →
+      action.Block (unwrap_or (block_end there (map moved after ++ rest)) 0) ≡ action_behind b (action.Block (unwrap_or (block_end before after) 0))
+  block_on before there after rest e closes =
+      by_end (block_end before after) (block_end there (map moved after ++ rest)) (closes (suc (commands_in before))) (closing_on base b.expressions 0 b.commands (suc (commands_in before)) (suc (commands_in there)) after rest (omega (arith, e)))
+    where
+      by_end : (o p : Option ℕ) → is_none o ≡ false → NextOn b.commands o p → action.Block (unwrap_or p 0) ≡ action_behind b (action.Block (unwrap_or o 0))
+      by_end None p h g = absurd cc
+      by_end (Some k) p h g = ap (λ (o : Option ℕ). action.Block (unwrap_or o 0)) g
+
+  target_on : (s : Bool) (c d : ℕ) (o r : Option ℕ) → ((s ≡ true) × (d ≡ b.commands + c)) ⊎ ((k : ℕ) × (s ≡ false) × (o ≡ Some k) × (r ≡ Some (b.commands + k))) → (if s then d else unwrap_or r 0) ≡ b.commands + (if s then c else unwrap_or o 0)
+  target_on true c d o r (inl h) = h.1
+  target_on true c d o r (inr h) = absurd cc
+  target_on false c d o r (inl h) = absurd cc
+  target_on false c d o r (inr h) = ap (λ (o : Option ℕ). unwrap_or o 0) h.3 ∙ sym (ap (λ (o : Option ℕ). b.commands + unwrap_or o 0) h.2)
+
+  branch_on : (every all : List Item) (u : BranchUse) (from to : ℕ) → SpanIn (length t) (from, to) → BranchOn t all whole every b.commands (Branch u from to) →
+      branch_action u (if base + from == base + to then commands_in every else unwrap_or (label_in whole (bytes_between whole (base + from) (base + to)) 0 every) 0)
+      ≡ action_behind b (branch_action u (if from == to then commands_in all else unwrap_or (label_in t (bytes_between t from to) 0 all) 0))
+  branch_on every all u from to span on =
+      ap₂ (λ s (bs : List ℕ). branch_action u (if s then commands_in every else unwrap_or (label_in whole bs 0 every) 0)) (same_test to from (base + to) (base + from) base refl refl) (between from to span.0 span.1)
+      ∙ (ap (branch_action u) (target_on (from == to) (commands_in all) (commands_in every) (label_in t (bytes_between t from to) 0 all) (label_in whole (bytes_between t from to) 0 every) on)
+      ∙ sym (branch_same b u (if from == to then commands_in all else unwrap_or (label_in t (bytes_between t from to) 0 all) 0)))
+
+  action_on : (every all before there after rest : List Item) (n m : Counts) (f : Function) → commands_in there ≡ b.commands + commands_in before → Later b n m → FileOn t all whole every b f → ClosesIn f after → FunctionIn (length t) f → BranchOn t all whole every b.commands f →
+      action_of whole every there m (map moved after ++ rest) (made f) ≡ option_map (action_behind b) (action_of t all before n after f)
+  action_on every all before there after rest n m (Plain s) e later k closes inner leads = ap (λ a. Some a) (sym (simple_same b s))
+  action_on every all before there after rest n m Open e later k closes inner leads = ap (λ a. Some a) (block_on before there after rest e closes)
+  action_on every all before there after rest n m (Text u from to) e later k closes inner leads = ap (λ a. Some a) (ap (text_action u) later.0 ∙ sym (text_same b u n.texts))
+  action_on every all before there after rest n m (Substitute s e f) same later k closes inner leads = ap (λ k. Some (action.Substitute k)) later.1
+  action_on every all before there after rest n m (Transliterate s) e later k closes inner leads = ap (λ k. Some (action.Transliterate k)) later.2
+  action_on every all before there after rest n m (Branch u from to) e later k closes inner leads = ap (λ a. Some a) (branch_on every all u from to inner leads)
+  action_on every all before there after rest n m (File u from to) e later k closes inner leads = ap (λ a. Some a) (ap (file_action u) (ap (number_in u whole every) (between from to inner.0 inner.1) ∙ k) ∙ sym (file_same b u (number_in u t all (bytes_between t from to))))
+  action_on every all before there after rest n m Close e later k closes inner leads = refl
+  action_on every all before there after rest n m (Label from to) e later k closes inner leads = refl
+  action_on every all before there after rest n m Comment e later k closes inner leads = refl
+
+  counts_on : (n m : Counts) (f : Function) → Later b n m → Later b (counts_with n f) (counts_with m (made f))
+  counts_on n m (Text u from to) h = (omega (arith, h.0), h.1, h.2)
+  counts_on n m (Substitute s e f) h = (h.0, omega (arith, h.1), h.2)
+  counts_on n m (Transliterate s) h = (h.0, h.1, omega (arith, h.2))
+  counts_on n m other h = h
+
+  command_on : (a : Addresses) (o : Option Action) (xs ys : List Command) →
+      with_action (record { first = move_address b.expressions a.first; second = move_address b.expressions a.second; negate = a.negate }) (option_map (action_behind b) o) (map (command_behind b) xs ++ ys)
+      ≡ map (command_behind b) (with_action a o xs) ++ ys
+  command_on a None xs ys = refl
+  command_on a (Some does) xs ys =
+      ap₂ (λ first second. record { first = first; second = second; negate = a.negate; action = action_behind b does } ∷ (map (command_behind b) xs ++ ys)) (address_same b a.first) (address_same b a.second)
+
+  -- so many commands, texts, substitutions and tables stand before these items and behind those before them
+  pub record Stands (before there : List Item) (n m : Counts) : Type 0 where
+    pub commands : commands_in there ≡ b.commands + commands_in before
+    pub counts : Later b n m
+
+  stands_on : (before there : List Item) (n m : Counts) (i : Item) → Stands before there n m → Stands (before ++ i ∷ []) (there ++ moved i ∷ []) (counts_with n i.function) (counts_with m (made i.function))
+  stands_on before there n m i h = record {
+    commands = commands_snoc there (moved i) ∙ (counted_same base b.expressions b.commands (commands_in before) (commands_in there) i h.commands ∙ ap (λ (k : ℕ). b.commands + k) (sym (commands_snoc before i)));
+    counts = counts_on n m i.function h.counts;
+  }
+
+  -- and so many behind them
+  pub record Reaches (all before is : List Item) (n : Counts) (after : List Item) (m : Counts) : Type 0 where
+    pub commands : commands_in after ≡ commands_in before + commands_in is
+    pub texts : m.texts ≡ n.texts + length (texts_of t is)
+    pub substitutions : m.substitutions ≡ n.substitutions + length (substitutions_of t all is)
+    pub tables : m.tables ≡ n.tables + length (tables_of t is)
+
+  text_counts : (n : Counts) (f : Function) (k : ℕ) (xs : List (List ℕ)) → k ≡ (counts_with n f).texts + length xs → k ≡ n.texts + length (with_text t f xs)
+  text_counts n (Text u from to) k xs e = omega (arith, e)
+  text_counts n (Substitute s g f) k xs e = e
+  text_counts n (Transliterate s) k xs e = e
+  text_counts n other k xs e = e
+
+  substitution_counts : (all : List Item) (n : Counts) (f : Function) (k : ℕ) (xs : List Substitution) → k ≡ (counts_with n f).substitutions + length xs → k ≡ n.substitutions + length (with_substitution t all f xs)
+  substitution_counts all n (Text u from to) k xs e = e
+  substitution_counts all n (Substitute s g f) k xs e = omega (arith, e)
+  substitution_counts all n (Transliterate s) k xs e = e
+  substitution_counts all n other k xs e = e
+
+  table_counts : (n : Counts) (f : Function) (k : ℕ) (xs : List (List ℕ)) → k ≡ (counts_with n f).tables + length xs → k ≡ n.tables + length (with_table t f xs)
+  table_counts n (Text u from to) k xs e = e
+  table_counts n (Substitute s g f) k xs e = e
+  table_counts n (Transliterate s) k xs e = omega (arith, e)
+  table_counts n other k xs e = e
+
+  reaches_on : (all before is : List Item) (n : Counts) (i : Item) (after : List Item) (m : Counts) → Reaches all (before ++ i ∷ []) is (counts_with n i.function) after m → Reaches all before (i ∷ is) n after m
+  reaches_on all before is n i after m h = record {
+    commands = h.commands ∙ (ap (λ (k : ℕ). k + commands_in is) (commands_snoc before i) ∙ counted_in (commands_in before) i is);
+    texts = text_counts n i.function m.texts (texts_of t is) h.texts;
+    substitutions = substitution_counts all n i.function m.substitutions (substitutions_of t all is) h.substitutions;
+    tables = table_counts n i.function m.tables (tables_of t is) h.tables;
+  }
+
+  -- the commands of the items, and those of what stands behind them
+  pub commands_on : (every all before there is rest : List Item) (n m : Counts) (more : List Command) → Stands before there n m → FilesOn t all whole every b is → AllClose is → ItemsIn (length t) is → BranchesOn t all whole every b.commands is →
+      ((after ahead : List Item) (k l : Counts) → Reaches all before is n after k → Stands after ahead k l → commands_of whole every ahead l rest ≡ more) →
+      commands_of whole every there m (map moved is ++ rest) ≡ map (command_behind b) (commands_of t all before n is) ++ more
+  commands_on every all before there [] rest n m more stands k closes inner leads on =
+      on before there n m (record { commands = omega arith; texts = omega arith; substitutions = omega arith; tables = omega arith }) stands
+  commands_on every all before there (i ∷ is) rest n m more stands k closes inner leads on =
+      let cs : List Command = commands_of t all (before ++ i ∷ []) (counts_with n i.function) is in
+      ap₂ (λ o xs. with_action (record { first = move_address b.expressions i.addresses.first; second = move_address b.expressions i.addresses.second; negate = i.addresses.negate }) o xs)
+      (action_on every all before there is rest n m i.function stands.commands stands.counts k.0 closes.0 inner.0 leads.0)
+      (commands_on every all (before ++ i ∷ []) (there ++ moved i ∷ []) is rest (counts_with n i.function) (counts_with m (made i.function)) more (stands_on before there n m i stands) k.1 closes.1 inner.1 leads.1
+      (λ after ahead k l h. on after ahead k l (reaches_on all before is n i after k h)))
+      ∙ command_on i.addresses (action_of t all before n is i.function) cs more
